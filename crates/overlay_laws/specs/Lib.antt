@@ -1,0 +1,8 @@
+pub mod Said
+pub mod Windows
+pub mod Entries
+pub mod Origins
+pub mod Parts
+pub mod Hulls
+pub mod Walks
+pub mod Steps
