@@ -16,8 +16,9 @@ use Rattle.serial_spec.specs.ExternalForm.{size_of}
 use Rattle.serial_spec.specs.Request.{cells, places}
 use Rattle.serial_spec.specs.SharedByte.{Puts, bytes_of, bytes_of_some}
 use Rattle.serial_spec.specs.FileStep.{Setting, put_post, put_some, get_post, get_some}
-use Rattle.overlay_laws.specs.Said.{byte_or, said_at, Says, IsOneValued, Cell, write_cells, said_by, IsWithin}
-use Rattle.overlay_laws.specs.Entries.{cells_of_some, cells_of, cells_of_puts, said_by_puts, Source, cell_of, ranges, IsRun, IsGathered, got_cell, IsRunFrom, In, HaveSame}
+use Rattle.serial_spec.specs.Said.{byte_or, said_at, Says, IsOneValued, Cell, write_cells, said_by, IsWithin}
+use Rattle.serial_spec.specs.SharedByte.{said_by_puts}
+use Rattle.overlay_laws.specs.Entries.{cells_of_some, cells_of, cells_of_puts, Source, cell_of, ranges, IsRun, IsGathered, got_cell, IsRunFrom, In, HaveSame}
 use Rattle.overlay_laws.proofs.SaidLaws.{same_some, said_past, said_in_any_order, same_said, said_inside, cells_said, cells_long, same_file}
 
 -- ---- a put is cells

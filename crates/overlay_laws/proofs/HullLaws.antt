@@ -12,9 +12,10 @@ use Rattle.serial_spec.specs.Layout.{greatest}
 use Rattle.serial_spec.specs.SharedByte.{Puts, covered, bytes_of}
 use Rattle.serial_spec.specs.FileStep.{Setting, put_post}
 use Rattle.serial_spec.specs.DeviceCalls.{in_order, first_of, last_of, is_empty, not_empty, domain_size, domains, windows, collective_windows, sieved, sieving_windows}
-use Rattle.overlay_laws.specs.Said.{Cell, said_at, said_by, Says, IsWithin}
+use Rattle.serial_spec.specs.Said.{Cell, said_at, said_by, Says, IsWithin}
 use Rattle.overlay_laws.specs.Windows.{IsInOne, HasEach}
-use Rattle.overlay_laws.specs.Entries.{In, cells_of_puts, said_by_puts}
+use Rattle.serial_spec.specs.SharedByte.{said_by_puts}
+use Rattle.overlay_laws.specs.Entries.{In, cells_of_puts}
 use Rattle.overlay_laws.specs.Hulls.{hulls, IsAscending, written_over, AreHints}
 use Rattle.overlay_laws.proofs.SaidLaws.{said_is, same_said}
 use Rattle.overlay_laws.proofs.EntryLaws.{says_cases, puts_are_cells, puts_say}

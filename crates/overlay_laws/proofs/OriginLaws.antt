@@ -7,7 +7,7 @@ use Rattle.nc_base.specs.declared.plan.Owned.{Owned}
 use Rattle.serial_spec.specs.File.{at}
 use Rattle.serial_spec.specs.SharedByte.{Puts}
 use Rattle.serial_spec.specs.FileStep.{Setting, put_post}
-use Rattle.overlay_laws.specs.Said.{or_else, one_says, said_at, Says, IsOneValued, write_cells, said_by, IsWithin}
+use Rattle.serial_spec.specs.Said.{or_else, one_says, said_at, Says, IsOneValued, write_cells, said_by, IsWithin}
 use Rattle.overlay_laws.specs.Entries.{cells_of_puts, Source, cell_of, IsGathered, In, HaveSame}
 use Rattle.overlay_laws.specs.Origins.{Origin, origins_of, origins, byte_at, AreFound, AtMost, IsGreatest, IsResolved, IsOnceEach, IsInOrder}
 use Rattle.overlay_laws.proofs.SaidLaws.{no_none_some, same_some, one_hit, said_is, says_some, one_said, same_said}

@@ -1,14 +1,34 @@
 -- Windows that are each read, overlaid and written, one after another.
 use Rattle.std.proofs.Common.{◌≡◌, ℕ, zero, suc, ◌+◌, ◌-◌, ◌≤◌, refl, sym, ◌∙◌, ap, subst, List, [], ◌∷◌, length, Some, arith}
 use Rattle.std.specs.Prelude.{fold, map}
-use Rattle.serial_spec.specs.File.{read}
-use Rattle.overlay_laws.specs.Said.{Cell, write_cells, IsWithin, said_at, said_by}
-use Rattle.overlay_laws.specs.Windows.{clips, IsInOne, HasEach, read_overlaid, all_read_overlaid}
+use Rattle.serial_spec.specs.File.{at, read, written}
+use Rattle.serial_spec.specs.Said.{Cell, write_cells, IsWithin, said_at, said_by}
+use Rattle.overlay_laws.specs.Windows.{clips, IsInOne, HasEach, HasPlace, read_overlaid, all_read_overlaid}
 use Rattle.overlay_laws.proofs.SaidLaws.{cells_long}
 use Rattle.overlay_laws.proofs.WindowLaws.{clips_within, clips_from, within_more, windows_done}
-use Rattle.overlay_laws.proofs.PieceLaws.{kept_read, window_answer}
+use Rattle.overlay_laws.proofs.WindowLaws.{window_done}
+use Rattle.overlay_laws.proofs.SaidLaws.{no_none_some}
 
-read_long : (file : List ℕ) (x n : ℕ) → length (read file x n) ≡ n
+read_at : (file : List ℕ) (x n i : ℕ) → i < n → at (read file x n) i ≡ at file (x + i)
+read_at file x zero i h = absurd (omega arith)
+read_at file x (suc n) zero h = let e : x ≡ x + 0 = omega arith in ap (λ (k : ℕ). at file k) e
+read_at file x (suc n) (suc i) h = let e : x + 1 + i ≡ x + suc i = omega arith in read_at file (x + 1) n i (omega arith) ∙ ap (λ (k : ℕ). at file k) e
+
+pub kept_read : (file buf : List ℕ) (lo n x : ℕ) → buf ≡ read file lo n → lo ≤ x → x < lo + n → at buf (x - lo) ≡ at file x
+kept_read file buf lo n x e h k =
+    let place : lo + (x - lo) ≡ x = omega arith in
+    ap (λ (b : List ℕ). at b (x - lo)) e ∙ read_at file lo n (x - lo) (omega arith) ∙ ap (λ (i : ℕ). at file i) place
+
+pub kept_full : (file buf : List ℕ) (cells : List Cell) (lo x : ℕ) → HasPlace cells x → said_at (said_by cells) x ≡ None → at buf (x - lo) ≡ at file x
+kept_full file buf cells lo x h e = no_none_some h.0 (sym e ∙ h.1)
+
+pub window_answer : (file buf : List ℕ) (n lo : ℕ) (cells : List Cell) → length buf ≡ n → lo + n ≤ length file → IsFrom lo cells → IsWithin cells (lo + n)
+    → ((x : ℕ) → lo ≤ x → x < lo + n → said_at (said_by cells) x ≡ None → at buf (x - lo) ≡ at file x)
+    → written file lo (write_cells buf (moved_down lo cells)) ≡ write_cells file cells
+window_answer file buf n lo cells e room low high kept =
+    window_done file buf lo cells (omega arith) low (subst (λ (k : ℕ). IsWithin cells (lo + k)) (sym e) high) (λ x h k g. kept x h (omega arith) g)
+
+pub read_long : (file : List ℕ) (x n : ℕ) → length (read file x n) ≡ n
 read_long file x zero = refl
 read_long file x (suc n) = ap suc (read_long file (x + 1) n)
 
@@ -32,7 +52,7 @@ windows_read (w ∷ windows) file cells h =
     ap (λ f. all_read_overlaid f cells windows) same
     ∙ windows_read windows (write_cells file (clips w.0 w.1 cells)) cells (in_one_moved windows (length file) (length (write_cells file (clips w.0 w.1 cells))) (sym long) h.2)
 
--- windows that have every place of the cells, each read, overlaid with its part of the cells and written, written the cells
+-- windows that have every place of the cells, each read, overlaid with its part of the cells and written, write the cells
 pub all_read : (file : List ℕ) (cells : List Cell) (windows : List (ℕ × ℕ)) → IsWithin cells (length file) → IsInOne windows (length file)
     → ((x v : ℕ) → said_at (said_by cells) x ≡ Some v → HasEach windows x)
     → all_read_overlaid file cells windows ≡ write_cells file cells

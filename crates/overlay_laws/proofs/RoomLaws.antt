@@ -13,7 +13,7 @@ use Rattle.serial_spec.specs.ExternalForm.{size_of}
 use Rattle.serial_spec.specs.Request.{cells, places}
 use Rattle.serial_spec.specs.SharedByte.{Puts, bytes_of, bytes_of_some, covered}
 use Rattle.serial_spec.specs.FileStep.{Setting}
-use Rattle.overlay_laws.specs.Said.{IsWithin}
+use Rattle.serial_spec.specs.Said.{IsWithin}
 use Rattle.overlay_laws.specs.Entries.{cells_of_some, cells_of, cells_of_puts, Source, cell_of, IsGathered, In, HaveSame}
 use Rattle.overlay_laws.specs.Steps.{HasRoom}
 use Rattle.overlay_laws.proofs.HullLaws.{in_left, in_right, in_range, in_flat}

@@ -8,7 +8,7 @@ use Rattle.std.specs.List.{enumerate_from}
 use borrow.Author.Tests.{ltb-true, ltb-false, eqb-true}
 use Rattle.serial_spec.specs.File.{at, longer, written}
 use Rattle.serial_spec.proofs.FileLaws.{at-written_before, at-written_after, written-front, length-written_inside}
-use Rattle.overlay_laws.specs.Said.{or_else, one_says, said_at, byte_or, Says, IsOneValued, Cell, write_cells, said_by, IsWithin}
+use Rattle.serial_spec.specs.Said.{or_else, one_says, said_at, byte_or, Says, IsOneValued, Cell, write_cells, said_by, IsWithin}
 
 -- ---- options
 

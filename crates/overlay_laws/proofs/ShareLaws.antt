@@ -8,8 +8,9 @@ use Rattle.nc_base.specs.declared.header.Header.{Header}
 use Rattle.nc_base.specs.declared.plan.Post.{Post}
 use Rattle.serial_spec.specs.SharedByte.{Puts, Key, Holding, bytes_of, holdings, same_key, has_byte, Holds, IsUnshared, shared_pair}
 use Rattle.serial_spec.proofs.PairLaws.{pair_none}
-use Rattle.overlay_laws.specs.Said.{Says, IsOneValued}
-use Rattle.overlay_laws.specs.Entries.{said_by_puts, IsOwnOnce, HaveOwnKeys, IsOnce}
+use Rattle.serial_spec.specs.Said.{Says, IsOneValued}
+use Rattle.serial_spec.specs.SharedByte.{said_by_puts, IsOwnOnce}
+use Rattle.overlay_laws.specs.Entries.{HaveOwnKeys, IsOnce}
 use Rattle.overlay_laws.proofs.SaidLaws.{no_none_some, same_some, same_hit}
 use Rattle.overlay_laws.proofs.EntryLaws.{says_cases}
 

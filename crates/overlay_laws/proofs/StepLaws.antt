@@ -9,8 +9,9 @@ use Rattle.serial_spec.specs.SharedByte.{Puts, covered, holdings, holdings_of_en
 use Rattle.serial_spec.specs.Records.{needed_by}
 use Rattle.serial_spec.specs.FileStep.{Setting, end_for, after_puts}
 use Rattle.serial_spec.specs.DeviceCalls.{in_order, collective_windows, sieving_windows}
-use Rattle.overlay_laws.specs.Said.{said_at, said_by, IsOneValued}
-use Rattle.overlay_laws.specs.Entries.{said_by_puts, Source, cell_of, IsGathered, HaveSame, IsOwnOnce}
+use Rattle.serial_spec.specs.Said.{said_at, said_by, IsOneValued}
+use Rattle.serial_spec.specs.SharedByte.{said_by_puts, IsOwnOnce}
+use Rattle.overlay_laws.specs.Entries.{Source, cell_of, IsGathered, HaveSame}
 use Rattle.overlay_laws.specs.Hulls.{written_over, AreHints}
 use Rattle.overlay_laws.specs.Origins.{origins, byte_at, AreFound, IsResolved, IsOnceEach, IsInOrder}
 use Rattle.overlay_laws.specs.Steps.{HasRoom}

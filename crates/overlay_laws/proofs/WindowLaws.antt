@@ -6,7 +6,7 @@ use Rattle.std.specs.Prelude.{fold, flat_map, nat_lt, map}
 use Rattle.std.specs.List.{enumerate_from}
 use borrow.Author.Tests.{ltb-true, ltb-false}
 use Rattle.serial_spec.specs.File.{at, written}
-use Rattle.overlay_laws.specs.Said.{or_else, said_at, byte_or, Cell, write_cells, said_by, IsWithin, IsFrom, moved_down}
+use Rattle.serial_spec.specs.Said.{or_else, said_at, byte_or, Cell, write_cells, said_by, IsWithin, IsFrom, moved_down}
 use Rattle.overlay_laws.specs.Windows.{IsPart, AreParts, SomeSays, clip, clips, IsInOne, HasEach}
 use Rattle.overlay_laws.proofs.SaidLaws.{no_none_some, both_none, first_counts, second_counts, said_below, said_past, said_inside, said_append, write_before, write_after, write_inside, write_long, cells_said, cells_long, same_file, same_said}
 

@@ -1,6 +1,5 @@
 -- Entries of a sorted list (extents of the file with the request that owns them), and what the puts and gets of a step say. (own)
 --     cells_of_puts header puts         the puts of a step as cells, one per element
---     said_by_puts header puts          each byte of each put with its place
 --     cell_of source o                  an entry as a cell, its bytes found by rank and slot
 --     ranges os                         the bytes of the entries' extents
 --     IsRun bytes source from os        entries of one post one after another, the bytes being those of the post
@@ -15,8 +14,8 @@ use Rattle.nc_base.specs.declared.plan.Owned.{Owned}
 use Rattle.serial_spec.specs.File.{read}
 use Rattle.serial_spec.specs.ExternalForm.{size_of}
 use Rattle.serial_spec.specs.Request.{cells, places}
-use Rattle.serial_spec.specs.SharedByte.{Puts, Holding, bytes_of}
-use Rattle.overlay_laws.specs.Said.{Cell}
+use Rattle.serial_spec.specs.SharedByte.{Puts, bytes_of}
+use Rattle.serial_spec.specs.Said.{Cell}
 
 -- ---- puts
 
@@ -29,9 +28,6 @@ cells_of header post = cells_of_some header (slice_get header.vars post.var) pos
 
 abbrev pub cells_of_puts : Header → Puts → List Cell
 cells_of_puts header puts = flat_map (λ p. cells_of header p.1) puts
-
-abbrev pub said_by_puts : Header → Puts → List (ℕ × ℕ)
-said_by_puts header puts = flat_map (λ p. zip (bytes_of header p.1) p.1.bytes) puts
 
 -- ---- entries
 
@@ -80,11 +76,6 @@ abbrev pub HaveSame : {X : Type 0} → List X → List X → Type 0
 HaveSame {X} xs ys = ((o : X) → In xs o → In ys o) × ((o : X) → In ys o → In xs o)
 
 -- ---- no byte twice within one request
-
--- Of holdings of one request no two places of the lists have one byte.
-abbrev pub IsOwnOnce : List Holding → Type 0
-IsOwnOnce held = (i j : ℕ) (g h : Holding) (k l x : ℕ) → slice_get held i ≡ Some g → slice_get held j ≡ Some h → g.0 ≡ h.0
-    → slice_get g.1 k ≡ Some x → slice_get h.1 l ≡ Some x → (i ≡ j) × (k ≡ l)
 
 abbrev pub IsOnce : List ℕ → Type 0
 IsOnce xs = (k l x : ℕ) → slice_get xs k ≡ Some x → slice_get xs l ≡ Some x → k ≡ l

@@ -5,7 +5,7 @@
 use Rattle.std.specs.Prelude.{ℕ, ◌+◌, ◌<◌, ◌≤◌, List, [], ◌∷◌, map, fold}
 use Rattle.nc_base.specs.declared.script.Hints.{Hints}
 use Rattle.serial_spec.specs.DeviceCalls.{first_of, last_of}
-use Rattle.overlay_laws.specs.Said.{Cell, write_cells}
+use Rattle.serial_spec.specs.Said.{Cell, write_cells}
 use Rattle.overlay_laws.specs.Windows.{clips}
 use Rattle.overlay_laws.specs.Entries.{In}
 

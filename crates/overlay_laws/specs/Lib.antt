@@ -1,4 +1,3 @@
-pub mod Said
 pub mod Windows
 pub mod Entries
 pub mod Origins

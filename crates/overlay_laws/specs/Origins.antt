@@ -7,7 +7,7 @@ use Rattle.std.specs.Prelude.{◌≡◌, ℕ, ◌+◌, ◌<◌, ◌≤◌, List,
 use Rattle.std.specs.List.{range_with_len, enumerate_from}
 use Rattle.nc_base.specs.declared.plan.Owned.{Owned}
 use Rattle.serial_spec.specs.File.{at}
-use Rattle.overlay_laws.specs.Said.{Says}
+use Rattle.serial_spec.specs.Said.{Says}
 use Rattle.overlay_laws.specs.Entries.{Source, In}
 
 -- rank, slot, and the place in the post's bytes

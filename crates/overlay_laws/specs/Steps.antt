@@ -6,7 +6,7 @@ use Rattle.nc_base.specs.declared.plan.Owned.{Owned}
 use Rattle.serial_spec.specs.SharedByte.{Puts, covered}
 use Rattle.serial_spec.specs.FileStep.{Setting}
 use Rattle.serial_spec.specs.Place.{AreApart}
-use Rattle.overlay_laws.specs.Said.{IsWithin}
+use Rattle.serial_spec.specs.Said.{IsWithin}
 use Rattle.overlay_laws.specs.Entries.{cells_of_puts, Source, cell_of, In}
 
 abbrev pub HasRoom : Setting → Source → Puts → List Owned → ℕ → Type 0

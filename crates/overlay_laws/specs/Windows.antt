@@ -4,9 +4,10 @@
 --     SomeSays lists x v      some list of cells says v of x
 --     IsInOne windows n       each window (from, to) is one, and ends at n or before
 --     HasEach windows x       some window has the place
+--     HasPlace cells x        some cell has the place
 use Rattle.std.specs.Prelude.{fold, ◌≡◌, ℕ, ◌-◌, ◌<◌, ◌≤◌, min, max, List, [], ◌∷◌, map, take, drop, ◌⊎◌, Some}
 use Rattle.serial_spec.specs.File.{written, read}
-use Rattle.overlay_laws.specs.Said.{write_cells, moved_down, Cell, said_at, said_by}
+use Rattle.serial_spec.specs.Said.{write_cells, moved_down, Cell, said_at, said_by}
 
 abbrev pub clip : ℕ → ℕ → Cell → Cell
 clip lo hi c = (min hi (max lo c.0), take (hi - min hi (max lo c.0)) (drop (lo - c.0) c.1))
@@ -40,3 +41,6 @@ read_overlaid file cells w =
 
 abbrev pub all_read_overlaid : List ℕ → List Cell → List (ℕ × ℕ) → List ℕ
 all_read_overlaid file cells windows = fold (λ f w. read_overlaid f cells w) file windows
+
+abbrev pub HasPlace : List Cell → ℕ → Type 0
+HasPlace cells x = (v : ℕ) × (said_at (said_by cells) x ≡ Some v)

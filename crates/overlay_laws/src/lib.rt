@@ -1,10 +1,9 @@
 //! Laws by which the bytes of a step are those of cells, windows and pieces.
 #![tactic(auto)]
 
-
 ghost use Rattle.std.specs.Prelude.{◌≡◌, ℕ, ◌+◌, ◌-◌, ◌<◌, ◌≤◌, List, length, map, fold, flat_map, Some, None};
 ghost use Rattle.serial_spec.specs.File.{at, longer, written, read};
-ghost use Rattle.overlay_laws.specs.Said.{said_at, said_by, byte_or, Says, IsOneValued, Cell, write_cells, IsWithin, IsFrom, moved_down};
+ghost use Rattle.serial_spec.specs.Said.{said_at, said_by, byte_or, Says, IsOneValued, Cell, write_cells, IsWithin, IsFrom, moved_down};
 ghost use Rattle.overlay_laws.specs.Windows.{clips, IsPart, AreParts, SomeSays, IsInOne, HasEach, all_read_overlaid};
 ghost use Rattle.std.specs.List.Sorted.{IsPermutation};
 ghost use Rattle.nc_base.specs.declared.header.Header.{Header};
@@ -27,13 +26,13 @@ ghost use Rattle.serial_spec.specs.HeaderGrammar.{is_sound};
 ghost use Rattle.std.specs.Prelude.{slice_get};
 ghost use Rattle.std.specs.List.{range_with_len};
 ghost use Rattle.std.specs.Prelude.{◌*◌, ◌/◌, ◌==◌};
-ghost use Rattle.overlay_laws.specs.Entries.{cells_of_puts, said_by_puts, Source, cell_of, IsRun, IsGathered, got_cell, IsRunFrom, ranges, In, HaveSame, IsOwnOnce, HaveOwnKeys, IsOnce};
+ghost use Rattle.serial_spec.specs.SharedByte.{said_by_puts, IsOwnOnce};
+ghost use Rattle.overlay_laws.specs.Entries.{cells_of_puts, Source, cell_of, IsRun, IsGathered, got_cell, IsRunFrom, ranges, In, HaveSame, HaveOwnKeys, IsOnce};
 ghost use Rattle.overlay_laws.specs.Origins.{Origin, origins, byte_at, AreFound, IsGreatest, IsResolved, IsOnceEach, IsInOrder};
 ghost use Rattle.overlay_laws.specs.Walks.{walked, round_end, spans, below, above, IsCover, hull_of, first_at, told_of, extents_walked};
 ghost use Rattle.nc_base.specs.declared.plan.Extent.{Extent};
 ghost use Rattle.std.specs.Prelude.{filter, nat_lt, nat_le};
 ghost use Rattle.overlay_laws.specs.Parts.{joined, written_parts};
-
 
 /// Cells that are written one after another leave at each place what the last of them that has the place says, else the
 /// old byte; cells that say the same of each place make the same file.
