@@ -1,13 +1,11 @@
 -- Windows that are each read, overlaid and written, one after another.
-use Rattle.std.proofs.Common.{◌≡◌, ℕ, zero, suc, ◌+◌, ◌-◌, ◌≤◌, refl, sym, ◌∙◌, ap, subst, List, [], ◌∷◌, length, Some, arith}
+use Rattle.std.proofs.Common.{◌≡◌, ℕ, zero, suc, ◌+◌, ◌-◌, ◌<◌, ◌≤◌, None, refl, sym, ◌∙◌, ap, subst, List, [], ◌∷◌, length, Some, arith}
 use Rattle.std.specs.Prelude.{fold, map}
 use Rattle.serial_spec.specs.File.{at, read, written}
-use Rattle.serial_spec.specs.Said.{Cell, write_cells, IsWithin, said_at, said_by}
+use Rattle.serial_spec.specs.Said.{Cell, write_cells, IsWithin, IsFrom, moved_down, said_at, said_by}
 use Rattle.overlay_laws.specs.Windows.{clips, IsInOne, HasEach, HasPlace, read_overlaid, all_read_overlaid}
-use Rattle.overlay_laws.proofs.SaidLaws.{cells_long}
-use Rattle.overlay_laws.proofs.WindowLaws.{clips_within, clips_from, within_more, windows_done}
-use Rattle.overlay_laws.proofs.WindowLaws.{window_done}
-use Rattle.overlay_laws.proofs.SaidLaws.{no_none_some}
+use Rattle.overlay_laws.proofs.SaidLaws.{cells_long, no_none_some}
+use Rattle.overlay_laws.proofs.WindowLaws.{clips_within, clips_from, within_more, window_done, windows_done}
 
 read_at : (file : List ℕ) (x n i : ℕ) → i < n → at (read file x n) i ≡ at file (x + i)
 read_at file x zero i h = absurd (omega arith)
