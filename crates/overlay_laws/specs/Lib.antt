@@ -5,3 +5,4 @@ pub mod Parts
 pub mod Hulls
 pub mod Walks
 pub mod Steps
+pub mod Changes

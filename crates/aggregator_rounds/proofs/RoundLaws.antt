@@ -1,0 +1,1 @@
+-- What a window leaves on a disk that may tell its bytes and its calls.
