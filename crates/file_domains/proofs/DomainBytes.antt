@@ -24,15 +24,16 @@ share_ends low s a x h k e =
 
 pub in_cut : (lo hi low s a from to : ℕ) → 1 ≤ s → low ≤ lo → from ≡ min hi (max lo (low + a * s)) → to ≡ min hi (max lo (low + (a + 1) * s))
     → (x : ℕ) → ((from ≤ x) × (x < from + (to - from))) ↔ ((lo ≤ x) × (x < hi) × ((x - low) / s ≡ a))
-in_cut lo hi low s a from to h k e f x =
-    ((λ g. let l = g.0 in let m = g.1 in
-        let begins : low + a * s ≤ x = omega arith in
-        let ends : x < low + (a + 1) * s = omega arith in
-        (omega arith, omega arith, one_share low s a x h begins ends)),
-    (λ g. let l = g.0 in let m = g.1 in
-        let begins = share_begins low s a x h (omega arith) g.2 in
-        let ends = share_ends low s a x h (omega arith) g.2 in
-        (omega arith, omega arith)))
+in_cut lo hi low s a from to h k e f x = (
+  (λ g. let l = g.0 in let m = g.1 in
+      let begins : low + a * s ≤ x = omega arith in
+      let ends : x < low + (a + 1) * s = omega arith in
+      (omega arith, omega arith, one_share low s a x h begins ends)),
+  (λ g. let l = g.0 in let m = g.1 in
+      let begins = share_begins low s a x h (omega arith) g.2 in
+      let ends = share_ends low s a x h (omega arith) g.2 in
+      (omega arith, omega arith)),
+)
 
 pub multiple_is : (low s t k a m top : ℕ) → m ≡ min (low + k * s) top → s ≡ t → k ≡ a → m ≡ min (low + a * t) top
 multiple_is low s t k a m top e f g = cc

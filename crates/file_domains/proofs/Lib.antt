@@ -1,1 +1,3 @@
 pub mod DomainBytes
+pub mod CoverParts
+pub mod WalkSteps

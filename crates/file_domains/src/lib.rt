@@ -5,4 +5,4 @@ mod domain;
 mod walk;
 
 pub use domain::cut;
-pub use walk::Window;
+pub use walk::{Window, WindowWalk, windows};

@@ -14,7 +14,7 @@ use Rattle.overlay_laws.proofs.WalkLaws.{filter_none, filter_all, filter_joined,
 
 -- ---- bytes of a cover
 
-spans_past : (cover : List Extent) (n y : ℕ) → ((d : Extent) → In cover d → n < d.at) → In (spans cover) y → n < y
+pub spans_past : (cover : List Extent) (n y : ℕ) → ((d : Extent) → In cover d → n < d.at) → In (spans cover) y → n < y
 spans_past [] n y h k = absurd k
 spans_past (e ∷ cover) n y h k =
     elim (in_either (range_with_len e.at e.len) (spans cover) y k) [
@@ -22,7 +22,7 @@ spans_past (e ∷ cover) n y h k =
       | inr g ↦ spans_past cover n y (λ d l. h d (inr l)) g
     ]
 
-range_split : (a m n : ℕ) → range_with_len a (m + n) ≡ range_with_len a m ++ range_with_len (a + m) n
+pub range_split : (a m n : ℕ) → range_with_len a (m + n) ≡ range_with_len a m ++ range_with_len (a + m) n
 range_split a zero n = let e : a ≡ a + 0 = omega arith in let f : 0 + n ≡ n = omega arith in ap (λ (k : ℕ). range_with_len a k) f ∙ ap (λ (k : ℕ). range_with_len k n) e
 range_split a (suc m) n =
     let e : a + 1 + m ≡ a + suc m = omega arith in
@@ -41,7 +41,7 @@ range_below_none stop a n h = filter_none (λ y. nat_lt y stop) (range_with_len 
 range_above_all : (stop a n : ℕ) → stop ≤ a → filter (λ y. nat_le stop y) (range_with_len a n) ≡ range_with_len a n
 range_above_all stop a n h = filter_all (λ y. nat_le stop y) (range_with_len a n) (λ y k. let l = range_low a n y k in le_true stop y (omega arith))
 
-range_above_none : (stop a n : ℕ) → a + n ≤ stop → filter (λ y. nat_le stop y) (range_with_len a n) ≡ []
+pub range_above_none : (stop a n : ℕ) → a + n ≤ stop → filter (λ y. nat_le stop y) (range_with_len a n) ≡ []
 range_above_none stop a n h = filter_none (λ y. nat_le stop y) (range_with_len a n) (λ y k. let l = range_high a n y k in le_false stop y (omega arith))
 
 cut_range : (stop a n : ℕ) → a < stop → stop < a + n → range_with_len a n ≡ range_with_len a (stop - a) ++ range_with_len stop (a + n - stop)
@@ -50,7 +50,7 @@ cut_range stop a n h k =
     let f : a + (stop - a) ≡ stop = omega arith in
     ap (λ (m : ℕ). range_with_len a m) e ∙ range_split a (stop - a) (a + n - stop) ∙ ap (λ (m : ℕ). range_with_len a (stop - a) ++ range_with_len m (a + n - stop)) f
 
-no_more : (xs : List ℕ) → xs ++ [] ≡ xs
+pub no_more : (xs : List ℕ) → xs ++ [] ≡ xs
 no_more [] = refl
 no_more (x ∷ xs) = ap (λ r. x ∷ r) (no_more xs)
 
@@ -71,14 +71,14 @@ range_above_cut stop a n h k =
 
 -- ---- the part of a cover before a place, and from it on
 
-spans_below_none : (stop : ℕ) (cover : List Extent) → ((d : Extent) → In cover d → stop ≤ d.at) → filter (λ y. nat_lt y stop) (spans cover) ≡ []
+pub spans_below_none : (stop : ℕ) (cover : List Extent) → ((d : Extent) → In cover d → stop ≤ d.at) → filter (λ y. nat_lt y stop) (spans cover) ≡ []
 spans_below_none stop [] h = refl
 spans_below_none stop (e ∷ cover) h =
     filter_joined (λ y. nat_lt y stop) (range_with_len e.at e.len) (spans cover)
     ∙ ap (λ r. r ++ filter (λ y. nat_lt y stop) (spans cover)) (range_below_none stop e.at e.len (h e (inl refl)))
     ∙ spans_below_none stop cover (λ d k. h d (inr k))
 
-spans_above_all : (stop : ℕ) (cover : List Extent) → ((d : Extent) → In cover d → stop ≤ d.at) → filter (λ y. nat_le stop y) (spans cover) ≡ spans cover
+pub spans_above_all : (stop : ℕ) (cover : List Extent) → ((d : Extent) → In cover d → stop ≤ d.at) → filter (λ y. nat_le stop y) (spans cover) ≡ spans cover
 spans_above_all stop [] h = refl
 spans_above_all stop (e ∷ cover) h =
     filter_joined (λ y. nat_le stop y) (range_with_len e.at e.len) (spans cover)
@@ -192,15 +192,15 @@ above_cover stop (e ∷ cover) h = by_start (above_cover stop cover h.2) (nat_le
 
 -- ---- the hull
 
-range_long : (a n : ℕ) → length (range_with_len a n) ≡ n
+pub range_long : (a n : ℕ) → length (range_with_len a n) ≡ n
 range_long a zero = refl
 range_long a (suc n) = ap suc (range_long (a + 1) n)
 
-last_joined : (xs ys : List ℕ) → last_of (xs ++ ys) ≡ max (last_of xs) (last_of ys)
+pub last_joined : (xs ys : List ℕ) → last_of (xs ++ ys) ≡ max (last_of xs) (last_of ys)
 last_joined [] ys = omega arith
 last_joined (x ∷ xs) ys = let e = last_joined xs ys in omega arith
 
-last_of_range : (a n : ℕ) → 1 ≤ n → last_of (range_with_len a n) + 1 ≡ a + n
+pub last_of_range : (a n : ℕ) → 1 ≤ n → last_of (range_with_len a n) + 1 ≡ a + n
 last_of_range a zero h = absurd (omega arith)
 last_of_range a (suc zero) h = omega arith
 last_of_range a (suc (suc n)) h = let e = last_of_range (a + 1) (suc n) (omega arith) in omega arith
@@ -277,7 +277,7 @@ none_told stop zero = refl
 none_told stop (suc fuel) = refl
 
 -- the window that begins at a place, told: its extents are not none, since it ends past that place
-below_told : (stop : ℕ) (e : Extent) (cover : List Extent) → IsCover (e ∷ cover) → e.at < stop
+pub below_told : (stop : ℕ) (e : Extent) (cover : List Extent) → IsCover (e ∷ cover) → e.at < stop
     → told_of (spans (below stop (e ∷ cover))) ≡ hull_of (below stop (e ∷ cover))
 below_told stop e cover h l = by_start (below_cover stop (e ∷ cover) h) (nat_le stop e.at) refl
   where
@@ -295,7 +295,7 @@ below_told stop e cover h l = by_start (below_cover stop (e ∷ cover) h) (nat_l
         opened : nat_le stop e.at ≡ false → below stop (e ∷ cover) ≡ cond (nat_le (e.at + e.len) stop) (e ∷ below stop cover) (record { at = e.at; len = stop - e.at } ∷ [])
         opened g = ap (λ (t : Bool). cond t [] (cond (nat_le (e.at + e.len) stop) (e ∷ below stop cover) (record { at = e.at; len = stop - e.at } ∷ []))) g
 
-range_first : (a n : ℕ) (rest : List ℕ) → 1 ≤ n → (ys : List ℕ) × (range_with_len a n ++ rest ≡ a ∷ ys)
+pub range_first : (a n : ℕ) (rest : List ℕ) → 1 ≤ n → (ys : List ℕ) × (range_with_len a n ++ rest ≡ a ∷ ys)
 range_first a zero rest h = absurd (omega arith)
 range_first a (suc n) rest h = (range_with_len (a + 1) n ++ rest, refl)
 
@@ -321,7 +321,7 @@ extents_told stop (suc fuel) (e ∷ cover) s h =
     ∙ ap (λ w. w ∷ extents_walked stop fuel (above (stop e.at) (e ∷ cover)))
     (ap (λ xs. told_of xs) (spans_below (stop e.at) (e ∷ cover) h) ∙ below_told (stop e.at) e cover h (s e.at))
 
-past_round : (lo buffer x : ℕ) → 1 ≤ buffer → x < round_end lo buffer x
+pub past_round : (lo buffer x : ℕ) → 1 ≤ buffer → x < round_end lo buffer x
 past_round lo buffer x h =
     let whole = div-add-mod' (x - lo) buffer in
     let part = mod_below (x - lo) buffer (omega arith) in
@@ -329,7 +329,7 @@ past_round lo buffer x h =
 
 -- ---- the bytes of a cover stand in order
 
-range_then_ascends : (a n : ℕ) (rest : List ℕ) → IsAscending rest → ((y : ℕ) → In rest y → a + n ≤ y) → IsAscending (range_with_len a n ++ rest)
+pub range_then_ascends : (a n : ℕ) (rest : List ℕ) → IsAscending rest → ((y : ℕ) → In rest y → a + n ≤ y) → IsAscending (range_with_len a n ++ rest)
 range_then_ascends a zero rest h k = h
 range_then_ascends a (suc n) rest h k = (
   (λ y g. elim (in_either (range_with_len (a + 1) n) rest y g)

@@ -16,7 +16,7 @@ two_by t u v y ys false true e f g h = drop_first y (filter u (filter v ys)) (u 
 two_by t u v y ys true false e f g h = h ∙ sym (drop_first y (filter t ys) (t y) g)
 two_by t u v y ys false false e f g h = h ∙ sym (drop_first y (filter t ys) (t y) g)
 
-filter_two : {X : Type 0} (t u v : X → Bool) (xs : List X) → ((y : X) → In xs y → t y ≡ (u y && v y)) → filter u (filter v xs) ≡ filter t xs
+pub filter_two : {X : Type 0} (t u v : X → Bool) (xs : List X) → ((y : X) → In xs y → t y ≡ (u y && v y)) → filter u (filter v xs) ≡ filter t xs
 filter_two t u v [] h = refl
 filter_two t u v (y ∷ ys) h = two_by t u v y ys (u y) (v y) refl refl (h y (inl refl)) (filter_two t u v ys (λ z k. h z (inr k)))
 
