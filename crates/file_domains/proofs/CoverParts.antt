@@ -9,11 +9,12 @@ use Rattle.std.specs.List.Sorted.{IsPartitionedBy}
 use Rattle.nc_base.specs.declared.plan.Extent.{Extent}
 use Rattle.serial_spec.specs.DeviceCalls.{first_of}
 use Rattle.overlay_laws.specs.Entries.{In}
+use Rattle.overlay_laws.specs.Lines.{EndBelow}
 use Rattle.overlay_laws.specs.Walks.{spans, below, above, IsCover, end_after, is_single, first_at, hull_of, told_of}
 use Rattle.overlay_laws.proofs.SaidLaws.{no_none_some, same_some}
 use Rattle.overlay_laws.proofs.WalkLaws.{filter_joined, from_le, from_not_le, le_true, eq_false}
 use Rattle.overlay_laws.proofs.CoverLaws.{range_above_none, spans_below, below_told}
-use Rattle.file_domains.specs.Rounds.{EndBelow, IsLeft}
+use Rattle.file_domains.specs.Rounds.{IsLeft}
 
 pub in_at : {X : Type 0} (xs : List X) (i : ℕ) (d : X) → i < length xs → In xs (get_or xs i d)
 in_at [] i d h = absurd (omega arith)

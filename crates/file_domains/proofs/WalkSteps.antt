@@ -9,6 +9,7 @@ use Rattle.overlay_laws.proofs.SaidLaws.{same_some, no_none_some}
 use Rattle.serial_spec.specs.DeviceCalls.{first_of}
 use Rattle.overlay_laws.specs.Hulls.{IsAscending}
 use Rattle.overlay_laws.specs.Entries.{In}
+use Rattle.overlay_laws.specs.Lines.{EndBelow}
 use Rattle.overlay_laws.specs.Walks.{spans, below, above, IsCover, hull_of, end_after, is_single, first_at, told_of, walked, round_end}
 use Rattle.overlay_laws.proofs.WalkLaws.{filter_same, take_first, drop_first, lt_true, lt_false, le_true, le_false, from_le, from_not_le, filter_none, windows_walked}
 use Rattle.overlay_laws.proofs.HullLaws.{filter_short, filter_in, filter_ascends, flat_in, range_high, range_low, in_either}
@@ -16,7 +17,7 @@ use Rattle.overlay_laws.proofs.DomainLaws.{filter_two}
 use Rattle.overlay_laws.proofs.CoverLaws.{spans_below, spans_above, below_told, range_first, past_round, spans_below_none, spans_ascend, spans_past}
 use Rattle.std.specs.Iterator.{MakesProgress, item_count}
 use Rattle.file_domains.specs.declared.walk.Window.{Window}
-use Rattle.file_domains.specs.Rounds.{window_told, windows_of, windows_left, IsWalk, IsLeft, EndBelow}
+use Rattle.file_domains.specs.Rounds.{window_told, windows_of, windows_left, IsWalk, IsLeft}
 use Rattle.file_domains.proofs.CoverParts.{counted_below, ends_before, got_at}
 
 -- ---- walks

@@ -10,6 +10,7 @@ use Rattle.file_domains.specs.declared.walk.Window.{Window}
 use Rattle.file_domains.specs.declared.walk.WindowWalk.{WindowWalk}
 use Rattle.serial_spec.specs.DeviceCalls.{first_of, windows}
 use Rattle.overlay_laws.specs.Entries.{In}
+use Rattle.overlay_laws.specs.Lines.{EndBelow}
 use Rattle.overlay_laws.specs.Walks.{spans, told_of, IsCover, walked, round_end}
 
 abbrev pub bytes_in : Extent → List Extent → List ℕ
@@ -20,10 +21,6 @@ window_told first size w = record { round = (w.0 - first) / size; hull = record 
 
 abbrev pub windows_of : ℕ → List ℕ → List Window
 windows_of size bytes = map (window_told (first_of bytes) size) (map told_of (windows size bytes))
-
--- each extent ends below n
-abbrev pub EndBelow : ℕ → List Extent → Type 0
-EndBelow n cover = (e : Extent) → In cover e → e.at + e.len < n
 
 -- the part of a cover that has bytes from a place on, in whole extents
 pub record IsLeft (place : ℕ) (whole left : List Extent) : Type 0 where

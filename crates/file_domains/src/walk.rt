@@ -1,10 +1,11 @@
 // The windows of an aggregator, by a cursor over the cover.
 ghost use Rattle.std.specs.Prelude.{◌≡◌, ℕ, ◌+◌, ◌-◌, ◌^◌, ◌<◌, ◌≤◌, length, slice_get, drop, Some, min, nat_le, true, false};
 ghost use Rattle.std.specs.List.Sorted.{IsPartitionedBy, IsPartitionPoint};
+ghost use Rattle.overlay_laws.specs.Lines.{EndBelow};
 ghost use Rattle.overlay_laws.specs.Walks.{IsCover, round_end};
 ghost use Rattle.overlay_laws.specs.Entries.{In};
 ghost use Rattle.nc_base.specs.declared.plan.Extent.{Extent};
-ghost use Rattle.file_domains.specs.Rounds.{bytes_in, windows_of, windows_left, EndBelow, IsLeft, IsWalk};
+ghost use Rattle.file_domains.specs.Rounds.{bytes_in, windows_of, windows_left, IsLeft, IsWalk};
 
 use nc_base::Extent;
 

@@ -27,14 +27,14 @@ both_true false b h k = h
 no_false : {A : Type 0} → false ≡ true → A
 no_false h = cc
 
-same_keys : (a b : Key) → same_key a b ≡ true → (a.0 ≡ b.0) × (a.1 ≡ b.1)
+pub same_keys : (a b : Key) → same_key a b ≡ true → (a.0 ≡ b.0) × (a.1 ≡ b.1)
 same_keys a b h = (eqb-true _ _ (and_left _ _ h), eqb-true _ _ (and_right _ _ h))
 
-keys_same : (a b : Key) → a.0 ≡ b.0 → a.1 ≡ b.1 → same_key a b ≡ true
+pub keys_same : (a b : Key) → a.0 ≡ b.0 → a.1 ≡ b.1 → same_key a b ≡ true
 keys_same a b h k = grind (arith, nat_tests)
 
 -- who holds a byte, by members
-holds_by : {X : Type 0} (key : X → Key) (bytes : X → List ℕ) (xs : List X) (k : Key) (x : ℕ) (o : X) → In xs o → (key o).0 ≡ k.0 → (key o).1 ≡ k.1 → In (bytes o) x
+pub holds_by : {X : Type 0} (key : X → Key) (bytes : X → List ℕ) (xs : List X) (k : Key) (x : ℕ) (o : X) → In xs o → (key o).0 ≡ k.0 → (key o).1 ≡ k.1 → In (bytes o) x
     → Holds (map (λ z. (key z, bytes z)) xs) k x
 holds_by key bytes [] k x o h e f m = absurd h
 holds_by {X} key bytes (y ∷ ys) k x o (inl g) e f m =
@@ -44,14 +44,14 @@ holds_by {X} key bytes (y ∷ ys) k x o (inl g) e f m =
 holds_by key bytes (y ∷ ys) k x o (inr h) e f m =
     or_right (same_key (key y) k && list_any (λ z. z == x) (bytes y)) _ (holds_by key bytes ys k x o h e f m)
 
-record IsHolder {X : Type 0} (key : X → Key) (bytes : X → List ℕ) (xs : List X) (k : Key) (x : ℕ) : Type 0 where
-  holder : X
-  is_one : In xs holder
-  rank : (key holder).0 ≡ k.0
-  request : (key holder).1 ≡ k.1
-  has : In (bytes holder) x
+pub record IsHolder {X : Type 0} (key : X → Key) (bytes : X → List ℕ) (xs : List X) (k : Key) (x : ℕ) : Type 0 where
+  pub holder : X
+  pub is_one : In xs holder
+  pub rank : (key holder).0 ≡ k.0
+  pub request : (key holder).1 ≡ k.1
+  pub has : In (bytes holder) x
 
-holder_of : {X : Type 0} (key : X → Key) (bytes : X → List ℕ) (xs : List X) (k : Key) (x : ℕ) → Holds (map (λ z. (key z, bytes z)) xs) k x
+pub holder_of : {X : Type 0} (key : X → Key) (bytes : X → List ℕ) (xs : List X) (k : Key) (x : ℕ) → Holds (map (λ z. (key z, bytes z)) xs) k x
     → IsHolder key bytes xs k x
 holder_of key bytes [] k x h = no_false h
 holder_of key bytes (y ∷ ys) k x h =

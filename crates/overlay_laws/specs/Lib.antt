@@ -6,3 +6,4 @@ pub mod Hulls
 pub mod Walks
 pub mod Steps
 pub mod Changes
+pub mod Lines
