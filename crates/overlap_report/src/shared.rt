@@ -48,6 +48,7 @@ impl Reach {
         }
     }
 
+    // With an entry that begins where those of other requests end, or later.
     fn with(&self, entry: &Owned) -> Reach
         requires { entry.now.extent.at + entry.now.extent.len < 2 ^ 62 }
         ensures { result ≡ with_entry self.now entry.now }
@@ -60,19 +61,12 @@ impl Reach {
                 request: self.request,
                 other: self.other,
             }
-        } else if self.end < end {
+        } else {
             Reach {
                 end,
                 rank: entry.rank,
                 request: entry.request,
                 other: self.end,
-            }
-        } else {
-            Reach {
-                end: self.end,
-                rank: self.rank,
-                request: self.request,
-                other: self.other.max(end),
             }
         }
     }
