@@ -117,6 +117,20 @@ abbrev pub event_at : Setting → Desk → Arrival → Option Seat → Event
 event_at s d a None = keeps d d.seats
 event_at s d a (Some x) = at_item s d a.0 x a.1
 
+-- the offers of the step that the arrival brings, with their ranks; none where it brings no step
+abbrev pub offers_met : List Seat → Bool → List (ℕ × Offer)
+offers_met seats true = enumerate_from 0 (offers_held seats)
+offers_met seats false = []
+
+abbrev pub offers_at : Desk → ℕ → Offer → Seat → OfferKind → List (ℕ × Offer)
+offers_at d r o x offer.Solo = (r, o) ∷ []
+offers_at d r o x (offer.Meet kind) =
+    let seats = set d.seats r (record { held = Some o; ended = x.ended }) in offers_met seats (list_all holds seats)
+
+abbrev pub step_offers : Desk → Arrival → List (ℕ × Offer)
+step_offers d (r, item.Ended memory) = []
+step_offers d (r, item.Offer c o) = elim (slice_get d.seats r) [ None ↦ [] | Some x ↦ offers_at d r o x o.kind ]
+
 -- It stays closed where no proof opens it, as do the tests below, so that goals stay short.
 unfoldable pub event : Setting → Desk → Arrival → Event
 event s d a = event_at s d a (slice_get d.seats a.0)
