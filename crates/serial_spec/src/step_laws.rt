@@ -9,6 +9,9 @@ ghost use Rattle.nc_base.specs.declared.answer.Pair.{Pair};
 ghost use Rattle.nc_base.specs.declared.step.Offer.{Offer};
 ghost use Rattle.std.specs.List.{list_any, enumerate_from};
 ghost use Rattle.std.specs.Int.{byte_len};
+ghost use Rattle.serial_spec.specs.Said.{said_at, said_by, byte_or, Cell, write_cells};
+ghost use Rattle.serial_spec.specs.SharedByte.{Puts, said_by_puts};
+ghost use Rattle.serial_spec.specs.FileStep.{after_puts};
 
 /// The pair is the least byte that two requests hold, with the two least of them, and there is none where no byte is shared.
 pub fn shared_pair_law()
@@ -26,4 +29,11 @@ pub fn steps_keep()
         → (x < 4) ⊎ (4 + byte_len (count_width s.header.version) ≤ x) → at (meeting s offers c).0.file x ≡ at c.file x }
     ensures solo { (s : Setting) (r : ℕ) (o : Offer) (c : Counted) (x : ℕ)
         → list_any (λ y. y == x) (covered s.header (puts_of (r, o))) ≡ false → at (solo s r o c).0.file x ≡ at c.file x }
+{}
+
+/// A byte after the puts of a step is what the last put that holds it says, else the old byte; and so of any cells.
+pub fn puts_say()
+    ensures puts { (s : Setting) (puts : Puts) (file : List ℕ) (x : ℕ)
+        → at (after_puts s puts None file) x ≡ byte_or (said_at (said_by_puts s.header puts) x) (at file x) }
+    ensures cells { (file : List ℕ) (cells : List Cell) (x : ℕ) → at (write_cells file cells) x ≡ byte_or (said_at (said_by cells) x) (at file x) }
 {}
