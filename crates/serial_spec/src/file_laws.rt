@@ -12,6 +12,7 @@ ghost use Rattle.nc_base.specs.declared.request.Value.{Value};
 ghost use Rattle.nc_base.specs.declared.header.Header.{Header};
 ghost use Rattle.nc_base.specs.declared.header.Var.{Var};
 ghost use Rattle.serial_spec.specs.ExternalForm as external;
+ghost use Rattle.serial_spec.specs.Fill.{boxes, AreBoxes};
 
 /// A write keeps every other byte.
 pub fn write_keeps()
@@ -44,4 +45,9 @@ pub fn elements_law()
         → ((k ≡ m) × (i ≡ j) → ⊥) → AreApart (place header v i) (external.size_of v.kind) (place header w j) (external.size_of w.kind) }
     ensures past_header { (header : Header) (k : ℕ) (v : Var) (i : List ℕ) → is_sound header ≡ true
         → slice_get header.vars k ≡ Some v → IsElement header v i → header_len header ≤ place header v i }
+{}
+
+/// The boxes of a range of row-major numbers have just the indices with these numbers, in order.
+pub fn boxes_law()
+    ensures { (lengths : List ℕ) (from to : ℕ) → from ≤ to → to ≤ product lengths → AreBoxes lengths from to (boxes lengths from to) }
 {}

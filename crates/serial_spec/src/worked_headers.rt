@@ -2,7 +2,7 @@
 
 ghost use Rattle.std.specs.Prelude.{◌≡◌, ◌+◌, [], ◌∷◌, ◌++◌, Some, None, take, true, drop};
 ghost use Rattle.serial_spec.specs.HeaderGrammar.{canon, header_len, field_fault, first_check, is_writable};
-ghost use Rattle.serial_spec.specs.Examples.{dataset_2, dataset_a, dataset_b, dataset_bq, header_a, var, int_bytes, device_calls, halves, word, header_a_with, dataset_5, two_bytes, begin_list, end_of_file, aligned, striped, striped_part, file_halves, reopened, moved, };
+ghost use Rattle.serial_spec.specs.Examples.{dataset_2, dataset_a, dataset_b, dataset_bq, header_a, var, int_bytes, device_calls, halves, word, header_a_with, dataset_5, two_bytes, begin_list, end_of_file, aligned, striped, striped_part, file_halves, reopened, moved};
 ghost use Rattle.serial_spec.specs.Layout.{recsize, end_of};
 ghost use Rattle.nc_base.specs.declared.header.NcType.TheVariants.{Int};
 ghost use Rattle.nc_base.specs.declared.errors.HeaderErr.TheVariants.{NotCdf, BadVersion, Truncated, BadTag, BadType, BadNumber, BadDimId, Streaming, TooLarge, Shared};
