@@ -1,6 +1,6 @@
 -- The canonical text of a script. (own)
 --     shown script
-use Rattle.std.specs.Prelude.{ℕ, zero, suc, List, [], ◌∷◌, ◌++◌, map, take, drop, length, flat_map, zip, ◌==◌, if◌then◌else◌, Option, Some, None, slice_get, codes, decimal}
+use Rattle.std.specs.Prelude.{ℕ, zero, suc, List, [], ◌∷◌, ◌++◌, map, take, drop, length, flat_map, zip, ◌==◌, if◌then◌else◌, Some, None, slice_get, codes, decimal}
 use Rattle.std.specs.List.{enumerate_from}
 use Rattle.nc_base.specs.declared.header.Dim.{Dim}
 use Rattle.nc_base.specs.declared.header.Attr.{Attr}
