@@ -124,3 +124,32 @@ faulty_part =
     ++ text_line (codes "var int v [x]")
     ++ text_line (codes "data")
     ++ text_line (codes "0 get_varn v 2 [0] [1] [2]")
+
+abbrev pub faulty_without_end : List ℕ
+faulty_without_end =
+    text_line (codes "create 1")
+    ++ text_line (codes "ranks 2")
+    ++ text_line (codes "dim x 4")
+    ++ text_line (codes "var int v [x]")
+    ++ text_line (codes "data")
+    ++ text_line (codes "0 put_vara_all v [0] [2] 1 2")
+    ++ text_line (codes "1 put_vara_all v [2] [2] 3 4")
+
+abbrev pub faulty_after_end : List ℕ
+faulty_after_end =
+    text_line (codes "create 1")
+    ++ text_line (codes "ranks 2")
+    ++ text_line (codes "dim x 4")
+    ++ text_line (codes "var int v [x]")
+    ++ text_line (codes "data")
+    ++ text_line (codes "0 put_vara_all v [0] [2] 1 2")
+    ++ text_line (codes "1 put_vara_all v [2] [2] 3 4")
+    ++ text_line (codes "end")
+    ++ text_line (codes "x")
+
+abbrev pub faulty_dimensions : List ℕ
+faulty_dimensions =
+    text_line (codes "create 1")
+    ++ text_line (codes "ranks 1")
+    ++ text_line (codes "dim x 1")
+    ++ text_line (codes "var byte b [x,x,x,x,x,x,x,x,x,x,x,x,x,x,x,x,x,x,x,x,x,x,x,x,x,x,x,x,x,x,x,x,x]")

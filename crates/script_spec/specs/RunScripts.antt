@@ -651,3 +651,76 @@ script_extras =
     ++ text_line (codes "att : n int 3")
     ++ text_line (codes "data")
     ++ text_line (codes "end")
+
+abbrev pub script_serial_posts : List ℕ
+script_serial_posts =
+    text_line (codes "create 1")
+    ++ text_line (codes "ranks 1")
+    ++ text_line (codes "hint overlap serial")
+    ++ text_line (codes "dim x 4")
+    ++ text_line (codes "var int v [x]")
+    ++ text_line (codes "data")
+    ++ text_line (codes "0 iput_vara 0 v [0] [2] 1 2")
+    ++ text_line (codes "0 iput_vara 1 v [1] [2] 3 4")
+    ++ text_line (codes "0 wait_all 1 0")
+    ++ text_line (codes "end")
+
+abbrev pub printed_serial_posts : List ℕ
+printed_serial_posts =
+    text_line (codes "rank 0")
+    ++ text_line (codes "0 iput_vara ok")
+    ++ text_line (codes "1 iput_vara ok")
+    ++ text_line (codes "2 wait_all ok")
+    ++ text_line (codes "  1 ok")
+    ++ text_line (codes "  0 ok")
+    ++ text_line (codes "pending 0")
+
+abbrev pub script_uint64 : List ℕ
+script_uint64 =
+    text_line (codes "create 5")
+    ++ text_line (codes "ranks 1")
+    ++ text_line (codes "dim x 4")
+    ++ text_line (codes "var uint64 v [x]")
+    ++ text_line (codes "data")
+    ++ text_line (codes "0 put_var1_all v [0] 18446744073709551615")
+    ++ text_line (codes "0 get_var1_all v [0]")
+    ++ text_line (codes "end")
+
+abbrev pub printed_uint64 : List ℕ
+printed_uint64 =
+    text_line (codes "rank 0")
+    ++ text_line (codes "0 put_var1_all ok")
+    ++ text_line (codes "1 get_var1_all ok 18446744073709551615")
+    ++ text_line (codes "pending 0")
+
+-- a dataset that is opened, and one to which a variable is added
+abbrev pub script_opened : List ℕ
+script_opened =
+    text_line (codes "open")
+    ++ text_line (codes "ranks 1")
+    ++ text_line (codes "data")
+    ++ text_line (codes "0 get_var_all v")
+    ++ text_line (codes "end")
+
+abbrev pub printed_opened : List ℕ
+printed_opened =
+    text_line (codes "rank 0")
+    ++ text_line (codes "0 get_var_all ok 1 2 3 4")
+    ++ text_line (codes "pending 0")
+
+abbrev pub script_added : List ℕ
+script_added =
+    text_line (codes "open")
+    ++ text_line (codes "ranks 1")
+    ++ text_line (codes "var short q [x]")
+    ++ text_line (codes "data")
+    ++ text_line (codes "0 get_var_all v")
+    ++ text_line (codes "0 get_var_all q")
+    ++ text_line (codes "end")
+
+abbrev pub printed_added : List ℕ
+printed_added =
+    text_line (codes "rank 0")
+    ++ text_line (codes "0 get_var_all ok 1 2 3 4")
+    ++ text_line (codes "1 get_var_all ok 0 0 0 0")
+    ++ text_line (codes "pending 0")

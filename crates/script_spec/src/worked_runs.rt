@@ -11,6 +11,9 @@ ghost use Rattle.serial_spec.specs.Examples.{int_bytes};
 ghost use Rattle.script_spec.specs.FaultyScripts.{faulty_fill_twice, faulty_no_part, faulty_many_parts, faulty_part};
 ghost use Rattle.nc_base.specs.declared.errors.ScriptKind.TheVariants as kind;
 ghost use Rattle.nc_base.specs.declared.errors.LimitName.TheVariants as limit;
+ghost use Rattle.script_spec.specs.RunScripts.{script_serial_posts, printed_serial_posts, script_uint64, printed_uint64, script_opened, printed_opened, script_added, printed_added};
+ghost use Rattle.script_spec.specs.TextExamples.{printed_on, calls_on};
+ghost use Rattle.serial_spec.specs.Examples.{dataset_a, file_halves, moved, file_moved};
 
 /// The printed text of small runs.
 pub fn worked_answers()
@@ -103,4 +106,23 @@ pub fn worked_fills()
     ensures fixed_calls { calls_made script_fill_fixed (Meet 0 ∷ Meet 1 ∷ []) ≡ [] }
     ensures again { script_read (shown (script_read script_fill)) ≡ script_read script_fill }
     ensures twice { fault_of (script_of_utf8 faulty_fill_twice) ≡ fault_at 3 kind.TwiceNamed }
+{}
+
+/// Overlapping puts of one rank in serial order, and the greatest number of 64 bits.
+pub fn worked_orders()
+    ensures serial_text { printed script_serial_posts (Meet 0 ∷ []) ≡ printed_serial_posts }
+    ensures serial_data { data_of script_serial_posts (Meet 0 ∷ []) ≡ int_bytes (1 ∷ 3 ∷ 4 ∷ 0 ∷ []) }
+    ensures serial_calls { calls_made script_serial_posts (Meet 0 ∷ []) ≡ Store 80 12 ∷ [] }
+    ensures uint64_text { printed script_uint64 (Meet 0 ∷ Meet 1 ∷ []) ≡ printed_uint64 }
+    ensures uint64_data { data_of script_uint64 (Meet 0 ∷ Meet 1 ∷ []) ≡ replicate 8 255 ++ replicate 24 0 }
+{}
+
+/// Datasets that are opened, one with room behind its header, and one to which a variable is added.
+pub fn worked_opened()
+    ensures opened_text { printed_on script_opened dataset_a file_halves (Meet 0 ∷ []) ≡ printed_opened }
+    ensures opened_calls { calls_on script_opened dataset_a file_halves (Meet 0 ∷ []) ≡ Load 0 96 ∷ Load 80 16 ∷ [] }
+    ensures room_text { printed_on script_opened moved file_moved (Meet 0 ∷ []) ≡ printed_opened }
+    ensures added_text { printed_on script_added dataset_a file_halves (Meet 0 ∷ Meet 1 ∷ []) ≡ printed_added }
+    ensures added_calls { calls_on script_added dataset_a file_halves (Meet 0 ∷ Meet 1 ∷ [])
+        ≡ Load 0 96 ∷ Grow 140 ∷ Load 80 16 ∷ Store 116 16 ∷ Store 132 8 ∷ Store 0 116 ∷ Load 116 16 ∷ Load 132 8 ∷ [] }
 {}

@@ -15,6 +15,7 @@ ghost use Rattle.serial_spec.specs.Lawful.{is_lawful};
 ghost use Rattle.nc_base.specs.declared.errors.ScriptKind.TheVariants as kind;
 ghost use Rattle.nc_base.specs.declared.errors.LimitName.TheVariants as limit;
 ghost use Rattle.nc_base.specs.declared.request.Call.TheVariants as call;
+ghost use Rattle.script_spec.specs.FaultyScripts.{faulty_without_end, faulty_after_end, faulty_dimensions};
 
 /// A script is read, and what is shown of it is read again.
 pub fn worked_script()
@@ -99,6 +100,9 @@ pub fn worked_words()
     ensures fill_after_open { fault_of (script_of_utf8 faulty_opened) ≡ fault_at 3 kind.UnknownWord }
     ensures bad_value { fault_of (script_of_utf8 faulty_fits) ≡ fault_at 3 kind.BadNumber }
     ensures new_type { fault_of (script_of_utf8 faulty_new_type) ≡ fault_at 3 kind.UnknownWord }
+    ensures without_end { fault_of (script_of_utf8 faulty_without_end) ≡ fault_at 8 kind.NoEnd }
+    ensures text_after_end { fault_of (script_of_utf8 faulty_after_end) ≡ fault_at 9 kind.AfterEnd }
+    ensures many_dimensions { fault_of (script_of_utf8 faulty_dimensions) ≡ fault_at 4 (kind.Limit limit.VarDims) }
 {}
 
 /// Lines that add to an existing file.

@@ -15,6 +15,14 @@ ghost use Rattle.nc_base.specs.declared.errors.ScriptKind.TheVariants as kind;
 ghost use Rattle.nc_base.specs.declared.errors.LimitName.TheVariants as limit;
 ghost use Rattle.nc_base.specs.declared.errors.LayoutErr.TheVariants as layout;
 ghost use Rattle.nc_base.specs.declared.errors.RedefErr.TheVariants as redef;
+ghost use Rattle.std.specs.Prelude.{option_map, Some, take};
+ghost use Rattle.script_spec.specs.TextExamples.{offsets_of_record, offsets_with_room};
+ghost use Rattle.script_spec.specs.Texts.{offsets_text, header_line};
+ghost use Rattle.serial_spec.specs.Redefinition.{layout_fault};
+ghost use Rattle.serial_spec.specs.HeaderGrammar.{field_fault};
+ghost use Rattle.serial_spec.specs.Examples.{dataset_b, dim, var, moved, defined};
+ghost use Rattle.nc_base.specs.declared.header.NcType.TheVariants.{Int};
+ghost use Rattle.nc_base.specs.declared.errors.HeaderErr.TheVariants.{Streaming};
 
 /// The printed text of a run.
 pub fn worked_text()
@@ -48,4 +56,14 @@ pub fn worked_generator()
         record { name = codes "temp"; dims = 0 ∷ 1 ∷ 2 ∷ []; attrs = []; kind = Float; begin = 160 }
         ∷ record { name = codes "precip"; dims = 0 ∷ 1 ∷ 2 ∷ []; attrs = []; kind = Short; begin = 259360 } ∷ [] }
     ensures size { recsize made_header ≡ 388800 }
+{}
+
+/// What is told of a layout, and of a header or a layout that is refused.
+pub fn worked_offsets()
+    ensures record { offsets_text dataset_b ≡ offsets_of_record }
+    ensures room { offsets_text moved ≡ offsets_with_room }
+    ensures too_large { option_map layout_line (layout_fault (defined 1 (dim 120 600000000 ∷ []) (var 118 Int (0 ∷ []) ∷ [])) no_align)
+        ≡ Some (text_line (codes "ncrun: variable 0 is too large")) }
+    ensures cut { option_map header_line (field_fault (take 70 header_a)) ≡ Some (text_line (codes "ncrun: header truncated at byte 68")) }
+    ensures streaming { header_line Streaming ≡ text_line (codes "ncrun: header has a streaming record count") }
 {}

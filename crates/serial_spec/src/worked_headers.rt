@@ -45,17 +45,17 @@ pub fn worked_records()
 /// Headers with one word changed.
 #[tactic(auto, unfolding(crate::specs::HeaderGrammar::canon))]
 pub fn worked_header_faults()
-    ensures not_cdf_row { field_fault (header_a_with 0 (word 88 68 70 1)) ≡ Some NotCdf }
-    ensures version_row { field_fault (header_a_with 0 (word 67 68 70 3)) ≡ Some BadVersion }
-    ensures tag_row { field_fault (header_a_with 8 (word 0 0 0 11)) ≡ Some (BadTag 8) }
-    ensures absent_row { field_fault (header_a_with 8 (word 0 0 0 0)) ≡ Some (BadNumber 12) }
-    ensures negative_row { field_fault (header_a_with 12 (word 128 0 0 0)) ≡ Some (BadNumber 12) }
-    ensures large_row { field_fault (header_a_with 12 (word 127 255 255 255)) ≡ Some TooLarge }
-    ensures two_dims_row { field_fault (header_a_with 12 (word 0 0 0 2)) ≡ Some (BadTag 36) }
-    ensures many_ids_row { field_fault (header_a_with 52 (word 0 0 0 33)) ≡ Some TooLarge }
-    ensures attr_tag_row { field_fault (header_a_with 64 (word 0 0 0 1)) ≡ Some (BadNumber 64) }
-    ensures kind_row { field_fault (header_a_with 68 (word 0 0 0 7)) ≡ Some (BadType 68) }
-    ensures vsize_row { field_fault (header_a_with 72 (word 255 255 255 255)) ≡ None }
+    ensures not_cdf { field_fault (header_a_with 0 (word 88 68 70 1)) ≡ Some NotCdf }
+    ensures version { field_fault (header_a_with 0 (word 67 68 70 3)) ≡ Some BadVersion }
+    ensures tag { field_fault (header_a_with 8 (word 0 0 0 11)) ≡ Some (BadTag 8) }
+    ensures absent { field_fault (header_a_with 8 (word 0 0 0 0)) ≡ Some (BadNumber 12) }
+    ensures negative { field_fault (header_a_with 12 (word 128 0 0 0)) ≡ Some (BadNumber 12) }
+    ensures large { field_fault (header_a_with 12 (word 127 255 255 255)) ≡ Some TooLarge }
+    ensures two_dims { field_fault (header_a_with 12 (word 0 0 0 2)) ≡ Some (BadTag 36) }
+    ensures many_ids { field_fault (header_a_with 52 (word 0 0 0 33)) ≡ Some TooLarge }
+    ensures attr_tag { field_fault (header_a_with 64 (word 0 0 0 1)) ≡ Some (BadNumber 64) }
+    ensures kind { field_fault (header_a_with 68 (word 0 0 0 7)) ≡ Some (BadType 68) }
+    ensures vsize { field_fault (header_a_with 72 (word 255 255 255 255)) ≡ None }
     ensures attributes { field_fault (header_a_with 28 (word 0 0 0 12 ++ word 127 255 255 255)) ≡ Some (BadType 64) }
     ensures id_fields { field_fault (header_a_with 56 (word 0 0 0 5)) ≡ None }
     ensures id { first_check (record dataset_a { vars = record (var 118 Int (5 ∷ [])) { begin = 80 } ∷ [] }) ≡ Some (BadDimId 0) }

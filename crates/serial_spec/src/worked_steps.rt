@@ -24,6 +24,12 @@ ghost use Rattle.serial_spec.specs.RankMachine.{answer};
 ghost use Rattle.serial_spec.specs.RankSide.{offered, rank_stop, rank_end};
 ghost use Rattle.nc_base.specs.declared.answer.Code.TheVariants.{Ok};
 ghost use Rattle.nc_base.specs.declared.run.RankStop.TheVariants.{Done, Stopped, Misfit};
+ghost use Rattle.serial_spec.specs.RegionCheck.{check, widen};
+ghost use Rattle.serial_spec.specs.Examples.{many_bytes, dataset_b, packed_region, given, var};
+ghost use Rattle.nc_base.specs.declared.answer.Code.TheVariants.{ENotVar, EInvalCoords, EStride, EEdge, ETooLarge};
+ghost use Rattle.nc_base.specs.declared.request.Direction.TheVariants.{Put, Get};
+ghost use Rattle.nc_base.specs.declared.request.Form.TheVariants as form;
+ghost use Rattle.nc_base.specs.declared.header.NcType.TheVariants.{Short};
 
 /// Memory by an index map.
 pub fn worked_map()
@@ -107,4 +113,22 @@ pub fn worked_shared()
     ensures last { said_at {A = ℕ} ((4, 1) ∷ (5, 2) ∷ (4, 3) ∷ []) 4 ≡ Some 3 }
     ensures unsaid { said_at {A = ℕ} ((4, 1) ∷ (5, 2) ∷ (4, 3) ∷ []) 6 ≡ None }
     ensures cells { write_cells (9 ∷ 9 ∷ 9 ∷ []) ((1, 1 ∷ 2 ∷ []) ∷ (2, 3 ∷ 4 ∷ []) ∷ []) ≡ 9 ∷ 1 ∷ 3 ∷ 4 ∷ [] }
+{}
+
+/// When a call's region is refused: of a variable with two million bytes, of one with four elements, and of a record variable.
+#[tactic(auto, unfolding(crate::specs::HeaderGrammar::canon))]
+pub fn worked_regions()
+    ensures many { check many_bytes 0 (packed_region (0 ∷ []) (1048576 ∷ []) (1 ∷ [])) 0 Put ≡ Ok }
+    ensures too_many { check many_bytes 0 (packed_region (0 ∷ []) (1048577 ∷ []) (1 ∷ [])) 0 Put ≡ ETooLarge }
+    ensures no_variable { check dataset_a 1 (packed_region (0 ∷ []) (1 ∷ []) (1 ∷ [])) 0 Put ≡ ENotVar }
+    ensures other_shape { check dataset_a 0 (packed_region (0 ∷ 0 ∷ []) (1 ∷ []) (1 ∷ [])) 0 Put ≡ EInvalCoords }
+    ensures no_stride { check dataset_a 0 (packed_region (9 ∷ []) (1 ∷ []) (0 ∷ [])) 0 Put ≡ EStride }
+    ensures start_past { check dataset_a 0 (packed_region (4 ∷ []) (1 ∷ []) (1 ∷ [])) 0 Put ≡ EInvalCoords }
+    ensures start_at_end { check dataset_a 0 (packed_region (4 ∷ []) (0 ∷ []) (1 ∷ [])) 0 Put ≡ Ok }
+    ensures edge { check dataset_a 0 (packed_region (3 ∷ []) (2 ∷ []) (1 ∷ [])) 0 Put ≡ EEdge }
+    ensures new_record { check dataset_b 0 (packed_region (3 ∷ []) (1 ∷ []) (1 ∷ [])) 3 Put ≡ Ok }
+    ensures unknown_record { check dataset_b 0 (packed_region (3 ∷ []) (1 ∷ []) (1 ∷ [])) 3 Get ≡ EInvalCoords }
+    ensures last_record { check dataset_b 0 (packed_region (2147483646 ∷ []) (1 ∷ []) (1 ∷ [])) 0 Put ≡ Ok }
+    ensures past_records { check dataset_b 0 (packed_region (2147483647 ∷ []) (1 ∷ []) (1 ∷ [])) 0 Put ≡ ETooLarge }
+    ensures whole { widen dataset_b (var 115 Short (0 ∷ [])) (given form.Var [] [] []) 3 ≡ packed_region (0 ∷ []) (3 ∷ []) (1 ∷ []) }
 {}

@@ -58,3 +58,15 @@ returns-clause-bad_value c = refl
 pub returns-clause-new_type : goal.returns-clause-new_type
 unfolding digits canon
 returns-clause-new_type c = refl
+
+pub returns-clause-without_end : goal.returns-clause-without_end
+unfolding digits canon
+returns-clause-without_end c = refl
+
+pub returns-clause-text_after_end : goal.returns-clause-text_after_end
+unfolding digits canon
+returns-clause-text_after_end c = refl
+
+pub returns-clause-many_dimensions : goal.returns-clause-many_dimensions
+unfolding digits canon
+returns-clause-many_dimensions c = refl
