@@ -13,6 +13,9 @@ ghost use Rattle.nc_base.specs.declared.header.Header.{Header};
 ghost use Rattle.nc_base.specs.declared.header.Var.{Var};
 ghost use Rattle.serial_spec.specs.ExternalForm as external;
 ghost use Rattle.serial_spec.specs.Fill.{boxes, AreBoxes};
+ghost use Rattle.serial_spec.specs.Place.{IsElementBelow};
+ghost use Rattle.serial_spec.specs.Layout.{end_of};
+ghost use Rattle.serial_spec.specs.RegionCheck.{known_lengths};
 
 /// A write keeps every other byte.
 pub fn write_keeps()
@@ -50,4 +53,17 @@ pub fn elements_law()
 /// The boxes of a range of row-major numbers have just the indices with these numbers, in order.
 pub fn boxes_law()
     ensures { (lengths : List ℕ) (from to : ℕ) → from ≤ to → to ≤ product lengths → AreBoxes lengths from to (boxes lengths from to) }
+{}
+
+/// An element in a record below n ends within the file of n records, and the end of a file grows with its records.
+pub fn elements_end()
+    ensures inside { (header : Header) (first n k : ℕ) (v : Var) (index : List ℕ) → slice_get header.vars k ≡ Some v → IsElementBelow header v n index
+        → place header v index + external.size_of v.kind ≤ end_of header first n }
+    ensures grows { (header : Header) (first n m : ℕ) → n ≤ m → end_of header first n ≤ end_of header first m }
+{}
+
+/// An index below the lengths of a sound header's variable, the record dimension's being a count, is an element in a record below it.
+pub fn known_elements()
+    ensures { (header : Header) (k : ℕ) (v : Var) (known : ℕ) (index : List ℕ) → is_sound header ≡ true → slice_get header.vars k ≡ Some v
+        → IsIndex (known_lengths header v known) index → IsElementBelow header v known index }
 {}
