@@ -134,11 +134,7 @@ fn exchanged<R: Threads + Wait + Sync>(
     Ok((puts, take, taken))
 }
 
-fn taken_under(
-    alloc: Global,
-    taken: &[(u32, u64)],
-    number: u32,
-) -> Result<Vec<u64>, AllocError> {
+fn taken_under(alloc: Global, taken: &[(u32, u64)], number: u32) -> Result<Vec<u64>, AllocError> {
     let mut items = Vec::new(alloc);
     for (from, item) in taken {
         if *from == number {
