@@ -1,5 +1,5 @@
 // The sending ends of several lines.
-ghost use Rattle.std.specs.Prelude.{◌≡◌, ◌≢◌, ◌<◌, ℕ, length, slice_get, option_map};
+ghost use Rattle.std.specs.Prelude.{◌≡◌, ◌≢◌, ◌<◌, ◌↔◌, ℕ, [], length, slice_get, option_map, IsTrue};
 ghost use Rattle.ruled_line.specs.Ends.{with_item};
 
 use crate::LinePut;
@@ -40,6 +40,12 @@ impl<T: Send + Drop> LinePutList<T> {
         ensures { result ≡ length self.now }
     {
         self.ends.len()
+    }
+
+    pub fn is_empty(&self) -> bool
+        ensures { IsTrue result ↔ (self.now ≡ []) }
+    {
+        self.ends.is_empty()
     }
 
     /// Puts an item on the line at this place, and waits for room on it.

@@ -72,6 +72,7 @@ fn each_place_of_a_list_has_its_own_line(rt: HostRuntime) -> Result<(), Memory> 
     assert_eq!(rt; first.take(&rt), 4, "first line");
     assert_eq!(rt; second.take(&rt), 5, "second line");
     assert_eq!(rt; ends.len(), 2, "length");
+    assert!(rt; !ends.is_empty(), "two ends");
     assert_eq!(rt; ends.into_vec().len(), 2, "ends");
     Ok(())
 }
