@@ -2,4 +2,4 @@ pub mod Views
 pub mod LineMoves
 pub mod ItemsUnder
 pub mod InboxMoves
-pub mod EndLists
+pub mod SenderLists

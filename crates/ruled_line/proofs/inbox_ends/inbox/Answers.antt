@@ -3,7 +3,7 @@ use Rattle.std.specs.List.{range_with_len}
 use Rattle.crossbeam_channel.specs.Ends.{sends_on}
 use Rattle.ruled_line.specs.Ends.{line_of}
 use Rattle.ruled_line.proofs.InboxMoves.{begins, opens, gives}
-use Rattle.ruled_line.proofs.EndLists.{same-push, numbers-push, empty-push}
+use Rattle.ruled_line.proofs.SenderLists.{same-push, numbers-push, empty-push}
 use Rattle.ruled_line.proofs.inbox_ends.inbox.Goals as goal
 
 pub bounded_with-requires-clause-rule : goal.bounded_with-requires-clause-rule
