@@ -11,14 +11,10 @@
 --     moved_down lo cells          the cells as seen from place lo
 use Rattle.std.specs.Prelude.{◌≡◌, ℕ, ◌+◌, ◌-◌, ◌≤◌, List, [], ◌∷◌, length, map, fold, flat_map, ◌==◌, ◌⊎◌, if◌then◌else◌, Option, Some, None}
 use Rattle.std.specs.List.{enumerate_from}
+use Rattle.std.specs.Option.{option_or}
 use Rattle.serial_spec.specs.File.{written}
 
 -- ---- what pairs say
-
--- the first where there is one, else the second
-abbrev pub or_else : {A : Type 0} → Option A → Option A → Option A
-or_else None o = o
-or_else (Some a) o = Some a
 
 -- what one pair says of place x
 abbrev pub one_says : {A : Type 0} → ℕ → A → ℕ → Option A
@@ -26,7 +22,7 @@ one_says y a x = if y == x then Some a else None
 
 abbrev pub said_at : {A : Type 0} → List (ℕ × A) → ℕ → Option A
 said_at [] x = None
-said_at (p ∷ ps) x = or_else (said_at ps x) (one_says p.0 p.1 x)
+said_at (p ∷ ps) x = option_or (said_at ps x) (one_says p.0 p.1 x)
 
 abbrev pub byte_or : Option ℕ → ℕ → ℕ
 byte_or None old = old
