@@ -95,9 +95,12 @@ pub window_refused : (held left : Option (List ℕ)) (full : Bool) (buf : List �
 window_refused None left full buf from lo n size cells told long low room least most whole was_read h = h
 window_refused (Some file) left full buf from lo n size cells told long low room least most whole was_read h =
     let inner : length (write_cells buf (moved_down lo cells)) ≡ length buf
-        = cells_long (moved_down lo cells) buf (within_lowered lo (length buf) cells least (subst (λ (k : ℕ). IsWithin cells (lo + k)) (sym long) most)) in
-    (h.0, h.1, between file h.0 (write_cells buf (moved_down lo cells)) (lo - from) (write_cells file (moved_down from cells)) (omega arith)
-    (window_over full file buf from lo n cells long low (omega arith) least most whole was_read) h.2)
+    = cells_long (moved_down lo cells) buf (within_lowered lo (length buf) cells least (subst (λ (k : ℕ). IsWithin cells (lo + k)) (sym long) most)) in (
+      h.0,
+      h.1,
+      between file h.0 (write_cells buf (moved_down lo cells)) (lo - from) (write_cells file (moved_down from cells)) (omega arith)
+          (window_over full file buf from lo n cells long low (omega arith) least most whole was_read) h.2,
+    )
 
 -- the calls of a window of which the write was refused
 pub window_begun : (full : Bool) (x n : ℕ) (old mid now : Option (List DiskCall)) → mid ≡ with_end old (if full then [] else load_calls (x, n, full)) → now ≡ mid

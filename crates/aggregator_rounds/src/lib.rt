@@ -5,3 +5,5 @@ mod round;
 
 pub use round::{close_window, get_window, lay, open_window, put_window};
 
+#[cfg(test)]
+mod tests;

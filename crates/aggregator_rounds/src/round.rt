@@ -16,7 +16,12 @@ use nc_outside::{Disk, DiskErr};
 use std::alloc::Global;
 
 /// Reads the hull, unless the window is full.
-pub fn open_window<D: Disk>(alloc: Global, disk: &mut D, window: &Window, buf: &mut [u8]) -> Result<(), DiskErr>
+pub fn open_window<D: Disk>(
+    alloc: Global,
+    disk: &mut D,
+    window: &Window,
+    buf: &mut [u8],
+) -> Result<(), DiskErr>
     requires low { D.from disk.old ≤ window.now.hull.at }
     requires high { window.now.hull.at + window.now.hull.len ≤ D.from disk.old + D.len disk.old }
     requires room { length buf.old ≡ window.now.hull.len }
@@ -51,7 +56,12 @@ pub fn lay(window: &Window, piece: &Piece, buf: &mut [u8])
 }
 
 /// Writes the hull. Refused, it leaves each byte of the hull old or new, and all others.
-pub fn close_window<D: Disk>(alloc: Global, disk: &mut D, window: &Window, buf: &[u8]) -> Result<(), DiskErr>
+pub fn close_window<D: Disk>(
+    alloc: Global,
+    disk: &mut D,
+    window: &Window,
+    buf: &[u8],
+) -> Result<(), DiskErr>
     requires low { D.from disk.old ≤ window.now.hull.at }
     requires high { window.now.hull.at + window.now.hull.len ≤ D.from disk.old + D.len disk.old }
     requires room { length buf.now ≡ window.now.hull.len }
@@ -71,7 +81,13 @@ pub fn close_window<D: Disk>(alloc: Global, disk: &mut D, window: &Window, buf: 
 /// Overlays the hull with the pieces, by one read at most and one write. Where pieces share a byte, the last one counts.
 ///
 /// Refused, it leaves each byte old or as it would have been, so that bytes of no piece are as before.
-pub fn put_window<D: Disk>(alloc: Global, disk: &mut D, window: &Window, pieces: &[Piece], buf: &mut [u8]) -> Result<(), DiskErr>
+pub fn put_window<D: Disk>(
+    alloc: Global,
+    disk: &mut D,
+    window: &Window,
+    pieces: &[Piece],
+    buf: &mut [u8],
+) -> Result<(), DiskErr>
     requires low { D.from disk.old ≤ window.now.hull.at }
     requires high { window.now.hull.at + window.now.hull.len ≤ D.from disk.old + D.len disk.old }
     requires room { length buf.old ≡ window.now.hull.len }
@@ -108,7 +124,12 @@ fn lay_all(window: &Window, pieces: &[Piece], buf: &mut [u8])
 }
 
 /// Reads the hull.
-pub fn get_window<D: Disk>(alloc: Global, disk: &mut D, window: &Window, buf: &mut [u8]) -> Result<(), DiskErr>
+pub fn get_window<D: Disk>(
+    alloc: Global,
+    disk: &mut D,
+    window: &Window,
+    buf: &mut [u8],
+) -> Result<(), DiskErr>
     requires low { D.from disk.old ≤ window.now.hull.at }
     requires high { window.now.hull.at + window.now.hull.len ≤ D.from disk.old + D.len disk.old }
     requires room { length buf.old ≡ window.now.hull.len }
