@@ -6,3 +6,6 @@ mod walk;
 
 pub use domain::cut;
 pub use walk::{Window, WindowWalk, windows};
+
+#[cfg(test)]
+mod tests;

@@ -7,7 +7,8 @@ use Rattle.nc_base.specs.declared.plan.Owned.{Owned}
 use Rattle.serial_spec.specs.File.{at}
 use Rattle.serial_spec.specs.SharedByte.{Puts}
 use Rattle.serial_spec.specs.FileStep.{Setting, put_post}
-use Rattle.serial_spec.specs.Said.{or_else, one_says, said_at, Says, IsOneValued, write_cells, said_by, IsWithin}
+use Rattle.std.specs.Option.{option_or}
+use Rattle.serial_spec.specs.Said.{one_says, said_at, Says, IsOneValued, write_cells, said_by, IsWithin}
 use Rattle.overlay_laws.specs.Entries.{cells_of_puts, Source, cell_of, IsGathered, In, HaveSame}
 use Rattle.overlay_laws.specs.Origins.{Origin, origins_of, origins, byte_at, AreFound, AtMost, IsGreatest, IsResolved, IsOnceEach, IsInOrder}
 use Rattle.overlay_laws.proofs.SaidLaws.{no_none_some, same_some, one_hit, said_is, says_some, one_said, same_said}
@@ -25,15 +26,15 @@ one_mapped {A} {B} f y a x = by_test (y == x) refl
         miss : {C : Type 0} (c : C) → (y == x) ≡ false → one_says y c x ≡ None
         miss c g = cc
 
-else_mapped : {A B : Type 0} (f : A → B) (o q : Option A) → or_else (option_map f o) (option_map f q) ≡ option_map f (or_else o q)
+else_mapped : {A B : Type 0} (f : A → B) (o q : Option A) → option_or (option_map f o) (option_map f q) ≡ option_map f (option_or o q)
 else_mapped f None q = refl
 else_mapped f (Some a) q = refl
 
 pub said_mapped : {A B : Type 0} (f : A → B) (ps : List (ℕ × A)) (x : ℕ) → said_at (map (λ p. (p.0, f p.1)) ps) x ≡ option_map f (said_at ps x)
 said_mapped f [] x = refl
 said_mapped f (p ∷ ps) x =
-    ap (λ o. or_else o (one_says p.0 (f p.1) x)) (said_mapped f ps x)
-    ∙ ap (λ q. or_else (option_map f (said_at ps x)) q) (one_mapped f p.0 p.1 x)
+    ap (λ o. option_or o (one_says p.0 (f p.1) x)) (said_mapped f ps x)
+    ∙ ap (λ q. option_or (option_map f (said_at ps x)) q) (one_mapped f p.0 p.1 x)
     ∙ else_mapped f (said_at ps x) (one_says p.0 p.1 x)
 
 slice_step : (b : List ℕ) (from n : ℕ) → from < length b → take (suc n) (drop from b) ≡ at b from ∷ take n (drop (from + 1) b)
@@ -81,7 +82,7 @@ last_is_greatest (p ∷ ps) h x a b e k = by_rest (λ g l. last_is_greatest ps h
         miss g = cc
 
     by_rest : (said_at ps x ≡ Some a → Says ps x b → AtMost b a) → (o : Option Origin) → said_at ps x ≡ o
-        → ((p.0 ≡ x) × (p.1 ≡ b)) ⊎ Says ps x b → or_else o (one_says p.0 p.1 x) ≡ Some a → AtMost b a
+        → ((p.0 ≡ x) × (p.1 ≡ b)) ⊎ Says ps x b → option_or o (one_says p.0 p.1 x) ≡ Some a → AtMost b a
     by_rest ih (Some c) g (inr l) f = ih (g ∙ f) l
     by_rest ih (Some c) g (inl l) f = subst (λ (z : Origin). AtMost z a) l.1 (h.0 x a (said_is ps x a (g ∙ f)))
     by_rest ih None g (inr l) f = let s = says_some ps x b l in no_none_some s.0 (sym g ∙ s.1)

@@ -8,7 +8,8 @@ use Rattle.std.specs.List.{enumerate_from}
 use borrow.Author.Tests.{ltb-true, ltb-false, eqb-true}
 use Rattle.serial_spec.specs.File.{at, longer, written}
 use Rattle.serial_spec.proofs.FileLaws.{at-written_before, at-written_after, written-front, length-written_inside}
-use Rattle.serial_spec.specs.Said.{or_else, one_says, said_at, byte_or, Says, IsOneValued, Cell, write_cells, said_by, IsWithin}
+use Rattle.std.specs.Option.{option_or}
+use Rattle.serial_spec.specs.Said.{one_says, said_at, byte_or, Says, IsOneValued, Cell, write_cells, said_by, IsWithin}
 
 -- ---- options
 
@@ -18,23 +19,23 @@ no_none_some a h = cc
 pub same_some : {A : Type 0} (a b : A) → Some a ≡ Some b → a ≡ b
 same_some a b h = cc
 
-pub both_none : {A : Type 0} (o q : Option A) → o ≡ None → q ≡ None → or_else o q ≡ None
+pub both_none : {A : Type 0} (o q : Option A) → o ≡ None → q ≡ None → option_or o q ≡ None
 both_none None q h k = k
 both_none (Some a) q h k = h
 
-pub second_counts : {A : Type 0} (o q : Option A) → o ≡ None → or_else o q ≡ q
+pub second_counts : {A : Type 0} (o q : Option A) → o ≡ None → option_or o q ≡ q
 second_counts None q h = refl
 second_counts (Some a) q h = no_none_some a (sym h)
 
-pub first_counts : {A : Type 0} (o q : Option A) (a : A) → o ≡ Some a → or_else o q ≡ Some a
+pub first_counts : {A : Type 0} (o q : Option A) (a : A) → o ≡ Some a → option_or o q ≡ Some a
 first_counts None q a h = no_none_some a h
 first_counts (Some b) q a h = h
 
-or_else_assoc : {A : Type 0} (o q r : Option A) → or_else (or_else o q) r ≡ or_else o (or_else q r)
+or_else_assoc : {A : Type 0} (o q r : Option A) → option_or (option_or o q) r ≡ option_or o (option_or q r)
 or_else_assoc None q r = refl
 or_else_assoc (Some a) q r = refl
 
-byte_or_later : (o q : Option ℕ) (b : ℕ) → byte_or o (byte_or q b) ≡ byte_or (or_else o q) b
+byte_or_later : (o q : Option ℕ) (b : ℕ) → byte_or o (byte_or q b) ≡ byte_or (option_or o q) b
 byte_or_later None q b = refl
 byte_or_later (Some v) q b = refl
 
@@ -126,14 +127,14 @@ write_said file b p x = by_front (nat_lt x p) refl
 
 -- ---- cells
 
-none_last : {A : Type 0} (o : Option A) → o ≡ or_else o None
+none_last : {A : Type 0} (o : Option A) → o ≡ option_or o None
 none_last None = refl
 none_last (Some a) = refl
 
-pub said_append : {A : Type 0} (ps qs : List (ℕ × A)) (x : ℕ) → said_at (ps ++ qs) x ≡ or_else (said_at qs x) (said_at ps x)
+pub said_append : {A : Type 0} (ps qs : List (ℕ × A)) (x : ℕ) → said_at (ps ++ qs) x ≡ option_or (said_at qs x) (said_at ps x)
 said_append [] qs x = none_last (said_at qs x)
 said_append (p ∷ ps) qs x =
-    ap (λ o. or_else o (one_says p.0 p.1 x)) (said_append ps qs x) ∙ or_else_assoc (said_at qs x) (said_at ps x) (one_says p.0 p.1 x)
+    ap (λ o. option_or o (one_says p.0 p.1 x)) (said_append ps qs x) ∙ or_else_assoc (said_at qs x) (said_at ps x) (one_says p.0 p.1 x)
 
 -- each byte of a file after cells were written
 pub cells_said : (cells : List Cell) (file : List ℕ) (x : ℕ) → at (write_cells file cells) x ≡ byte_or (said_at (said_by cells) x) (at file x)
@@ -174,7 +175,7 @@ said_is {A} (p ∷ ps) x v h = by_rest (λ e. said_is ps x v e) (said_at ps x) r
     by_one true e g = inl (eqb-true _ _ e, same_some p.1 v g)
     by_one false e g = no_none_some v g
 
-    by_rest : (said_at ps x ≡ Some v → Says ps x v) → (o : Option A) → said_at ps x ≡ o → or_else o (one_says p.0 p.1 x) ≡ Some v → ((p.0 ≡ x) × (p.1 ≡ v)) ⊎ Says ps x v
+    by_rest : (said_at ps x ≡ Some v → Says ps x v) → (o : Option A) → said_at ps x ≡ o → option_or o (one_says p.0 p.1 x) ≡ Some v → ((p.0 ≡ x) × (p.1 ≡ v)) ⊎ Says ps x v
     by_rest ih (Some a) e g = inr (ih (e ∙ g))
     by_rest ih None e g = by_one (p.0 == x) refl g
 
@@ -184,7 +185,7 @@ says_some [] x v h = absurd h
 says_some {A} (p ∷ ps) x v (inr h) = let s = says_some ps x v h in (s.0, first_counts (said_at ps x) _ s.0 s.1)
 says_some {A} (p ∷ ps) x v (inl h) = by_rest (said_at ps x) refl
   where
-    by_rest : (o : Option A) → said_at ps x ≡ o → (w : A) × (or_else o (one_says p.0 p.1 x) ≡ Some w)
+    by_rest : (o : Option A) → said_at ps x ≡ o → (w : A) × (option_or o (one_says p.0 p.1 x) ≡ Some w)
     by_rest (Some a) e = (a, refl)
     by_rest None e = (p.1, one_hit p.0 x p.1 (same_hit p.0 x h.0))
 

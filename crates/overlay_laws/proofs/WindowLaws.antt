@@ -6,7 +6,8 @@ use Rattle.std.specs.Prelude.{fold, flat_map, nat_lt, map}
 use Rattle.std.specs.List.{enumerate_from}
 use borrow.Author.Tests.{ltb-true, ltb-false}
 use Rattle.serial_spec.specs.File.{at, written}
-use Rattle.serial_spec.specs.Said.{or_else, said_at, byte_or, Cell, write_cells, said_by, IsWithin, IsFrom, moved_down}
+use Rattle.std.specs.Option.{option_or}
+use Rattle.serial_spec.specs.Said.{said_at, byte_or, Cell, write_cells, said_by, IsWithin, IsFrom, moved_down}
 use Rattle.overlay_laws.specs.Windows.{IsPart, AreParts, SomeSays, clip, clips, IsInOne, HasEach}
 use Rattle.overlay_laws.proofs.SaidLaws.{no_none_some, both_none, first_counts, second_counts, said_below, said_past, said_inside, said_append, write_before, write_after, write_inside, write_long, cells_said, cells_long, same_file, same_said}
 
@@ -28,8 +29,8 @@ one_moved lo p b x h k = by_front (nat_lt x p) refl
     by_front true e = let l : x < p = ltb-true _ _ e in said_below (p - lo) b (x - lo) (omega arith) ∙ sym (said_below p b x l)
     by_front false e = by_back (nat_lt x (p + length b)) refl (ltb-false _ _ e)
 
-two_else : {A : Type 0} (o p q r : Option A) → o ≡ p → q ≡ r → or_else o q ≡ or_else p r
-two_else o p q r e f = ap (λ s. or_else s q) e ∙ ap (λ s. or_else p s) f
+two_else : {A : Type 0} (o p q r : Option A) → o ≡ p → q ≡ r → option_or o q ≡ option_or p r
+two_else o p q r e f = ap (λ s. option_or s q) e ∙ ap (λ s. option_or p s) f
 
 pub moved_said : (lo : ℕ) (cells : List Cell) (x : ℕ) → IsFrom lo cells → lo ≤ x
     → said_at (said_by (moved_down lo cells)) (x - lo) ≡ said_at (said_by cells) x
@@ -118,7 +119,7 @@ write_joined (cells ∷ lists) file =
 said_by_joined : (a b : List Cell) → said_by (a ++ b) ≡ said_by a ++ said_by b
 said_by_joined a b = flat_map-append (λ cell. enumerate_from cell.0 cell.1) a b
 
-said_joined : (a b : List Cell) (x : ℕ) → said_at (said_by (a ++ b)) x ≡ or_else (said_at (said_by b) x) (said_at (said_by a) x)
+said_joined : (a b : List Cell) (x : ℕ) → said_at (said_by (a ++ b)) x ≡ option_or (said_at (said_by b) x) (said_at (said_by a) x)
 said_joined a b x = ap (λ ps. said_at ps x) (said_by_joined a b) ∙ said_append (said_by a) (said_by b) x
 
 parts_only : (whole : List (ℕ × ℕ)) (lists : List (List Cell)) → AreParts whole lists → (x v : ℕ)
@@ -128,7 +129,7 @@ parts_only whole (cells ∷ lists) h x v e =
     by_rest (λ g. parts_only whole lists h.1 x v g) (said_at (said_by (flat_map (λ c. c) lists)) x) refl (sym (said_joined cells (flat_map (λ c. c) lists) x) ∙ e)
   where
     by_rest : (said_at (said_by (flat_map (λ c. c) lists)) x ≡ Some v → said_at whole x ≡ Some v)
-        → (o : Option ℕ) → said_at (said_by (flat_map (λ c. c) lists)) x ≡ o → or_else o (said_at (said_by cells) x) ≡ Some v → said_at whole x ≡ Some v
+        → (o : Option ℕ) → said_at (said_by (flat_map (λ c. c) lists)) x ≡ o → option_or o (said_at (said_by cells) x) ≡ Some v → said_at whole x ≡ Some v
     by_rest ih (Some w) g k = ih (g ∙ k)
     by_rest ih None g k = h.0 x v k
 
