@@ -20,10 +20,13 @@ least_same seen more o x Nobody next far h = λ p m c. elim (next.splits p m) [
   | inl a ↦ h p a c
   | inr a ↦ far (subst (λ (z : Owned). Covers z x) a c)
 ]
-least_same seen more o x (One a) next far h = (kept seen more o (key a) x next h.0, λ p m c. elim (next.splits p m) [
-  | inl b ↦ h.1 p b c
-  | inr b ↦ absurd (far (subst (λ (z : Owned). Covers z x) b c))
-])
+least_same seen more o x (One a) next far h = (
+  kept seen more o (key a) x next h.0,
+  λ p m c. elim (next.splits p m) [
+    | inl b ↦ h.1 p b c
+    | inr b ↦ absurd (far (subst (λ (z : Owned). Covers z x) b c))
+  ],
+)
 least_same seen more o x (Two a b) next far h = record {
   first = kept seen more o (key a) x next h.first;
   second = kept seen more o (key b) x next h.second;
@@ -37,20 +40,26 @@ least_same seen more o x (Two a b) next far h = record {
 -- an entry that holds it
 pub least_next : (seen more : List Owned) (o : Owned) (x : ℕ) (l : Least) (r : Request) → IsNext seen more o → Covers o x → key r ≡ key_of o
     → AreLeast seen x l → AreLeast more x (with_key l r)
-least_next seen more o x Nobody r next c e h = (record { holder = o; is_one = next.has; covers = c; key = sym e }, λ p m d. elim (next.splits p m) [
-  | inl a ↦ absurd (h p a d)
-  | inr a ↦ ap key_of a ∙ sym e
-])
+least_next seen more o x Nobody r next c e h = (
+  record { holder = o; is_one = next.has; covers = c; key = sym e },
+  λ p m d. elim (next.splits p m) [
+    | inl a ↦ absurd (h p a d)
+    | inr a ↦ ap key_of a ∙ sym e
+  ],
+)
 least_next seen more o x (One a) r next c e h = by_same (same_key (key r) (key a)) (key_below (key r) (key a)) refl refl
   where
     here : HasHolder more (key r) x
     here = record { holder = o; is_one = next.has; covers = c; key = sym e }
 
     by_same : (s t : Bool) → same_key (key r) (key a) ≡ s → key_below (key r) (key a) ≡ t → AreLeast more x (cond s (One a) (cond t (Two r a) (Two a r)))
-    by_same true t f g = (kept seen more o (key a) x next h.0, λ p m d. elim (next.splits p m) [
-      | inl b ↦ h.1 p b d
-      | inr b ↦ ap key_of b ∙ sym e ∙ key_equal (key r) (key a) f
-    ])
+    by_same true t f g = (
+      kept seen more o (key a) x next h.0,
+      λ p m d. elim (next.splits p m) [
+        | inl b ↦ h.1 p b d
+        | inr b ↦ ap key_of b ∙ sym e ∙ key_equal (key r) (key a) f
+      ],
+    )
     by_same false true f g = record {
       first = here;
       second = kept seen more o (key a) x next h.0;
@@ -107,10 +116,10 @@ least_next seen more o x (Two a b) r next c e h = by_first (same_key (key r) (ke
       in_order = g;
       least = λ p m d. elim (next.splits p m) [
         | inl z ↦ (elim (h.least p z d) [
-            | inl y ↦ inr (inl y)
-            | inr (inl y) ↦ inr (inr (subst (λ (w : Key). key_below (key a) w ≡ true) (sym y) h.in_order))
-            | inr (inr y) ↦ inr (inr (below_through (key a) (key b) (key_of p) h.in_order y))
-          ])
+          | inl y ↦ inr (inl y)
+          | inr (inl y) ↦ inr (inr (subst (λ (w : Key). key_below (key a) w ≡ true) (sym y) h.in_order))
+          | inr (inr y) ↦ inr (inr (below_through (key a) (key b) (key_of p) h.in_order y))
+        ])
         | inr z ↦ inl (ap key_of z ∙ sym e)
       ];
     }
@@ -120,10 +129,10 @@ least_next seen more o x (Two a b) r next c e h = by_first (same_key (key r) (ke
       in_order = below_or_above (key r) (key a) f g;
       least = λ p m d. elim (next.splits p m) [
         | inl z ↦ (elim (h.least p z d) [
-            | inl y ↦ inl y
-            | inr (inl y) ↦ inr (inr (subst (λ (w : Key). key_below (key r) w ≡ true) (sym y) k))
-            | inr (inr y) ↦ inr (inr (below_through (key r) (key b) (key_of p) k y))
-          ])
+          | inl y ↦ inl y
+          | inr (inl y) ↦ inr (inr (subst (λ (w : Key). key_below (key r) w ≡ true) (sym y) k))
+          | inr (inr y) ↦ inr (inr (below_through (key r) (key b) (key_of p) k y))
+        ])
         | inr z ↦ inr (inl (ap key_of z ∙ sym e))
       ];
     }

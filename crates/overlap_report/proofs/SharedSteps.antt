@@ -122,13 +122,13 @@ reach_next seen more r o next long free h = by_same (same_as r o) refl free
       ];
       end_of = λ l. record { entry = o; is_one = next.has; ends = refl; of_it = key_itself (key_of o) };
       other_of = λ l. (let q = h.end_of l in
-        record { entry = q.entry; is_one = next.keeps q.entry q.is_one; ends = q.ends; of_it = key_apart (key_of q.entry) (key_of o) (r.rank, r.request) q.of_it e });
+          record { entry = q.entry; is_one = next.keeps q.entry q.is_one; ends = q.ends; of_it = key_apart (key_of q.entry) (key_of o) (r.rank, r.request) q.of_it e });
       clear = clear_next seen more r o next h (meet_other low);
     }
 
     by_same : (t : Bool) → same_as r o ≡ t → cond t r.other r.end ≤ o.extent.at
         → Reaches (cond t (record r { end = max r.end (o.extent.at + o.extent.len) })
-            (record { end = o.extent.at + o.extent.len; rank = o.rank; request = o.request; other = r.end })) more
+        (record { end = o.extent.at + o.extent.len; rank = o.rank; request = o.request; other = r.end })) more
     by_same true e low = with_same e low
     by_same false e low = farther e low
 

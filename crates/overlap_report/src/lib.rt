@@ -9,3 +9,6 @@ mod sorted;
 pub use joined::cover;
 pub use shared::first_pair;
 pub use sorted::gather;
+
+#[cfg(test)]
+mod tests;
