@@ -1,13 +1,13 @@
 -- Requests that are the same or not, and entries among the first of a list.
 use Rattle.std.proofs.Common.{◌≡◌, ℕ, zero, suc, ◌+◌, ◌-◌, ◌<◌, ◌≤◌, ◌⊎◌, refl, sym, ◌∙◌, ap, subst, inl, inr, List, [], ◌∷◌, ◌++◌, length, take, drop, get_or, Bool, true, false, cond, ◌&&◌, ◌||◌, arith}
 use Rattle.std.proofs.lemmas.Bool.Decides.{nat_tests}
-use Rattle.std.proofs.lemmas.List.{take_more}
+use Rattle.std.proofs.lemmas.List.{take_more, take_all, map-append}
 use Rattle.std.specs.Prelude.{nat_lt, ◌==◌}
 use Rattle.nc_base.specs.declared.plan.Extent.{Extent}
 use Rattle.nc_base.specs.declared.plan.Owned.{Owned}
 use Rattle.serial_spec.specs.SharedByte.{Key, same_key, key_below}
 use Rattle.overlay_laws.specs.Entries.{In}
-use Rattle.overlay_laws.specs.Lines.{extents, IsByPlace}
+use Rattle.overlay_laws.specs.Lines.{extents, IsByPlace, EndBelow}
 use Rattle.overlay_laws.proofs.HullLaws.{in_either, in_left, in_right}
 use Rattle.overlay_laws.proofs.HolderLaws.{same_keys, keys_same}
 use Rattle.overlap_report.specs.Sharing.{key_of, Covers}
@@ -125,3 +125,21 @@ at_index (x ∷ xs) (suc i) d e h = at_index xs i d e (omega arith)
 
 pub next_at : (list : List Owned) (i : ℕ) → i < length list → IsNext (take i list) (take (i + 1) list) (get_or list i nothing)
 next_at list i h = next_taken list i (get_or list i nothing) h (at_index list i nothing (get_or list i nothing) h)
+
+-- entries that end below a place, and one more
+pub ends_next : (list : List Owned) (i n : ℕ) → i < length list → EndBelow n (extents (take i list))
+    → (get_or list i nothing).extent.at + (get_or list i nothing).extent.len < n → EndBelow n (extents (take (i + 1) list))
+ends_next list i n h ends last e m =
+    elim (in_either (extents (take i list)) ((get_or list i nothing).extent ∷ []) e
+    (subst (λ (es : List Extent). In es e)
+    (ap extents (take_more list i nothing h) ∙ map-append (λ (o : Owned). o.extent) (take i list) (get_or list i nothing ∷ [])) m)) [
+      | inl g ↦ ends e g
+      | inr g ↦ at_last g
+    ]
+  where
+    at_last : In ((get_or list i nothing).extent ∷ []) e → e.at + e.len < n
+    at_last (inl g) = subst (λ (z : Extent). z.at + z.len < n) g last
+    at_last (inr g) = absurd g
+
+pub ends_all : (list : List Owned) (i n : ℕ) → length list ≤ i → EndBelow n (extents (take i list)) → EndBelow n (extents list)
+ends_all list i n h ends = subst (λ (os : List Owned). EndBelow n (extents os)) (take_all i list h) ends

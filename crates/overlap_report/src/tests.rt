@@ -109,9 +109,8 @@ fn covered_bytes_are_joined(rt: HostRuntime) -> Result<(), Fail> {
 // Many entries of four bytes in an order that jumps, each touching the next.
 fn scattered(alloc: Global) -> Result<Vec<Owned>, Fail> {
     let mut list = Vec::new(alloc);
-    let mut place: u32 = 1;
     for number in 0..65_536u32 {
-        place = (place * 25 + 13) % 65_536;
+        let place = (number * 25_173 + 13_849) % 65_536;
         list.push(entry(u64::from(place) * 4, 4, number % 64, number))?;
     }
     Ok(list)
