@@ -2,3 +2,4 @@ pub mod Sorted
 pub mod Sharing
 pub mod Reaching
 pub mod Holding
+pub mod Sweep

@@ -3,10 +3,12 @@
 
 mod holders;
 mod joined;
+mod serial;
 mod shared;
 mod sorted;
 
 pub use joined::cover;
+pub use serial::resolve;
 pub use shared::first_pair;
 pub use sorted::gather;
 

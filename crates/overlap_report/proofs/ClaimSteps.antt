@@ -1,0 +1,207 @@
+-- The claims of a heap, as entries.
+use Rattle.std.proofs.Common.{◌≡◌, ℕ, zero, suc, ◌+◌, ◌-◌, ◌<◌, ◌≤◌, ◌⊎◌, refl, sym, ◌∙◌, ap, subst, inl, inr, List, [], ◌∷◌, ◌++◌, map, take, drop, get_or, length, min, Bool, true, false, Option, Some, None, slice_get, nat_cmp, is_lt, Bor, ◌^◌, arith}
+use Rattle.std.specs.Prelude.{nat_lt, ◌==◌}
+use Rattle.std.specs.BinaryHeap.{IsHeap, IsUpperBound, PopsGreatest}
+use Rattle.std.specs.Slice.{IsItemAt}
+use Rattle.std.specs.Option.{option_copied}
+use Rattle.std.specs.Prelude.{IfSome, IfNone, MatchOption}
+use Rattle.overlay_laws.proofs.WalkLaws.{lt_true}
+use Rattle.std.specs.List.Sorted.{IsPermutation}
+use Rattle.std.specs.Ordering.{ordering_then}
+use Rattle.std.specs.declared.cmp.Ordering.{Ordering}
+use Rattle.std.specs.declared.cmp.Ordering.TheVariants.{Less, Equal, Greater}
+use Rattle.std.proofs.lemmas.Bool.Decides.{nat_tests}
+use borrow.Author.Tests.{ltb-true, ltb-false, eqb-true}
+use Rattle.nc_base.specs.declared.plan.Owned.{Owned}
+use Rattle.overlay_laws.specs.Entries.{In}
+use Rattle.overlay_laws.proofs.EntryLaws.{same_permuted}
+use Rattle.overlap_report.specs.declared.serial.Claim.{Claim}
+use Rattle.overlap_report.specs.Sweep.{owned_of, entries_of, part_of, claim_cmp, AreFit, StandsBy, Swept, IsTop}
+use Rattle.overlap_report.proofs.SweepSteps.{swept_empty, swept_without, swept_part, swept_more}
+use Rattle.overlap_report.proofs.OriginSteps.{resolved_by}
+use Rattle.overlap_report.proofs.KeySteps.{IsNext, in_extents}
+use Rattle.std.proofs.lemmas.List.{take_all}
+use Rattle.nc_base.specs.declared.plan.Extent.{Extent}
+use Rattle.overlay_laws.specs.Lines.{extents, IsByPlace, EndBelow}
+use Rattle.overlay_laws.specs.Origins.{origins, IsOnceEach, IsResolved}
+
+in_entries : (cs : List Claim) (c : Claim) → In cs c → In (entries_of cs) (owned_of c)
+in_entries [] c m = absurd m
+in_entries (d ∷ cs) c (inl e) = inl (ap owned_of e)
+in_entries (d ∷ cs) c (inr m) = inr (in_entries cs c m)
+
+entries_in : (cs : List Claim) (o : Owned) → In (entries_of cs) o → (c : Claim) × In cs c × (owned_of c ≡ o)
+entries_in [] o m = absurd m
+entries_in (d ∷ cs) o (inl e) = (d, inl refl, e)
+entries_in (d ∷ cs) o (inr m) = let r = entries_in cs o m in (r.0, inr r.1, r.2)
+
+moved : (cs ds : List Claim) → IsPermutation cs ds → (o : Owned) → In (entries_of cs) o → In (entries_of ds) o
+moved cs ds p o m = let r = entries_in cs o m in subst (λ (z : Owned). In (entries_of ds) z) r.2 (in_entries ds r.0 ((same_permuted cs ds p).0 r.0 r.1))
+
+moved_back : (cs ds : List Claim) → IsPermutation cs ds → (o : Owned) → In (entries_of ds) o → In (entries_of cs) o
+moved_back cs ds p o m = let r = entries_in ds o m in subst (λ (z : Owned). In (entries_of cs) z) r.2 (in_entries cs r.0 ((same_permuted cs ds p).1 r.0 r.1))
+
+-- ---- the top
+
+first_in : (cs : List Claim) (t : Claim) → Some t ≡ slice_get cs 0 → In cs t
+first_in [] t e = cc
+first_in (c ∷ cs) t e = inl (sym (some_same t c e))
+  where
+    some_same : (a b : Claim) → Some a ≡ Some b → a ≡ b
+    some_same a b e = cc
+
+pub top_in : (cs : List Claim) (t : Claim) → Some t ≡ slice_get cs 0 → In (entries_of cs) (owned_of t)
+top_in cs t e = in_entries cs t (first_in cs t e)
+
+not_less : (a b : Claim) → is_lt (claim_cmp a b) ≡ false → StandsBy (owned_of b) (owned_of a)
+not_less a b h = by_rank (nat_lt a.rank b.rank) (nat_lt b.rank a.rank) refl refl
+  where
+    rest : Ordering → Ordering → Ordering
+    rest x y = ordering_then x (ordering_then y (ordering_then (nat_cmp a.at b.at) (ordering_then (nat_cmp a.len b.len) (ordering_then (nat_cmp a.from b.from) (nat_cmp a.request b.request)))))
+
+    true_false : {A : Type 0} → true ≡ false → A
+    true_false e = cc
+
+    less_is : (x y : ℕ) → x < y → nat_cmp x y ≡ Less
+    less_is x y l = grind (arith, nat_tests)
+
+    same_is : (x y : ℕ) → x ≡ y → nat_cmp x y ≡ Equal
+    same_is x y l = grind (arith, nat_tests)
+
+    by_slot : a.rank ≡ b.rank → (t : Bool) → nat_lt a.slot b.slot ≡ t → StandsBy (owned_of b) (owned_of a)
+    by_slot e false f = inr (sym e, ltb-false _ _ f)
+    by_slot e true f =
+        let less : is_lt (rest Equal Less) ≡ true = refl in
+        let both : is_lt (claim_cmp a b) ≡ is_lt (rest Equal Less) = (λ i. is_lt (rest (same_is a.rank b.rank e i) (less_is a.slot b.slot (ltb-true _ _ f) i))) in
+        true_false (sym less ∙ sym both ∙ h)
+
+    by_rank : (s t : Bool) → nat_lt a.rank b.rank ≡ s → nat_lt b.rank a.rank ≡ t → StandsBy (owned_of b) (owned_of a)
+    by_rank true t e f =
+        let less : is_lt (rest Less (nat_cmp a.slot b.slot)) ≡ true = refl in
+        let both : is_lt (claim_cmp a b) ≡ is_lt (rest Less (nat_cmp a.slot b.slot)) = (λ i. is_lt (rest (less_is a.rank b.rank (ltb-true _ _ e) i) (nat_cmp a.slot b.slot))) in
+        true_false (sym less ∙ sym both ∙ h)
+    by_rank false true e f = inl (ltb-true _ _ f)
+    by_rank false false e f =
+        let low : b.rank ≤ a.rank = ltb-false _ _ e in
+        let high : a.rank ≤ b.rank = ltb-false _ _ f in
+        by_slot (omega arith) (nat_lt a.slot b.slot) refl
+
+-- of all claims of the heap the top stands last
+pub last_of_all : (t : Claim) (cs : List Claim) → IsUpperBound claim_cmp t cs → (q : Owned) → In (entries_of cs) q → StandsBy q (owned_of t)
+last_of_all t [] h q m = absurd m
+last_of_all t (c ∷ cs) h q (inl e) = subst (λ (z : Owned). StandsBy z (owned_of t)) e (not_less t c h.0)
+last_of_all t (c ∷ cs) h q (inr m) = last_of_all t cs h.1 q m
+
+pub top_told : (cs : List Claim) (r : Option (Bor Claim)) → IsHeap claim_cmp cs → IsItemAt cs 0 r
+    → IfSome r (λ x. IsHeap claim_cmp cs → IsUpperBound claim_cmp x.now cs) → MatchOption (option_copied r) (cs ≡ []) (λ t. IsTop cs t)
+top_told [] None heap item greatest = refl
+top_told [] (Some x) heap item greatest = cc (item.0)
+top_told (c ∷ cs) None heap item greatest = absurd (no_item (length cs) item.0)
+  where
+    no_item : (n : ℕ) → false ≡ nat_lt 0 (suc n) → ⊥
+    no_item n e = (let yes : nat_lt 0 (suc n) ≡ true = lt_true 0 (suc n) (omega arith) in cc)
+top_told (c ∷ cs) (Some x) heap item greatest = (ap Some (sym item.1), last_of_all x.now (c ∷ cs) (greatest heap))
+
+pub ended_fit : (cs ds : List Claim) (t : Claim) (p : ℕ) → IsPermutation cs (t ∷ ds) → AreFit p (entries_of cs) → AreFit p (entries_of ds)
+ended_fit cs ds t p perm fit o m = fit o (moved_back cs (t ∷ ds) perm o (inr m))
+
+pub ended_swept : (seen out : List Owned) (cs ds : List Claim) (t : Claim) (p : ℕ) → IsPermutation cs (t ∷ ds) → t.at + t.len ≤ p
+    → Swept seen out (entries_of cs) p → Swept seen out (entries_of ds) p
+ended_swept seen out cs ds t p perm ended s =
+    swept_without seen out (entries_of cs) (entries_of ds) (owned_of t) p ended (moved cs (t ∷ ds) perm) (moved_back cs (t ∷ ds) perm) s
+
+pub later_fit : (cs : List Claim) (p q : ℕ) → p ≤ q → AreFit p (entries_of cs) → AreFit q (entries_of cs)
+later_fit cs p q h fit o m = let f = fit o m in let l = f.0 in (omega arith, f.1, f.2)
+
+pub top_fit : (cs : List Claim) (t : Claim) (p : ℕ) → IsTop cs t → AreFit p (entries_of cs) → (t.at ≤ p) × (t.at + t.len < 2 ^ 62) × (t.from + t.len < 2 ^ 62)
+top_fit cs t p top fit = fit (owned_of t) (top_in cs t (sym top.0))
+
+pub served_swept : (seen out more : List Owned) (cs : List Claim) (t : Claim) (o : Owned) (p end : ℕ) → IsTop cs t → o ≡ part_of (owned_of t) p end → more ≡ out ++ o ∷ []
+    → p < end → end ≤ t.at + t.len → Swept seen out (entries_of cs) p → Swept seen more (entries_of cs) end
+served_swept seen out more cs t o p end top is added room high s =
+    subst (λ (os : List Owned). Swept seen os (entries_of cs) end) (sym (added ∙ ap (λ (z : Owned). out ++ z ∷ []) is))
+    (swept_part seen out (entries_of cs) (owned_of t) p end (top_in cs t (sym top.0)) top.1 room high s)
+
+pub none_swept : (seen out : List Owned) (cs : List Claim) (p stop : ℕ) → cs ≡ [] → p ≤ stop → Swept seen out (entries_of cs) p → Swept seen out (entries_of cs) stop
+none_swept seen out cs p stop e h s =
+    subst (λ (ds : List Claim). Swept seen out (entries_of ds) stop) (sym e)
+    (swept_empty seen out p stop h (subst (λ (ds : List Claim). Swept seen out (entries_of ds) p) e s))
+
+-- ---- a pop and a push
+
+pub popped_heap : (cs ds : List Claim) (r : Option Claim) → IsHeap claim_cmp cs → IfSome r (λ x. PopsGreatest claim_cmp cs x ds) → IfNone r (ds ≡ cs) → IsHeap claim_cmp ds
+popped_heap cs ds None heap pops same = subst (λ (es : List Claim). IsHeap claim_cmp es) (sym same) heap
+popped_heap cs ds (Some x) heap pops same = (pops heap).0
+
+pub popped_rest : (cs ds : List Claim) (r : Option Claim) (n : ℕ) → IfSome r (λ x. x ≡ get_or cs 0 x) → IfSome r (λ x. IsPermutation cs (x ∷ ds)) → IfNone r (n ≡ 0) → length cs ≡ n
+    → (t : Claim) → slice_get cs 0 ≡ Some t → IsPermutation cs (t ∷ ds)
+popped_rest [] ds r n top perm none long t e = cc
+popped_rest (c ∷ cs) ds None n top perm none long t e = absurd (omega arith)
+popped_rest (c ∷ cs) ds (Some x) n top perm none long t e =
+    subst (λ (z : Claim). IsPermutation (c ∷ cs) (z ∷ ds)) (top ∙ some_same c t e) perm
+  where
+    some_same : (a b : Claim) → Some a ≡ Some b → a ≡ b
+    some_same a b e = cc
+
+pub pushed_fit : (cs ds : List Claim) (t : Claim) (o : Owned) (p : ℕ) → owned_of t ≡ o → IsPermutation (t ∷ cs) ds → o.extent.at ≤ p → o.extent.at + o.extent.len < 2 ^ 62
+    → o.from + o.extent.len < 2 ^ 62 → AreFit p (entries_of cs) → AreFit p (entries_of ds)
+pushed_fit cs ds t o p is perm low ends found fit q m = by_one (moved_back (t ∷ cs) ds perm q m)
+  where
+    by_one : In (entries_of (t ∷ cs)) q → (q.extent.at ≤ p) × (q.extent.at + q.extent.len < 2 ^ 62) × (q.from + q.extent.len < 2 ^ 62)
+    by_one (inl e) = subst (λ (z : Owned). (z.extent.at ≤ p) × (z.extent.at + z.extent.len < 2 ^ 62) × (z.from + z.extent.len < 2 ^ 62)) (sym is ∙ e) (low, ends, found)
+    by_one (inr n) = fit q n
+
+pub pushed_swept : (seen more out : List Owned) (cs ds : List Claim) (t : Claim) (o : Owned) → IsNext seen more o → owned_of t ≡ o → IsPermutation (t ∷ cs) ds
+    → Swept seen out (entries_of cs) o.extent.at → Swept more out (entries_of ds) o.extent.at
+pushed_swept seen more out cs ds t o next is perm s =
+    swept_more seen more out (entries_of cs) (entries_of ds) o next
+    (λ q m. subst (λ (z : Owned). In (z ∷ entries_of cs) q) is (moved_back (t ∷ cs) ds perm q m))
+    (λ q m. moved (t ∷ cs) ds perm q (subst (λ (z : Owned). In (z ∷ entries_of cs) q) (sym is) m)) s
+
+-- ---- the list
+
+pub at_dropped : (list : List Owned) (i : ℕ) (d : Owned) → i < length list → In (drop i list) (get_or list i d)
+at_dropped [] i d h = absurd (omega arith)
+at_dropped (o ∷ list) zero d h = inl refl
+at_dropped (o ∷ list) (suc i) d h = at_dropped list i d (omega arith)
+
+in_dropped : (i : ℕ) (list : List Owned) (o : Owned) → In (drop i list) o → In list o
+in_dropped zero list o h = h
+in_dropped (suc i) [] o h = h
+in_dropped (suc i) (p ∷ list) o h = inr (in_dropped i list o h)
+
+pub later_begin : (list : List Owned) (i : ℕ) (d o : Owned) → i < length list → IsByPlace (extents list) → In (drop (suc i) list) o → (get_or list i d).extent.at ≤ o.extent.at
+later_begin [] i d o h sorted m = absurd (omega arith)
+later_begin (p ∷ list) zero d o h sorted m = sorted.0 o.extent (in_extents list o m)
+later_begin (p ∷ list) (suc i) d o h sorted m = later_begin list i d o (omega arith) sorted.1 m
+
+-- ---- the whole
+
+whole_swept : (list out pool : List Owned) (i p : ℕ) → length list ≤ i → Swept (take i list) out pool p → Swept list out pool p
+whole_swept list out pool i p h s = subst (λ (os : List Owned). Swept os out pool p) (take_all i list h) s
+
+pub all_resolved : (list out pool : List Owned) (i top : ℕ) → length list ≤ i → 2 ^ 62 ≤ top → EndBelow (2 ^ 62) (extents list) → IsOnceEach (origins list)
+    → Swept (take i list) out pool top → IsResolved list out
+all_resolved list out pool i top h cap ends once s =
+    let w = whole_swept list out pool i top h s in
+    resolved_by list out once w.won (λ q y m c. (let high = c.1 in let e = ends q.extent (in_extents list q m) in w.served q y m (omega arith) c))
+
+pub all_ends : (list out pool : List Owned) (i top : ℕ) → length list ≤ i → EndBelow (2 ^ 62) (extents list) → Swept (take i list) out pool top → EndBelow (2 ^ 62) (extents out)
+all_ends list out pool i top h ends s e m =
+    let w = whole_swept list out pool i top h s in
+    let r = extents_in out e m in
+    let low = w.low r.0 r.1 in
+    let some : 1 ≤ r.0.extent.len = low.1 in
+    let win = w.won r.0 (r.0.extent.at + r.0.extent.len - 1) r.1 (omega arith, omega arith) in
+    let high = win.covers.1 in
+    let last = ends win.holder.extent (in_extents list win.holder win.is_one) in
+    subst (λ (z : Extent). z.at + z.len < 2 ^ 62) r.2 (omega arith)
+  where
+    extents_in : (os : List Owned) (e : Extent) → In (extents os) e → (o : Owned) × In os o × (o.extent ≡ e)
+    extents_in [] e m = absurd m
+    extents_in (o ∷ os) e (inl g) = (o, inl refl, g)
+    extents_in (o ∷ os) e (inr g) = let r = extents_in os e g in (r.0, inr r.1, r.2)
+
+pub unchanged_items : (cs ds : List Claim) (n m : ℕ) (r : Option Claim) → IfNone r ((ds ≡ cs) × (m ≡ n)) → IfNone r (ds ≡ cs)
+unchanged_items cs ds n m None h = h.0
+unchanged_items cs ds n m (Some x) h = h
