@@ -90,3 +90,23 @@ resolved_by list out once won served = (
       let same = greatest_once (origins list) once x a (origin_at s.0 x) m (winner_greatest list s.0 x (won s.0 x s.1 s.2)) in
       subst (λ (b : Origin). Says (origins out) x b) (sym same) (says_of out s.0 x s.1 s.2)),
 )
+
+-- entries of which no two are of one post
+pub once_by : (list : List Owned) → ((o q : Owned) → In list o → In list q → o.rank ≡ q.rank → o.slot ≡ q.slot → o ≡ q) → IsOnceEach (origins list)
+once_by list same x a b m n e f =
+    let o = of_says list x a m in
+    let q = of_says list x b n in
+    let one = same o.holder q.holder o.is_one q.is_one (sym (ap (λ (z : Origin). z.0) o.is) ∙ e ∙ ap (λ (z : Origin). z.0) q.is) (sym (ap (λ (z : Origin). z.1) o.is) ∙ f ∙ ap (λ (z : Origin). z.1) q.is) in
+    o.is ∙ ap (λ (z : Owned). origin_at z x) one ∙ sym q.is
+
+pub two_once : (a b : Owned) → ((a.rank ≡ b.rank) → (a.slot ≡ b.slot) → ⊥) → IsOnceEach (origins (a ∷ b ∷ []))
+two_once a b apart = once_by (a ∷ b ∷ []) one
+  where
+    one : (o q : Owned) → In (a ∷ b ∷ []) o → In (a ∷ b ∷ []) q → o.rank ≡ q.rank → o.slot ≡ q.slot → o ≡ q
+    one o q (inl m) (inl n) e f = sym m ∙ n
+    one o q (inl m) (inr (inl n)) e f = absurd (apart (ap (λ (z : Owned). z.rank) m ∙ e ∙ sym (ap (λ (z : Owned). z.rank) n)) (ap (λ (z : Owned). z.slot) m ∙ f ∙ sym (ap (λ (z : Owned). z.slot) n)))
+    one o q (inr (inl m)) (inl n) e f = absurd (apart (ap (λ (z : Owned). z.rank) n ∙ sym e ∙ sym (ap (λ (z : Owned). z.rank) m)) (ap (λ (z : Owned). z.slot) n ∙ sym f ∙ sym (ap (λ (z : Owned). z.slot) m)))
+    one o q (inr (inl m)) (inr (inl n)) e f = sym m ∙ n
+    one o q (inl m) (inr (inr n)) e f = absurd n
+    one o q (inr (inl m)) (inr (inr n)) e f = absurd n
+    one o q (inr (inr m)) n e f = absurd m

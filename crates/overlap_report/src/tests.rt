@@ -1,7 +1,7 @@
 ghost use Rattle.std.specs.Prelude.{◌^◌, IsTrue};
 ghost use Rattle.overlay_laws.specs.Lines.{extents, IsByPlace, EndBelow};
 
-use crate::{cover, first_pair, gather};
+use crate::{cover, first_pair, gather, resolve};
 use nc_base::{Extent, Memory, Owned, Pair};
 use std::alloc::Global;
 use std::process::Abort;
@@ -127,5 +127,30 @@ fn many_entries_are_joined(rt: HostRuntime) -> Result<(), Fail> {
         len: 262_144,
     }];
     assert_eq!(rt; got.as_slice(), want.as_slice());
+    Ok(())
+}
+
+fn resolved_two<R: Abort>(rt: &R, alloc: Global, a: Owned, b: Owned) -> Result<Vec<Owned>, Memory> {
+    let list = [a, b];
+    assert!(rt; a.extent.at <= b.extent.at);
+    assert!(rt; end_below(&list));
+    assert!(rt; a.extent.len < 1000 && a.from < 1000 && b.extent.len < 1000 && b.from < 1000);
+    assert!(rt; a.rank < b.rank);
+    Ok(resolve(alloc, &list)?.into_vec())
+}
+
+#[test]
+fn the_later_rank_has_the_byte(rt: HostRuntime) -> Result<(), Fail> {
+    let alloc = rt.alloc();
+    let got = resolved_two(&rt, alloc, entry(80, 12, 0, 0), entry(88, 8, 1, 0))?;
+    let want = [entry(80, 8, 0, 0), entry(88, 8, 1, 0)];
+    assert_eq!(rt; got.as_slice(), want.as_slice());
+    let inner = resolved_two(&rt, alloc, entry(80, 12, 0, 0), entry(84, 4, 1, 0))?;
+    let last = Owned {
+        from: 8,
+        ..entry(88, 4, 0, 0)
+    };
+    let want = [entry(80, 4, 0, 0), entry(84, 4, 1, 0), last];
+    assert_eq!(rt; inner.as_slice(), want.as_slice());
     Ok(())
 }
