@@ -16,6 +16,7 @@ ghost use Rattle.serial_spec.specs.Fill.{boxes, AreBoxes};
 ghost use Rattle.serial_spec.specs.Place.{IsElementBelow};
 ghost use Rattle.serial_spec.specs.Layout.{end_of};
 ghost use Rattle.serial_spec.specs.RegionCheck.{known_lengths};
+ghost use Rattle.serial_spec.specs.Redefinition.{redefined, KeepsVars, IsRedefined};
 
 /// A write keeps every other byte.
 pub fn write_keeps()
@@ -66,4 +67,10 @@ pub fn elements_end()
 pub fn known_elements()
     ensures { (header : Header) (k : ℕ) (v : Var) (known : ℕ) (index : List ℕ) → is_sound header ≡ true → slice_get header.vars k ≡ Some v
         → IsIndex (known_lengths header v known) index → IsElementBelow header v known index }
+{}
+
+/// A redefined file has the new header at its front, every old element at its new place, zeros elsewhere below its end, and the
+/// old bytes past it, where the new header is sound and keeps the old variables.
+pub fn redefined_law()
+    ensures { (file : List ℕ) (old new : Header) → is_sound new ≡ true → KeepsVars old new → IsRedefined old new file (redefined file old new) }
 {}
