@@ -16,7 +16,8 @@ ghost use Rattle.serial_spec.specs.Fill.{boxes, AreBoxes};
 ghost use Rattle.serial_spec.specs.Place.{IsElementBelow};
 ghost use Rattle.serial_spec.specs.Layout.{end_of};
 ghost use Rattle.serial_spec.specs.RegionCheck.{known_lengths};
-ghost use Rattle.serial_spec.specs.Redefinition.{redefined, KeepsVars, IsRedefined};
+ghost use Rattle.serial_spec.specs.Redefinition.{redefined, redefined_header, KeepsVars, IsRedefined};
+ghost use Rattle.nc_base.specs.declared.script.Extra.{Extra};
 
 /// A write keeps every other byte.
 pub fn write_keeps()
@@ -70,7 +71,8 @@ pub fn known_elements()
 {}
 
 /// A redefined file has the new header at its front, every old element at its new place, zeros elsewhere below its end, and the
-/// old bytes past it, where the new header is sound and keeps the old variables.
+/// old bytes past it, where the new header is sound and keeps the old variables; and what is added to a header keeps them.
 pub fn redefined_law()
-    ensures { (file : List ℕ) (old new : Header) → is_sound new ≡ true → KeepsVars old new → IsRedefined old new file (redefined file old new) }
+    ensures keeps { (old : Header) (extras : List Extra) → is_sound old ≡ true → KeepsVars old (redefined_header old extras) }
+    ensures file { (file : List ℕ) (old new : Header) → is_sound new ≡ true → KeepsVars old new → IsRedefined old new file (redefined file old new) }
 {}
