@@ -4,20 +4,18 @@ ghost use Rattle.std.specs.Prelude.{◌≡◌, ℕ, ◌+◌, ◌<◌, ◌≤◌,
 ghost use Rattle.serial_spec.specs.File.{at, written};
 ghost use Rattle.serial_spec.specs.ExternalForm.{fits, ext, val};
 ghost use Rattle.serial_spec.specs.HeaderGrammar.{header_len, is_sound};
-ghost use Rattle.serial_spec.specs.Layout.{product};
+ghost use Rattle.serial_spec.specs.Layout.{product, end_of};
 ghost use Rattle.serial_spec.specs.Request.{coordinates};
-ghost use Rattle.serial_spec.specs.Place.{row, IsIndex, IsElement, AreApart, place};
+ghost use Rattle.serial_spec.specs.Place.{row, IsIndex, IsElement, AreApart, place, IsElementBelow};
 ghost use Rattle.nc_base.specs.declared.header.NcType.{NcType};
 ghost use Rattle.nc_base.specs.declared.request.Value.{Value};
 ghost use Rattle.nc_base.specs.declared.header.Header.{Header};
 ghost use Rattle.nc_base.specs.declared.header.Var.{Var};
-ghost use Rattle.serial_spec.specs.ExternalForm as external;
 ghost use Rattle.serial_spec.specs.Fill.{boxes, AreBoxes};
-ghost use Rattle.serial_spec.specs.Place.{IsElementBelow};
-ghost use Rattle.serial_spec.specs.Layout.{end_of};
 ghost use Rattle.serial_spec.specs.RegionCheck.{known_lengths};
 ghost use Rattle.serial_spec.specs.Redefinition.{redefined, redefined_header, KeepsVars, IsRedefined};
 ghost use Rattle.nc_base.specs.declared.script.Extra.{Extra};
+ghost use Rattle.serial_spec.specs.ExternalForm as external;
 
 /// A write keeps every other byte.
 pub fn write_keeps()
