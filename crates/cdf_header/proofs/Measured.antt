@@ -1,0 +1,42 @@
+-- What a header has whose variables keep their bounds.
+use Rattle.std.proofs.Common.{◌≡◌, ℕ, zero, suc, ◌+◌, ◌*◌, ◌/◌, ◌^◌, ◌<◌, ◌≤◌, List, [], ◌∷◌, map, Bool, true, false, cond, not, ◌&&◌, Option, Some, None, refl, sym, ap, subst, ◌∙◌, arith}
+use Rattle.std.specs.Prelude.{nat_lt, nat_le, ◌||◌, filter, sum_by, is_none}
+use Rattle.std.specs.List.{All, AllByRecursion}
+use Rattle.std.proofs.lemmas.Bool.{ltb-true}
+use Rattle.std.proofs.lemmas.List.Elements.{All-from_recursion}
+use Rattle.nc_base.specs.declared.header.Header.{Header}
+use Rattle.nc_base.specs.declared.header.Var.{Var}
+use Rattle.serial_spec.specs.Limits.{file_limit, record_limit}
+use Rattle.serial_spec.specs.Layout.{round_up, slab, vsize, is_record, record_share, record_size, recsize, record_slabs, last_share}
+use Rattle.serial_spec.specs.HeaderGrammar.{keeps_bound, past_bound, measure, is_too_large}
+use Rattle.serial_spec.proofs.SpellingLaws.{left, right}
+
+kept : (t : Bool) (k : ℕ) (o : Option ℕ) → cond t o (Some k) ≡ None → (t ≡ true) × (o ≡ None)
+kept true k o h = (refl, h)
+kept false k o h = absurd cc
+
+rounded : (n : ℕ) → n ≤ round_up 4 n
+rounded n = omega arith
+
+begin_kept : (header : Header) (before : ℕ) (v : Var) → keeps_bound header before v ≡ true → v.begin + slab header v < 2 ^ 62
+begin_kept header before v h =
+    let placed : v.begin + vsize header v < 2 ^ 62 = ltb-true _ _ (right _ _ (left _ _ h)) in
+    let more = rounded (slab header v) in
+    omega (arith, placed, more)
+
+each_kept : (header : Header) (before k : ℕ) (vs : List Var) → past_bound header before k vs ≡ None → AllByRecursion (λ v. v.begin + slab header v < 2 ^ 62) vs
+each_kept header before k [] h = tt
+each_kept header before k (v ∷ vs) h =
+    let p = kept (keeps_bound header before v) k (past_bound header (before + record_share header v) (suc k) vs) h in
+    (begin_kept header before v p.0, each_kept header (before + record_share header v) (suc k) vs p.1)
+
+-- each variable ends below 2^62
+pub bounds_kept : (header : Header) → measure header ≡ None → All (λ v. v.begin + slab header v < 2 ^ 62) header.vars
+bounds_kept header h = All-from_recursion (λ v. v.begin + slab header v < 2 ^ 62) header.vars (each_kept header 0 0 header.vars h)
+
+no_limit : (o : Option ℕ) (t : Bool) → (not (is_none o) || t) ≡ false → o ≡ None
+no_limit None t h = refl
+no_limit (Some k) t h = absurd cc
+
+pub is_measured : (header : Header) → is_too_large header ≡ false → measure header ≡ None
+is_measured header h = no_limit (measure header) (nat_le (record_limit header.version) header.records) h
