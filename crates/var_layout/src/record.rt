@@ -1,0 +1,64 @@
+// What a record takes.
+ghost use Rattle.std.specs.Prelude.{◌≡◌, ◌<◌, ◌^◌, ◌==◌, true, length, count_by};
+ghost use Rattle.serial_spec.specs.Layout as layout;
+ghost use Rattle.serial_spec.specs.HeaderGrammar.{is_sound};
+ghost use Rattle.var_layout.specs.Capped.{capped};
+
+use crate::capped;
+use crate::sizes::{is_record, slab_of, vsize_of};
+use nc_base::{Header, Var};
+
+/// How many record variables a header has.
+fn record_count(header: &Header) -> usize
+    ensures { result ≡ count_by (λ v. layout.is_record header.now v) header.now.vars }
+{
+    header
+        .vars
+        .as_slice()
+        .iter()
+        .filter(|var| is_record(header, var))
+        .count()
+}
+
+/// Whether a header has one record variable alone. That one is not padded.
+#[tactic(auto, using(crate::proofs::Soundness::slab_count))]
+pub(crate) fn is_lone(header: &Header) -> bool
+    ensures { result ≡ (length (layout.record_slabs header.now) == 1) }
+{
+    record_count(header) == 1
+}
+
+/// The bytes from a record to the next one.
+pub(crate) fn record_size(header: &Header, lone: bool) -> u64
+    requires { lone ≡ (length (layout.record_slabs header.now) == 1) }
+    ensures { result ≡ capped (layout.recsize header.now) }
+{
+    let mut size = 0;
+    for var in header.vars.as_slice() {
+        if is_record(header, var) {
+            size = capped::sum(size, last_share(header, lone, var));
+        }
+    }
+    size
+}
+
+/// What a record variable takes in the last record.
+pub(crate) fn last_share(header: &Header, lone: bool, var: &Var) -> u64
+    requires { lone ≡ (length (layout.record_slabs header.now) == 1) }
+    ensures { result ≡ capped (layout.last_share header.now var.now) }
+{
+    if lone {
+        slab_of(header, var)
+    } else {
+        vsize_of(header, var)
+    }
+}
+
+/// The bytes from a record to the next one: the sum of the record variables' vsizes, or the slab of a lone one.
+pub fn recsize(header: &Header) -> u64
+    requires sound { is_sound header.now ≡ true }
+    ensures value { result ≡ layout.recsize header.now }
+    ensures small { result < 2 ^ 62 }
+{
+    record_size(header, is_lone(header))
+}
