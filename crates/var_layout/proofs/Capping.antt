@@ -98,16 +98,3 @@ pub capped_sum_more : {A : Type 0} (f : A → ℕ) (xs : List A) (i : ℕ) (d : 
     → s ≡ capped (a + sum_by f (take i xs)) → n ≡ capped (f (get_or xs i d))
     → capped (s + n) ≡ capped (a + sum_by f (take (i + 1) xs))
 capped_sum_more f xs i d a s n h e g = let more = sum_by_more f xs i d h in omega arith
-
--- the same, of the items that pass a test
-pub capped_sum_yes : {A : Type 0} (p : A → Bool) (f : A → ℕ) (xs : List A) (i : ℕ) (d : A) (s n : ℕ) → i < length xs → p (get_or xs i d) ≡ true
-    → s ≡ capped (sum_by f (filter p (take i xs))) → n ≡ capped (f (get_or xs i d))
-    → capped (s + n) ≡ capped (sum_by f (filter p (take (i + 1) xs)))
-capped_sum_yes p f xs i d s n h t e g =
-    let more = sum_filter_yes p f xs i d h t in
-    omega arith
-
-pub capped_sum_no : {A : Type 0} (p : A → Bool) (f : A → ℕ) (xs : List A) (i : ℕ) (d : A) (s : ℕ) → i < length xs → p (get_or xs i d) ≡ false
-    → s ≡ capped (sum_by f (filter p (take i xs)))
-    → s ≡ capped (sum_by f (filter p (take (i + 1) xs)))
-capped_sum_no p f xs i d s h t e = e ∙ ap (λ ys. capped (sum_by f ys)) (sym (filter_no p xs i d h t))

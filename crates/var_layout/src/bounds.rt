@@ -1,23 +1,21 @@
 // Whether the variables keep their bounds.
-ghost use Rattle.std.specs.Prelude.{◌≡◌, ◌==◌, ◌<◌, List, length, sum_by};
+ghost use Rattle.std.specs.Prelude.{◌≡◌, ◌==◌, ℕ, length};
 ghost use Rattle.std.specs.Result.{result_err};
 ghost use Rattle.serial_spec.specs.Layout as layout;
 ghost use Rattle.serial_spec.specs.HeaderGrammar as grammar;
-ghost use Rattle.nc_base.specs.declared.header.Var.{Var};
 ghost use Rattle.var_layout.specs.Capped.{capped};
 
 use crate::capped;
 use crate::end::end_of_var;
-use crate::record::{is_lone, record_size};
+use crate::record::{is_lone, record_share, record_size};
 use crate::sizes::{is_record, vsize_of};
 use nc_base::{FILE_LIMIT, Header, Var};
 
-/// Whether the variable keeps its bound, where the record variables before it take `before` in a record.
+/// Whether the variable keeps its bound, where the variables before it add `before` to a record.
 fn keeps_bound(header: &Header, lone: bool, size: u64, before: u64, var: &Var) -> bool
     requires lone { lone ≡ (length (layout.record_slabs header.now) == 1) }
     requires size { size ≡ capped (layout.recsize header.now) }
-    ensures { (vars : List Var) → before ≡ capped (sum_by (λ w. layout.vsize header.now w) (layout.record_variables header.now vars))
-        → result ≡ grammar.keeps_bound header.now vars var.now }
+    ensures { (n : ℕ) → before ≡ capped n → result ≡ grammar.keeps_bound header.now n var.now }
 {
     let bytes = vsize_of(header, var);
     let fits = bytes < FILE_LIMIT && capped::sum(var.begin, bytes) < FILE_LIMIT;
@@ -41,9 +39,7 @@ pub fn measure(header: &Header) -> Result<(), usize>
         if !keeps_bound(header, lone, size, before, var) {
             return Err(k);
         }
-        if is_record(header, var) {
-            before = capped::sum(before, vsize_of(header, var));
-        }
+        before = capped::sum(before, record_share(header, var));
     }
     Ok(())
 }

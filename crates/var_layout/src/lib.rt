@@ -19,6 +19,6 @@ pub use bounds::measure;
 pub use elements::{elements_lie_apart, place};
 pub use end::end_of;
 pub use names::{find_dim, find_var};
-pub use record::recsize;
-pub use sizes::{is_record, length_of, slab, vsize};
+pub use record::{recsize, recsize_of};
+pub use sizes::{is_record, length_of, slab, slab_of, vsize, vsize_of};
 pub use written::header_len;

@@ -28,7 +28,18 @@ pub(crate) fn is_lone(header: &Header) -> bool
     record_count(header) == 1
 }
 
-/// The bytes from a record to the next one.
+/// What a variable adds to a record, at a multiple of 4.
+pub(crate) fn record_share(header: &Header, var: &Var) -> u64
+    ensures { result ≡ capped (layout.record_share header.now var.now) }
+{
+    if is_record(header, var) {
+        vsize_of(header, var)
+    } else {
+        0
+    }
+}
+
+/// The bytes from a record to the next one, for a header that is known to have a lone record variable or not.
 pub(crate) fn record_size(header: &Header, lone: bool) -> u64
     requires { lone ≡ (length (layout.record_slabs header.now) == 1) }
     ensures { result ≡ capped (layout.recsize header.now) }
@@ -54,11 +65,19 @@ pub(crate) fn last_share(header: &Header, lone: bool, var: &Var) -> u64
     }
 }
 
-/// The bytes from a record to the next one: the sum of the record variables' vsizes, or the slab of a lone one.
+/// The bytes from a record to the next one, or 2^62 where they are more: the sum of the record variables' vsizes, or the
+/// slab of a lone one.
+pub fn recsize_of(header: &Header) -> u64
+    ensures { result ≡ capped (layout.recsize header.now) }
+{
+    record_size(header, is_lone(header))
+}
+
+/// The bytes from a record to the next one of a sound header.
 pub fn recsize(header: &Header) -> u64
     requires sound { is_sound header.now ≡ true }
     ensures value { result ≡ layout.recsize header.now }
     ensures small { result < 2 ^ 62 }
 {
-    record_size(header, is_lone(header))
+    recsize_of(header)
 }

@@ -59,8 +59,8 @@ fn element_count(header: &Header, ids: &[u32]) -> u64
     elements
 }
 
-/// The bytes of a fixed variable, or of one record, without padding.
-pub(crate) fn slab_of(header: &Header, var: &Var) -> u64
+/// The bytes of a fixed variable, or of one record, without padding, or 2^62 where they are more.
+pub fn slab_of(header: &Header, var: &Var) -> u64
     ensures { result ≡ capped (layout.slab header.now var.now) }
 {
     capped::product(
@@ -70,7 +70,7 @@ pub(crate) fn slab_of(header: &Header, var: &Var) -> u64
 }
 
 /// The same, rounded up to a multiple of 4.
-pub(crate) fn vsize_of(header: &Header, var: &Var) -> u64
+pub fn vsize_of(header: &Header, var: &Var) -> u64
     ensures { result ≡ capped (layout.vsize header.now var.now) }
 {
     capped::padded(slab_of(header, var))

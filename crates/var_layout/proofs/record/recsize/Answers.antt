@@ -5,9 +5,9 @@ use Rattle.var_layout.proofs.record.recsize.Goals as goal
 pub returns-clause-value : goal.returns-clause-value
 returns-clause-value c =
     let small = recsize_small c.args.header.now c.requires.sound in
-    omega (arith, c.record_size.ensures)
+    omega (arith, c.recsize_of.ensures)
 
 pub returns-clause-small : goal.returns-clause-small
 returns-clause-small c =
     let small = recsize_small c.args.header.now c.requires.sound in
-    omega (arith, c.record_size.ensures)
+    omega (arith, c.recsize_of.ensures)
