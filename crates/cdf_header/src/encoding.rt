@@ -5,9 +5,10 @@ ghost use Rattle.serial_spec.specs.HeaderGrammar.{attribute, canon, count, dimen
 ghost use Rattle.cdf_header.specs.Writable.{IsWritableList, IsWritableVar};
 
 use crate::pushing::{push_absent, push_begin, push_count, push_name, push_padded, push_tag};
-use crate::sizes::{number_of, stored_size};
+use crate::type_numbers::number_of;
 use nc_base::{Attr, Blob, Dim, Header, Memory, Var};
 use std::alloc::Global;
+use var_layout::vsize_of;
 
 const DIMS: u32 = 10;
 
@@ -107,7 +108,7 @@ fn push_var(out: &mut Vec<u8>, header: &Header, var: &Var) -> Result<(), Memory>
     push_ids(out, version, var.dims.as_slice())?;
     push_attrs(out, version, var.attrs.as_slice())?;
     push_tag(out, number_of(var.kind))?;
-    push_count(out, version, stored_size(header, var))?;
+    push_count(out, version, vsize_of(header, var))?;
     push_begin(out, version, var.begin)?;
     Ok(())
 }

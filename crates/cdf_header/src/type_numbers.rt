@@ -1,6 +1,6 @@
 // The numbers of types.
 ghost use Rattle.std.specs.Prelude.{◌≡◌};
-ghost use Rattle.serial_spec.specs.HeaderGrammar.{type_size};
+ghost use Rattle.serial_spec.specs.HeaderGrammar.{number_of, type_size};
 ghost use Rattle.cdf_header.specs.Reading.{kind_of};
 
 use nc_base::NcType;
@@ -33,5 +33,24 @@ pub(crate) fn type_size(n: u32) -> u64
         3 | 8 => 2,
         4 | 5 | 9 => 4,
         _ => 8,
+    }
+}
+
+/// The number of a type in a file.
+pub(crate) fn number_of(kind: NcType) -> u32
+    ensures { result ≡ number_of kind }
+{
+    match kind {
+        NcType::Byte => 1,
+        NcType::Char => 2,
+        NcType::Short => 3,
+        NcType::Int => 4,
+        NcType::Float => 5,
+        NcType::Double => 6,
+        NcType::UByte => 7,
+        NcType::UShort => 8,
+        NcType::UInt => 9,
+        NcType::Int64 => 10,
+        NcType::UInt64 => 11,
     }
 }
