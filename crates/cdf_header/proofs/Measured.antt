@@ -1,6 +1,6 @@
 -- What a header has whose variables keep their bounds.
-use Rattle.std.proofs.Common.{◌≡◌, ℕ, zero, suc, ◌+◌, ◌*◌, ◌/◌, ◌^◌, ◌<◌, ◌≤◌, List, [], ◌∷◌, map, Bool, true, false, cond, not, ◌&&◌, Option, Some, None, refl, sym, ap, subst, ◌∙◌, arith}
-use Rattle.std.specs.Prelude.{nat_lt, nat_le, ◌||◌, filter, sum_by, is_none}
+use Rattle.std.proofs.Common.{◌≡◌, ℕ, suc, ◌+◌, ◌^◌, ◌<◌, ◌≤◌, List, [], ◌∷◌, Bool, true, false, cond, not, ◌&&◌, Option, Some, None, refl, ap, arith}
+use Rattle.std.specs.Prelude.{nat_le, ◌||◌, sum_by, is_none}
 use Rattle.std.specs.List.{All, AllByRecursion}
 use Rattle.std.proofs.lemmas.Bool.{ltb-true}
 use Rattle.std.proofs.lemmas.List.Elements.{All-from_recursion}
@@ -8,8 +8,8 @@ use Rattle.std.proofs.lemmas.List.Sums.{sum_by-cons}
 use Rattle.var_layout.proofs.Soundness.{recsize_below}
 use Rattle.nc_base.specs.declared.header.Header.{Header}
 use Rattle.nc_base.specs.declared.header.Var.{Var}
-use Rattle.serial_spec.specs.Limits.{file_limit, record_limit}
-use Rattle.serial_spec.specs.Layout.{round_up, slab, vsize, is_record, record_share, record_size, recsize, record_slabs, last_share}
+use Rattle.serial_spec.specs.Limits.{record_limit}
+use Rattle.serial_spec.specs.Layout.{round_up, slab, vsize, is_record, record_share, recsize}
 use Rattle.serial_spec.specs.HeaderGrammar.{keeps_bound, past_bound, measure, is_too_large}
 use Rattle.serial_spec.proofs.SpellingLaws.{left, right}
 

@@ -1,14 +1,11 @@
 -- What `is_writable` says, part by part.
-use Rattle.std.proofs.Common.{◌≡◌, ℕ, suc, ◌+◌, ◌*◌, ◌^◌, ◌<◌, ◌≤◌, List, [], ◌∷◌, length, refl, arith, Bool, true, false, not, ◌&&◌}
-use Rattle.std.specs.Prelude.{Option, Some, None, is_none, option_map, position, if◌then◌else◌, ◌==◌, nat_lt, cond}
-use Rattle.std.specs.List.{AllByRecursion, list_all, prefix_len}
-use Rattle.std.specs.Int.{w32, w64}
+use Rattle.std.proofs.Common.{◌≡◌, ℕ, ◌^◌, ◌<◌, List, [], ◌∷◌, Bool, true, ◌&&◌}
+use Rattle.std.specs.List.{AllByRecursion, list_all}
 use Rattle.std.proofs.lemmas.Bool.{and_parts}
 use Rattle.nc_base.specs.declared.header.Header.{Header}
 use Rattle.nc_base.specs.declared.header.Var.{Var}
-use Rattle.std.specs.Option.{option_or}
 use Rattle.serial_spec.specs.Layout.{vsize}
-use Rattle.serial_spec.specs.HeaderGrammar.{fits_count, fits_field, is_sound, is_writable, is_writable_attr, is_writable_dim, is_writable_list, is_writable_var, record_later}
+use Rattle.serial_spec.specs.HeaderGrammar.{fits_count, is_writable, is_writable_attr, is_writable_dim, is_writable_list, is_writable_var}
 use Rattle.var_layout.proofs.Soundness.{measured}
 use Rattle.cdf_header.proofs.Measured.{sizes_kept}
 use Rattle.cdf_header.specs.Writable.{IsWritableList, IsWritableVar}

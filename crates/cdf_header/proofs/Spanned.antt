@@ -1,7 +1,7 @@
 -- The pair that the spans of a header's variables give is that of the header.
-use Rattle.std.proofs.Common.{◌≡◌, ℕ, zero, suc, ◌+◌, ◌*◌, ◌<◌, ◌≤◌, List, [], ◌∷◌, length, get_or, Bool, true, false, cond, Option, Some, None, refl, sym, ap, subst, ◌∙◌, arith}
-use Rattle.std.specs.Prelude.{nat_lt, option_map, position, not, ◌==◌}
-use Rattle.std.specs.List.{All, AllPairs, AllByRecursion, position_from}
+use Rattle.std.proofs.Common.{◌≡◌, ℕ, zero, suc, ◌+◌, ◌<◌, ◌≤◌, List, [], ◌∷◌, length, get_or, Bool, true, false, cond, Option, Some, None, refl, sym, ◌∙◌, arith}
+use Rattle.std.specs.Prelude.{nat_lt, option_map, position}
+use Rattle.std.specs.List.{AllPairs, AllByRecursion, position_from}
 use Rattle.std.specs.Option.{option_or}
 use Rattle.std.proofs.lemmas.Iterator.Adapters.{position_from-zero}
 use Rattle.std.proofs.lemmas.List.Elements.{All-from_recursion}
@@ -13,7 +13,7 @@ use Rattle.serial_spec.specs.Layout.{product, inner_lengths, slab, is_record, re
 use Rattle.serial_spec.specs.Layout as layout
 use Rattle.serial_spec.specs.HeaderGrammar.{record_later}
 use Rattle.cdf_header.specs.declared.spans.Span.{Span}
-use Rattle.cdf_header.specs.Spans.{span_of, spans_of, share, partner, pair_at, shared_pair, AreSpans}
+use Rattle.cdf_header.specs.Spans.{span_of, spans_of, partner, shared_pair, AreSpans}
 use Rattle.cdf_header.proofs.Products.{inner-pos, product-pos, size-pos}
 
 one_partner : (t : Bool) (k m : ℕ) (o : Option (ℕ × ℕ)) (p : Option ℕ) → o ≡ option_map (λ n. (k, n)) p

@@ -1,8 +1,8 @@
 -- Over what is written of a header the grammar asks for right fields only.
-use Rattle.std.proofs.Common.{◌≡◌, ℕ, zero, suc, ◌+◌, ◌-◌, ◌*◌, ◌/◌, ◌^◌, ◌≤◌, ◌<◌, List, [], ◌∷◌, ◌++◌, take, drop, length, Bool, true, false, cond, Option, Some, None, refl, sym, ap, subst, ◌∙◌, append_assoc, length-append, arith}
+use Rattle.std.proofs.Common.{◌≡◌, ℕ, ◌+◌, ◌-◌, ◌*◌, ◌^◌, ◌≤◌, ◌<◌, List, [], ◌∷◌, ◌++◌, take, drop, length, Bool, true, false, cond, Some, None, refl, sym, ap, subst, ◌∙◌, append_assoc, length-append, arith}
 use Rattle.std.specs.Prelude.{◌==◌, ◌||◌, ◌&&◌, not, nat_lt, nat_le, flat_map, replicate}
 use Rattle.std.specs.List.{list_all}
-use Rattle.std.specs.Int.{Width, w32, w64, byte_len, to_be_bytes, from_be_bytes}
+use Rattle.std.specs.Int.{w32, w64, byte_len, to_be_bytes, from_be_bytes}
 use Rattle.std.proofs.Math.Seq.{drop-append_seam, take-append_seam}
 use Rattle.std.proofs.lemmas.List.{length-drop, length-replicate, drop-drop}
 use Rattle.std.proofs.lemmas.Nat.{from_be_bytes-to_be_bytes_4, from_be_bytes-to_be_bytes_8}
@@ -18,7 +18,7 @@ use Rattle.nc_base.specs.declared.errors.HeaderErr.TheVariants as fault
 use Rattle.serial_spec.specs.Limits.{most_dims, most_vars, most_dims_of_var, file_limit}
 use Rattle.serial_spec.specs.ExternalForm.{size_of}
 use Rattle.serial_spec.specs.Layout.{round_up, vsize}
-use Rattle.serial_spec.specs.HeaderGrammar.{Field, Magic, Records, Tag, Count, NameLength, Block, DimLength, AttrType, AttrCount, DimCount, DimId, VarType, Vsize, Begin, Entries, Dimensions, Attributes, Variables, Ids, Ask, One, Many, Run, stands, takes, asked, the_header, first_field, other_fields, many, block, most_of, tag_of, type_size, number_of, last_type, is_type, bad_type, is_version, version_of, is_negative, fault_if, wrong, wrong_at, after_field, field_number, field_len, big_endian, count, tag, name, padded, list_of, dimension, attribute, variable, magic, canon, count_width, begin_width, fits_field, fits_count, field_fault, first_wrong, is_sound, counts_are_small, is_writable, is_writable_dim, is_writable_attr, is_writable_list, is_writable_var}
+use Rattle.serial_spec.specs.HeaderGrammar.{Field, Magic, Records, Tag, Count, NameLength, Block, DimLength, AttrType, AttrCount, DimCount, DimId, VarType, Vsize, Begin, Entries, Dimensions, Attributes, Variables, Ids, Ask, One, Many, Run, stands, takes, asked, the_header, first_field, other_fields, many, block, most_of, tag_of, type_size, number_of, last_type, is_type, bad_type, is_version, version_of, fault_if, wrong, wrong_at, after_field, field_number, field_len, big_endian, count, tag, name, padded, list_of, dimension, attribute, variable, magic, canon, count_width, begin_width, fits_field, fits_count, field_fault, is_writable, is_writable_dim, is_writable_attr, is_writable_list, is_writable_var}
 use Rattle.serial_spec.proofs.FaultLaws.{run_on, run_whole, len_pos}
 use Rattle.serial_spec.proofs.SpellingLaws.{left, right, known_version}
 

@@ -1,5 +1,5 @@
 -- What the writers of a header's parts ask of them: the parts of `is_writable`, as facts.
-use Rattle.std.specs.Prelude.{ℕ, ◌^◌, ◌<◌, ◌≡◌, List, length, Bool, true, false}
+use Rattle.std.specs.Prelude.{ℕ, ◌^◌, ◌<◌, ◌≡◌, List, length, Bool, true}
 use Rattle.std.specs.List.{AllByRecursion}
 use Rattle.nc_base.specs.declared.header.Header.{Header}
 use Rattle.nc_base.specs.declared.header.Var.{Var}

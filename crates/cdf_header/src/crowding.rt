@@ -1,4 +1,10 @@
 // The first variable that may share a byte with another, found by sorting.
+//
+// Two variables of one kind that meet have neighbours in the sorted list that do, and a record variable shares a byte with
+// some fixed one, or with another one's next record, exactly where it does so with the one that ends last or begins first.
+// So a sort and a few passes tell the least variable that shares a byte. What is proved of these functions is that no
+// variable before it shares one, which is all that a right answer needs; that it is the least one keeps the search for its
+// partner to one pass.
 ghost use Rattle.std.specs.Prelude.{◌≡◌, false, true, IfOk};
 ghost use Rattle.std.specs.List.{All, AllPairs};
 ghost use Rattle.cdf_header.specs.Spans.{EndsBefore, EndsBeforeNext, AreApart, HasAll};

@@ -16,8 +16,9 @@ const VARS: u32 = 11;
 
 const ATTRS: u32 = 12;
 
+/// The bytes of a header of version 1, 2 or 5, in the one spelling that is written: zero padding, a zero tag and a zero count
+/// for an empty list, and the size that the layout gives each variable.
 #[tactic(auto, using(crate::proofs::Appends::then_append), unfolding(serial_spec::specs::HeaderGrammar::canon))]
-/// The one spelling of a header that is written: zero padding, no tag before an empty list, and each variable's `vsize`.
 pub fn encode(alloc: Global, header: &Header) -> Result<Blob, Memory>
     requires { is_writable header.now ≡ true }
     ensures { IfOk result (λ bytes. bytes ≡ canon header.now) }

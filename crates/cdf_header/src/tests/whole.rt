@@ -88,7 +88,7 @@ fn put(bytes: &mut Vec<u8>, word: u32) -> Result<(), AllocError> {
 
 fn put_dims(bytes: &mut Vec<u8>, dims: &[u32]) -> Result<(), AllocError> {
     put(bytes, 10)?;
-    put(bytes, dims.len() as u32)?;
+    put(bytes, dims.len().min(9) as u32)?;
     for len in dims {
         put(bytes, 1)?;
         put(bytes, 0x6400_0000)?;
@@ -101,7 +101,7 @@ fn put_dims(bytes: &mut Vec<u8>, dims: &[u32]) -> Result<(), AllocError> {
 fn put_var(bytes: &mut Vec<u8>, ids: &[u32], begin: u32) -> Result<(), AllocError> {
     put(bytes, 1)?;
     put(bytes, 0x7600_0000)?;
-    put(bytes, ids.len() as u32)?;
+    put(bytes, ids.len().min(9) as u32)?;
     for id in ids {
         put(bytes, *id)?;
     }
@@ -124,7 +124,7 @@ fn put_front(bytes: &mut Vec<u8>, dims: &[u32], vars: u32) -> Result<(), AllocEr
 
 fn bytes_of(alloc: Global, whole: &Whole) -> Result<Vec<u8>, AllocError> {
     let mut bytes = Vec::new(alloc);
-    put_front(&mut bytes, whole.dims, whole.vars.len() as u32)?;
+    put_front(&mut bytes, whole.dims, whole.vars.len().min(9) as u32)?;
     for (ids, begin) in whole.vars {
         put_var(&mut bytes, ids, *begin)?;
     }

@@ -1,4 +1,4 @@
-use Rattle.std.proofs.Common.{ℕ, ◌≤◌, ◌<◌, ◌+◌, take, length, get_or}
+use Rattle.std.proofs.Common.{ℕ, ◌≤◌, ◌<◌, ◌+◌, length, get_or}
 use Rattle.cdf_header.specs.declared.spans.Span.{Span}
 use Rattle.cdf_header.proofs.spans.first_overlapping.Given as goal
 
