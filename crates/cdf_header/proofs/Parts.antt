@@ -6,7 +6,8 @@ use Rattle.std.specs.Int.{w32, w64}
 use Rattle.std.proofs.lemmas.Bool.{and_parts, ltb-true, ltb-false, false≢true}
 use Rattle.nc_base.specs.declared.header.Header.{Header}
 use Rattle.nc_base.specs.declared.header.Var.{Var}
-use Rattle.serial_spec.specs.Layout.{or_else, vsize}
+use Rattle.std.specs.Option.{option_or}
+use Rattle.serial_spec.specs.Layout.{vsize}
 use Rattle.serial_spec.specs.HeaderGrammar.{fits_count, fits_field, is_sound, is_writable, is_writable_attr, is_writable_dim, is_writable_list, is_writable_var, record_later}
 use Rattle.cdf_header.specs.Writable.{IsWritableList, IsWritableVar}
 
@@ -40,7 +41,7 @@ none_first : {A B : Type 0} (test : A → Bool) (e : ℕ → B) (xs : List A) �
 none_first test e xs h =
     none_pass test xs (ltb-false _ _ (no_first (nat_lt (prefix_len (λ x. not (test x)) xs) (length xs)) e _ h))
 
-neither : {A : Type 0} (a b : Option A) → is_none (or_else a b) ≡ true → (is_none a ≡ true) × (is_none b ≡ true)
+neither : {A : Type 0} (a b : Option A) → is_none (option_or a b) ≡ true → (is_none a ≡ true) × (is_none b ≡ true)
 neither None b h = (refl, h)
 neither (Some x) b h = absurd (false≢true h)
 

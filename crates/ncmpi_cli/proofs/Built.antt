@@ -8,7 +8,7 @@ use Rattle.nc_outside.specs.Told.{after, with_front}
 use Rattle.script_spec.specs.Thin.{IsBuilt, IsThin, IsThinScript, IsThinDim, IsThinVar, IsPlain, IsPlainPut, thin_text}
 use Rattle.ncmpi_cli.specs.declared.one_put.OnePut.{OnePut}
 use Rattle.ncmpi_cli.specs.OnePut.{IsOnePut, script_of, call_of, var_at}
-use Rattle.ncmpi_cli.proofs.Puts.{same_bytes}
+use Rattle.ncmpi_cli.proofs.Same.{same_bytes}
 use Rattle.ncmpi_cli.specs.Says.{SaysPut}
 use Rattle.ncmpi_cli.specs.Limits.{max_text}
 
@@ -34,6 +34,8 @@ built text p short says =
           fresh = refl;
           ranks = refl;
           hints = refl;
+          filled = refl;
+          extra = refl;
           version = refl;
           records = refl;
           attrs = refl;
@@ -52,6 +54,7 @@ built text p short says =
               form = refl;
               no_stride = refl;
               no_imap = refl;
+              no_parts = refl;
               at = rw found ((one.some, one.inside), tt);
               known = (var_at p 0, rw found refl);
               few = omega arith;

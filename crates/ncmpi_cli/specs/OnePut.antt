@@ -1,5 +1,5 @@
 -- Scripts of one dimension, one variable of it, and one put.
-use Rattle.std.specs.Prelude.{ℕ, ◌+◌, ◌*◌, ◌^◌, ◌<◌, ◌≤◌, ◌≡◌, Bool, true, false, List, [], ◌∷◌, length, ℤ, FitsSigned, take, flat_map}
+use Rattle.std.specs.Prelude.{ℕ, ◌+◌, ◌*◌, ◌^◌, ◌<◌, ◌≤◌, ◌≡◌, Bool, true, false, List, [], ◌∷◌, length, ℤ, FitsSigned, zero, suc, take, drop, flat_map}
 use Rattle.std.specs.Int.{w32}
 use Rattle.std.specs.List.{AllByRecursion}
 use Rattle.nc_base.specs.declared.header.Dim.{Dim}
@@ -16,7 +16,8 @@ use Rattle.script_spec.specs.Thin.{IsName, default_hints}
 use Rattle.nc_base.specs.declared.request.Region.{Region}
 use Rattle.nc_base.specs.declared.request.Value.TheVariants as value
 use Rattle.serial_spec.specs.ExternalForm.{ext}
-use Rattle.serial_spec.specs.Request.{put}
+use Rattle.serial_spec.specs.File.{longer, written}
+use Rattle.serial_spec.specs.HeaderGrammar.{canon, header_len}
 use Rattle.ncmpi_cli.specs.declared.one_put.OnePut.{OnePut}
 
 abbrev pub dims_of : OnePut → List Dim
@@ -56,6 +57,14 @@ region_of p = record { start = p.start ∷ []; count = p.count ∷ []; stride = 
 abbrev pub packed_ints : ℕ → List ℤ → List ℕ
 packed_ints count values = flat_map (λ z. ext Int (value.Number z)) (take count values)
 
--- the file with the put done
-abbrev pub with_put : OnePut → ℕ → List ℕ → List ℕ → List ℕ
-with_put p begin bytes file = put (header_at p begin) (var_at p begin) (region_of p) bytes file
+-- this many elements of four bytes, one after another from a place on
+abbrev pub stored : ℕ → ℕ → List ℕ → List ℕ → List ℕ
+stored zero place bytes file = file
+stored (suc n) place bytes file = stored n (place + 4) (drop 4 bytes) (written file place (take 4 bytes))
+
+-- the file after the put
+abbrev pub put_end : OnePut → List ℕ
+put_end p =
+    let begin = header_len (header_at p 0) in
+    let header = header_at p begin in
+    stored p.count (begin + p.start * 4) (packed_ints p.count p.values) (longer (canon header) (begin + p.len * 4))

@@ -6,10 +6,8 @@ ghost use Rattle.nc_outside.specs.Told.{after};
 ghost use Rattle.nc_outside.specs.Cause.{HasDiskCause};
 ghost use Rattle.serial_spec.specs.File.{longer, written};
 ghost use Rattle.serial_spec.specs.HeaderGrammar.{canon, header_len, is_writable};
-ghost use Rattle.serial_spec.specs.Request.{packed_bytes};
-ghost use Rattle.nc_base.specs.declared.header.NcType.TheVariants.{Int};
-ghost use Rattle.nc_base.specs.declared.request.Values.TheVariants.{Numbers};
-ghost use Rattle.ncmpi_cli.specs.OnePut.{IsOnePut, header_at, packed_ints, region_of, with_put};
+ghost use Rattle.serial_spec.specs.Layout.{round_up};
+ghost use Rattle.ncmpi_cli.specs.OnePut.{IsOnePut, header_at, packed_ints, put_end, stored};
 
 use crate::one_put::OnePut;
 use cdf_header::encode;
@@ -39,7 +37,8 @@ pub(crate) fn create_and_put<D: Disk>(
 // The header's length, which is where its variable begins.
 fn header_len(put: &OnePut) -> u64
     requires { IsOnePut put.now }
-    ensures { result ≡ header_len (header_at put.now 0) }
+    ensures len { result ≡ header_len (header_at put.now 0) }
+    ensures small { result < 2 ^ 16 }
 {
     72 + padded_len(put.dim.len()) + padded_len(put.var.len())
 }

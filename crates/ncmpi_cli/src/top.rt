@@ -81,7 +81,7 @@ pub fn ncrun<R: Wait, S: Source, K: Sink, D: Disk, G: Gate>(
 {
     match run(alloc, words, script, disk) {
         Ok(ran) => {
-            let Run { order, text } = ran;
+            let Finished { order, text } = ran;
             let status = match give_all(out, text.as_bytes()) {
                 Ok(()) => 0,
                 Err(_) => 6,
@@ -112,7 +112,7 @@ fn ended(alloc: Global, status: u8, order: MarkList) -> Outcome
 
 // What a run comes to that ends well.
 #[derive(Debug, Drop)]
-struct Run {
+struct Finished {
     order: MarkList,
     text: String,
 }
@@ -122,7 +122,7 @@ fn run<S: Source, D: Disk>(
     words: &[&str],
     script: &mut S,
     disk: &mut D,
-) -> Result<Run, Stop>
+) -> Result<Finished, Stop>
     ensures ok { IfOk result (λ ran. Ran (S.left script.old) (S.left script.new) (D.held disk.old) (D.held disk.new) ran.order (string_bytes ran.text)) }
     ensures usage { IsErrOf result Stop.Usage ↔ (is_form (texts words.now) ≡ false) }
     ensures not_built { IsErrOf result Stop.NotBuilt → IfSome (S.left script.old) (λ text. IsSomeScript text → ⊥) }
@@ -139,7 +139,7 @@ fn run<S: Source, D: Disk>(
     let order = one_meeting(alloc)?;
     let text = put_text(alloc)?;
     create_and_put(alloc, disk, name, &put)?;
-    Ok(Run { order, text })
+    Ok(Finished { order, text })
 }
 
 // The put that the source's text says.
