@@ -12,12 +12,17 @@ const MEMORY: u8 = 8;
 fn main(rt: HostRuntime) -> ExitCode {
     let alloc = rt.alloc();
     let mut all = Vec::new(alloc);
-    if let Ok(args) = env::args(&rt) {
-        for arg in args.skip(1) {
-            if all.push(arg).is_err() {
-                return ExitCode::from(MEMORY);
+    match env::args(&rt) {
+        Ok(args) => {
+            for arg in args.skip(1) {
+                if all.push(arg).is_err() {
+                    return ExitCode::from(MEMORY);
+                }
             }
         }
+        Err(e) if e.kind() == io::ErrorKind::OutOfMemory => return ExitCode::from(MEMORY),
+        // A word that is not UTF-8 is of no form: no words are passed.
+        Err(_) => all.clear(),
     }
     let mut words = Vec::new(alloc);
     for word in all.iter() {
