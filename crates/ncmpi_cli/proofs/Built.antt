@@ -1,13 +1,11 @@
 -- Texts of one put, and the scripts that they are.
-use Rattle.std.proofs.Common.{◌≡◌, ℕ, zero, suc, ◌+◌, ◌*◌, ◌≤◌, ◌<◌, ◌^◌, Bool, true, false, cond, List, [], ◌∷◌, ◌++◌, length, Option, Some, None, refl, sym, ap, subst, ◌∙◌, arith}
+use Rattle.std.proofs.Common.{◌≡◌, ℕ, ◌≤◌, List, [], ◌∷◌, ◌++◌, length, Option, Some, None, refl, sym, ap, subst, ◌∙◌, arith}
 use Rattle.std.specs.Prelude.{IfSome}
-use Rattle.std.specs.List.{AllByRecursion}
 use Rattle.std.proofs.lemmas.List.{append-nil}
-use Rattle.nc_base.specs.declared.script.Script.{Script}
 use Rattle.nc_outside.specs.Told.{after, with_front}
-use Rattle.script_spec.specs.Thin.{IsBuilt, IsThin, IsThinScript, IsThinDim, IsThinVar, IsPlain, IsPlainPut, thin_text}
+use Rattle.script_spec.specs.Thin.{IsBuilt}
 use Rattle.ncmpi_cli.specs.declared.one_put.OnePut.{OnePut}
-use Rattle.ncmpi_cli.specs.OnePut.{IsOnePut, script_of, call_of, var_at}
+use Rattle.ncmpi_cli.specs.OnePut.{script_of, call_of, var_at}
 use Rattle.ncmpi_cli.proofs.Same.{same_bytes}
 use Rattle.ncmpi_cli.specs.Says.{SaysPut}
 use Rattle.ncmpi_cli.specs.Limits.{max_text}

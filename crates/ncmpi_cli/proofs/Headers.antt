@@ -1,5 +1,5 @@
 -- The header of one dimension and one variable: its length, its layout, and that it can be written.
-use Rattle.std.proofs.Common.{◌≡◌, ℕ, zero, suc, ◌+◌, ◌-◌, ◌*◌, ◌/◌, ◌^◌, ◌<◌, ◌≤◌, max, Bool, true, false, cond, not, ◌&&◌, ◌||◌, eqb, List, [], ◌∷◌, ◌++◌, length, refl, sym, ap, subst, ◌∙◌, arith}
+use Rattle.std.proofs.Common.{◌≡◌, ℕ, zero, suc, ◌+◌, ◌*◌, ◌^◌, ◌<◌, ◌≤◌, max, Bool, true, false, cond, not, ◌&&◌, ◌||◌, List, [], ◌∷◌, length, refl, sym, ap, ◌∙◌, arith}
 use Rattle.std.specs.Prelude.{Option, None, Some, nat_lt, nat_le, if◌then◌else◌, ◌==◌, is_none, option_map}
 use Rattle.std.specs.Option.{option_or}
 use Rattle.std.specs.Int.{w32}
@@ -10,11 +10,11 @@ use Rattle.nc_base.specs.declared.errors.HeaderErr.{HeaderErr}
 use Rattle.nc_base.specs.declared.errors.HeaderErr.TheVariants as fault
 use Rattle.nc_base.specs.declared.header.Var.{Var}
 use Rattle.serial_spec.specs.Limits.{file_limit, most_header_bytes}
-use Rattle.serial_spec.specs.Layout.{begins, end_of, greatest, end_of_var, inner_lengths, is_record, product, round_up, sharing, slab, vsize, without_record}
-use Rattle.serial_spec.specs.HeaderGrammar.{canon, fault_if, first_check, first_with, fits_field, header_len, is_sound, is_writable, is_writable_dim, is_writable_list, is_writable_var, is_writable_attr, keeps_bound, is_too_large, measure, two_record_dims, record_later, bad_id, all_ones}
+use Rattle.serial_spec.specs.Layout.{end_of, is_record, product, round_up, vsize, without_record}
+use Rattle.serial_spec.specs.HeaderGrammar.{canon, fault_if, first_check, fits_field, header_len, is_sound, is_writable, is_writable_dim, is_writable_var, keeps_bound, is_too_large, measure, two_record_dims}
 use Rattle.ncmpi_cli.specs.declared.one_put.OnePut.{OnePut}
 use Rattle.ncmpi_cli.specs.Headline.{created_header}
-use Rattle.ncmpi_cli.specs.OnePut.{IsOnePut, dims_of, header_at, script_of, var_at}
+use Rattle.ncmpi_cli.specs.OnePut.{IsOnePut, header_at, script_of, var_at}
 
 -- ---- its length
 

@@ -1,13 +1,13 @@
 -- What a text of one put is, from its front on.
-use Rattle.std.proofs.Common.{◌≡◌, ℕ, zero, suc, ◌+◌, ◌*◌, ◌^◌, ◌<◌, ◌≤◌, Bool, true, false, cond, List, [], ◌∷◌, ◌++◌, length, take, drop, ℤ, pos, neg_ℤ, Option, Some, None, refl, sym, ap, subst, ◌∙◌, append_assoc, arith}
+use Rattle.std.proofs.Common.{◌≡◌, ℕ, ◌^◌, ◌<◌, List, [], ◌∷◌, ◌++◌, Option, Some, refl, ap, ◌∙◌, append_assoc}
 use Rattle.std.specs.Prelude.{codes}
 use Rattle.std.specs.List.{prefix_len}
-use Rattle.std.specs.Fmt.{decimal, signed_decimal}
+use Rattle.std.specs.Fmt.{decimal}
 use Rattle.std.proofs.lemmas.List.{append-nil}
 use Rattle.script_spec.specs.Thin.{thin_text, number_words, IsName}
 use Rattle.ncmpi_cli.specs.declared.one_put.OnePut.{OnePut}
-use Rattle.ncmpi_cli.specs.OnePut.{IsOnePut, script_of}
-use Rattle.ncmpi_cli.specs.Reading.{◌>>=◌, is_digit, literal_at, name_at, number_at, dim_at, var_at, region_at, parts_at, numbers_at}
+use Rattle.ncmpi_cli.specs.OnePut.{script_of}
+use Rattle.ncmpi_cli.specs.Reading.{◌>>=◌, is_digit, dim_at, var_at, region_at, parts_at}
 use Rattle.ncmpi_cli.proofs.Again.{literal-again, name-again, number-again}
 
 -- the lines up to that of the dimension

@@ -1,12 +1,11 @@
 -- A plain put is looked at and refused by nothing: it asks for one post.
-use Rattle.std.proofs.Common.{◌≡◌, ℕ, zero, suc, ◌+◌, ◌-◌, ◌*◌, ◌^◌, ◌<◌, ◌≤◌, Bool, true, false, not, ◌&&◌, ◌||◌, List, [], ◌∷◌, length, map, take, Option, Some, None, refl, sym, ap, ◌∙◌, arith}
+use Rattle.std.proofs.Common.{◌≡◌, ℕ, zero, suc, ◌+◌, ◌-◌, ◌*◌, ◌≤◌, Bool, true, false, not, ◌&&◌, ◌||◌, List, [], ◌∷◌, map, take, Option, Some, None, refl, ap, ◌∙◌, arith}
 use Rattle.std.specs.Prelude.{nat_lt, nat_le, is_none, slice_get, ◌==◌}
 use Rattle.std.specs.List.{list_any, range_with_len}
 use Rattle.std.proofs.lemmas.Bool.{and_left, and_right, lt-ltb, le-ltb, lt-leb, ne_eqb}
 use Rattle.nc_base.specs.declared.answer.Code.{Code}
 use Rattle.nc_base.specs.declared.answer.Code.TheVariants as code
 use Rattle.nc_base.specs.declared.header.Header.{Header}
-use Rattle.nc_base.specs.declared.header.Var.{Var}
 use Rattle.nc_base.specs.declared.header.NcType.TheVariants.{Int}
 use Rattle.nc_base.specs.declared.plan.Post.{Post}
 use Rattle.nc_base.specs.declared.request.Direction.TheVariants.{Put}
@@ -15,7 +14,7 @@ use Rattle.nc_base.specs.declared.request.Values.TheVariants.{Numbers}
 use Rattle.serial_spec.specs.Layout.{end_of}
 use Rattle.serial_spec.specs.Limits.{file_limit, most_elements, record_limit}
 use Rattle.serial_spec.specs.HeaderGrammar.{header_len}
-use Rattle.serial_spec.specs.RankMachine.{Look, Refused, Empty, Asks, data_code, find_var, look, look_at, looked, some_fits, values_code}
+use Rattle.serial_spec.specs.RankMachine.{Look, Refused, Asks, find_var, look, look_at, looked, some_fits, values_code}
 use Rattle.serial_spec.specs.Records.{records_of}
 use Rattle.serial_spec.specs.RegionCheck.{bad_edge, bad_start, bound, check_var, first_code, has_element, is_ok_code, is_too_large}
 use Rattle.serial_spec.specs.Request.{packed_bytes, value_at}

@@ -1,5 +1,5 @@
 -- Numbers that were read stood at the front, one behind each blank.
-use Rattle.std.proofs.Common.{◌≡◌, ℕ, zero, suc, ◌+◌, ◌^◌, ◌<◌, ◌≤◌, Bool, true, false, cond, ◌&&◌, List, [], ◌∷◌, ◌++◌, ℤ, pos, negsuc, neg_ℤ, FitsSigned, Option, Some, None, refl, sym, ap, subst, ◌∙◌, append_assoc, arith}
+use Rattle.std.proofs.Common.{◌≡◌, ℕ, zero, suc, ◌<◌, ◌≤◌, ◌&&◌, List, [], ◌∷◌, ◌++◌, ℤ, pos, neg_ℤ, FitsSigned, Option, Some, None, refl, sym, ap, subst, ◌∙◌, append_assoc, arith}
 use Rattle.std.specs.Prelude.{codes, nat_lt, nat_le}
 use Rattle.std.specs.Int.{w32}
 use Rattle.std.specs.Option.{option_map_or}
@@ -10,8 +10,8 @@ use Rattle.std.proofs.lemmas.Bool.Decides.{nat_tests}
 use Rattle.std.proofs.lemmas.Int.{ints}
 use Rattle.std.proofs.lemmas.Option.{cond_some}
 use Rattle.script_spec.specs.Thin.{number_words}
-use Rattle.ncmpi_cli.specs.Reading.{◌>>=◌, literal_at, number_at, negative_at, positive_at, signed_at, word_at, numbers_at, with_word}
-use Rattle.ncmpi_cli.proofs.Takes.{literal-takes, number-takes, bind-parts, same-some}
+use Rattle.ncmpi_cli.specs.Reading.{literal_at, negative_at, positive_at, signed_at, word_at, numbers_at, with_word}
+use Rattle.ncmpi_cli.proofs.Takes.{literal-takes, number-takes, bind-parts}
 
 abbrev Taken : List ℕ → ℤ → List ℕ → Type 0
 Taken text z rest = (text ≡ signed_decimal z ++ rest) × FitsSigned w32 z

@@ -1,5 +1,5 @@
 -- A script that is built is that of one put.
-use Rattle.std.proofs.Common.{◌≡◌, ℕ, zero, suc, ◌+◌, ◌*◌, ◌≤◌, ◌<◌, ◌^◌, Bool, true, false, cond, List, [], ◌∷◌, ◌++◌, length, ℤ, FitsSigned, Option, Some, None, map, refl, sym, ap, subst, ◌∙◌, arith}
+use Rattle.std.proofs.Common.{◌≡◌, ℕ, ◌*◌, ◌≤◌, ◌^◌, Bool, true, false, List, [], ◌∷◌, length, ℤ, FitsSigned, Option, Some, map, sym, ap, subst, ◌∙◌, arith}
 use Rattle.std.specs.Prelude.{IfSome, nat_eq, slice_get}
 use Rattle.std.specs.Int.{w32}
 use Rattle.std.specs.List.{AllByRecursion}
@@ -14,15 +14,12 @@ use Rattle.nc_base.specs.declared.request.Call.{Call}
 use Rattle.nc_base.specs.declared.request.Call.TheVariants.{Put}
 use Rattle.nc_base.specs.declared.request.Values.TheVariants.{Numbers}
 use Rattle.nc_base.specs.declared.request.Form.TheVariants.{Vara}
-use Rattle.nc_base.specs.declared.request.Given.{Given}
 use Rattle.nc_base.specs.declared.script.Hints.{Hints}
 use Rattle.nc_base.specs.declared.script.Script.{Script}
 use Rattle.nc_base.specs.declared.script.Extra.{Extra}
-use Rattle.nc_base.specs.declared.request.Part.{Part}
-use Rattle.serial_spec.specs.Layout.{product, lengths, length_of}
-use Rattle.script_spec.specs.Thin.{IsName, IsBuilt, IsThin, IsThinScript, IsThinDim, IsThinVar, IsPlain, IsPlainPut, FitsShape, thin_text, default_hints, var_named}
+use Rattle.serial_spec.specs.Layout.{product, length_of}
+use Rattle.script_spec.specs.Thin.{IsName, IsBuilt, FitsShape, thin_text, default_hints, var_named}
 use Rattle.ncmpi_cli.specs.declared.one_put.OnePut.{OnePut}
-use Rattle.ncmpi_cli.specs.OnePut.{IsOnePut, script_of}
 use Rattle.ncmpi_cli.specs.Says.{SaysPut}
 
 -- the text of these parts

@@ -1,6 +1,6 @@
 -- What is read of a text, and what a text of one put is read as.
-use Rattle.std.proofs.Common.{◌≡◌, ℕ, zero, suc, ◌+◌, ◌^◌, ◌<◌, ◌≤◌, List, [], ◌∷◌, ◌++◌, length, ℤ, Option, Some, None, refl, sym, ap, subst, ◌∙◌, arith}
-use Rattle.std.specs.Prelude.{codes, nat_eq, FitsSigned, IsTrue}
+use Rattle.std.proofs.Common.{◌≡◌, ℕ, ◌≤◌, List, [], ◌∷◌, ◌++◌, length, ℤ, Some, None, refl, sym, ap, subst, ◌∙◌, arith}
+use Rattle.std.specs.Prelude.{codes, nat_eq, FitsSigned}
 use Rattle.std.specs.Int.{w32}
 use Rattle.std.specs.List.{AllByRecursion}
 use Rattle.std.specs.Cmp.Lexicographic.{pointwise}
@@ -9,9 +9,9 @@ use Rattle.ncmpi_cli.proofs.Same.{same_bytes}
 use Rattle.std.proofs.lemmas.Slice.Eq.{bytes_eq-Decides}
 use Rattle.std.specs.Fmt.{signed_decimal}
 use Rattle.std.proofs.lemmas.List.{length-append}
-use Rattle.script_spec.specs.Thin.{thin_text, number_words, IsName}
+use Rattle.script_spec.specs.Thin.{number_words}
 use Rattle.ncmpi_cli.specs.declared.one_put.OnePut.{OnePut}
-use Rattle.ncmpi_cli.specs.OnePut.{IsOnePut, script_of}
+use Rattle.ncmpi_cli.specs.OnePut.{IsOnePut}
 use Rattle.ncmpi_cli.specs.Says.{SaysPut, IsInside}
 use Rattle.ncmpi_cli.specs.Reading.{parts_at, numbers_at, word_at, literal_at}
 use Rattle.ncmpi_cli.proofs.Laws.{dim_text, var_text, region_text, regrouped, parts-again}

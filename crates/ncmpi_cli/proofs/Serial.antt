@@ -1,5 +1,5 @@
 -- The serial end of a script of one put.
-use Rattle.std.proofs.Common.{◌≡◌, ℕ, zero, suc, ◌+◌, ◌-◌, ◌*◌, ◌<◌, ◌≤◌, max, Bool, true, false, cond, List, [], ◌∷◌, ◌++◌, length, map, filter, replicate, Option, Some, None, refl, sym, ap, subst, ◌∙◌, arith}
+use Rattle.std.proofs.Common.{◌≡◌, ℕ, zero, ◌+◌, ◌-◌, ◌*◌, ◌<◌, ◌≤◌, max, Bool, true, false, cond, List, [], ◌∷◌, ◌++◌, length, map, filter, replicate, Option, Some, None, refl, sym, ap, subst, ◌∙◌, arith}
 use Rattle.std.specs.Prelude.{codes, nat_lt, zip}
 use Rattle.std.specs.Fmt.{digits}
 use Rattle.std.proofs.lemmas.List.{length-append, length-replicate}
@@ -9,7 +9,6 @@ use Rattle.nc_base.specs.declared.header.Header.{Header}
 use Rattle.nc_base.specs.declared.header.NcType.TheVariants.{Int}
 use Rattle.nc_base.specs.declared.request.Values.TheVariants.{Numbers}
 use Rattle.nc_base.specs.declared.script.OverlapRule.TheVariants.{Refuse}
-use Rattle.nc_base.specs.declared.step.Mark.{Mark}
 use Rattle.nc_base.specs.declared.step.Mark.TheVariants.{Meet}
 use Rattle.nc_base.specs.declared.step.MeetKind.TheVariants as meets
 use Rattle.nc_base.specs.declared.step.Offer.{Offer}
@@ -25,7 +24,7 @@ use Rattle.serial_spec.specs.Layout.{end_of}
 use Rattle.serial_spec.specs.RankMachine.{Look, Rank, answer, batch_of, code_of_look, new_rank, offers, step}
 use Rattle.serial_spec.specs.Request.{packed_bytes, put}
 use Rattle.serial_spec.specs.SerialEnd.{End, Going, after_meeting, closed, first_going, go, hears, offers_of, serial}
-use Rattle.serial_spec.specs.SharedByte.{bytes_of, Holding, Key, distinct, has_byte, is_shared, least, pair_at, shared_pair, shared_pair_of}
+use Rattle.serial_spec.specs.SharedByte.{bytes_of, Holding, Key, distinct, has_byte, is_shared, least, pair_at, shared_pair_of}
 use Rattle.serial_spec.proofs.FileLaws.{longer-enough}
 use Rattle.script_spec.specs.Texts.{answers_text}
 use Rattle.ncmpi_cli.specs.declared.one_put.OnePut.{OnePut}

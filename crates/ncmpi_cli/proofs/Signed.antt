@@ -1,16 +1,16 @@
 -- Numbers with their sign, behind blanks, are read again.
-use Rattle.std.proofs.Common.{◌≡◌, ℕ, zero, suc, ◌+◌, ◌*◌, ◌^◌, ◌<◌, ◌≤◌, Bool, true, false, cond, ◌&&◌, List, [], ◌∷◌, ◌++◌, length, take, drop, ℤ, pos, negsuc, neg_ℤ, FitsSigned, Option, Some, None, refl, sym, ap, subst, ◌∙◌, append_assoc, arith}
+use Rattle.std.proofs.Common.{◌≡◌, ℕ, zero, suc, ◌^◌, ◌<◌, ◌≤◌, Bool, true, false, cond, ◌&&◌, List, [], ◌∷◌, ◌++◌, length, ℤ, pos, negsuc, FitsSigned, Option, Some, None, refl, ap, ◌∙◌, append_assoc, arith}
 use Rattle.std.specs.Prelude.{codes, nat_lt, nat_le, nat_eq}
 use Rattle.std.specs.Int.{w32}
 use Rattle.std.specs.Option.{option_map_or}
-use Rattle.std.specs.List.{prefix_len, list_all, AllByRecursion, starts_with}
+use Rattle.std.specs.List.{prefix_len, list_all, AllByRecursion}
 use Rattle.std.specs.Fmt.{decimal, signed_decimal}
 use Rattle.std.proofs.lemmas.Bool.{and_parts}
 use Rattle.std.proofs.lemmas.Bool.Decides.{nat_tests}
 use Rattle.std.proofs.lemmas.Int.{ints}
 use Rattle.std.proofs.lemmas.Fmt.{digits_decimal, decimal_nonempty}
 use Rattle.script_spec.specs.Thin.{number_words}
-use Rattle.ncmpi_cli.specs.Reading.{◌>>=◌, literal_at, number_at, is_digit, negative_at, positive_at, signed_at, word_at, numbers_at, with_word}
+use Rattle.ncmpi_cli.specs.Reading.{literal_at, is_digit, negative_at, positive_at, signed_at, word_at, numbers_at, with_word}
 use Rattle.ncmpi_cli.proofs.Again.{literal-again, number-again, own, chosen, both}
 use Rattle.ncmpi_cli.proofs.Laws.{bind}
 use Rattle.ncmpi_cli.proofs.Numbers.{numbers_at-some, numbers_at-none, numbers_at-zero}

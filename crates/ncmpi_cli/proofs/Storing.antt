@@ -1,6 +1,5 @@
 -- Elements stored one after another, in a file that may be told.
-use Rattle.std.proofs.Common.{◌≡◌, ℕ, zero, suc, ◌+◌, ◌-◌, ◌*◌, ◌<◌, ◌≤◌, List, length, take, drop, Option, Some, None, refl, sym, ap, ◌∙◌, arith}
-use Rattle.std.proofs.lemmas.List.{drop-drop}
+use Rattle.std.proofs.Common.{◌≡◌, ℕ, zero, suc, ◌+◌, List, take, drop, Option, Some, None, refl, sym, ap, ◌∙◌}
 use Rattle.nc_outside.specs.Told.{after}
 use Rattle.nc_outside.proofs.ToldLaws.{after-after, after-same}
 use Rattle.serial_spec.specs.File.{written}

@@ -1,5 +1,5 @@
 -- What a run that ended well did, and what each status leaves.
-use Rattle.std.specs.Prelude.{ℕ, ◌≡◌, ◌⊎◌, ◌↔◌, List, [], take, Option, IfSome}
+use Rattle.std.specs.Prelude.{ℕ, ◌≡◌, ◌⊎◌, List, [], take, Option, IfSome}
 use Rattle.nc_base.specs.declared.header.Header.{Header}
 use Rattle.nc_base.specs.declared.script.Align.{Align}
 use Rattle.nc_base.specs.declared.script.Hints.{Hints}

@@ -1,5 +1,5 @@
 -- Scripts of one dimension, one variable of it, and one put.
-use Rattle.std.specs.Prelude.{ℕ, ◌+◌, ◌*◌, ◌^◌, ◌<◌, ◌≤◌, ◌≡◌, Bool, true, false, List, [], ◌∷◌, length, ℤ, FitsSigned, zero, suc, take, drop, flat_map}
+use Rattle.std.specs.Prelude.{ℕ, ◌+◌, ◌*◌, ◌^◌, ◌≤◌, true, false, List, [], ◌∷◌, length, ℤ, FitsSigned, zero, suc, take, drop, flat_map}
 use Rattle.std.specs.Int.{w32}
 use Rattle.std.specs.List.{AllByRecursion}
 use Rattle.nc_base.specs.declared.header.Dim.{Dim}

@@ -1,10 +1,8 @@
-use Rattle.std.proofs.Common.{◌≡◌, ◌<◌, ◌≤◌, ◌+◌, ◌*◌, List, [], ℕ, ℤ, Bool, true, Option, length, sym, ap, subst, arith, ◌∙◌}
+use Rattle.std.proofs.Common.{◌≡◌, ◌≤◌, ◌+◌, ◌*◌, List, ℕ, ℤ, true, sym, ap, subst, arith, ◌∙◌}
 use Rattle.nc_base.specs.declared.header.Header.{Header}
-use Rattle.serial_spec.specs.File.{longer, written}
-use Rattle.serial_spec.specs.HeaderGrammar.{canon, header_len, is_writable}
-use Rattle.nc_outside.specs.Told.{after}
-use Rattle.ncmpi_cli.specs.OnePut.{header_at, packed_ints, put_end, stored}
-use Rattle.ncmpi_cli.proofs.Headers.{same-length, short, writable}
+use Rattle.serial_spec.specs.HeaderGrammar.{header_len, is_writable}
+use Rattle.ncmpi_cli.specs.OnePut.{packed_ints}
+use Rattle.ncmpi_cli.proofs.Headers.{same-length, writable}
 use Rattle.ncmpi_cli.proofs.Files.{put-end-is}
 use Rattle.ncmpi_cli.proofs.dataset.create_and_put.Goals as goal
 

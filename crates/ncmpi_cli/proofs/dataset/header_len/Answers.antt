@@ -1,4 +1,4 @@
-use Rattle.std.proofs.Common.{◌≡◌, ◌+◌, ℕ, arith, ap, ◌∙◌}
+use Rattle.std.proofs.Common.{ℕ, arith, ap, ◌∙◌}
 use Rattle.serial_spec.specs.Layout.{round_up}
 use Rattle.ncmpi_cli.proofs.Headers.{length-header}
 use Rattle.ncmpi_cli.proofs.dataset.header_len.Goals as goal

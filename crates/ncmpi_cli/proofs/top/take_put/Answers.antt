@@ -1,4 +1,4 @@
-use Rattle.std.proofs.Common.{◌≡◌, List, ℕ, ap, sym, ◌∙◌, subst, refl}
+use Rattle.std.proofs.Common.{List, ℕ, subst}
 use Rattle.ncmpi_cli.specs.Headline.{IsSomeScript}
 use Rattle.ncmpi_cli.proofs.Built.{whole_text}
 use Rattle.ncmpi_cli.proofs.OfBuilt.{says_of_built}
