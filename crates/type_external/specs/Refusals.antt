@@ -1,7 +1,7 @@
 -- Why a value has no external form in a type: PnetCDF C API reference, NC_ECHAR and NC_ERANGE; NC_EBADTYPE for bits is (own).
 --     kinds_refusal kind values      text goes with char, whole numbers and bits with their own types
 --     value_refusal kind values k    the same, then the range of value k
-use Rattle.std.specs.Prelude.{ℕ, Bool, Option, Some, None, [], ◌∷◌, not}
+use Rattle.std.specs.Prelude.{ℕ, Option, Some, None, [], ◌∷◌, not}
 use Rattle.nc_base.specs.declared.answer.Code.{Code}
 use Rattle.nc_base.specs.declared.answer.Code.TheVariants as code
 use Rattle.nc_base.specs.declared.header.NcType.{NcType}

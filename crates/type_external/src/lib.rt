@@ -1,9 +1,19 @@
 //! The external forms of values: how the bytes of a file stand for them.
 //!
 //! Numbers are big-endian, whole numbers in two's complement (netCDF classic format specification, CDF-5). That
-//! floats and doubles are moved as bit patterns, and are never numbers, is our choice.
+//! floats and doubles are moved as bit patterns, and are never numbers, is our choice. No call takes memory.
 #![tactic(auto)]
 
+mod codes;
+mod decoding;
+mod encoding;
+mod kinds;
 mod sizes;
 
+pub use decoding::decode_one;
+pub use encoding::encode_into;
+pub use kinds::kind_fits;
 pub use sizes::size_of;
+
+#[cfg(test)]
+mod tests;

@@ -5,7 +5,7 @@ use Rattle.serial_spec.specs.HeaderGrammar.{header_len}
 use Rattle.serial_spec.specs.Layout.{greatest, end_of_var}
 use Rattle.var_layout.specs.Capped.{capped}
 use Rattle.var_layout.proofs.Capping.{capped_greatest_more}
-use Rattle.var_layout.proofs.end.end_of.Goals as goal
+use Rattle.var_layout.proofs.end.file_end.Goals as goal
 
 pub loop-var-preserved : goal.loop-var-preserved
 loop-var-preserved c =
@@ -24,4 +24,4 @@ returns c =
     let whole : c.loop-var.end ≡ capped (max (header_len header) (greatest (map (λ v. end_of_var header c.args.records v) header.vars))) =
     c.loop-var.invariant ∙ ap (λ (vs : List Var). capped (max (header_len header) (greatest (map (λ v. end_of_var header c.args.records v) vs))))
     (take_all c.loop-var.var-index header.vars (omega arith)) in
-    omega (arith, c.requires.below)
+    whole
