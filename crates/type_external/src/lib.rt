@@ -4,6 +4,14 @@
 //! floats and doubles are moved as bit patterns, and are never numbers, is our choice.
 #![tactic(auto)]
 
+mod bytes;
+mod codes;
+mod decoding;
+mod encoding;
+mod kinds;
 mod sizes;
 
+pub use decoding::decode_one;
+pub use encoding::{encode_into, there_and_back};
+pub use kinds::kind_fits;
 pub use sizes::size_of;
