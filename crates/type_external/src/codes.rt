@@ -40,14 +40,16 @@ fn signed_code(kind: NcType, number: i128) -> Option<u64>
     ensures code { result ≡ code_if (fits_in Signed (external.size_of kind) (value.Number number)) (external.code_of (external.width_of kind) (value.Number number)) }
     ensures within { IfSome result (λ n. n < 256 ^ external.size_of kind) }
 {
-    let greatest = greatest_of(kind) as i128;
-    let high = greatest / 2;
-    if number < -high - 1 || number > high {
+    let greatest = greatest_of(kind);
+    let high = (greatest / 2) as i128;
+    if number < -high - 1 {
         None
     } else if number < 0 {
-        Some((number + greatest + 1) as u64)
-    } else {
+        Some((number + greatest as i128 + 1) as u64)
+    } else if number <= high {
         Some(number as u64)
+    } else {
+        None
     }
 }
 
