@@ -1,9 +1,9 @@
 // The numbers whose big-endian bytes stand for values, by what the values of a type are.
 ghost use Rattle.std.specs.Prelude.{◌≡◌, ◌<◌, ◌^◌, IfSome, pos};
 ghost use Rattle.std.specs.Int.{cast_signed};
-ghost use Rattle.serial_spec.specs.ExternalForm.{Signed, Unsigned, fits_in};
+ghost use Rattle.serial_spec.specs.ExternalForm.{Signed, Unsigned};
 ghost use Rattle.serial_spec.specs.ExternalForm as external;
-ghost use Rattle.type_external.specs.FittingCode.{code_if, fitting_code};
+ghost use Rattle.type_external.specs.FittingCode.{code_as, fitting_code};
 ghost use Rattle.nc_base.specs.declared.request.Value.TheVariants as value;
 
 use crate::sizes::greatest_of;
@@ -37,7 +37,7 @@ fn number_code(kind: NcType, number: i128) -> Option<u64>
 
 /// A signed number in two's complement.
 fn signed_code(kind: NcType, number: i128) -> Option<u64>
-    ensures code { result ≡ code_if (fits_in Signed (external.size_of kind) (value.Number number)) (external.code_of (external.width_of kind) (value.Number number)) }
+    ensures code { result ≡ code_as Signed (external.width_of kind) (value.Number number) }
     ensures within { IfSome result (λ n. n < 256 ^ external.size_of kind) }
 {
     let greatest = greatest_of(kind);
@@ -55,7 +55,7 @@ fn signed_code(kind: NcType, number: i128) -> Option<u64>
 
 /// An unsigned number as it is.
 fn unsigned_code(kind: NcType, number: i128) -> Option<u64>
-    ensures code { result ≡ code_if (fits_in Unsigned (external.size_of kind) (value.Number number)) (external.code_of (external.width_of kind) (value.Number number)) }
+    ensures code { result ≡ code_as Unsigned (external.width_of kind) (value.Number number) }
     ensures within { IfSome result (λ n. n < 256 ^ external.size_of kind) }
 {
     if number < 0 || number > greatest_of(kind) as i128 {

@@ -12,6 +12,9 @@ mod kinds;
 mod sizes;
 
 pub use decoding::decode_one;
-pub use encoding::{encode_into, there_and_back};
+pub use encoding::{encode_into, round_trip};
 pub use kinds::kind_fits;
 pub use sizes::size_of;
+
+#[cfg(test)]
+mod tests;
