@@ -1,123 +1,118 @@
-// The numbers whose bytes are the external forms of values.
-ghost use Rattle.std.specs.Prelude.{◌≡◌, ◌<◌, Some};
-ghost use Rattle.nc_base.specs.declared.request.Value.TheVariants as value;
+// The numbers whose big-endian bytes stand for values, by what the values of a type are.
+ghost use Rattle.std.specs.Prelude.{◌≡◌, ◌<◌, ◌^◌, IfSome, pos};
+ghost use Rattle.std.specs.Int.{cast_signed};
+ghost use Rattle.serial_spec.specs.ExternalForm.{Signed, Unsigned};
 ghost use Rattle.serial_spec.specs.ExternalForm as external;
-ghost use Rattle.serial_spec.specs.ExternalForm.{class_of};
-ghost use Rattle.serial_spec.specs.Request.{value_at, count_of};
-ghost use Rattle.type_external.specs.Codes.{IsCode};
+ghost use Rattle.type_external.specs.FittingCode.{code_as, fitting_code};
+ghost use Rattle.nc_base.specs.declared.request.Value.TheVariants as value;
 
-use nc_base::{NcType, Value, Values};
+use crate::sizes::greatest_of;
+use nc_base::{NcType, Value};
 
-/// Value k.
-pub(crate) fn value_at(values: &Values, k: usize) -> Value
-    requires { k < count_of values.now }
-    ensures { value_at values.now k ≡ Some result }
+/// The number that stands for a value; none where the value is not in the type's range.
+pub(crate) fn code_of(kind: NcType, value: Value) -> Option<u64>
+    ensures code { result ≡ fitting_code kind value }
+    ensures within { IfSome result (λ n. n < 256 ^ external.size_of kind) }
 {
-    match values {
-        Values::Numbers(numbers) => Value::Number(numbers.as_slice()[k]),
-        Values::Text(bytes) => Value::Char(bytes.as_slice()[k]),
-        Values::Bits(patterns) => Value::Bits(patterns.as_slice()[k]),
+    match value {
+        Value::Number(number) => number_code(kind, number),
+        Value::Char(character) => text_code(kind, character),
+        Value::Bits(pattern) => pattern_code(kind, pattern),
     }
 }
 
-/// The code of a number in a type of signed numbers.
-fn signed_code(kind: NcType, number: i128) -> Option<u64>
-    ensures { class_of kind ≡ external.Signed → IsCode kind (value.Number number) result }
-{
-    match kind {
-        NcType::Byte => match i8::try_from(number) {
-            Ok(n) => Some(u64::from(n.cast_unsigned())),
-            Err(_) => None,
-        },
-        NcType::Short => match i16::try_from(number) {
-            Ok(n) => Some(u64::from(n.cast_unsigned())),
-            Err(_) => None,
-        },
-        NcType::Int => match i32::try_from(number) {
-            Ok(n) => Some(u64::from(n.cast_unsigned())),
-            Err(_) => None,
-        },
-        NcType::Int64 => match i64::try_from(number) {
-            Ok(n) => Some(n.cast_unsigned()),
-            Err(_) => None,
-        },
-        _ => None,
-    }
-}
-
-/// The code of a number in a type of unsigned numbers.
-fn unsigned_code(kind: NcType, number: i128) -> Option<u64>
-    ensures { class_of kind ≡ external.Unsigned → IsCode kind (value.Number number) result }
-{
-    match kind {
-        NcType::UByte => match u8::try_from(number) {
-            Ok(n) => Some(u64::from(n)),
-            Err(_) => None,
-        },
-        NcType::UShort => match u16::try_from(number) {
-            Ok(n) => Some(u64::from(n)),
-            Err(_) => None,
-        },
-        NcType::UInt => match u32::try_from(number) {
-            Ok(n) => Some(u64::from(n)),
-            Err(_) => None,
-        },
-        NcType::UInt64 => match u64::try_from(number) {
-            Ok(n) => Some(n),
-            Err(_) => None,
-        },
-        _ => None,
-    }
-}
-
-/// The code of a number, which no type of text or of patterns has.
+/// The number that stands for a whole number.
 fn number_code(kind: NcType, number: i128) -> Option<u64>
-    ensures { IsCode kind (value.Number number) result }
+    ensures code { result ≡ fitting_code kind (value.Number number) }
+    ensures within { IfSome result (λ n. n < 256 ^ external.size_of kind) }
 {
     match kind {
         NcType::Byte | NcType::Short | NcType::Int | NcType::Int64 => signed_code(kind, number),
-        NcType::UByte | NcType::UShort | NcType::UInt | NcType::UInt64 => unsigned_code(
-            kind, number,
-        ),
+        NcType::UByte | NcType::UShort | NcType::UInt | NcType::UInt64 => {
+            unsigned_code(kind, number)
+        }
         NcType::Char | NcType::Float | NcType::Double => None,
     }
 }
 
-/// The code of a byte of text.
-fn char_code(kind: NcType, byte: u8) -> Option<u64>
-    ensures { IsCode kind (value.Char byte) result }
+/// A signed number in two's complement.
+fn signed_code(kind: NcType, number: i128) -> Option<u64>
+    ensures code { result ≡ code_as Signed (external.width_of kind) (value.Number number) }
+    ensures within { IfSome result (λ n. n < 256 ^ external.size_of kind) }
 {
-    match kind {
-        NcType::Char => Some(u64::from(byte)),
-        NcType::Byte | NcType::Short | NcType::Int | NcType::Int64 => None,
-        NcType::UByte | NcType::UShort | NcType::UInt | NcType::UInt64 => None,
-        NcType::Float | NcType::Double => None,
+    let greatest = greatest_of(kind);
+    let high = (greatest / 2) as i128;
+    if number < -high - 1 {
+        None
+    } else if number < 0 {
+        Some((number + greatest as i128 + 1) as u64)
+    } else if number <= high {
+        Some(number as u64)
+    } else {
+        None
     }
 }
 
-/// The code of a bit pattern.
-fn pattern_code(kind: NcType, bits: u64) -> Option<u64>
-    ensures { IsCode kind (value.Bits bits) result }
+/// An unsigned number as it is.
+fn unsigned_code(kind: NcType, number: i128) -> Option<u64>
+    ensures code { result ≡ code_as Unsigned (external.width_of kind) (value.Number number) }
+    ensures within { IfSome result (λ n. n < 256 ^ external.size_of kind) }
 {
-    match kind {
-        NcType::Float => match u32::try_from(bits) {
-            Ok(pattern) => Some(u64::from(pattern)),
-            Err(_) => None,
-        },
-        NcType::Double => Some(bits),
-        NcType::Byte | NcType::Short | NcType::Int | NcType::Int64 => None,
-        NcType::UByte | NcType::UShort | NcType::UInt | NcType::UInt64 => None,
-        NcType::Char => None,
+    if number < 0 || number > greatest_of(kind) as i128 {
+        None
+    } else {
+        Some(number as u64)
     }
 }
 
-/// The number whose bytes are the external form of a value, or None where the value does not fit the type.
-pub(crate) fn code_of(kind: NcType, value: Value) -> Option<u64>
-    ensures { IsCode kind value result }
+/// A byte of text as it is.
+fn text_code(kind: NcType, character: u8) -> Option<u64>
+    ensures code { result ≡ fitting_code kind (value.Char character) }
+    ensures within { IfSome result (λ n. n < 256 ^ external.size_of kind) }
 {
-    match value {
-        Value::Number(number) => number_code(kind, number),
-        Value::Char(byte) => char_code(kind, byte),
-        Value::Bits(bits) => pattern_code(kind, bits),
+    match kind {
+        NcType::Char => Some(u64::from(character)),
+        _ => None,
+    }
+}
+
+/// A bit pattern as it is.
+fn pattern_code(kind: NcType, pattern: u64) -> Option<u64>
+    ensures code { result ≡ fitting_code kind (value.Bits pattern) }
+    ensures within { IfSome result (λ n. n < 256 ^ external.size_of kind) }
+{
+    match kind {
+        NcType::Float | NcType::Double if pattern <= greatest_of(kind) => Some(pattern),
+        _ => None,
+    }
+}
+
+/// The value for which a number stands.
+pub(crate) fn value_of(kind: NcType, code: u64) -> Value
+    requires { code < 256 ^ external.size_of kind }
+    ensures { result ≡ external.value_of (external.class_of kind) (external.width_of kind) code }
+{
+    match kind {
+        NcType::Byte | NcType::Short | NcType::Int | NcType::Int64 => {
+            Value::Number(signed_of(kind, code))
+        }
+        NcType::UByte | NcType::UShort | NcType::UInt | NcType::UInt64 => {
+            Value::Number(i128::from(code))
+        }
+        NcType::Char => Value::Char(code as u8),
+        NcType::Float | NcType::Double => Value::Bits(code),
+    }
+}
+
+/// The signed number that a number is in two's complement.
+fn signed_of(kind: NcType, code: u64) -> i128
+    requires { code < 256 ^ external.size_of kind }
+    ensures { result ≡ cast_signed (external.width_of kind) code }
+{
+    let greatest = greatest_of(kind);
+    if code > greatest / 2 {
+        code as i128 - greatest as i128 - 1
+    } else {
+        code as i128
     }
 }
