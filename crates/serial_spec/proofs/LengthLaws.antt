@@ -1,0 +1,105 @@
+-- Every spelling of a header has the length of the one that is written.
+use Rattle.std.proofs.Common.{◌≡◌, ℕ, ◌+◌, List, [], ◌∷◌, ◌++◌, length, Bool, true, false, cond, refl, sym, ap, ◌∙◌, length-append, inl, inr, arith}
+use Rattle.std.specs.Prelude.{flat_map, ◌==◌}
+use Rattle.std.specs.Int.{Width, w32, w64, byte_len, to_be_bytes}
+use Rattle.std.proofs.lemmas.List.{length-replicate}
+use Rattle.nc_base.specs.declared.header.Header.{Header}
+use Rattle.nc_base.specs.declared.header.Dim.{Dim}
+use Rattle.nc_base.specs.declared.header.Attr.{Attr}
+use Rattle.nc_base.specs.declared.header.Var.{Var}
+use Rattle.nc_base.specs.declared.header.NcType.{NcType}
+use Rattle.serial_spec.specs.Layout.{vsize}
+use Rattle.serial_spec.specs.HeaderGrammar.{Joined, ◌▹◌, Exactly, Each, Number, Padded, NameOf, ListOf, TypeOf, DimensionOf, AttributeOf, VariableOf, RecordsOf, Spells, count_width, begin_width, padded, count, tag, name, list_of, dimension, attribute, variable, magic, canon, header_len, number_of}
+
+-- every string of the set has the length of the text
+abbrev pub Long : (List ℕ → Type 0) → List ℕ → Type 0
+Long P text = (s : List ℕ) → P s → length s ≡ length text
+
+pub joined_long : {P Q : List ℕ → Type 0} (a b : List ℕ) → Long P a → Long Q b → Long (Joined P Q) (a ++ b)
+joined_long a b p q s j =
+    ap (λ (t : List ℕ). length t) j.split ∙ length-append j.front j.rest ∙ ap (λ (n : ℕ). n + length j.rest) (p j.front j.first) ∙ ap (λ (n : ℕ). length a + n) (q j.rest j.second) ∙ sym (length-append a b)
+
+number_long : (w : Width) (n : ℕ) → Long (Number w n) (to_be_bytes w n)
+number_long w n s h = ap (λ (t : List ℕ). length t) h.1
+
+exactly_long : (t : List ℕ) → Long (Exactly t) t
+exactly_long t s h = ap (λ (u : List ℕ). length u) h
+
+padded_long : (t : List ℕ) → Long (Padded t) (padded t)
+padded_long t = joined_long t _ (exactly_long t) (λ s h. h ∙ sym (length-replicate _ _))
+
+name_long : (v : ℕ) (n : List ℕ) → Long (NameOf v n) (name v n)
+name_long v n = joined_long _ _ (number_long (count_width v) (length n)) (padded_long n)
+
+each_long : {A : Type 0} (P : A → List ℕ → Type 0) (f : A → List ℕ) → ((x : A) → Long (P x) (f x)) → (xs : List A) → Long (Each P xs) (flat_map f xs)
+each_long P f h [] = exactly_long []
+each_long P f h (x ∷ xs) = joined_long (f x) (flat_map f xs) (h x) (each_long P f h xs)
+
+plus_zero : (n : ℕ) → n + 0 ≡ n
+plus_zero n = omega arith
+
+cons_nil : {A : Type 0} (x : A) (xs : List A) → (x ∷ xs) ≡ [] → ⊥
+cons_nil x xs h = absurd cc
+
+list_long : {A : Type 0} (v t : ℕ) (P : A → List ℕ → Type 0) (f : A → List ℕ) → ((x : A) → Long (P x) (f x)) → (xs : List A) → Long (ListOf v t P xs) (list_of v t f xs)
+list_long v t P f h [] s (inl k) = ap (λ (u : List ℕ). length u) k.1
+list_long v t P f h [] s (inr k) =
+    joined_long (tag t ++ count v 0) [] (joined_long (tag t) (count v 0) (exactly_long (tag t)) (number_long (count_width v) 0)) (exactly_long []) s k
+    ∙ length-append (tag t ++ count v 0) [] ∙ plus_zero _ ∙ length-append (tag t) (count v 0) ∙ sym (length-append (tag 0) (count v 0))
+list_long v t P f h (x ∷ xs) s (inl k) = absurd (cons_nil x xs k.0)
+list_long v t P f h (x ∷ xs) s (inr k) =
+    joined_long (tag t ++ count v (length (x ∷ xs))) (flat_map f (x ∷ xs)) (joined_long (tag t) (count v (length (x ∷ xs))) (exactly_long (tag t)) (number_long (count_width v) (length (x ∷ xs)))) (each_long P f h (x ∷ xs)) s k
+
+type_long : (v : ℕ) (kind : NcType) → Long (TypeOf v kind) (tag (number_of kind))
+type_long v kind s h = ap (λ (u : List ℕ). length u) h.1
+
+dim_long : (v : ℕ) (d : Dim) → Long (DimensionOf v d) (dimension v d)
+dim_long v d = joined_long _ _ (name_long v d.name) (number_long (count_width v) d.len)
+
+attr_long : (v : ℕ) (a : Attr) → Long (AttributeOf v a) (attribute v a)
+attr_long v a s h =
+    joined_long _ _ (joined_long _ _ (joined_long _ _ (name_long v a.name) (type_long v a.kind)) (number_long (count_width v) a.count)) (padded_long a.bytes) s h.1
+
+width_long : (t : Bool) (n : ℕ) → length (to_be_bytes (cond t w64 w32) n) ≡ byte_len (cond t w64 w32)
+width_long true n = refl
+width_long false n = refl
+
+var_long : (header : Header) (v : Var) → Long (VariableOf header.version v) (variable header v)
+var_long header v =
+    let w = count_width header.version in
+    joined_long _ _
+    (joined_long _ _
+    (joined_long _ _
+    (joined_long _ _
+    (joined_long _ _
+    (joined_long _ _ (name_long header.version v.name) (number_long w (length v.dims)))
+    (each_long (λ id. Number w id) (λ id. count header.version id) (λ id. number_long w id) v.dims))
+    (list_long header.version 12 (AttributeOf header.version) (attribute header.version) (attr_long header.version) v.attrs))
+    (type_long header.version v.kind))
+    (λ s h. h ∙ sym (width_long (header.version == 5) (vsize header v))))
+    (number_long (begin_width header.version) v.begin)
+
+records_long : (v n : ℕ) → Long (RecordsOf v n) (count v n)
+records_long v n s (inl h) = number_long (count_width v) n s h
+records_long v n s (inr h) = ap (λ (u : List ℕ). length u) h.1
+
+header_long : (header : Header) → Long (Exactly (magic header.version) ▹ RecordsOf header.version header.records
+    ▹ ListOf header.version 10 (DimensionOf header.version) header.dims
+    ▹ ListOf header.version 12 (AttributeOf header.version) header.attrs
+    ▹ ListOf header.version 11 (VariableOf header.version) header.vars) (canon header)
+unfolding canon
+header_long header =
+    let dims = list_of header.version 10 (dimension header.version) header.dims in
+    let attrs = list_of header.version 12 (attribute header.version) header.attrs in
+    let vars = list_of header.version 11 (variable header) header.vars in
+    let records = count header.version header.records in
+    joined_long (magic header.version ++ records ++ dims ++ attrs) vars
+    (joined_long (magic header.version ++ records ++ dims) attrs
+    (joined_long (magic header.version ++ records) dims
+    (joined_long (magic header.version) records (exactly_long (magic header.version)) (records_long header.version header.records))
+    (list_long header.version 10 (DimensionOf header.version) (dimension header.version) (dim_long header.version) header.dims))
+    (list_long header.version 12 (AttributeOf header.version) (attribute header.version) (attr_long header.version) header.attrs))
+    (list_long header.version 11 (VariableOf header.version) (variable header) (var_long header) header.vars)
+
+pub spelling_long : (header : Header) (s : List ℕ) → Spells header s → length s ≡ header_len header
+spelling_long header s h = header_long header s h.1

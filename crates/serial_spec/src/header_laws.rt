@@ -1,0 +1,24 @@
+//! Laws over the grammar of headers.
+
+ghost use Rattle.std.specs.Prelude.{◌≡◌, ℕ, ◌+◌, List, ◌++◌, length, Some, true};
+ghost use Rattle.serial_spec.specs.File.{written};
+ghost use Rattle.serial_spec.specs.HeaderGrammar.{Spells, HasFieldFault, canon, header_len, field_fault, is_writable};
+ghost use Rattle.nc_base.specs.declared.errors.HeaderErr.{HeaderErr};
+ghost use Rattle.nc_base.specs.declared.header.Header.{Header};
+
+/// The function finds the fault after the longest run of right fields, and there is no other.
+pub fn header_fault_law()
+    ensures found { (bytes : List ℕ) (e : HeaderErr) → field_fault bytes ≡ Some e → HasFieldFault bytes e }
+    ensures only { (bytes : List ℕ) (e : HeaderErr) → HasFieldFault bytes e → field_fault bytes ≡ Some e }
+{}
+
+/// What is written of a header is a spelling of it, and every spelling has its length.
+pub fn spelling_law()
+    ensures written { (header : Header) → is_writable header ≡ true → Spells header (canon header) }
+    ensures long { (header : Header) (bytes : List ℕ) → Spells header bytes → length bytes ≡ header_len header }
+{}
+
+/// No spelling begins another, and bytes are a spelling of one header.
+pub fn one_spelling_law()
+    ensures { (h k : Header) (a b r s : List ℕ) → Spells h a → Spells k b → a ++ r ≡ b ++ s → (h ≡ k) × (a ≡ b) }
+{}

@@ -1,0 +1,56 @@
+//! Fill values, added variables and readings.
+
+ghost use Rattle.std.specs.Prelude.{◌≡◌, ◌+◌, [], ◌∷◌, ◌++◌, length, Some, None, replicate, drop, codes};
+ghost use Rattle.serial_spec.specs.HeaderGrammar.{canon, header_len};
+ghost use Rattle.serial_spec.specs.Examples.{dataset_a, dataset_b, var, int_bytes, one_record, begin_list, file_halves, dim, more_var, dataset_aq, dataset_b_4, dataset_b_q, file_records, hints};
+ghost use Rattle.serial_spec.specs.Layout.{begins};
+ghost use Rattle.nc_base.specs.declared.header.NcType.TheVariants.{Int, Short, UInt64};
+ghost use Rattle.nc_base.specs.declared.step.Mark.TheVariants.{Meet, Solo};
+ghost use Rattle.nc_base.specs.declared.step.DiskCall.TheVariants.{Grow, Load, Store};
+ghost use Rattle.serial_spec.specs.SerialEnd.{start};
+ghost use Rattle.serial_spec.specs.Fill.{boxes, AreBoxes, fill_bytes};
+ghost use Rattle.serial_spec.specs.Redefinition.{redefined, redefined_fault};
+ghost use Rattle.serial_spec.specs.Reading.{summary_of, told_of};
+ghost use Rattle.serial_spec.specs.DeviceCalls.{redefining_calls};
+ghost use Rattle.nc_base.specs.declared.errors.RedefErr.TheVariants.{Taken, Unknown, Shape, Kind};
+ghost use Rattle.nc_base.specs.declared.script.Extra.TheVariants.{Dim};
+
+/// Boxes of a range of row-major numbers, and fill values.
+pub fn worked_boxes()
+    ensures two { boxes (2 ∷ 3 ∷ []) 1 5 ≡ record { start = 0 ∷ 1 ∷ []; count = 1 ∷ 2 ∷ [] } ∷ record { start = 1 ∷ 0 ∷ []; count = 1 ∷ 2 ∷ [] } ∷ [] }
+    ensures three { AreBoxes (3 ∷ 4 ∷ 5 ∷ []) 7 54 (boxes (3 ∷ 4 ∷ 5 ∷ []) 7 54) }
+    ensures all { boxes (3 ∷ 4 ∷ []) 0 12 ≡ record { start = 0 ∷ 0 ∷ []; count = 3 ∷ 4 ∷ [] } ∷ [] }
+    ensures none { boxes (3 ∷ 4 ∷ []) 5 5 ≡ [] }
+    ensures scalar { boxes [] 0 1 ≡ record { start = []; count = [] } ∷ [] }
+    ensures int { fill_bytes (var 118 Int []) ≡ 128 ∷ 0 ∷ 0 ∷ 1 ∷ [] }
+    ensures own { fill_bytes (record (var 118 Short []) { attrs = record { name = codes "_FillValue"; kind = Short; count = 1; bytes = 255 ∷ 255 ∷ [] } ∷ [] }) ≡ 255 ∷ 255 ∷ [] }
+{}
+
+/// A variable that is added to an existing file.
+#[tactic(auto, unfolding(crate::specs::HeaderGrammar::canon))]
+pub fn worked_redefinition()
+    ensures begins { begin_list dataset_aq ≡ 116 ∷ 132 ∷ [] }
+    ensures length { header_len dataset_aq ≡ 116 }
+    ensures file { redefined file_halves dataset_a dataset_aq ≡ canon dataset_aq ++ int_bytes (1 ∷ 2 ∷ 3 ∷ 4 ∷ []) ++ replicate 8 0 }
+    ensures calls { redefining_calls (hints 1 16777216) dataset_a dataset_aq file_halves
+        ≡ Load 0 96 ∷ Grow 140 ∷ Load 80 16 ∷ Store 116 16 ∷ Store 132 8 ∷ Store 0 116 ∷ [] }
+    ensures windows { drop 2 (redefining_calls (record (hints 1 16777216) { wr_buffer = 6 }) dataset_a dataset_aq file_halves)
+        ≡ Load 90 6 ∷ Store 126 6 ∷ Load 84 6 ∷ Store 120 6 ∷ Load 80 4 ∷ Store 116 4 ∷ Store 132 6 ∷ Store 138 2 ∷ Store 0 116 ∷ [] }
+    ensures records { drop 1 (redefining_calls (hints 1 16777216) dataset_b_4 dataset_b_q file_records)
+        ≡ Grow 148 ∷ Load 86 2 ∷ Store 140 2 ∷ Load 84 2 ∷ Store 132 2 ∷ Load 82 2 ∷ Store 124 2 ∷ Load 80 2 ∷ Store 116 2
+        ∷ Store 118 6 ∷ Store 126 6 ∷ Store 134 6 ∷ Store 142 6 ∷ Store 0 116 ∷ [] }
+    ensures record_values { drop 116 (redefined file_records dataset_b_4 dataset_b_q) ≡ replicate 25 0 ++ 7 ∷ replicate 6 0 }
+    ensures taken { redefined_fault dataset_a (Dim (dim 120 9) ∷ []) ≡ Some (Taken 0) }
+    ensures unknown { redefined_fault dataset_a (more_var 113 Short 120 ∷ more_var 114 Short 121 ∷ []) ≡ Some (Unknown 1) }
+    ensures shape { redefined_fault dataset_b (Dim (dim 117 0) ∷ []) ≡ Some (Shape 0) }
+    ensures later_type { redefined_fault dataset_a (more_var 113 UInt64 120 ∷ []) ≡ Some (Kind 0) }
+    ensures none { redefined_fault dataset_a (more_var 113 Short 120 ∷ []) ≡ None }
+{}
+
+/// What a watcher reads.
+#[tactic(auto, unfolding(crate::specs::HeaderGrammar::canon))]
+pub fn worked_reading()
+    ensures none { summary_of 3 [] ≡ record { steps = 0; records = 3 } }
+    ensures two { summary_of 0 ((Meet 0, 1) ∷ (Solo 0 1, 4) ∷ []) ≡ record { steps = 2; records = 4 } }
+    ensures told { told_of one_record one_record.header (start one_record one_record.header []) (Meet 0 ∷ []) ≡ (Meet 0, 4) ∷ [] }
+{}

@@ -1,0 +1,76 @@
+//! Small runs: requests, steps, device calls and arrivals.
+
+ghost use Rattle.std.specs.Prelude.{◌≡◌, ◌+◌, [], ◌∷◌, ◌++◌, length, Some, None, pos, replicate, true, map, false};
+ghost use Rattle.serial_spec.specs.File.{at};
+ghost use Rattle.serial_spec.specs.HeaderGrammar.{canon};
+ghost use Rattle.serial_spec.specs.Examples.{header_a, region, setting_a, created, overlapping, side_by_side, int_bytes, ended, device_calls, halves, interleaved, whole, with_hole, one_record, arrived, empty_offer, two_seats, after_five, with_strange, independent_calls};
+ghost use Rattle.serial_spec.specs.Request.{packed_bytes, spread};
+ghost use Rattle.nc_base.specs.declared.header.NcType.TheVariants.{Int};
+ghost use Rattle.nc_base.specs.declared.request.Values.TheVariants.{Numbers};
+ghost use Rattle.serial_spec.specs.FileStep.{meeting};
+ghost use Rattle.nc_base.specs.declared.step.Mark.TheVariants.{Meet, Solo};
+ghost use Rattle.nc_base.specs.declared.step.DiskCall.TheVariants.{Grow, Load, Store};
+ghost use Rattle.serial_spec.specs.History.{marks, done};
+ghost use Rattle.serial_spec.specs.Desk.{is_strange, served, owed, OnlyReplies};
+ghost use Rattle.nc_base.specs.declared.step.OwnerItem.TheVariants.{Stop};
+ghost use Rattle.nc_base.specs.declared.step.MeetKind.TheVariants.{Begin, End as EndKind};
+ghost use Rattle.nc_base.specs.declared.step.RankItem.TheVariants as item;
+ghost use Rattle.nc_base.specs.declared.step.OfferKind.TheVariants as offer;
+
+/// Memory by an index map.
+pub fn worked_map()
+    ensures packed { packed_bytes Int (region (0 ∷ 0 ∷ []) (2 ∷ 3 ∷ []) (1 ∷ 1 ∷ []) (1 ∷ 2 ∷ []))
+        (Numbers (pos 1 ∷ pos 2 ∷ pos 3 ∷ pos 4 ∷ pos 5 ∷ pos 6 ∷ [])) ≡
+        0 ∷ 0 ∷ 0 ∷ 1 ∷ 0 ∷ 0 ∷ 0 ∷ 3 ∷ 0 ∷ 0 ∷ 0 ∷ 5 ∷ 0 ∷ 0 ∷ 0 ∷ 2 ∷ 0 ∷ 0 ∷ 0 ∷ 4 ∷ 0 ∷ 0 ∷ 0 ∷ 6 ∷ [] }
+    ensures back { spread Int (region (0 ∷ 0 ∷ []) (2 ∷ 3 ∷ []) (1 ∷ 1 ∷ []) (1 ∷ 2 ∷ []))
+        (0 ∷ 0 ∷ 0 ∷ 1 ∷ 0 ∷ 0 ∷ 0 ∷ 3 ∷ 0 ∷ 0 ∷ 0 ∷ 5 ∷ 0 ∷ 0 ∷ 0 ∷ 2 ∷ 0 ∷ 0 ∷ 0 ∷ 4 ∷ 0 ∷ 0 ∷ 0 ∷ 6 ∷ [])
+        ≡ Numbers (pos 1 ∷ pos 2 ∷ pos 3 ∷ pos 4 ∷ pos 5 ∷ pos 6 ∷ []) }
+{}
+
+/// A meeting writes both ranks' elements, or tells each rank the pair that overlaps.
+#[tactic(auto, unfolding(crate::specs::HeaderGrammar::canon))]
+pub fn worked_meeting()
+    ensures done { (meeting setting_a side_by_side (created setting_a)).0.file ≡ header_a ++ int_bytes (1 ∷ 2 ∷ 3 ∷ 4 ∷ []) }
+    ensures kept { (meeting setting_a overlapping (created setting_a)).0.file ≡ header_a ++ int_bytes (0 ∷ 0 ∷ 0 ∷ 0 ∷ []) }
+    ensures pair { map (λ r. r.pair) (meeting setting_a overlapping (created setting_a)).1
+        ≡ replicate 3 (Some (record { rank1 = 0; request1 = 0; rank2 = 1; request2 = 0; at = 88 })) }
+{}
+
+/// The device calls of small runs.
+#[tactic(auto, unfolding(crate::specs::HeaderGrammar::canon))]
+pub fn worked_calls()
+    ensures halves { device_calls halves (Meet 0 ∷ []) ≡ Store 80 8 ∷ Store 88 8 ∷ [] }
+    ensures interleaved { device_calls interleaved (Meet 0 ∷ []) ≡ Store 80 4 ∷ Store 84 4 ∷ Store 88 4 ∷ Store 92 4 ∷ [] }
+    ensures three { device_calls (whole 3 16) (Meet 0 ∷ []) ≡ Store 80 6 ∷ Store 86 6 ∷ Store 92 4 ∷ [] }
+    ensures small { device_calls (whole 1 3) (Meet 0 ∷ [])
+        ≡ Store 80 3 ∷ Store 83 3 ∷ Store 86 3 ∷ Store 89 3 ∷ Store 92 3 ∷ Store 95 1 ∷ [] }
+    ensures hole { device_calls with_hole (Meet 0 ∷ []) ≡ Load 80 16 ∷ Store 80 16 ∷ [] }
+    ensures record { device_calls one_record (Meet 0 ∷ []) ≡ Grow 88 ∷ Store 86 2 ∷ Store 4 4 ∷ [] }
+{}
+
+/// The files of small runs.
+#[tactic(auto, unfolding(crate::specs::HeaderGrammar::canon))]
+pub fn worked_ends()
+    ensures halves { (ended halves (Meet 0 ∷ [])).bytes ≡ header_a ++ int_bytes (1 ∷ 2 ∷ 3 ∷ 4 ∷ []) }
+    ensures interleaved { (ended interleaved (Meet 0 ∷ [])).bytes ≡ header_a ++ int_bytes (1 ∷ 2 ∷ 3 ∷ 4 ∷ []) }
+    ensures count { (ended one_record (Meet 0 ∷ [])).records ≡ 4 }
+    ensures len { length (ended one_record (Meet 0 ∷ [])).bytes ≡ 88 }
+{}
+
+/// Marks, and what arrivals bring.
+#[tactic(auto, unfolding(crate::specs::HeaderGrammar::canon, crate::specs::Desk::event, crate::specs::Desk::is_strange, crate::specs::Desk::strange_offer))]
+pub fn worked_arrivals()
+    ensures marks { marks (independent_calls ∷ []) 0 ≡ Meet 0 ∷ Solo 0 1 ∷ Meet 1 ∷ [] }
+    ensures done { done 2 arrived ≡ Meet 0 ∷ Solo 1 1 ∷ Solo 0 1 ∷ Meet 1 ∷ [] }
+    ensures right { is_strange setting_a after_five (1, item.Offer 2 (empty_offer (offer.Meet EndKind) 0)) ≡ false }
+    ensures count { is_strange setting_a two_seats (0, item.Offer 0 (empty_offer (offer.Meet Begin) 5)) ≡ true }
+    ensures other_kind { is_strange setting_a after_five (1, item.Offer 2 (empty_offer (offer.Meet Begin) 0)) ≡ true }
+    ensures left { is_strange setting_a after_five (1, item.Ended false) ≡ true }
+    ensures order { (served setting_a two_seats arrived).marks ≡ Meet 0 ∷ Solo 1 1 ∷ Solo 0 1 ∷ Meet 1 ∷ [] }
+    ensures replies { map (λ q. length (owed setting_a two_seats arrived q)) (0 ∷ 1 ∷ []) ≡ 3 ∷ 3 ∷ [] }
+    ensures no_stop { OnlyReplies (owed setting_a two_seats arrived 0) }
+    ensures none_strange { (served setting_a two_seats arrived).stranger ≡ None }
+    ensures stranger { (served setting_a two_seats with_strange).stranger ≡ Some 0 }
+    ensures stopped { owed setting_a two_seats with_strange 0 ≡ Stop ∷ [] }
+    ensures memory { is_strange setting_a after_five (1, item.Ended true) ≡ false }
+{}

@@ -1,0 +1,4 @@
+pub mod Capping
+pub mod Soundness
+pub mod WrittenLengths
+pub mod ElementPlaces
