@@ -1,13 +1,14 @@
-// A library with one function.
+//! Regions of a variable: what a call asks for, when it is refused, and where its bytes lie.
+//!
+//! The forms are those of the PnetCDF library: `var1`, `var`, `vara`, `vars`, `varm` and `varn`. A region has one
+//! start, count and stride for each dimension of its variable, in elements, the slowest dimension first.
 #![tactic(auto)]
 
-ghost use Rattle.std.specs.Prelude.{◌≡◌};
-ghost use Rattle.vara_extents.specs.Echo.{echo_of};
+mod causes;
+mod end;
+mod forms;
+mod needs;
 
-// The `ensures` clause is the contract: what `echo` returns is `echo_of` of its argument, a definition
-// in `specs/Echo.antt`, which a caller's clause can cite too.
-pub fn echo(x: usize) -> usize
-    ensures { result ≡ echo_of x }
-{
-    x
-}
+pub use causes::check;
+pub use forms::widen;
+pub use needs::records_needed;
