@@ -10,3 +10,6 @@ mod room;
 
 pub use attached::{Attached, Ticket};
 pub use room::Room;
+
+#[cfg(test)]
+mod tests;

@@ -1,8 +1,8 @@
 -- A request that is posted under a new id stands last, and the others keep their states.
-use Rattle.std.proofs.Common.{◌≡◌, ℕ, ◌+◌, ◌∙◌, ap, sym, refl, subst, List, [], ◌∷◌, ◌++◌, length, map, Bool, true, false, cond, eqb, ◌||◌, Option, Some, None, arith}
-use Rattle.std.specs.Prelude.{find, filter, option_map, sum_by, count_by, flat_map}
+use Rattle.std.proofs.Common.{◌≡◌, ℕ, ◌+◌, ◌∙◌, ap, sym, refl, List, [], ◌∷◌, ◌++◌, map, Bool, true, false, cond, eqb, ◌||◌, Option, Some, None, arith}
+use Rattle.std.specs.Prelude.{find, filter, option_map, count_by}
 use Rattle.std.specs.List.{list_any}
-use Rattle.std.proofs.lemmas.Bool.{or_parts, or_from, cond_both, ne_eqb, eqb-false, cond-false, cond-true, eq-eqb, eqb-true, cases_Bool, false≢true}
+use Rattle.std.proofs.lemmas.Bool.{or_parts, or_from, cond_both, ne_eqb, eqb-false, cond-false, cond-true, eq-eqb, eqb-true}
 use Rattle.std.proofs.lemmas.List.Elements.{filter-append}
 use Rattle.std.proofs.lemmas.List.Sums.{sum_by_push}
 use Rattle.std.proofs.lemmas.List.{map-append}
@@ -142,3 +142,15 @@ null-push (p ∷ posted) k id h =
 pub waiting-null : (posted : List Posted) (k : ℕ) → filter (λ (p : Posted). is_waiting p.status) (posted ++ record { id = k; status = NullRequest } ∷ []) ≡ filter (λ (p : Posted). is_waiting p.status) posted
 waiting-null [] k = refl
 waiting-null (p ∷ posted) k = ap (λ (l : List Posted). cond (is_waiting p.status) (p ∷ l) l) (waiting-null posted k)
+
+-- ---- other ids stay new
+
+find_more : (p : Posted) (o : Option Posted) (b : Bool) → option_map (λ (q : Posted). q.status) (cond b (Some p) o) ≡ None → b ≡ false
+find_more p o true h = cc
+find_more p o false h = refl
+
+pub status_of-push : (posted : List Posted) (x : Posted) (k : ℕ) → eqb x.id k ≡ false → status_of posted k ≡ None → status_of (posted ++ x ∷ []) k ≡ None
+status_of-push [] x k e h = ap (option_map (λ (q : Posted). q.status)) (cond-false (eqb x.id k) (Some x) None e)
+status_of-push (p ∷ posted) x k e h =
+    let other = find_more p (find (λ (q : Posted). eqb q.id k) posted) (eqb p.id k) h in
+    rw other (status_of-push posted x k e (rw other at h))

@@ -1,22 +1,16 @@
 -- What a wait or a cancel leaves, and what it takes.
-use Rattle.std.proofs.Common.{◌≡◌, ℕ, ◌+◌, ◌-◌, ◌^◌, ◌<◌, ◌≤◌, ◌∙◌, ap, sym, refl, subst, inl, inr, ◌⊎◌, List, [], ◌∷◌, ◌++◌, map, Bool, true, false, cond, eqb, not, ◌||◌, ◌&&◌, Option, Some, None, arith}
-use Rattle.std.specs.Prelude.{find, filter, option_map, sum, sum_by, count_by, flat_map}
-use Rattle.std.specs.List.{list_any}
-use Rattle.std.specs.Ordering.{nat_cmp, is_eq}
+use Rattle.std.proofs.Common.{◌≡◌, ℕ, ◌<◌, ◌∙◌, ap, sym, refl, subst, inl, inr, ◌⊎◌, List, [], ◌∷◌, map, Bool, true, false, cond, eqb, ◌||◌, Option, Some, None, arith}
+use Rattle.std.specs.Prelude.{filter}
+use Rattle.std.specs.Ordering.{nat_cmp}
 use Rattle.std.specs.BTreeMap.{is_at}
 use Rattle.std.specs.Cmp.{nat_cmp_is}
 use Rattle.std.specs.declared.cmp.Ordering.TheVariants.{Less, Equal, Greater}
-use Rattle.std.proofs.lemmas.Bool.{or_parts, or_from, or_left, or_right, cond_both, cond-false, cond-true, eq-eqb, eqb-true, ne_eqb, cases_order, cases_Bool, false≢true}
-use Rattle.std.proofs.lemmas.List.Sums.{sum_by-cons}
-use Rattle.attached_buffer.specs.Buffer.{Account}
-use Rattle.nc_base.specs.declared.answer.Code.{Code}
-use Rattle.nc_base.specs.declared.answer.Code.TheVariants as code
-use Rattle.nc_base.specs.declared.answer.Item.{Item}
+use Rattle.std.proofs.lemmas.Bool.{or_from, or_left, or_right, cond_both, cond-true, eq-eqb, eqb-true, ne_eqb, cases_order}
 use Rattle.serial_spec.specs.RankMachine.{Posted, Status, NullRequest, Waiting, Gone, is_waiting, status_of, item_code, items_from, has_id}
 use Rattle.request_queue.specs.declared.queue.Posting.{Posting}
 use Rattle.request_queue.specs.declared.queue.Request.{Request}
-use Rattle.request_queue.specs.Kept.{status_in, standing, posted_of, as_posted, is_null, held, is_buffered, Accounts, is_listed, removed, freed, items_by, code_by}
-use Rattle.request_queue.proofs.PostedLaws.{has_posted, has_waiting, not_posted, new_lacks, cond_same}
+use Rattle.request_queue.specs.Kept.{status_in, posted_of, as_posted, is_null, items_by, code_by}
+use Rattle.request_queue.proofs.PostedLaws.{has_posted, has_waiting, new_lacks}
 
 -- ---- a set with one more number
 

@@ -6,7 +6,6 @@ use Rattle.nc_base.specs.declared.answer.Code.{Code}
 use Rattle.nc_base.specs.declared.answer.Code.TheVariants as code
 use Rattle.nc_base.specs.declared.request.Direction.{Direction}
 use Rattle.nc_base.specs.declared.request.Direction.TheVariants.{Put, Get}
-use Rattle.nc_base.specs.declared.request.PostKind.TheVariants.{Bput}
 use Rattle.nc_base.specs.declared.answer.Item.{Item}
 use Rattle.nc_base.specs.declared.plan.Post.{Post}
 use Rattle.serial_spec.specs.RankMachine.{Posted, Status, NullRequest, Waiting, Gone, is_waiting, status_of, buffered, is_bput, puts_in, gets_in}

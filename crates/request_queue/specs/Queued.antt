@@ -1,6 +1,6 @@
 -- The posted requests of a rank and its attached buffer: PnetCDF C API reference, nonblocking and buffered requests.
 -- A queue is seen as those two parts of the rank's state, and its calls are those of the rank.
-use Rattle.std.specs.Prelude.{◌≡◌, ℕ, ◌+◌, List, [], ◌∷◌, ◌++◌, Option}
+use Rattle.std.specs.Prelude.{◌≡◌, ℕ, List, [], ◌∷◌, ◌++◌, Option}
 use Rattle.nc_base.specs.declared.answer.Code.{Code}
 use Rattle.nc_base.specs.declared.answer.Code.TheVariants as code
 use Rattle.nc_base.specs.declared.answer.CallErr.{CallErr}

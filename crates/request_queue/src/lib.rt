@@ -9,3 +9,6 @@ mod taking;
 
 pub use queue::Queue;
 pub use taking::Taken;
+
+#[cfg(test)]
+mod tests;

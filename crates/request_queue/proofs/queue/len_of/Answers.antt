@@ -1,4 +1,4 @@
-use Rattle.std.proofs.Common.{◌≡◌, ◌-◌, ◌^◌, ◌∙◌, ap, min, List, arith}
+use Rattle.std.proofs.Common.{◌-◌, ◌^◌, ◌∙◌, ap, min, List}
 use Rattle.std.proofs.lemmas.List.{take_all}
 use Rattle.nc_base.specs.declared.plan.Post.{Post}
 use Rattle.serial_spec.specs.RankMachine.{bytes_in}

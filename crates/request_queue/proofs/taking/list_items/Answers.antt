@@ -1,4 +1,4 @@
-use Rattle.std.proofs.Common.{◌≡◌, ◌+◌, ◌∷◌, ◌++◌, [], ◌∙◌, ap, sym, refl, Bool, ◌||◌, eqb, false, ℕ, List, None, drop, get_or, append_assoc, add-one, drop-cons}
+use Rattle.std.proofs.Common.{◌≡◌, ◌+◌, ◌∷◌, ◌++◌, [], ◌∙◌, ap, sym, ◌||◌, eqb, ℕ, List, None, drop, get_or, append_assoc, add-one, drop-cons}
 use Rattle.nc_base.specs.declared.answer.Code.{Code}
 use Rattle.std.specs.Ordering.{nat_cmp}
 use Rattle.std.specs.BTreeSet.{contains}
@@ -21,7 +21,7 @@ loop-id-preserved c =
     let cut : drop i ids ≡ id ∷ rest = drop-cons ids i 0 c.loop-id-test.true ∙ ap (λ (n : ℕ). id ∷ drop n ids) (sym next) in
     let seen : (q : ℕ) → (eqb id q || earlier q) ≡ contains nat_cmp c.insert.new.self q = λ q. sym (c.in_ok-insert.ensures.updates.0 q ∙ insert_is id q (earlier q)) in
     let set : items_by null waits (λ (q : ℕ). eqb id q || earlier q) rest ≡ items_by null waits (contains nat_cmp c.insert.new.self) rest =
-        λ j. items_by null waits (λ (q : ℕ). seen q j) rest in
+    λ j. items_by null waits (λ (q : ℕ). seen q j) rest in
     let code = c.code_of-code.ensures ∙ (λ j. code_by (c.contains.ensures j) (c.contains-in-loop-id.ensures j) (c.contains-in-loop-id-2.ensures j)) in
     let pushed = c.in_ok-push.ensures.ok ∙ ap (λ (x : Code). c.loop-id.items ++ record { id = id; code = x; values = None } ∷ []) code in
     c.loop-id.invariant ∙ ap (λ (l : List ℕ). c.loop-id.items ++ items_by null waits earlier l) cut

@@ -1,4 +1,4 @@
-use Rattle.std.proofs.Common.{◌≡◌, ◌+◌, ◌∙◌, ap, sym, refl, Bool, ◌||◌, eqb, ℕ, List, take, get_or}
+use Rattle.std.proofs.Common.{◌∙◌, ap, sym, Bool, ◌||◌, eqb, ℕ, List, take, get_or}
 use Rattle.std.specs.Ordering.{nat_cmp}
 use Rattle.std.specs.BTreeSet.{contains}
 use Rattle.std.proofs.lemmas.List.{take_all}

@@ -1,6 +1,5 @@
-use Rattle.std.proofs.Common.{◌≡◌, ◌+◌, ap, ◌∙◌, sym, arith, length, None, set}
-use Rattle.std.specs.Prelude.{sum_by}
-use Rattle.attached_buffer.specs.Buffer.{Account, Buffer, bytes_under, len_of}
+use Rattle.std.proofs.Common.{ap, ◌∙◌, sym, arith}
+use Rattle.attached_buffer.specs.Buffer.{Account, Buffer, bytes_under}
 use Rattle.attached_buffer.proofs.Freed.{freed}
 use Rattle.attached_buffer.proofs.attached.Attached.free.Goals as goal
 

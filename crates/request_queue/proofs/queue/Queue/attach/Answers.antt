@@ -1,4 +1,4 @@
-use Rattle.std.proofs.Common.{◌≡◌, ◌∙◌, ap, sym, subst, List, Option, Some, None}
+use Rattle.std.proofs.Common.{◌∙◌, sym, subst, Option, Some}
 use Rattle.attached_buffer.specs.Buffer.{Account}
 use Rattle.request_queue.specs.Kept.{Accounts}
 use Rattle.request_queue.proofs.AccountLaws.{accounts-new, detached}

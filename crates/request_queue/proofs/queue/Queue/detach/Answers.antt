@@ -1,5 +1,4 @@
-use Rattle.std.proofs.Common.{◌≡◌, ◌∙◌, ap, sym, not, arith}
-use Rattle.nc_base.specs.declared.answer.Code.TheVariants as code
+use Rattle.std.proofs.Common.{◌∙◌, ap, sym, not, arith}
 use Rattle.serial_spec.specs.RankMachine.{detach_code}
 use Rattle.request_queue.specs.Queued.{Queued, rank_with}
 use Rattle.request_queue.specs.Kept.{posted_of}

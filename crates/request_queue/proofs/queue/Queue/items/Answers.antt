@@ -1,4 +1,4 @@
-use Rattle.std.proofs.Common.{◌≡◌, ◌∙◌, ap, sym, [], ℕ, List, map, false}
+use Rattle.std.proofs.Common.{◌≡◌, ◌∙◌, ap, [], ℕ, List, map}
 use Rattle.std.specs.Ordering.{nat_cmp}
 use Rattle.std.specs.BTreeSet.{contains}
 use Rattle.serial_spec.specs.RankMachine.{items_from, has_id}
@@ -12,6 +12,6 @@ pub returns-clause-items : goal.returns-clause-items
 returns-clause-items c =
     let a = c.self.inside in
     let waits : (id : ℕ) → contains nat_cmp c.in_ok-waiting-2.waiting id ≡ has_waiting a.waiting.items id = λ id.
-        c.in_ok-waiting-2.ensures id ∙ ap (λ (l : List ℕ). has_id l id) (c.as_slice-2.ensures.value ∙ c.in_ok-waiting.ensures ∙ ap (map (λ (r : Request). r.id)) c.as_slice.ensures.value) ∙ id_waits a.waiting.items id in
+    c.in_ok-waiting-2.ensures id ∙ ap (λ (l : List ℕ). has_id l id) (c.as_slice-2.ensures.value ∙ c.in_ok-waiting.ensures ∙ ap (map (λ (r : Request). r.id)) c.as_slice.ensures.value) ∙ id_waits a.waiting.items id in
     c.in_ok-items.ensures ∙ items_is a.history.items a.waiting.items (contains nat_cmp a.nulls) (contains nat_cmp c.in_ok-waiting-2.waiting) [] c.args.ids.now
     c.self.invariant.waiting c.self.invariant.nulls waits ∙ ap (λ (q : Queued). items_from q.posted [] c.args.ids.now) c.self.view_is

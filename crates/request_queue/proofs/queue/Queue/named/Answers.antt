@@ -1,4 +1,4 @@
-use Rattle.std.proofs.Common.{◌≡◌, ◌∙◌, ap, sym, ℕ, List, map}
+use Rattle.std.proofs.Common.{◌∙◌, ap, sym, map}
 use Rattle.std.proofs.lemmas.Result.{IfOk-weaker}
 use Rattle.request_queue.specs.declared.queue.Request.{Request}
 use Rattle.serial_spec.specs.RankMachine.{waiting_ids, named}

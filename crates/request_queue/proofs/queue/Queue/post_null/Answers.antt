@@ -2,7 +2,7 @@ use Rattle.std.proofs.Common.{◌≡◌, ◌∷◌, ◌++◌, [], ◌∙◌, ap,
 use Rattle.std.proofs.lemmas.List.{map-append}
 use Rattle.std.specs.Ordering.{nat_cmp}
 use Rattle.std.specs.BTreeSet.{contains}
-use Rattle.serial_spec.specs.RankMachine.{Posted, NullRequest, status_of}
+use Rattle.serial_spec.specs.RankMachine.{Posted, status_of}
 use Rattle.request_queue.specs.declared.queue.Posting.{Posting}
 use Rattle.request_queue.specs.Queued.{Queued}
 use Rattle.request_queue.specs.Kept.{posted_of, standing, is_null}
@@ -21,7 +21,7 @@ invariant_of-self-2 c =
     let lacks = not_posted posted k (subst (λ (q : Queued). status_of q.posted k ≡ None) (sym c.self.view_is) c.requires.fresh) in
     record {
       nulls = λ id. c.in_ok-insert.ensures.updates.0 id ∙ insert_is k id (contains nat_cmp a.nulls id) ∙ ap (λ (b : Bool). eqb k id || b) (c.self.invariant.nulls id)
-        ∙ sym (null-push posted k id lacks) ∙ ap (λ (l : List Posted). is_null (status_of l id)) (sym listed);
+          ∙ sym (null-push posted k id lacks) ∙ ap (λ (l : List Posted). is_null (status_of l id)) (sym listed);
       waiting = rw listed (waiting-null posted k ∙ c.self.invariant.waiting);
       room = c.self.invariant.room;
       buffered = c.self.invariant.buffered;

@@ -1,5 +1,4 @@
-use Rattle.std.proofs.Common.{◌≡◌, ◌+◌, ◌∷◌, ◌++◌, [], refl, sym, ◌∙◌, ap, subst, ℕ, List, arith, cond, None, map, false, option_map}
-use Rattle.std.specs.Prelude.{count_by}
+use Rattle.std.proofs.Common.{◌≡◌, ◌∷◌, ◌++◌, [], refl, sym, ◌∙◌, ap, subst, ℕ, List, arith, None, map, false, option_map}
 use Rattle.std.proofs.lemmas.Bool.{cond-false}
 use Rattle.serial_spec.specs.RankMachine.{Posted, status_of}
 use Rattle.request_queue.specs.Queued.{Queued, with_request}

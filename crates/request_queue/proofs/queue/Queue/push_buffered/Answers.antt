@@ -1,15 +1,13 @@
-use Rattle.std.proofs.Common.{◌≡◌, ◌+◌, ◌-◌, ◌^◌, ◌∷◌, ◌++◌, [], min, map, refl, sym, ◌∙◌, ap, subst, ℕ, List, arith, None, Some, Option, false, option_map}
-use Rattle.std.specs.Prelude.{count_by}
+use Rattle.std.proofs.Common.{◌≡◌, ◌-◌, ◌^◌, ◌∷◌, ◌++◌, [], min, map, refl, sym, ◌∙◌, ap, subst, ℕ, List, arith, None, Some, Option, false, option_map}
 use Rattle.attached_buffer.specs.Buffer.{Account}
-use Rattle.nc_base.specs.declared.answer.Code.{Code}
 use Rattle.nc_base.specs.declared.answer.Code.TheVariants as code
 use Rattle.nc_base.specs.declared.plan.Post.{Post}
 use Rattle.nc_base.specs.declared.request.PostKind.TheVariants as kind
 use Rattle.serial_spec.specs.RankMachine.{Posted, Waiting, status_of, bytes_in, buffer_code}
 use Rattle.request_queue.specs.declared.queue.Posting.{Posting}
 use Rattle.request_queue.specs.declared.queue.Request.{Request}
-use Rattle.request_queue.specs.Queued.{Queued, with_request, rank_with, IsRefusal}
-use Rattle.request_queue.specs.Kept.{as_posted, is_null, is_buffered, posted_of, Accounts, claimed, claim_code}
+use Rattle.request_queue.specs.Queued.{Queued, with_request, rank_with}
+use Rattle.request_queue.specs.Kept.{as_posted, is_null, posted_of, Accounts, claimed, claim_code}
 use Rattle.request_queue.proofs.PostedLaws.{posted-push, is_null-push, waiting-push, count-push}
 use Rattle.request_queue.proofs.AccountLaws.{same_code, accounts-claim}
 use Rattle.request_queue.proofs.queue.Queue.push_buffered.Goals as goal

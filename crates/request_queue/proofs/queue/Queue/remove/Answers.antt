@@ -1,14 +1,14 @@
-use Rattle.std.proofs.Common.{◌≡◌, ◌+◌, ◌++◌, [], ◌∙◌, ap, sym, subst, refl, arith, List, map, ℕ, Option, Bool, not, cond}
+use Rattle.std.proofs.Common.{◌≡◌, ◌++◌, [], ◌∙◌, ap, sym, subst, arith, List, map, Option, Bool, not, cond}
 use Rattle.request_queue.specs.declared.queue.Posting.{Posting}
 use Rattle.std.specs.Prelude.{filter, sum_by, count_by, option_map}
 use Rattle.std.specs.Ordering.{nat_cmp}
 use Rattle.std.specs.BTreeSet.{contains}
 use Rattle.attached_buffer.specs.Buffer.{Account}
-use Rattle.serial_spec.specs.RankMachine.{Posted, status_of, is_waiting}
+use Rattle.serial_spec.specs.RankMachine.{Posted, status_of}
 use Rattle.request_queue.specs.declared.queue.Request.{Request}
 use Rattle.request_queue.specs.Queued.{Queued}
 use Rattle.request_queue.specs.Kept.{as_posted, is_listed, removed, held, is_buffered, freed, is_null, posted_of, Accounts, Holds}
-use Rattle.request_queue.proofs.LeaveLaws.{left, taken, posted-left, is_null-removed, waiting-left, taken_is, sum_by-parts, holds_taken, accounts_left, size-freed}
+use Rattle.request_queue.proofs.LeaveLaws.{taken, posted-left, is_null-removed, waiting-left, taken_is, sum_by-parts, holds_taken, accounts_left, size-freed}
 use Rattle.request_queue.proofs.queue.Queue.remove.Goals as goal
 
 abbrev queued_by : List Request → List Posting → Option Account → Queued
@@ -42,13 +42,13 @@ invariant_of-self c =
     let slice = c.as_slice.ensures.value ∙ gone in
     let count = ap (count_by is_buffered) slice in
     let posted : posted_of a.history.items c.split.new.kept.items ≡ removed listed (posted_of a.history.items w) =
-        ap (λ (l : List Request). posted_of a.history.items l) kept ∙ posted-left listed a.history.items w in
+    ap (λ (l : List Request). posted_of a.history.items l) kept ∙ posted-left listed a.history.items w in
     let room = c.free.ensures.room ∙ ap (λ (l : List Request). freed a.room (sum_by held l)) slice in
     record {
       nulls = λ id. c.self.invariant.nulls id ∙ sym (is_null-removed listed (posted_of a.history.items w) id) ∙ ap (λ (l : List Posted). is_null (status_of l id)) (sym posted);
       waiting = rw kept (waiting-left listed a.history.items w c.self.invariant.waiting);
       room = subst (λ (o : Option Account). Accounts o c.split.new.kept.items) (sym room)
-        (subst (λ (l : List Request). Accounts (freed a.room (sum_by held (taken listed w))) l) (sym kept) (accounts_left a.room listed w c.self.invariant.room));
+          (subst (λ (l : List Request). Accounts (freed a.room (sum_by held (taken listed w))) l) (sym kept) (accounts_left a.room listed w c.self.invariant.room));
       buffered = rw kept (omega (arith, count, c.free.ensures.count, sum_by-parts (λ (r : Request). cond (is_buffered r) 1 0) listed w, c.self.invariant.buffered));
     }
 
@@ -69,5 +69,5 @@ returns-clause-after c =
     let posted = ap (λ (l : List Request). posted_of a.history.items l) kept ∙ posted-left listed a.history.items w in
     let size = ap (option_map (λ (o : Account). o.size)) c.free.ensures.room ∙ size-freed a.room (sum_by held c.as_slice.result.now) in
     let both : queued_by c.split.new.kept.items a.history.items c.free.new.room ≡ record { posted = removed listed (posted_of a.history.items w); attached = option_map (λ (o : Account). o.size) a.room } =
-        λ i. record { posted = posted i; attached = size i } in
+    λ i. record { posted = posted i; attached = size i } in
     both ∙ ap (λ (q : Queued). record { posted = removed listed q.posted; attached = q.attached }) c.self.view_is

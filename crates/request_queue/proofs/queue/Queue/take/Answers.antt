@@ -1,12 +1,12 @@
-use Rattle.std.proofs.Common.{◌≡◌, ◌≤◌, ◌∙◌, ap, sym, subst, ℕ, List, map, length, arith, Bool, ◌&&◌}
-use Rattle.std.specs.Prelude.{filter, flat_map, sum_by}
+use Rattle.std.proofs.Common.{◌≡◌, ◌∙◌, ap, sym, ℕ, List, map, length, arith, ◌&&◌}
+use Rattle.std.specs.Prelude.{filter, sum_by}
 use Rattle.std.specs.Ordering.{nat_cmp}
 use Rattle.std.specs.BTreeSet.{contains}
 use Rattle.std.proofs.lemmas.List.Folds.{flat_map-map}
 use Rattle.serial_spec.specs.RankMachine.{Posted, batch_chosen, chosen, named, has_id, is_waiting, puts_in, gets_in}
 use Rattle.request_queue.specs.declared.queue.Request.{Request}
 use Rattle.request_queue.specs.Queued.{Queued, rank_with}
-use Rattle.request_queue.specs.Kept.{as_posted, is_listed, puts_of, gets_of, posted_of}
+use Rattle.request_queue.specs.Kept.{as_posted, is_listed, puts_of, gets_of}
 use Rattle.request_queue.proofs.LeaveLaws.{taken, taken_is, same_posts}
 use Rattle.request_queue.proofs.queue.Queue.take.Goals as goal
 
@@ -33,9 +33,9 @@ returns-clause-batch c =
     let listed = contains nat_cmp c.in_ok-items.listed in
     let old = c.args.self.now in
     let named_is : (id : ℕ) → listed id ≡ has_id (named (rank_with old) c.args.choice.now) id = λ id.
-        c.in_ok-items.ensures.listed id ∙ ap (λ (l : List ℕ). has_id l id) (c.as_slice.ensures.value ∙ c.in_ok-ids.ensures) in
+    c.in_ok-items.ensures.listed id ∙ ap (λ (l : List ℕ). has_id l id) (c.as_slice.ensures.value ∙ c.in_ok-ids.ensures) in
     let all : map as_posted c.in_ok-taken.taken.items ≡ chosen (rank_with old) c.args.choice.now =
-        c.in_ok-taken.ensures.taken ∙ (λ i. filter (λ (p : Posted). is_waiting p.status && named_is p.id i) old.posted) in
+    c.in_ok-taken.ensures.taken ∙ (λ i. filter (λ (p : Posted). is_waiting p.status && named_is p.id i) old.posted) in
     let puts = c.batch_of.ensures.puts ∙ sym (flat_map-map (λ (p : Posted). puts_in p.status) as_posted c.in_ok-taken.taken.items) in
     let gets = c.batch_of.ensures.gets ∙ sym (flat_map-map (λ (p : Posted). gets_in p.status) as_posted c.in_ok-taken.taken.items) in
     let both : c.batch_of.result ≡ batch_chosen (map as_posted c.in_ok-taken.taken.items) = λ i. record { puts = puts i; gets = gets i } in
