@@ -12,3 +12,6 @@ mod needs;
 pub use causes::check;
 pub use forms::widen;
 pub use needs::records_needed;
+
+#[cfg(test)]
+mod tests;
