@@ -4,6 +4,17 @@
 //! floats and doubles are moved as bit patterns, and are never numbers, is our choice.
 #![tactic(auto)]
 
+mod bytes;
+mod codes;
+mod decoding;
+mod encoding;
+mod kinds;
 mod sizes;
 
+pub use decoding::decode_one;
+pub use encoding::{encode_into, round_trip};
+pub use kinds::kind_fits;
 pub use sizes::size_of;
+
+#[cfg(test)]
+mod tests;

@@ -1,6 +1,6 @@
 -- Rows of elements, one dimension at a time, and where elements end.
-use Rattle.std.proofs.Common.{◌≡◌, ℕ, zero, suc, ◌+◌, ◌-◌, ◌*◌, ◌<◌, ◌≤◌, List, [], ◌∷◌, length, drop, get_or, map, Bool, true, false, cond, Some, refl, sym, ap, subst, ◌∙◌, arith}
-use Rattle.std.specs.Prelude.{slice_get, MatchBool, ◌==◌}
+use Rattle.std.proofs.Common.{◌≡◌, ℕ, zero, suc, ◌+◌, ◌-◌, ◌*◌, ◌^◌, ◌<◌, ◌≤◌, List, [], ◌∷◌, length, drop, get_or, map, Bool, true, false, cond, Some, refl, sym, ap, subst, ◌∙◌, arith}
+use Rattle.std.specs.Prelude.{slice_get, MatchBool, nat_lt, ◌==◌}
 use Rattle.std.proofs.lemmas.List.{drop_more, drop_all}
 use Rattle.std.proofs.lemmas.Nat.{row_fits, mul-le}
 use Rattle.std.proofs.Math.Nat.{mul-le-mul_left}
@@ -14,7 +14,9 @@ use Rattle.serial_spec.specs.Layout.{product, greatest, is_record, inner_lengths
 use Rattle.serial_spec.specs.Place.{row, place, record_of, within_record, IsIndex, HasRecord, IsElement}
 use Rattle.serial_spec.proofs.RowLaws.{row_below}
 use Rattle.var_layout.specs.Reached.{records_for}
-use Rattle.var_layout.proofs.Soundness.{slab_below}
+use Rattle.var_layout.proofs.Soundness.{Keeps, slab_below, var_kept, header_short}
+use Rattle.serial_spec.specs.HeaderGrammar.{is_sound, header_len}
+use borrow.Author.Tests.{ltb-true, ltb-false}
 
 -- ---- a row, one dimension at a time
 
@@ -131,6 +133,11 @@ end_record header n v e h =
     not_none : (m : ℕ) → 0 < m → (m == 0) ≡ false
     not_none m l = grind (arith, nat_tests)
 
+end_none : (header : Header) (n : ℕ) (v : Var) → is_record header v ≡ true → n ≡ 0 → end_of_var header n v ≡ 0
+end_none header n v e h =
+    ap (λ (t : Bool). cond t (cond (n == 0) 0 (v.begin + (n - 1) * recsize header + last_share header v)) (v.begin + vsize header v)) e
+    ∙ ap (λ (t : Bool). cond t 0 (v.begin + (n - 1) * recsize header + last_share header v)) (ap (λ (m : ℕ). m == 0) h)
+
 for_record : (header : Header) (v : Var) (index : List ℕ) → is_record header v ≡ true → records_for header v index ≡ record_of index + 1
 for_record header v index e = ap (λ (t : Bool). cond t (record_of index + 1) 0) e
 
@@ -159,4 +166,35 @@ pub before_end : (header : Header) (first k : ℕ) (v : Var) (index : List ℕ) 
 before_end header first k v index n h e l =
     let own = before_end_of_var header v index n e l in
     let all = greatest_holds (λ w. end_of_var header n w) header.vars k v h in
+    omega arith
+
+-- ---- a sound header's file
+
+greatest_below : {A : Type 0} (f : A → ℕ) (xs : List A) (n : ℕ) → 0 < n → ((k : ℕ) (x : A) → slice_get xs k ≡ Some x → f x < n) → greatest (map f xs) < n
+greatest_below f [] n pos h = pos
+greatest_below f (x ∷ xs) n pos h =
+    let here = h 0 x refl in
+    let rest = greatest_below f xs n pos (λ k y g. h (suc k) y g) in
+    omega arith
+
+var_end : (header : Header) (k : ℕ) (v : Var) (n : ℕ) → is_sound header ≡ true → slice_get header.vars k ≡ Some v → n ≤ header.records → end_of_var header n v < 2 ^ 62
+var_end header k v n h g l = by_test (is_record header v) refl (var_kept header k v h g).1
+  where
+    by_test : (t : Bool) → is_record header v ≡ t → {before : ℕ} → Keeps header before v → end_of_var header n v < 2 ^ 62
+    by_test false e k = let q = end_fixed header n v e in let m = k.end in omega arith
+    by_test true e k = by_count (nat_lt 0 n) refl
+      where
+        by_count : (t : Bool) → nat_lt 0 n ≡ t → end_of_var header n v < 2 ^ 62
+        by_count true p =
+            let pos : 0 < n = ltb-true _ _ p in
+            let q = end_record header n v e pos in
+            let m = k.last e (omega arith) in
+            let rows : (n - 1) * recsize header ≤ (header.records - 1) * recsize header = mul-le (n - 1) (recsize header) (header.records - 1) (recsize header) (omega arith) (omega arith) in
+            omega arith
+        by_count false p = let none = ltb-false _ _ p in let q = end_none header n v e (omega arith) in omega arith
+
+pub sound_end : (header : Header) (n : ℕ) → is_sound header ≡ true → n ≤ header.records → end_of header (header_len header) n < 2 ^ 62
+sound_end header n h l =
+    let all = greatest_below (λ v. end_of_var header n v) header.vars (2 ^ 62) (omega arith) (λ k v g. var_end header k v n h g l) in
+    let short = header_short header h in
     omega arith

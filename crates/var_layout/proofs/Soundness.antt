@@ -1,6 +1,6 @@
 -- What a sound header bounds.
 use Rattle.std.proofs.Common.{◌≡◌, ℕ, zero, suc, ◌+◌, ◌-◌, ◌*◌, ◌^◌, ◌<◌, ◌≤◌, List, [], ◌∷◌, length, take, drop, get_or, map, Bool, true, false, cond, ◌&&◌, ◌||◌, Option, Some, None, refl, sym, ap, subst, ◌∙◌, arith}
-use Rattle.std.specs.Prelude.{count_by, sum_by, not, nat_lt, ◌==◌, slice_get, is_none, IfSome}
+use Rattle.std.specs.Prelude.{count_by, sum_by, not, nat_lt, nat_le, ◌==◌, slice_get, is_none, IfSome}
 use borrow.Author.Tests.{ltb-true}
 use Rattle.std.proofs.lemmas.Bool.Decides.{nat_tests}
 use Rattle.std.specs.Option.{option_or}
@@ -11,7 +11,7 @@ use Rattle.nc_base.specs.declared.header.Var.{Var}
 use Rattle.nc_base.specs.declared.errors.HeaderErr.TheVariants as fault
 use Rattle.serial_spec.specs.Limits.{file_limit}
 use Rattle.serial_spec.specs.Layout.{slab, vsize, is_record, recsize, record_size, record_slabs, record_variables, record_share, last_share, round_up}
-use Rattle.serial_spec.specs.HeaderGrammar.{is_sound, first_check, fault_if, first_with, two_record_dims, record_later, bad_id, is_too_large, all_ones, measure, past_bound, keeps_bound}
+use Rattle.serial_spec.specs.HeaderGrammar.{is_sound, header_len, first_check, fault_if, first_with, two_record_dims, record_later, bad_id, is_too_large, all_ones, measure, past_bound, keeps_bound}
 use Rattle.var_layout.specs.Capped.{capped}
 
 -- ---- tests
@@ -56,6 +56,12 @@ measured header h =
     let e = (neither (fault_if (is_too_large header) fault.TooLarge) _ d).0 in
     no_some _ (not_true _ (or_left _ _ (no_fault (is_too_large header) fault.TooLarge e)))
 
+pub header_short : (header : Header) → is_sound header ≡ true → header_len header ≤ 2 ^ 20
+header_short header h = short (header_len header) (and_right _ _ (and_left _ _ h))
+  where
+    short : (n : ℕ) → nat_le n (2 ^ 20) ≡ true → n ≤ 2 ^ 20
+    short n e = grind (arith, nat_tests)
+
 kept_or : {A : Type 0} (t : Bool) (o : Option A) (x : A) → cond t o (Some x) ≡ None → (t ≡ true) × (o ≡ None)
 kept_or true o x h = (refl, h)
 kept_or false o x h = cc
@@ -64,6 +70,7 @@ pub record Keeps (header : Header) (before : ℕ) (v : Var) : Type 0 where
   pub size : vsize header v < 2 ^ 62
   pub end : v.begin + vsize header v < 2 ^ 62
   pub records : is_record header v ≡ true → before + vsize header v < 2 ^ 62
+  pub last : is_record header v ≡ true → 0 < header.records → v.begin + (header.records - 1) * recsize header + last_share header v < 2 ^ 62
 
 keeps : (header : Header) (before : ℕ) (v : Var) → keeps_bound header before v ≡ true → Keeps header before v
 keeps header before v h =
@@ -71,13 +78,22 @@ keeps header before v h =
     record {
       size = ltb-true _ _ (and_left _ _ first);
       end = ltb-true _ _ (and_right _ _ first);
-      records = λ e. of_record (is_record header v) e (and_right _ _ h);
+      records = λ e. (of_record (is_record header v) e (and_right _ _ h)).0;
+      last = λ e. (of_record (is_record header v) e (and_right _ _ h)).1;
     }
   where
+    last_one : (t : Bool) → (t ≡ true → header.records ≡ 0) → (t || nat_lt (v.begin + (header.records - 1) * recsize header + last_share header v) file_limit) ≡ true
+        → 0 < header.records → v.begin + (header.records - 1) * recsize header + last_share header v < 2 ^ 62
+    last_one true z k l = let none = z refl in absurd (omega arith)
+    last_one false z k l = ltb-true _ _ k
+
+    is_zero : (n : ℕ) → (n == 0) ≡ true → n ≡ 0
+    is_zero n e = grind (arith, nat_tests)
+
     of_record : (t : Bool) → t ≡ true → (not t || (nat_lt (before + vsize header v) file_limit
         && (header.records == 0 || nat_lt (v.begin + (header.records - 1) * recsize header + last_share header v) file_limit))) ≡ true
-        → before + vsize header v < 2 ^ 62
-    of_record true e k = ltb-true _ _ (and_left _ _ k)
+        → (before + vsize header v < 2 ^ 62) × (0 < header.records → v.begin + (header.records - 1) * recsize header + last_share header v < 2 ^ 62)
+    of_record true e k = (ltb-true _ _ (and_left _ _ k), last_one (header.records == 0) (is_zero header.records) (and_right _ _ k))
     of_record false e k = cc
 
 kept : (header : Header) (before n : ℕ) (vs : List Var) (k : ℕ) (v : Var) → past_bound header before n vs ≡ None → slice_get vs k ≡ Some v → (seen : ℕ) × Keeps header seen v

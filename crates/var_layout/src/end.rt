@@ -1,5 +1,6 @@
 // The end of a file.
-ghost use Rattle.std.specs.Prelude.{◌≡◌, ◌==◌, ◌<◌, ◌^◌, true, length};
+ghost use Rattle.std.specs.Prelude.{◌≡◌, ◌==◌, ◌<◌, ◌≤◌, ◌^◌, ℕ, true, length};
+ghost use Rattle.nc_base.specs.declared.header.Header.{Header};
 ghost use Rattle.serial_spec.specs.Layout as layout;
 ghost use Rattle.serial_spec.specs.HeaderGrammar.{is_sound, header_len};
 ghost use Rattle.var_layout.specs.Capped.{capped};
@@ -27,11 +28,10 @@ pub(crate) fn end_of_var(header: &Header, lone: bool, size: u64, records: u64, v
     capped::sum(begin, last_share(header, lone, var))
 }
 
-/// The length of a file with so many records: where the header or the last of the variables ends.
-pub fn end_of(header: &Header, records: u64) -> u64
-    requires sound { is_sound header.now ≡ true }
-    requires below { layout.end_of header.now (header_len header.now) records < 2 ^ 62 }
-    ensures { result ≡ layout.end_of header.now (header_len header.now) records }
+/// The length of a file with so many records, or 2^62 where it is more: where the header or the last of the
+/// variables ends.
+pub fn file_end(header: &Header, records: u64) -> u64
+    ensures { result ≡ capped (layout.end_of header.now (header_len header.now) records) }
 {
     let lone = is_lone(header);
     let size = record_size(header, lone);
@@ -41,3 +41,18 @@ pub fn end_of(header: &Header, records: u64) -> u64
     }
     end
 }
+
+/// The length of a file with so many records.
+pub fn end_of(header: &Header, records: u64) -> u64
+    requires sound { is_sound header.now ≡ true }
+    requires below { layout.end_of header.now (header_len header.now) records < 2 ^ 62 }
+    ensures { result ≡ layout.end_of header.now (header_len header.now) records }
+{
+    file_end(header, records)
+}
+
+/// A sound header's file ends below 2^62, for its own record count and each smaller one.
+pub fn sound_files_end()
+    ensures { (header : Header) (records : ℕ) → is_sound header ≡ true → records ≤ header.records
+        → layout.end_of header (header_len header) records < 2 ^ 62 }
+{}

@@ -5,7 +5,6 @@
 #![tactic(auto)]
 
 mod causes;
-mod end;
 mod forms;
 mod needs;
 

@@ -9,33 +9,32 @@ ghost use Rattle.var_layout.specs.Capped.{capped};
 ghost use Rattle.vara_extents.specs.Accepted.{IsAccepted};
 
 use crate::causes::last_of;
-use crate::end::end_of;
 use nc_base::{
     CLASSIC_RECORD_LIMIT, FILE_LIMIT, Header, MAX_ELEMENTS, MAX_REACH, RECORD_LIMIT, Region, Var,
 };
-use var_layout::is_record;
+use var_layout::{file_end, is_record};
 
 /// The number, or 2^62 where it is more.
-pub(crate) fn cap(n: u128) -> u64
+fn cap(n: u128) -> u64
     ensures { result ≡ capped n }
 {
     n.min(u128::from(FILE_LIMIT)) as u64
 }
 
-pub(crate) fn sum(a: u64, b: u64) -> u64
+fn sum(a: u64, b: u64) -> u64
     ensures { result ≡ capped (a + b) }
 {
     cap(u128::from(a) + u128::from(b))
 }
 
-pub(crate) fn product(a: u64, b: u64) -> u64
+fn product(a: u64, b: u64) -> u64
     ensures { result ≡ capped (a * b) }
 {
     cap(u128::from(a) * u128::from(b))
 }
 
 /// How many elements a region has, or 2^62 where it has more.
-pub(crate) fn element_count(counts: &[u64]) -> u64
+fn element_count(counts: &[u64]) -> u64
     ensures { result ≡ capped (layout.product counts.now) }
 {
     let mut elements = 1;
@@ -106,7 +105,7 @@ pub(crate) fn is_too_large(header: &Header, var: &Var, region: &Region) -> bool
     if records >= record_limit(header.version) {
         return true;
     }
-    end_of(header, records) >= FILE_LIMIT
+    file_end(header, records) >= FILE_LIMIT
 }
 
 fn reaches_too_far(region: &Region) -> bool
