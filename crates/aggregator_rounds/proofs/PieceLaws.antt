@@ -1,0 +1,27 @@
+-- Pieces laid over a buffer one by one.
+use Rattle.std.proofs.Common.{◌≡◌, ℕ, zero, suc, ◌+◌, ◌-◌, ◌<◌, ◌≤◌, ◌++◌, refl, sym, ◌∙◌, ap, List, [], ◌∷◌, length, take, drop, get_or, arith}
+use Rattle.std.proofs.lemmas.List.{drop_more}
+use Rattle.nc_base.specs.declared.plan.Piece.{Piece}
+use Rattle.serial_spec.specs.File.{at, read}
+use Rattle.serial_spec.specs.Said.{IsFrom, IsWithin}
+use Rattle.aggregator_rounds.specs.Pieces.{cells_of_pieces}
+
+pub from_at : (lo : ℕ) (ps : List Piece) (k : ℕ) (d : Piece) → k < length ps → IsFrom lo (cells_of_pieces ps) → lo ≤ (get_or ps k d).at
+from_at lo [] k d h g = absurd (omega arith)
+from_at lo (p ∷ ps) zero d h g = g.0
+from_at lo (p ∷ ps) (suc k) d h g = from_at lo ps k d (omega arith) g.1
+
+pub within_at : (n : ℕ) (ps : List Piece) (k : ℕ) (d : Piece) → k < length ps → IsWithin (cells_of_pieces ps) n
+    → (get_or ps k d).at + length (get_or ps k d).bytes ≤ n
+within_at n [] k d h g = absurd (omega arith)
+within_at n (p ∷ ps) zero d h g = g.0
+within_at n (p ∷ ps) (suc k) d h g = within_at n ps k d (omega arith) g.1
+
+slice_step : (b : List ℕ) (from n : ℕ) → from < length b → take (suc n) (drop from b) ≡ at b from ∷ take n (drop (from + 1) b)
+slice_step b from n h = ap (λ (xs : List ℕ). take (suc n) xs) (drop_more b from 0 h)
+
+-- bytes read within a file, as a slice of it
+pub read_slice : (file : List ℕ) (x n : ℕ) → x + n ≤ length file → read file x n ≡ take n (drop x file)
+read_slice file x zero h = refl
+read_slice file x (suc n) h =
+    ap (λ r. at file x ∷ r) (read_slice file (x + 1) n (omega arith)) ∙ sym (slice_step file x n (omega arith))

@@ -1,0 +1,134 @@
+-- What a window leaves on a disk that may tell its bytes and its calls.
+use Rattle.std.proofs.Common.{◌≡◌, ℕ, zero, suc, ◌+◌, ◌-◌, ◌<◌, ◌≤◌, ◌⊎◌, ◌++◌, inl, inr, refl, sym, ◌∙◌, ap, subst, List, [], ◌∷◌, length, take, drop, get_or, Bool, true, false, cond, Option, Some, None, Result, Ok, Err, arith}
+use Rattle.std.specs.Prelude.{IfSome, OnErr, if◌then◌else◌}
+use Rattle.nc_base.specs.declared.step.DiskCall.{DiskCall}
+use Rattle.nc_base.specs.declared.step.DiskCall.TheVariants.{Load, Store}
+use Rattle.serial_spec.specs.File.{at, read, written}
+use Rattle.serial_spec.specs.Said.{Cell, said_at, said_by, write_cells, IsFrom, IsWithin, moved_down}
+use Rattle.serial_spec.proofs.FileLaws.{length-written_inside}
+use Rattle.overlay_laws.specs.Windows.{HasPlace}
+use Rattle.overlay_laws.specs.Changes.{IsBetween, IsBegun, load_calls, store_calls}
+use Rattle.overlay_laws.proofs.SaidLaws.{no_none_some, cells_long}
+use Rattle.overlay_laws.proofs.WindowLaws.{moved_said, within_lowered}
+use Rattle.overlay_laws.proofs.ReadLaws.{kept_read, window_answer}
+use Rattle.nc_outside.specs.Told.{after, with_end, BothTold}
+use Rattle.nc_outside.specs.DiskState.{PartlyWritten}
+use Rattle.aggregator_rounds.proofs.PieceLaws.{read_slice}
+
+pub on_err : {T E P : Type 0} (r : Result T E) → P → OnErr r P
+on_err (Ok x) p = tt
+on_err (Err e) p = p
+
+pub got_read : (held : Option (List ℕ)) (buf : List ℕ) (x m n size : ℕ) → IfSome held (λ b. length b ≡ size) → m ≡ n → x + n ≤ size
+    → IfSome held (λ file. buf ≡ take m (drop x file)) → IfSome held (λ file. buf ≡ read file x n)
+got_read None buf x m n size long e room h = tt
+got_read (Some file) buf x m n size long e room h = h ∙ ap (λ (k : ℕ). take k (drop x file)) e ∙ sym (read_slice file x n (omega arith))
+
+-- ---- cells seen from two places
+
+one_more : (x y : ℕ) (b : List ℕ) (r s : List Cell) → x ≡ y → r ≡ s → ◌≡◌ {A = List Cell} ((x, b) ∷ r) ((y, b) ∷ s)
+one_more x y b r s e f = λ i. (e i, b) ∷ f i
+
+lowered_twice : (from lo : ℕ) (cells : List Cell) → from ≤ lo → moved_down (lo - from) (moved_down from cells) ≡ moved_down lo cells
+lowered_twice from lo [] h = refl
+lowered_twice from lo (c ∷ cells) h =
+    let same : (c.0 - from) - (lo - from) ≡ c.0 - lo = omega arith in
+    one_more ((c.0 - from) - (lo - from)) (c.0 - lo) c.1 (moved_down (lo - from) (moved_down from cells)) (moved_down lo cells) same (lowered_twice from lo cells h)
+
+from_lowered : (from lo : ℕ) (cells : List Cell) → IsFrom lo cells → IsFrom (lo - from) (moved_down from cells)
+from_lowered from lo [] h = tt
+from_lowered from lo (c ∷ cells) h = let a : lo ≤ c.0 = h.0 in (omega arith, from_lowered from lo cells h.1)
+
+from_less : (from lo : ℕ) (cells : List Cell) → from ≤ lo → IsFrom lo cells → IsFrom from cells
+from_less from lo [] l h = tt
+from_less from lo (c ∷ cells) l h = let a : lo ≤ c.0 = h.0 in (omega arith, from_less from lo cells l h.1)
+
+-- ---- the window
+
+-- a buffer that was read, or of which each byte has a piece, overlaid and written
+pub window_over : (full : Bool) (file buf : List ℕ) (from lo n : ℕ) (cells : List Cell) → length buf ≡ n → from ≤ lo → lo - from + n ≤ length file
+    → IsFrom lo cells → IsWithin cells (lo + n)
+    → (full ≡ true → (x : ℕ) → lo ≤ x → x < lo + n → HasPlace cells x)
+    → (full ≡ false → buf ≡ read file (lo - from) n)
+    → written file (lo - from) (write_cells buf (moved_down lo cells)) ≡ write_cells file (moved_down from cells)
+window_over full file buf from lo n cells long low room least most whole was_read =
+    ap (λ (cs : List Cell). written file (lo - from) (write_cells buf cs)) (sym (lowered_twice from lo cells low))
+    ∙ window_answer file buf n (lo - from) (moved_down from cells) long room (from_lowered from lo cells least)
+    (let same : lo + n ≡ from + (lo - from + n) = omega arith in
+    within_lowered from (lo - from + n) cells (from_less from lo cells low least) (subst (λ (k : ℕ). IsWithin cells k) same most))
+    (kept full whole was_read)
+  where
+    kept : (full : Bool) → (full ≡ true → (x : ℕ) → lo ≤ x → x < lo + n → HasPlace cells x) → (full ≡ false → buf ≡ read file (lo - from) n)
+        → (x : ℕ) → lo - from ≤ x → x < lo - from + n → said_at (said_by (moved_down from cells)) x ≡ None → at buf (x - (lo - from)) ≡ at file x
+    kept false whole was_read x h k none = kept_read file buf (lo - from) n x (was_read refl) h k
+    kept true whole was_read x h k none =
+        let place : (x + from) - from ≡ x = omega arith in
+        let has = whole refl (x + from) (omega arith) (omega arith) in
+        no_none_some has.0
+        (sym none ∙ ap (λ (y : ℕ). said_at (said_by (moved_down from cells)) y) (sym place)
+        ∙ moved_said from cells (x + from) (from_less from lo cells low least) (omega arith) ∙ has.1)
+
+-- the same of a disk that may tell its bytes
+pub window_told : (held : Option (List ℕ)) (full : Bool) (buf : List ℕ) (from lo n size : ℕ) (cells : List Cell) → IfSome held (λ b. length b ≡ size)
+    → length buf ≡ n → from ≤ lo → lo + n ≤ from + size → IsFrom lo cells → IsWithin cells (lo + n)
+    → (full ≡ true → (x : ℕ) → lo ≤ x → x < lo + n → HasPlace cells x)
+    → (full ≡ false → IfSome held (λ file. buf ≡ read file (lo - from) n))
+    → after (λ file. written file (lo - from) (write_cells buf (moved_down lo cells))) held ≡ after (λ file. write_cells file (moved_down from cells)) held
+window_told None full buf from lo n size cells told long low room least most whole was_read = refl
+window_told (Some file) full buf from lo n size cells told long low room least most whole was_read =
+    ap Some (window_over full file buf from lo n cells long low (omega arith) least most whole was_read)
+
+-- a write that was refused leaves each byte old or as the whole would have it
+between : (old left inner : List ℕ) (x : ℕ) (whole : List ℕ) → x + length inner ≤ length old → written old x inner ≡ whole → PartlyWritten x inner old left
+    → IsBetween old whole left
+between old left inner x whole room e h = record {
+  len = h.len ∙ length-written_inside old x inner room;
+  each = λ i. elim (h.each i) [ inl g ↦ inl g | inr g ↦ inr (g ∙ ap (λ (f : List ℕ). at f i) e) ];
+}
+
+pub window_refused : (held left : Option (List ℕ)) (full : Bool) (buf : List ℕ) (from lo n size : ℕ) (cells : List Cell) → IfSome held (λ b. length b ≡ size)
+    → length buf ≡ n → from ≤ lo → lo + n ≤ from + size → IsFrom lo cells → IsWithin cells (lo + n)
+    → (full ≡ true → (x : ℕ) → lo ≤ x → x < lo + n → HasPlace cells x)
+    → (full ≡ false → IfSome held (λ file. buf ≡ read file (lo - from) n))
+    → BothTold (PartlyWritten (lo - from) (write_cells buf (moved_down lo cells))) held left
+    → BothTold (λ old now. IsBetween old (write_cells old (moved_down from cells)) now) held left
+window_refused None left full buf from lo n size cells told long low room least most whole was_read h = h
+window_refused (Some file) left full buf from lo n size cells told long low room least most whole was_read h =
+    let inner : length (write_cells buf (moved_down lo cells)) ≡ length buf
+    = cells_long (moved_down lo cells) buf (within_lowered lo (length buf) cells least (subst (λ (k : ℕ). IsWithin cells (lo + k)) (sym long) most)) in (
+      h.0,
+      h.1,
+      between file h.0 (write_cells buf (moved_down lo cells)) (lo - from) (write_cells file (moved_down from cells)) (omega arith)
+          (window_over full file buf from lo n cells long low (omega arith) least most whole was_read) h.2,
+    )
+
+-- the calls of a window of which the write was refused
+pub window_begun : (full : Bool) (x n : ℕ) (old mid now : Option (List DiskCall)) → mid ≡ with_end old (if full then [] else load_calls (x, n, full)) → now ≡ mid
+    → IsBegun (store_calls (x, n, full)) old now
+window_begun true x n old mid now e f = (0, f ∙ e)
+window_begun false x n old mid now e f = (1, f ∙ e)
+
+-- the same, of a write that is told of the disk as it was opened
+pub window_refused_by : (held mid left : Option (List ℕ)) (full : Bool) (buf inner : List ℕ) (from begin lo n size : ℕ) (cells : List Cell)
+    → begin ≡ from → mid ≡ held → inner ≡ write_cells buf (moved_down lo cells) → IfSome held (λ b. length b ≡ size)
+    → length buf ≡ n → from ≤ lo → lo + n ≤ from + size → IsFrom lo cells → IsWithin cells (lo + n)
+    → (full ≡ true → (x : ℕ) → lo ≤ x → x < lo + n → HasPlace cells x)
+    → (full ≡ false → IfSome held (λ file. buf ≡ read file (lo - from) n))
+    → BothTold (PartlyWritten (lo - begin) inner) mid left
+    → BothTold (λ old now. IsBetween old (write_cells old (moved_down from cells)) now) held left
+window_refused_by held mid left full buf inner from begin lo n size cells e f i told long low room least most whole was_read h =
+    window_refused held left full buf from lo n size cells told long low room least most whole was_read
+    (subst (λ (b : List ℕ). BothTold (PartlyWritten (lo - from) b) held left) i
+    (subst (λ (m : Option (List ℕ)). BothTold (PartlyWritten (lo - from) inner) m left) f
+    (subst (λ (k : ℕ). BothTold (PartlyWritten (lo - k) inner) mid left) e h)))
+
+pub window_told_by : (held mid now : Option (List ℕ)) (full : Bool) (buf inner : List ℕ) (from begin lo n size : ℕ) (cells : List Cell)
+    → begin ≡ from → mid ≡ held → inner ≡ write_cells buf (moved_down lo cells) → IfSome held (λ b. length b ≡ size)
+    → length buf ≡ n → from ≤ lo → lo + n ≤ from + size → IsFrom lo cells → IsWithin cells (lo + n)
+    → (full ≡ true → (x : ℕ) → lo ≤ x → x < lo + n → HasPlace cells x)
+    → (full ≡ false → IfSome held (λ file. buf ≡ read file (lo - from) n))
+    → now ≡ after (λ file. written file (lo - begin) inner) mid
+    → now ≡ after (λ file. write_cells file (moved_down from cells)) held
+window_told_by held mid now full buf inner from begin lo n size cells e f i told long low room least most whole was_read h =
+    h ∙ (λ t. after (λ file. written file (lo - e t) (i t)) (f t))
+    ∙ window_told held full buf from lo n size cells told long low room least most whole was_read

@@ -1,0 +1,3 @@
+pub mod DomainBytes
+pub mod CoverParts
+pub mod WalkSteps

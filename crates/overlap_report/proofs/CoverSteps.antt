@@ -1,0 +1,261 @@
+-- Extents in the order of their places, joined where they touch.
+use Rattle.std.proofs.Common.{◌≡◌, ℕ, zero, suc, ◌+◌, ◌-◌, ◌<◌, ◌≤◌, ◌⊎◌, refl, sym, ◌∙◌, ap, subst, inl, inr, List, [], ◌∷◌, ◌++◌, length, drop, get_or, Bool, true, false, cond, max, min, append_assoc, arith}
+use Rattle.std.specs.Prelude.{nat_lt, ◌==◌, flat_map}
+use Rattle.std.proofs.lemmas.Grind.{flat_map-append}
+use Rattle.std.proofs.lemmas.List.{drop_more, append-nil}
+use Rattle.std.proofs.Math.ListN.{drop_of_length-le}
+use Rattle.std.specs.List.{range_with_len}
+use borrow.Author.Tests.{ltb-true, ltb-false, eqb-true}
+use Rattle.nc_base.specs.declared.plan.Extent.{Extent}
+use Rattle.nc_base.specs.declared.plan.Owned.{Owned}
+use Rattle.overlay_laws.specs.Entries.{In, HaveSame, ranges}
+use Rattle.overlay_laws.specs.Lines.{extents, IsByPlace, EndBelow}
+use Rattle.overlay_laws.specs.Walks.{IsCover, spans}
+use Rattle.overlay_laws.proofs.HullLaws.{in_either, in_left, in_right, in_range, range_low, range_high}
+use Rattle.overlay_laws.proofs.WalkLaws.{lt_true, lt_false, eq_true, eq_false}
+use Rattle.overlap_report.specs.Sorted.{run}
+
+-- the runs of the extents, where one from a place to an end has begun
+abbrev pub joined_from : ℕ → ℕ → List Extent → List Extent
+joined_from at end [] = run at end
+joined_from at end (e ∷ es) =
+    cond (e.len == 0) (joined_from at end es)
+    (cond (nat_lt end e.at) (run at end ++ joined_from e.at (max end (e.at + e.len)) es) (joined_from at (max end (e.at + e.len)) es))
+
+in_run : (at end : ℕ) (d : Extent) → In (run at end) d → (d.at ≡ at) × (d.at + d.len ≡ end) × (1 ≤ d.len)
+in_run at end d = by_test (nat_lt at end) refl
+  where
+    by_test : (t : Bool) → nat_lt at end ≡ t → In (cond t (record { at = at; len = end - at } ∷ []) []) d → (d.at ≡ at) × (d.at + d.len ≡ end) × (1 ≤ d.len)
+    by_test false f m = absurd m
+    by_test true f (inl m) =
+        let room : at < end = ltb-true _ _ f in
+        subst (λ (z : Extent). (z.at ≡ at) × (z.at + z.len ≡ end) × (1 ≤ z.len)) m (refl, omega arith, omega arith)
+    by_test true f (inr m) = absurd m
+
+begins_by : (at end : ℕ) (es : List Extent) → IsByPlace es → ((d : Extent) → In es d → at ≤ d.at) → (d : Extent) → In (joined_from at end es) d → at ≤ d.at
+begins_by at end [] sorted low d m = let r = (in_run at end d m).0 in omega arith
+begins_by at end (e ∷ es) sorted low d m =
+    by_len (λ b n g. begins_by b n es sorted.1 (λ c k. g c (inr k)) d) (e.len == 0) (nat_lt end e.at) m
+  where
+    by_len : ((b n : ℕ) → ((c : Extent) → In (e ∷ es) c → b ≤ c.at) → In (joined_from b n es) d → b ≤ d.at)
+        → (s t : Bool) → In (cond s (joined_from at end es) (cond t (run at end ++ joined_from e.at (max end (e.at + e.len)) es) (joined_from at (max end (e.at + e.len)) es))) d → at ≤ d.at
+    by_len ih true t k = ih at end low k
+    by_len ih false false k = ih at (max end (e.at + e.len)) low k
+    by_len ih false true k =
+        elim (in_either (run at end) (joined_from e.at (max end (e.at + e.len)) es) d k) [
+          | inl g ↦ (let r = (in_run at end d g).0 in omega arith)
+          | inr g ↦ (let first = low e (inl refl) in
+              let r = ih e.at (max end (e.at + e.len)) from_first g in omega arith)
+        ]
+      where
+        from_first : (c : Extent) → In (e ∷ es) c → e.at ≤ c.at
+        from_first c (inl g) = subst (λ (z : Extent). e.at ≤ z.at) g (omega arith)
+        from_first c (inr g) = sorted.0 c g
+
+run_cover : (at end : ℕ) (es : List Extent) → IsCover es → ((d : Extent) → In es d → end < d.at) → IsCover (run at end ++ es)
+run_cover at end es h past = by_test (nat_lt at end) refl
+  where
+    by_test : (t : Bool) → nat_lt at end ≡ t → IsCover (cond t (record { at = at; len = end - at } ∷ []) [] ++ es)
+    by_test false f = h
+    by_test true f =
+        let room : at < end = ltb-true _ _ f in
+        (omega arith, (λ d m. let l = past d m in omega arith), h)
+
+pub joined_cover : (at end : ℕ) (es : List Extent) → IsByPlace es → ((d : Extent) → In es d → at ≤ d.at) → IsCover (joined_from at end es)
+joined_cover at end [] sorted low = subst (λ (es : List Extent). IsCover es) (append-nil (run at end)) (run_cover at end [] tt (λ d m. absurd m))
+joined_cover at end (e ∷ es) sorted low =
+    by_len (joined_cover at end es sorted.1 (λ c k. low c (inr k))) (joined_cover e.at (max end (e.at + e.len)) es sorted.1 sorted.0)
+    (joined_cover at (max end (e.at + e.len)) es sorted.1 (λ c k. low c (inr k))) (e.len == 0) (nat_lt end e.at) refl
+  where
+    by_len : IsCover (joined_from at end es) → IsCover (joined_from e.at (max end (e.at + e.len)) es) → IsCover (joined_from at (max end (e.at + e.len)) es)
+        → (s t : Bool) → nat_lt end e.at ≡ t
+        → IsCover (cond s (joined_from at end es) (cond t (run at end ++ joined_from e.at (max end (e.at + e.len)) es) (joined_from at (max end (e.at + e.len)) es)))
+    by_len a b c true t f = a
+    by_len a b c false false f = c
+    by_len a b c false true f =
+        let gap : end < e.at = ltb-true _ _ f in
+        run_cover at end (joined_from e.at (max end (e.at + e.len)) es) b
+        (λ d m. let l = begins_by e.at (max end (e.at + e.len)) es sorted.1 sorted.0 d m in omega arith)
+
+-- ---- the bytes
+
+run_bytes : (at end x : ℕ) → In (spans (run at end)) x → (at ≤ x) × (x < end)
+run_bytes at end x = by_test (nat_lt at end) refl
+  where
+    by_test : (t : Bool) → nat_lt at end ≡ t → In (spans (cond t (record { at = at; len = end - at } ∷ []) [])) x → (at ≤ x) × (x < end)
+    by_test false f m = absurd m
+    by_test true f m =
+        let room : at < end = ltb-true _ _ f in
+        elim (in_either (range_with_len at (end - at)) [] x m) [
+          | inl g ↦ (let l = range_low at (end - at) x g in let h = range_high at (end - at) x g in (l, omega arith))
+          | inr g ↦ absurd g
+        ]
+
+bytes_run : (at end x : ℕ) → at ≤ x → x < end → In (spans (run at end)) x
+bytes_run at end x l h = by_test (nat_lt at end) refl
+  where
+    by_test : (t : Bool) → nat_lt at end ≡ t → In (spans (cond t (record { at = at; len = end - at } ∷ []) [])) x
+    by_test false f = let no = ltb-false _ _ f in absurd (omega arith)
+    by_test true f = in_left (range_with_len at (end - at)) [] x (in_range at (end - at) x l (omega arith))
+
+spans_joined : (ds es : List Extent) → spans (ds ++ es) ≡ spans ds ++ spans es
+spans_joined ds es = flat_map-append (λ e. range_with_len e.at e.len) ds es
+
+pub joined_only : (at end x : ℕ) (es : List Extent) → In (spans (joined_from at end es)) x → ((at ≤ x) × (x < end)) ⊎ In (spans es) x
+joined_only at end x [] m = inl (run_bytes at end x m)
+joined_only at end x (e ∷ es) m =
+    by_len (λ b n. joined_only b n x es) (e.len == 0) (nat_lt end e.at) refl refl m
+  where
+    more : In (spans es) x → In (spans (e ∷ es)) x
+    more g = in_right (range_with_len e.at e.len) (spans es) x g
+
+    here : e.at ≤ x → x < e.at + e.len → In (spans (e ∷ es)) x
+    here l h = in_left (range_with_len e.at e.len) (spans es) x (in_range e.at e.len x l h)
+
+    by_end : (b : ℕ) → ((b ≤ x) × (x < max end (e.at + e.len))) ⊎ In (spans es) x → (b ≤ x → x < end → ((at ≤ x) × (x < end)) ⊎ In (spans (e ∷ es)) x) → (b ≤ x → end ≤ x → e.at ≤ x)
+        → ((at ≤ x) × (x < end)) ⊎ In (spans (e ∷ es)) x
+    by_end b (inr g) low high = inr (more g)
+    by_end b (inl g) low high = by_test (nat_lt x end) refl
+      where
+        by_test : (t : Bool) → nat_lt x end ≡ t → ((at ≤ x) × (x < end)) ⊎ In (spans (e ∷ es)) x
+        by_test true f = low g.0 (ltb-true _ _ f)
+        by_test false f = let past : end ≤ x = ltb-false _ _ f in let before = g.1 in inr (here (high g.0 past) (omega arith))
+
+    by_len : ((b n : ℕ) → In (spans (joined_from b n es)) x → ((b ≤ x) × (x < n)) ⊎ In (spans es) x)
+        → (s t : Bool) → (e.len == 0) ≡ s → nat_lt end e.at ≡ t
+        → In (spans (cond s (joined_from at end es) (cond t (run at end ++ joined_from e.at (max end (e.at + e.len)) es) (joined_from at (max end (e.at + e.len)) es)))) x
+        → ((at ≤ x) × (x < end)) ⊎ In (spans (e ∷ es)) x
+    by_len ih true t f g k = elim (ih at end k) [ inl a ↦ inl a | inr a ↦ inr (more a) ]
+    by_len ih false false f g k =
+        let touch : e.at ≤ end = ltb-false _ _ g in
+        by_end at (ih at (max end (e.at + e.len)) k) (λ l h. inl (l, h)) (λ l h. omega arith)
+    by_len ih false true f g k =
+        let gap : end < e.at = ltb-true _ _ g in
+        elim (in_either (spans (run at end)) (spans (joined_from e.at (max end (e.at + e.len)) es)) x
+        (subst (λ (ys : List ℕ). In ys x) (spans_joined (run at end) (joined_from e.at (max end (e.at + e.len)) es)) k)) [
+          | inl a ↦ inl (run_bytes at end x a)
+          | inr a ↦ by_end e.at (ih e.at (max end (e.at + e.len)) a) (λ l h. absurd (omega arith)) (λ l h. l)
+        ]
+
+pub joined_all : (at end x : ℕ) (es : List Extent) → IsByPlace es → ((d : Extent) → In es d → at ≤ d.at) → ((at ≤ x) × (x < end)) ⊎ In (spans es) x
+    → In (spans (joined_from at end es)) x
+joined_all at end x [] sorted low (inl m) = bytes_run at end x m.0 m.1
+joined_all at end x [] sorted low (inr m) = absurd m
+joined_all at end x (e ∷ es) sorted low m =
+    by_len (λ b n h. joined_all b n x es sorted.1 h) (e.len == 0) (nat_lt end e.at) refl refl m
+  where
+    first : at ≤ e.at
+    first = low e (inl refl)
+
+    by_len : ((b n : ℕ) → ((d : Extent) → In es d → b ≤ d.at) → ((b ≤ x) × (x < n)) ⊎ In (spans es) x → In (spans (joined_from b n es)) x)
+        → (s t : Bool) → (e.len == 0) ≡ s → nat_lt end e.at ≡ t
+        → ((at ≤ x) × (x < end)) ⊎ In (spans (e ∷ es)) x
+        → In (spans (cond s (joined_from at end es) (cond t (run at end ++ joined_from e.at (max end (e.at + e.len)) es) (joined_from at (max end (e.at + e.len)) es)))) x
+    by_len ih true t f g (inl k) = ih at end (λ c l. low c (inr l)) (inl k)
+    by_len ih true t f g (inr k) =
+        elim (in_either (range_with_len e.at e.len) (spans es) x k) [
+          | inl a ↦ (let none : e.len ≡ 0 = eqb-true _ _ f in let l = range_low e.at e.len x a in let h = range_high e.at e.len x a in absurd (omega arith))
+          | inr a ↦ ih at end (λ c l. low c (inr l)) (inr a)
+        ]
+    by_len ih false false f g (inl k) = let h = k.1 in ih at (max end (e.at + e.len)) (λ c l. low c (inr l)) (inl (k.0, omega arith))
+    by_len ih false false f g (inr k) =
+        elim (in_either (range_with_len e.at e.len) (spans es) x k) [
+          | inl a ↦ (let l = range_low e.at e.len x a in let h = range_high e.at e.len x a in let b = low e (inl refl) in
+              ih at (max end (e.at + e.len)) (λ c l. low c (inr l)) (inl (omega arith, omega arith)))
+          | inr a ↦ ih at (max end (e.at + e.len)) (λ c l. low c (inr l)) (inr a)
+        ]
+    by_len ih false true f g k =
+        subst (λ (ys : List ℕ). In ys x) (sym (spans_joined (run at end) (joined_from e.at (max end (e.at + e.len)) es))) (by_place k)
+      where
+        rest : ((e.at ≤ x) × (x < max end (e.at + e.len))) ⊎ In (spans es) x → In (spans (run at end) ++ spans (joined_from e.at (max end (e.at + e.len)) es)) x
+        rest a = in_right (spans (run at end)) (spans (joined_from e.at (max end (e.at + e.len)) es)) x (ih e.at (max end (e.at + e.len)) sorted.0 a)
+
+        by_place : ((at ≤ x) × (x < end)) ⊎ In (spans (e ∷ es)) x → In (spans (run at end) ++ spans (joined_from e.at (max end (e.at + e.len)) es)) x
+        by_place (inl a) = in_left (spans (run at end)) (spans (joined_from e.at (max end (e.at + e.len)) es)) x (bytes_run at end x a.0 a.1)
+        by_place (inr a) =
+            elim (in_either (range_with_len e.at e.len) (spans es) x a) [
+              | inl b ↦ (let l = range_low e.at e.len x b in let h = range_high e.at e.len x b in rest (inl (l, omega arith)))
+              | inr b ↦ rest (inr b)
+            ]
+
+-- ---- one more entry
+
+pub spans_extents : (list : List Owned) → spans (extents list) ≡ ranges list
+spans_extents [] = refl
+spans_extents (o ∷ list) = ap (λ (r : List ℕ). range_with_len o.extent.at o.extent.len ++ r) (spans_extents list)
+
+next_entry : (list : List Owned) (i : ℕ) (d : Owned) → i < length list → extents (drop i list) ≡ (get_or list i d).extent ∷ extents (drop (i + 1) list)
+next_entry list i d h = ap extents (drop_more list i d h)
+
+pub step_empty : (list : List Owned) (i at end : ℕ) (o : Owned) (done all : List Extent) → i < length list → o ≡ get_or list i o → o.extent.len ≡ 0
+    → done ++ joined_from at end (extents (drop i list)) ≡ all → done ++ joined_from at end (extents (drop (i + 1) list)) ≡ all
+step_empty list i at end o done all h is empty e =
+    let there = next_entry list i o h in
+    ap (λ (es : List Extent). done ++ es)
+    (sym (ap (λ (es : List Extent). joined_from at end es) (there ∙ ap (λ (z : Owned). z.extent ∷ extents (drop (i + 1) list)) (sym is))
+    ∙ by_test (o.extent.len == 0) (eq_true o.extent.len 0 empty)))
+    ∙ e
+  where
+    by_test : (t : Bool) → t ≡ true
+        → cond t (joined_from at end (extents (drop (i + 1) list)))
+        (cond (nat_lt end o.extent.at) (run at end ++ joined_from o.extent.at (max end (o.extent.at + o.extent.len)) (extents (drop (i + 1) list))) (joined_from at (max end (o.extent.at + o.extent.len)) (extents (drop (i + 1) list))))
+        ≡ joined_from at end (extents (drop (i + 1) list))
+    by_test true f = refl
+    by_test false f = cc
+
+pub step_touch : (list : List Owned) (i at end : ℕ) (o : Owned) (done all : List Extent) → i < length list → o ≡ get_or list i o → 1 ≤ o.extent.len → o.extent.at ≤ end
+    → done ++ joined_from at end (extents (drop i list)) ≡ all → done ++ joined_from at (max end (o.extent.at + o.extent.len)) (extents (drop (i + 1) list)) ≡ all
+step_touch list i at end o done all h is some touch e =
+    let there = next_entry list i o h in
+    ap (λ (es : List Extent). done ++ es)
+    (sym (ap (λ (es : List Extent). joined_from at end es) (there ∙ ap (λ (z : Owned). z.extent ∷ extents (drop (i + 1) list)) (sym is))
+    ∙ by_test (o.extent.len == 0) (nat_lt end o.extent.at) (eq_false 0 o.extent.len some) (lt_false end o.extent.at touch)))
+    ∙ e
+  where
+    by_test : (s t : Bool) → s ≡ false → t ≡ false
+        → cond s (joined_from at end (extents (drop (i + 1) list)))
+        (cond t (run at end ++ joined_from o.extent.at (max end (o.extent.at + o.extent.len)) (extents (drop (i + 1) list))) (joined_from at (max end (o.extent.at + o.extent.len)) (extents (drop (i + 1) list))))
+        ≡ joined_from at (max end (o.extent.at + o.extent.len)) (extents (drop (i + 1) list))
+    by_test true t f g = cc
+    by_test false true f g = cc
+    by_test false false f g = refl
+
+pub step_gap : (list : List Owned) (i at end : ℕ) (o : Owned) (done all more : List Extent) → i < length list → o ≡ get_or list i o → 1 ≤ o.extent.len → end < o.extent.at
+    → more ≡ done ++ run at end
+    → done ++ joined_from at end (extents (drop i list)) ≡ all → more ++ joined_from o.extent.at (max end (o.extent.at + o.extent.len)) (extents (drop (i + 1) list)) ≡ all
+step_gap list i at end o done all more h is some gap added e =
+    let there = next_entry list i o h in
+    ap (λ (es : List Extent). es ++ joined_from o.extent.at (max end (o.extent.at + o.extent.len)) (extents (drop (i + 1) list))) added
+    ∙ append_assoc done (run at end) (joined_from o.extent.at (max end (o.extent.at + o.extent.len)) (extents (drop (i + 1) list)))
+    ∙ ap (λ (es : List Extent). done ++ es)
+    (sym (ap (λ (es : List Extent). joined_from at end es) (there ∙ ap (λ (z : Owned). z.extent ∷ extents (drop (i + 1) list)) (sym is))
+    ∙ by_test (o.extent.len == 0) (nat_lt end o.extent.at) (eq_false 0 o.extent.len some) (lt_true end o.extent.at gap)))
+    ∙ e
+  where
+    by_test : (s t : Bool) → s ≡ false → t ≡ true
+        → cond s (joined_from at end (extents (drop (i + 1) list)))
+        (cond t (run at end ++ joined_from o.extent.at (max end (o.extent.at + o.extent.len)) (extents (drop (i + 1) list))) (joined_from at (max end (o.extent.at + o.extent.len)) (extents (drop (i + 1) list))))
+        ≡ run at end ++ joined_from o.extent.at (max end (o.extent.at + o.extent.len)) (extents (drop (i + 1) list))
+    by_test true t f g = cc
+    by_test false false f g = cc
+    by_test false true f g = refl
+
+pub last_run : (list : List Owned) (i at end : ℕ) (done all more : List Extent) → length list ≤ i → more ≡ done ++ run at end
+    → done ++ joined_from at end (extents (drop i list)) ≡ all → more ≡ all
+last_run list i at end done all more h added e =
+    added ∙ ap (λ (es : List Owned). done ++ joined_from at end (extents es)) (sym (drop_of_length-le list h)) ∙ e
+
+pub all_cover : (list : List Owned) → IsByPlace (extents list) → IsCover (joined_from 0 0 (extents list))
+all_cover list sorted = joined_cover 0 0 (extents list) sorted (λ d m. omega arith)
+
+pub all_bytes_joined : (list : List Owned) → IsByPlace (extents list) → HaveSame (spans (joined_from 0 0 (extents list))) (ranges list)
+all_bytes_joined list sorted = (
+  (λ x m. subst (λ (ys : List ℕ). In ys x) (spans_extents list)
+      (elim (joined_only 0 0 x (extents list) m) [ inl a ↦ (let h = a.1 in absurd (omega arith)) | inr a ↦ a ])),
+  (λ x m. joined_all 0 0 x (extents list) sorted (λ d k. omega arith) (inr (subst (λ (ys : List ℕ). In ys x) (sym (spans_extents list)) m))),
+)
+
+pub entry_ends : (list : List Owned) (n i : ℕ) (d : Owned) → EndBelow n (extents list) → i < length list → (get_or list i d).extent.at + (get_or list i d).extent.len < n
+entry_ends [] n i d h l = absurd (omega arith)
+entry_ends (o ∷ list) n zero d h l = h o.extent (inl refl)
+entry_ends (o ∷ list) n (suc i) d h l = entry_ends list n i d (λ e m. h e (inr m)) (omega arith)

@@ -1,0 +1,5 @@
+pub mod CoverSteps
+pub mod OrderSteps
+pub mod KeySteps
+pub mod SharedSteps
+pub mod PairSteps

@@ -1,0 +1,247 @@
+-- How far the entries so far reach, and the first byte that two requests hold.
+use Rattle.std.proofs.Common.{◌≡◌, ℕ, zero, suc, ◌+◌, ◌-◌, ◌<◌, ◌≤◌, ◌⊎◌, refl, sym, ◌∙◌, ap, subst, inl, inr, List, [], ◌∷◌, length, take, get_or, Bool, true, false, cond, max, Option, Some, None, arith}
+use Rattle.std.specs.Prelude.{nat_lt, MatchOption}
+use Rattle.std.specs.List.{range_with_len}
+use Rattle.std.proofs.lemmas.List.{take_all}
+use borrow.Author.Tests.{ltb-true, ltb-false}
+use Rattle.nc_base.specs.declared.plan.Owned.{Owned}
+use Rattle.nc_base.specs.declared.answer.Pair.{Pair}
+use Rattle.serial_spec.specs.SharedByte.{Key, same_key, key_below, Holds, holdings_of_entries, shared_pair_of, IsSharedPair, first_end, second_end}
+use Rattle.serial_spec.proofs.PairLaws.{pair_found, pair_only}
+use Rattle.overlay_laws.specs.Entries.{In}
+use Rattle.overlay_laws.specs.Lines.{extents, IsByPlace}
+use Rattle.overlay_laws.proofs.HullLaws.{in_range, range_low, range_high}
+use Rattle.overlay_laws.proofs.HolderLaws.{holds_by, holder_of, IsHolder}
+use Rattle.overlap_report.specs.declared.shared.Reach.{Reach}
+use Rattle.overlap_report.specs.Sharing.{key_of, Covers, IsClearAt, AreTwo, IsFirst, HasHolder, ArePairAt}
+use Rattle.overlap_report.specs.Reaching.{same_as, with_entry}
+use Rattle.overlap_report.proofs.KeySteps.{not_both, key_itself, key_back, key_meet, key_apart, key_apart_back, key_equal, equal_key, not_below_itself, IsNext, next_taken, before_next, at_or_before, in_taken, in_at}
+
+-- an entry that ends there, of the request or not
+pub record EndsAt (seen : List Owned) (r : Reach) (n : ℕ) (same : Bool) : Type 0 where
+  pub entry : Owned
+  pub is_one : In seen entry
+  pub ends : entry.extent.at + entry.extent.len ≡ n
+  pub of_it : same_as r entry ≡ same
+
+pub record Reaches (r : Reach) (seen : List Owned) : Type 0 where
+  pub most : (o : Owned) → In seen o → 1 ≤ o.extent.len → o.extent.at + o.extent.len ≤ r.end
+  pub others : (o : Owned) → In seen o → 1 ≤ o.extent.len → same_as r o ≡ false → o.extent.at + o.extent.len ≤ r.other
+  pub end_of : 0 < r.end → EndsAt seen r r.end true
+  pub other_of : 0 < r.other → EndsAt seen r r.other false
+  pub clear : (x : ℕ) → IsClearAt seen x
+
+pub nothing_reached : (list : List Owned) → Reaches (record { end = 0; rank = 0; request = 0; other = 0 }) (take 0 list)
+nothing_reached list = record {
+  most = λ o m l. absurd m;
+  others = λ o m l e. absurd m;
+  end_of = λ l. absurd (omega arith);
+  other_of = λ l. absurd (omega arith);
+  clear = λ x o p m n c d. absurd m;
+}
+
+-- ---- one more entry
+
+clear_next : (seen more : List Owned) (r : Reach) (o : Owned) → IsNext seen more o → Reaches r seen
+    → ((p : Owned) → In seen p → o.extent.at < p.extent.at + p.extent.len → 1 ≤ p.extent.len → same_key (key_of p) (key_of o) ≡ true)
+    → (x : ℕ) → IsClearAt more x
+clear_next seen more r o next h meet x p q m n c d = by_both (next.splits p m) (next.splits q n)
+  where
+    by_both : In seen p ⊎ (p ≡ o) → In seen q ⊎ (q ≡ o) → same_key (key_of p) (key_of q) ≡ true
+    by_both (inl a) (inl b) = h.clear x p q a b c d
+    by_both (inl a) (inr b) =
+        let low : o.extent.at ≤ x = subst (λ (z : Owned). z.extent.at ≤ x) b d.0 in
+        let l = c.0 in let k = c.1 in
+        subst (λ (z : Owned). same_key (key_of p) (key_of z) ≡ true) (sym b) (meet p a (omega arith) (omega arith))
+    by_both (inr a) (inl b) =
+        let low : o.extent.at ≤ x = subst (λ (z : Owned). z.extent.at ≤ x) a c.0 in
+        let l = d.0 in let k = d.1 in
+        subst (λ (z : Owned). same_key (key_of z) (key_of q) ≡ true) (sym a) (key_back (key_of q) (key_of o) (meet q b (omega arith) (omega arith)))
+    by_both (inr a) (inr b) = equal_key (key_of p) (key_of q) (ap key_of (a ∙ sym b))
+
+moved : (seen more : List Owned) (r s : Reach) (o : Owned) (n m : ℕ) (same : Bool) → IsNext seen more o → s.rank ≡ r.rank → s.request ≡ r.request → n ≡ m
+    → EndsAt seen r n same → EndsAt more s m same
+moved seen more r s o n m same next e f g h = record {
+  entry = h.entry;
+  is_one = next.keeps h.entry h.is_one;
+  ends = h.ends ∙ g;
+  of_it = ap (λ (k : Key). same_key (key_of h.entry) k) (λ i. (e i, f i)) ∙ h.of_it;
+}
+
+pub reach_next : (seen more : List Owned) (r : Reach) (o : Owned) → IsNext seen more o → 1 ≤ o.extent.len
+    → cond (same_as r o) r.other r.end ≤ o.extent.at → Reaches r seen → Reaches (with_entry r o) more
+reach_next seen more r o next long free h = by_same (same_as r o) refl free
+  where
+    oe : ℕ
+    oe = o.extent.at + o.extent.len
+
+    meet_same : same_as r o ≡ true → r.other ≤ o.extent.at
+        → (p : Owned) → In seen p → o.extent.at < p.extent.at + p.extent.len → 1 ≤ p.extent.len → same_key (key_of p) (key_of o) ≡ true
+    meet_same e low p m l k = by_test (same_as r p) refl
+      where
+        by_test : (t : Bool) → same_as r p ≡ t → same_key (key_of p) (key_of o) ≡ true
+        by_test true f = key_meet (key_of p) (key_of o) (r.rank, r.request) f e
+        by_test false f = let most = h.others p m k f in absurd (omega arith)
+
+    meet_other : r.end ≤ o.extent.at
+        → (p : Owned) → In seen p → o.extent.at < p.extent.at + p.extent.len → 1 ≤ p.extent.len → same_key (key_of p) (key_of o) ≡ true
+    meet_other low p m l k = let most = h.most p m k in absurd (omega arith)
+
+    with_same : same_as r o ≡ true → r.other ≤ o.extent.at → Reaches (record r { end = max r.end (o.extent.at + o.extent.len) }) more
+    with_same e low = record {
+      most = λ p m l. elim (next.splits p m) [
+        | inl a ↦ (let k = h.most p a l in omega arith)
+        | inr a ↦ subst (λ (z : Owned). z.extent.at + z.extent.len ≤ max r.end (o.extent.at + o.extent.len)) (sym a) (omega arith)
+      ];
+      others = λ p m l f. elim (next.splits p m) [
+        | inl a ↦ h.others p a l f
+        | inr a ↦ not_both (same_as r o) e (subst (λ (z : Owned). same_as r z ≡ false) a f)
+      ];
+      end_of = λ l. by_end (nat_lt r.end (o.extent.at + o.extent.len)) refl;
+      other_of = λ l. moved seen more r (record r { end = max r.end (o.extent.at + o.extent.len) }) o r.other r.other false next refl refl refl (h.other_of l);
+      clear = clear_next seen more r o next h (meet_same e low);
+    }
+      where
+        by_end : (t : Bool) → nat_lt r.end (o.extent.at + o.extent.len) ≡ t
+            → EndsAt more (record r { end = max r.end (o.extent.at + o.extent.len) }) (max r.end (o.extent.at + o.extent.len)) true
+        by_end true f = let k : r.end < o.extent.at + o.extent.len = ltb-true _ _ f in
+            record { entry = o; is_one = next.has; ends = omega arith; of_it = e }
+        by_end false f = let k : o.extent.at + o.extent.len ≤ r.end = ltb-false _ _ f in
+            moved seen more r (record r { end = max r.end (o.extent.at + o.extent.len) }) o r.end (max r.end (o.extent.at + o.extent.len)) true next refl refl (omega arith) (h.end_of (omega arith))
+
+    farther : same_as r o ≡ false → r.end ≤ o.extent.at
+        → Reaches (record { end = o.extent.at + o.extent.len; rank = o.rank; request = o.request; other = r.end }) more
+    farther e low = record {
+      most = λ p m l. elim (next.splits p m) [
+        | inl a ↦ (let k = h.most p a l in omega arith)
+        | inr a ↦ subst (λ (z : Owned). z.extent.at + z.extent.len ≤ o.extent.at + o.extent.len) (sym a) (omega arith)
+      ];
+      others = λ p m l f. elim (next.splits p m) [
+        | inl a ↦ h.most p a l
+        | inr a ↦ not_both (same_key (key_of p) (key_of o)) (equal_key (key_of p) (key_of o) (ap key_of a)) f
+      ];
+      end_of = λ l. record { entry = o; is_one = next.has; ends = refl; of_it = key_itself (key_of o) };
+      other_of = λ l. (let q = h.end_of l in
+          record { entry = q.entry; is_one = next.keeps q.entry q.is_one; ends = q.ends; of_it = key_apart (key_of q.entry) (key_of o) (r.rank, r.request) q.of_it e });
+      clear = clear_next seen more r o next h (meet_other low);
+    }
+
+    by_same : (t : Bool) → same_as r o ≡ t → cond t r.other r.end ≤ o.extent.at
+        → Reaches (cond t (record r { end = max r.end (o.extent.at + o.extent.len) })
+        (record { end = o.extent.at + o.extent.len; rank = o.rank; request = o.request; other = r.end })) more
+    by_same true e low = with_same e low
+    by_same false e low = farther e low
+
+-- an entry without bytes
+pub reach_same : (seen more : List Owned) (r : Reach) (o : Owned) → IsNext seen more o → o.extent.len ≡ 0 → Reaches r seen → Reaches r more
+reach_same seen more r o next none h = record {
+  most = λ p m l. elim (next.splits p m) [ inl a ↦ h.most p a l | inr a ↦ empty p a l ];
+  others = λ p m l f. elim (next.splits p m) [ inl a ↦ h.others p a l f | inr a ↦ empty p a l ];
+  end_of = λ l. moved seen more r r o r.end r.end true next refl refl refl (h.end_of l);
+  other_of = λ l. moved seen more r r o r.other r.other false next refl refl refl (h.other_of l);
+  clear = λ x p q m n c d. by_both x p q c d (next.splits p m) (next.splits q n);
+}
+  where
+    empty : {A : Type 0} (p : Owned) → p ≡ o → 1 ≤ p.extent.len → A
+    empty p a l = let k : 1 ≤ o.extent.len = subst (λ (z : Owned). 1 ≤ z.extent.len) a l in absurd (omega arith)
+
+    some : (p : Owned) (x : ℕ) → Covers p x → 1 ≤ p.extent.len
+    some p x c = let l = c.0 in let k = c.1 in omega arith
+
+    by_both : (x : ℕ) (p q : Owned) → Covers p x → Covers q x → In seen p ⊎ (p ≡ o) → In seen q ⊎ (q ≡ o) → same_key (key_of p) (key_of q) ≡ true
+    by_both x p q c d (inl a) (inl b) = h.clear x p q a b c d
+    by_both x p q c d (inl a) (inr b) = empty q b (some q x d)
+    by_both x p q c d (inr a) b = empty p a (some p x c)
+
+-- ---- the byte
+
+pub first_found : (list : List Owned) (i : ℕ) (r : Reach) (o : Owned) → i < length list → o ≡ get_or list i o → IsByPlace (extents list) → 0 < o.extent.len
+    → o.extent.at < cond (same_as r o) r.other r.end → Reaches r (take i list) → IsFirst list o.extent.at
+first_found list i r o room is sorted some meets h = (by_same (same_as r o) refl meets, λ y l. clear_below y l)
+  where
+    here : In list o
+    here = subst (λ (z : Owned). In list z) (sym is) (in_at list i o room)
+
+    two : (n : ℕ) (same : Bool) → EndsAt (take i list) r n same → o.extent.at < n → ((q : Owned) → same_as r q ≡ same → same_key (key_of q) (key_of o) ≡ false) → AreTwo list o.extent.at
+    two n same e past apart =
+        let low = before_next list i o e.entry room is sorted e.is_one in
+        let ends = e.ends in
+        record {
+          one = e.entry;
+          other = o;
+          one_in = in_taken i list e.entry e.is_one;
+          other_in = here;
+          one_covers = (low, omega arith);
+          other_covers = (omega arith, omega arith);
+          differ = apart e.entry e.of_it;
+        }
+
+    by_same : (t : Bool) → same_as r o ≡ t → o.extent.at < cond t r.other r.end → AreTwo list o.extent.at
+    by_same true e past = two r.other false (h.other_of (omega arith)) past (λ q f. key_apart_back (key_of q) (key_of o) (r.rank, r.request) f e)
+    by_same false e past = two r.end true (h.end_of (omega arith)) past (λ q f. key_apart (key_of q) (key_of o) (r.rank, r.request) f e)
+
+    clear_below : (y : ℕ) → y < o.extent.at → IsClearAt list y
+    clear_below y l p q m n c d =
+        h.clear y p q (before p m c) (before q n d) c d
+      where
+        before : (z : Owned) → In list z → Covers z y → In (take i list) z
+        before z m c = elim (at_or_before list i o z room is sorted m) [ inl a ↦ a | inr a ↦ (let b = c.0 in absurd (omega arith)) ]
+
+pub all_clear : (list : List Owned) (i : ℕ) (r : Reach) → length list ≤ i → Reaches r (take i list) → (x : ℕ) → IsClearAt list x
+all_clear list i r h reaches x = subst (λ (os : List Owned). IsClearAt os x) (take_all i list h) (reaches.clear x)
+
+-- ---- the pair
+
+holds_of : (list : List Owned) (k : Key) (x : ℕ) → HasHolder list k x → Holds (holdings_of_entries list) k x
+holds_of list k x h =
+    holds_by key_of (λ o. range_with_len o.extent.at o.extent.len) list k x h.holder h.is_one (ap (λ (z : Key). z.0) h.key) (ap (λ (z : Key). z.1) h.key)
+    (in_range h.holder.extent.at h.holder.extent.len x h.covers.0 h.covers.1)
+
+of_holds : (list : List Owned) (k : Key) (x : ℕ) → Holds (holdings_of_entries list) k x → HasHolder list k x
+of_holds list k x h =
+    let r = holder_of key_of (λ o. range_with_len o.extent.at o.extent.len) list k x h in
+    let e = r.rank in
+    let f = r.request in
+    record {
+      holder = r.holder;
+      is_one = r.is_one;
+      covers = (range_low r.holder.extent.at r.holder.extent.len x r.has, range_high r.holder.extent.at r.holder.extent.len x r.has);
+      key = λ i. (e i, f i);
+    }
+
+unshared : (list : List Owned) (x : ℕ) → IsClearAt list x → (a b : Key) → HasHolder list a x → HasHolder list b x → a ≡ b
+unshared list x clear a b h k =
+    sym h.key ∙ key_equal (key_of h.holder) (key_of k.holder) (clear h.holder k.holder h.is_one k.is_one h.covers k.covers) ∙ k.key
+
+pub no_pair : (list : List Owned) → ((x : ℕ) → IsClearAt list x) → None ≡ shared_pair_of (holdings_of_entries list)
+no_pair list clear = by_pair (shared_pair_of (holdings_of_entries list)) refl
+  where
+    by_pair : (o : Option Pair) → shared_pair_of (holdings_of_entries list) ≡ o → None ≡ shared_pair_of (holdings_of_entries list)
+    by_pair None e = sym e
+    by_pair (Some p) e =
+        let found = pair_found (holdings_of_entries list) p e in
+        let same = unshared list p.at (clear p.at) (first_end p) (second_end p) (of_holds list (first_end p) p.at found.first) (of_holds list (second_end p) p.at found.second) in
+        not_both (key_below (second_end p) (second_end p))
+        (subst (λ (k : Key). key_below k (second_end p) ≡ true) same found.in_order) (not_below_itself (second_end p))
+
+pub one_pair : (list : List Owned) (p : Pair) (x : ℕ) → p.at ≡ x → ((y : ℕ) → y < x → IsClearAt list y) → ArePairAt list (first_end p) (second_end p) x
+    → Some p ≡ shared_pair_of (holdings_of_entries list)
+one_pair list p x e clear h =
+    sym (pair_only (holdings_of_entries list) p (record {
+      first = holds_of list (first_end p) p.at (subst (λ (n : ℕ). HasHolder list (first_end p) n) (sym e) h.first);
+      second = holds_of list (second_end p) p.at (subst (λ (n : ℕ). HasHolder list (second_end p) n) (sym e) h.second);
+      in_order = h.in_order;
+      least_byte = λ y l a b m n. unshared list y (clear y (subst (λ (k : ℕ). y < k) e l)) a b (of_holds list a y m) (of_holds list b y n);
+      least_ends = λ a m. by_key a (of_holds list a x (subst (λ (n : ℕ). Holds (holdings_of_entries list) a n) e m));
+    }))
+  where
+    by_key : (a : Key) → HasHolder list a x → (a ≡ first_end p) ⊎ (a ≡ second_end p) ⊎ (key_below (second_end p) a ≡ true)
+    by_key a k = subst (λ (b : Key). (b ≡ first_end p) ⊎ (b ≡ second_end p) ⊎ (key_below (second_end p) b ≡ true)) k.key (h.least k.holder k.is_one k.covers)
+
+pub two_differ : {A : Type 0} (list : List Owned) (x : ℕ) → AreTwo list x → IsClearAt list x → A
+two_differ list x h clear = not_both (same_key (key_of h.one) (key_of h.other)) (clear h.one h.other h.one_in h.other_in h.one_covers h.other_covers) h.differ
+
+pub found_pair : (list : List Owned) (x : ℕ) (o : Option Pair) → IsFirst list x
+    → MatchOption o (IsClearAt list x) (λ p. (p.at ≡ x) × ArePairAt list (first_end p) (second_end p) x) → o ≡ shared_pair_of (holdings_of_entries list)
+found_pair list x None first h = two_differ list x first.0 h
+found_pair list x (Some p) first h = one_pair list p x h.0 first.1 h.1

@@ -1,0 +1,7 @@
+-- The least requests of the entries so far.
+use Rattle.std.proofs.Common.{take}
+use Rattle.overlap_report.specs.Holding.{AreLeast}
+use Rattle.overlap_report.proofs.holders.pair_at.Given as goal
+
+abbrev pub invariant-loop-entry : goal.invariant-loop-entry
+invariant-loop-entry l = AreLeast (take l.entry-index l.list) l.at l.least

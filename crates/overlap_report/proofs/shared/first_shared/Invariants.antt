@@ -1,0 +1,7 @@
+-- How far the entries so far reach.
+use Rattle.std.proofs.Common.{take}
+use Rattle.overlap_report.proofs.SharedSteps.{Reaches}
+use Rattle.overlap_report.proofs.shared.first_shared.Given as goal
+
+abbrev pub invariant-loop-entry : goal.invariant-loop-entry
+invariant-loop-entry l = Reaches l.reach (take l.entry-index l.list)

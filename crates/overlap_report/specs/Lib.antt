@@ -1,0 +1,4 @@
+pub mod Sorted
+pub mod Sharing
+pub mod Reaching
+pub mod Holding

@@ -1,0 +1,14 @@
+//! The entries of a step: sorted, what they cover, and what they share.
+#![tactic(auto)]
+
+mod holders;
+mod joined;
+mod shared;
+mod sorted;
+
+pub use joined::cover;
+pub use shared::first_pair;
+pub use sorted::gather;
+
+#[cfg(test)]
+mod tests;

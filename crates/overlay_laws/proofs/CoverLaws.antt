@@ -1,0 +1,393 @@
+-- A cursor that cuts extents goes over the same windows as one that cuts bytes.
+use Rattle.std.proofs.Common.{◌≡◌, ℕ, zero, suc, ◌+◌, ◌-◌, ◌<◌, ◌≤◌, refl, sym, ◌∙◌, ap, subst, inl, inr, List, [], ◌∷◌, ◌++◌, length, Bool, true, false, cond, max, arith}
+use Rattle.std.proofs.lemmas.List.{length-append}
+use Rattle.std.proofs.lemmas.Nat.{mod_below, div-add-mod'}
+use Rattle.std.specs.Prelude.{filter, map, nat_lt, nat_le, ◌==◌}
+use Rattle.std.specs.List.{range_with_len}
+use Rattle.nc_base.specs.declared.plan.Extent.{Extent}
+use Rattle.serial_spec.specs.DeviceCalls.{first_of, last_of, hull_len, windows, sieving_windows, in_order}
+use Rattle.overlay_laws.specs.Entries.{In, HaveSame}
+use Rattle.overlay_laws.specs.Hulls.{IsAscending}
+use Rattle.overlay_laws.specs.Walks.{walked, round_end, spans, below, above, IsCover, end_after, is_single, first_at, hull_of, extents_walked, told_of}
+use Rattle.overlay_laws.proofs.HullLaws.{range_low, range_high, in_either, in_in_order, in_order_in, in_order_ascends}
+use Rattle.overlay_laws.proofs.WalkLaws.{filter_none, filter_all, filter_joined, lt_true, lt_false, le_true, le_false, from_le, from_not_le, eq_true, eq_false_below, drop_first, windows_walked, sieved_walked}
+
+-- ---- bytes of a cover
+
+pub spans_past : (cover : List Extent) (n y : ℕ) → ((d : Extent) → In cover d → n < d.at) → In (spans cover) y → n < y
+spans_past [] n y h k = absurd k
+spans_past (e ∷ cover) n y h k =
+    elim (in_either (range_with_len e.at e.len) (spans cover) y k) [
+      | inl g ↦ (let l = range_low e.at e.len y g in let m = h e (inl refl) in omega arith)
+      | inr g ↦ spans_past cover n y (λ d l. h d (inr l)) g
+    ]
+
+pub range_split : (a m n : ℕ) → range_with_len a (m + n) ≡ range_with_len a m ++ range_with_len (a + m) n
+range_split a zero n = let e : a ≡ a + 0 = omega arith in let f : 0 + n ≡ n = omega arith in ap (λ (k : ℕ). range_with_len a k) f ∙ ap (λ (k : ℕ). range_with_len k n) e
+range_split a (suc m) n =
+    let e : a + 1 + m ≡ a + suc m = omega arith in
+    let f : suc m + n ≡ suc (m + n) = omega arith in
+    ap (λ (k : ℕ). range_with_len a k) f
+    ∙ ap (λ r. a ∷ r) (range_split (a + 1) m n ∙ ap (λ (k : ℕ). range_with_len (a + 1) m ++ range_with_len k n) e)
+
+-- ---- the part of a range before a place, and from it on
+
+range_below_all : (stop a n : ℕ) → a + n ≤ stop → filter (λ y. nat_lt y stop) (range_with_len a n) ≡ range_with_len a n
+range_below_all stop a n h = filter_all (λ y. nat_lt y stop) (range_with_len a n) (λ y k. let l = range_high a n y k in lt_true y stop (omega arith))
+
+range_below_none : (stop a n : ℕ) → stop ≤ a → filter (λ y. nat_lt y stop) (range_with_len a n) ≡ []
+range_below_none stop a n h = filter_none (λ y. nat_lt y stop) (range_with_len a n) (λ y k. let l = range_low a n y k in lt_false y stop (omega arith))
+
+range_above_all : (stop a n : ℕ) → stop ≤ a → filter (λ y. nat_le stop y) (range_with_len a n) ≡ range_with_len a n
+range_above_all stop a n h = filter_all (λ y. nat_le stop y) (range_with_len a n) (λ y k. let l = range_low a n y k in le_true stop y (omega arith))
+
+pub range_above_none : (stop a n : ℕ) → a + n ≤ stop → filter (λ y. nat_le stop y) (range_with_len a n) ≡ []
+range_above_none stop a n h = filter_none (λ y. nat_le stop y) (range_with_len a n) (λ y k. let l = range_high a n y k in le_false stop y (omega arith))
+
+cut_range : (stop a n : ℕ) → a < stop → stop < a + n → range_with_len a n ≡ range_with_len a (stop - a) ++ range_with_len stop (a + n - stop)
+cut_range stop a n h k =
+    let e : n ≡ (stop - a) + (a + n - stop) = omega arith in
+    let f : a + (stop - a) ≡ stop = omega arith in
+    ap (λ (m : ℕ). range_with_len a m) e ∙ range_split a (stop - a) (a + n - stop) ∙ ap (λ (m : ℕ). range_with_len a (stop - a) ++ range_with_len m (a + n - stop)) f
+
+pub no_more : (xs : List ℕ) → xs ++ [] ≡ xs
+no_more [] = refl
+no_more (x ∷ xs) = ap (λ r. x ∷ r) (no_more xs)
+
+range_below_cut : (stop a n : ℕ) → a < stop → stop < a + n → filter (λ y. nat_lt y stop) (range_with_len a n) ≡ range_with_len a (stop - a)
+range_below_cut stop a n h k =
+    ap (λ r. filter (λ y. nat_lt y stop) r) (cut_range stop a n h k)
+    ∙ filter_joined (λ y. nat_lt y stop) (range_with_len a (stop - a)) (range_with_len stop (a + n - stop))
+    ∙ ap (λ r. r ++ filter (λ y. nat_lt y stop) (range_with_len stop (a + n - stop))) (range_below_all stop a (stop - a) (omega arith))
+    ∙ ap (λ r. range_with_len a (stop - a) ++ r) (range_below_none stop stop (a + n - stop) (omega arith))
+    ∙ no_more (range_with_len a (stop - a))
+
+range_above_cut : (stop a n : ℕ) → a < stop → stop < a + n → filter (λ y. nat_le stop y) (range_with_len a n) ≡ range_with_len stop (a + n - stop)
+range_above_cut stop a n h k =
+    ap (λ r. filter (λ y. nat_le stop y) r) (cut_range stop a n h k)
+    ∙ filter_joined (λ y. nat_le stop y) (range_with_len a (stop - a)) (range_with_len stop (a + n - stop))
+    ∙ ap (λ r. r ++ filter (λ y. nat_le stop y) (range_with_len stop (a + n - stop))) (range_above_none stop a (stop - a) (omega arith))
+    ∙ range_above_all stop stop (a + n - stop) (omega arith)
+
+-- ---- the part of a cover before a place, and from it on
+
+pub spans_below_none : (stop : ℕ) (cover : List Extent) → ((d : Extent) → In cover d → stop ≤ d.at) → filter (λ y. nat_lt y stop) (spans cover) ≡ []
+spans_below_none stop [] h = refl
+spans_below_none stop (e ∷ cover) h =
+    filter_joined (λ y. nat_lt y stop) (range_with_len e.at e.len) (spans cover)
+    ∙ ap (λ r. r ++ filter (λ y. nat_lt y stop) (spans cover)) (range_below_none stop e.at e.len (h e (inl refl)))
+    ∙ spans_below_none stop cover (λ d k. h d (inr k))
+
+pub spans_above_all : (stop : ℕ) (cover : List Extent) → ((d : Extent) → In cover d → stop ≤ d.at) → filter (λ y. nat_le stop y) (spans cover) ≡ spans cover
+spans_above_all stop [] h = refl
+spans_above_all stop (e ∷ cover) h =
+    filter_joined (λ y. nat_le stop y) (range_with_len e.at e.len) (spans cover)
+    ∙ ap (λ r. r ++ filter (λ y. nat_le stop y) (spans cover)) (range_above_all stop e.at e.len (h e (inl refl)))
+    ∙ ap (λ r. range_with_len e.at e.len ++ r) (spans_above_all stop cover (λ d k. h d (inr k)))
+
+pub spans_below : (stop : ℕ) (cover : List Extent) → IsCover cover → filter (λ y. nat_lt y stop) (spans cover) ≡ spans (below stop cover)
+spans_below stop [] h = refl
+spans_below stop (e ∷ cover) h = by_start (spans_below stop cover h.2) (nat_le stop e.at) refl
+  where
+    rest_none : stop < e.at + e.len → filter (λ y. nat_lt y stop) (spans cover) ≡ []
+    rest_none l = spans_below_none stop cover (λ d k. let m = h.1 d k in omega arith)
+
+    by_end : filter (λ y. nat_lt y stop) (spans cover) ≡ spans (below stop cover) → e.at < stop → (t : Bool) → nat_le (e.at + e.len) stop ≡ t
+        → filter (λ y. nat_lt y stop) (spans (e ∷ cover)) ≡ spans (cond t (e ∷ below stop cover) (record { at = e.at; len = stop - e.at } ∷ []))
+    by_end ih l true g =
+        filter_joined (λ y. nat_lt y stop) (range_with_len e.at e.len) (spans cover)
+        ∙ ap (λ r. r ++ filter (λ y. nat_lt y stop) (spans cover)) (range_below_all stop e.at e.len (from_le (e.at + e.len) stop g))
+        ∙ ap (λ r. range_with_len e.at e.len ++ r) ih
+    by_end ih l false g =
+        let m : stop < e.at + e.len = from_not_le (e.at + e.len) stop g in
+        filter_joined (λ y. nat_lt y stop) (range_with_len e.at e.len) (spans cover)
+        ∙ ap (λ r. r ++ filter (λ y. nat_lt y stop) (spans cover)) (range_below_cut stop e.at e.len l m)
+        ∙ ap (λ r. range_with_len e.at (stop - e.at) ++ r) (rest_none m)
+
+    by_start : filter (λ y. nat_lt y stop) (spans cover) ≡ spans (below stop cover) → (t : Bool) → nat_le stop e.at ≡ t
+        → filter (λ y. nat_lt y stop) (spans (e ∷ cover))
+        ≡ spans (cond t [] (cond (nat_le (e.at + e.len) stop) (e ∷ below stop cover) (record { at = e.at; len = stop - e.at } ∷ [])))
+    by_start ih true g =
+        let l : stop ≤ e.at = from_le stop e.at g in
+        spans_below_none stop (e ∷ cover) (before l)
+      where
+        before : stop ≤ e.at → (d : Extent) → In (e ∷ cover) d → stop ≤ d.at
+        before l d (inl k) = subst (λ (z : Extent). stop ≤ z.at) k l
+        before l d (inr k) = let m = h.1 d k in omega arith
+    by_start ih false g = by_end ih (from_not_le stop e.at g) (nat_le (e.at + e.len) stop) refl
+
+pub spans_above : (stop : ℕ) (cover : List Extent) → IsCover cover → filter (λ y. nat_le stop y) (spans cover) ≡ spans (above stop cover)
+spans_above stop [] h = refl
+spans_above stop (e ∷ cover) h = by_start (spans_above stop cover h.2) (nat_le stop e.at) refl
+  where
+    by_end : filter (λ y. nat_le stop y) (spans cover) ≡ spans (above stop cover) → e.at < stop → (t : Bool) → nat_le (e.at + e.len) stop ≡ t
+        → filter (λ y. nat_le stop y) (spans (e ∷ cover)) ≡ spans (cond t (above stop cover) (record { at = stop; len = e.at + e.len - stop } ∷ cover))
+    by_end ih l true g =
+        filter_joined (λ y. nat_le stop y) (range_with_len e.at e.len) (spans cover)
+        ∙ ap (λ r. r ++ filter (λ y. nat_le stop y) (spans cover)) (range_above_none stop e.at e.len (from_le (e.at + e.len) stop g))
+        ∙ ih
+    by_end ih l false g =
+        let m : stop < e.at + e.len = from_not_le (e.at + e.len) stop g in
+        filter_joined (λ y. nat_le stop y) (range_with_len e.at e.len) (spans cover)
+        ∙ ap (λ r. r ++ filter (λ y. nat_le stop y) (spans cover)) (range_above_cut stop e.at e.len l m)
+        ∙ ap (λ r. range_with_len stop (e.at + e.len - stop) ++ r) (spans_above_all stop cover (λ d k. let b = h.1 d k in omega arith))
+
+    by_start : filter (λ y. nat_le stop y) (spans cover) ≡ spans (above stop cover) → (t : Bool) → nat_le stop e.at ≡ t
+        → filter (λ y. nat_le stop y) (spans (e ∷ cover))
+        ≡ spans (cond t (e ∷ cover) (cond (nat_le (e.at + e.len) stop) (above stop cover) (record { at = stop; len = e.at + e.len - stop } ∷ cover)))
+    by_start ih true g =
+        let l : stop ≤ e.at = from_le stop e.at g in
+        spans_above_all stop (e ∷ cover) (before l)
+      where
+        before : stop ≤ e.at → (d : Extent) → In (e ∷ cover) d → stop ≤ d.at
+        before l d (inl k) = subst (λ (z : Extent). stop ≤ z.at) k l
+        before l d (inr k) = let m = h.1 d k in omega arith
+    by_start ih false g = by_end ih (from_not_le stop e.at g) (nat_le (e.at + e.len) stop) refl
+
+-- ---- both parts are covers
+
+below_after : (stop n : ℕ) (cover : List Extent) → ((d : Extent) → In cover d → n < d.at) → (d : Extent) → In (below stop cover) d → n < d.at
+below_after stop n [] h d k = absurd k
+below_after stop n (e ∷ cover) h d k = by_start (below_after stop n cover (λ c g. h c (inr g)) d) (nat_le stop e.at) k
+  where
+    by_end : (In (below stop cover) d → n < d.at) → (t : Bool) → In (cond t (e ∷ below stop cover) (record { at = e.at; len = stop - e.at } ∷ [])) d → n < d.at
+    by_end ih true (inl g) = subst (λ (z : Extent). n < z.at) g (h e (inl refl))
+    by_end ih true (inr g) = ih g
+    by_end ih false (inl g) = subst (λ (z : Extent). n < z.at) g (h e (inl refl))
+    by_end ih false (inr g) = absurd g
+
+    by_start : (In (below stop cover) d → n < d.at) → (t : Bool)
+        → In (cond t [] (cond (nat_le (e.at + e.len) stop) (e ∷ below stop cover) (record { at = e.at; len = stop - e.at } ∷ []))) d → n < d.at
+    by_start ih true g = absurd g
+    by_start ih false g = by_end ih (nat_le (e.at + e.len) stop) g
+
+pub below_cover : (stop : ℕ) (cover : List Extent) → IsCover cover → IsCover (below stop cover)
+below_cover stop [] h = tt
+below_cover stop (e ∷ cover) h = by_start (below_cover stop cover h.2) (nat_le stop e.at) refl
+  where
+    by_end : IsCover (below stop cover) → e.at < stop → (t : Bool) → IsCover (cond t (e ∷ below stop cover) (record { at = e.at; len = stop - e.at } ∷ []))
+    by_end ih l true = (h.0, below_after stop (e.at + e.len) cover h.1, ih)
+    by_end ih l false = (omega arith, (λ d k. absurd k), tt)
+
+    by_start : IsCover (below stop cover) → (t : Bool) → nat_le stop e.at ≡ t
+        → IsCover (cond t [] (cond (nat_le (e.at + e.len) stop) (e ∷ below stop cover) (record { at = e.at; len = stop - e.at } ∷ [])))
+    by_start ih true g = tt
+    by_start ih false g = by_end ih (from_not_le stop e.at g) (nat_le (e.at + e.len) stop)
+
+pub above_cover : (stop : ℕ) (cover : List Extent) → IsCover cover → IsCover (above stop cover)
+above_cover stop [] h = tt
+above_cover stop (e ∷ cover) h = by_start (above_cover stop cover h.2) (nat_le stop e.at) refl
+  where
+    by_end : IsCover (above stop cover) → e.at < stop → (t : Bool) → nat_le (e.at + e.len) stop ≡ t
+        → IsCover (cond t (above stop cover) (record { at = stop; len = e.at + e.len - stop } ∷ cover))
+    by_end ih l true g = ih
+    by_end ih l false g =
+        let m : stop < e.at + e.len = from_not_le (e.at + e.len) stop g in
+        (omega arith, (λ d k. let b = h.1 d k in omega arith), h.2)
+
+    by_start : IsCover (above stop cover) → (t : Bool) → nat_le stop e.at ≡ t
+        → IsCover (cond t (e ∷ cover) (cond (nat_le (e.at + e.len) stop) (above stop cover) (record { at = stop; len = e.at + e.len - stop } ∷ cover)))
+    by_start ih true g = h
+    by_start ih false g = by_end ih (from_not_le stop e.at g) (nat_le (e.at + e.len) stop) refl
+
+-- ---- the hull
+
+pub range_long : (a n : ℕ) → length (range_with_len a n) ≡ n
+range_long a zero = refl
+range_long a (suc n) = ap suc (range_long (a + 1) n)
+
+pub last_joined : (xs ys : List ℕ) → last_of (xs ++ ys) ≡ max (last_of xs) (last_of ys)
+last_joined [] ys = omega arith
+last_joined (x ∷ xs) ys = let e = last_joined xs ys in omega arith
+
+pub last_of_range : (a n : ℕ) → 1 ≤ n → last_of (range_with_len a n) + 1 ≡ a + n
+last_of_range a zero h = absurd (omega arith)
+last_of_range a (suc zero) h = omega arith
+last_of_range a (suc (suc n)) h = let e = last_of_range (a + 1) (suc n) (omega arith) in omega arith
+
+-- where a cover ends, and that it has no more bytes than lie between
+end_of_cover : (e : Extent) (cover : List Extent) → IsCover (e ∷ cover)
+    → (last_of (spans (e ∷ cover)) + 1 ≡ end_after (e.at + e.len) cover) × (e.at + length (spans (e ∷ cover)) ≤ end_after (e.at + e.len) cover)
+end_of_cover e [] h =
+    let a = last_of_range e.at e.len h.0 in
+    let b : length (range_with_len e.at e.len) ≡ e.len = range_long e.at e.len in
+    let c : length (range_with_len e.at e.len ++ []) ≡ length (range_with_len e.at e.len) = ap (λ (xs : List ℕ). length xs) (no_more (range_with_len e.at e.len)) in
+    let d : last_of (range_with_len e.at e.len ++ []) ≡ last_of (range_with_len e.at e.len) = ap (λ (xs : List ℕ). last_of xs) (no_more (range_with_len e.at e.len)) in
+    (omega arith, omega arith)
+end_of_cover e (f ∷ cover) h =
+    let r = end_of_cover f cover h.2 in
+    let ends = r.0 in
+    let fits = r.1 in
+    let gap = h.1 f (inl refl) in
+    let first = last_of_range e.at e.len h.0 in
+    let whole = last_joined (range_with_len e.at e.len) (spans (f ∷ cover)) in
+    let most : f.at ≤ last_of (spans (f ∷ cover)) = first_in f cover h.2 in
+    let long = length-append (range_with_len e.at e.len) (spans (f ∷ cover)) in
+    let b : length (range_with_len e.at e.len) ≡ e.len = range_long e.at e.len in
+    (omega arith, omega arith)
+  where
+    first_in : (f : Extent) (cover : List Extent) → IsCover (f ∷ cover) → f.at ≤ last_of (spans (f ∷ cover))
+    first_in f cover k = let a = last_of_range f.at f.len k.0 in let w = last_joined (range_with_len f.at f.len) (spans cover) in let l = k.0 in omega arith
+
+first_of_range : (a n : ℕ) (rest : List ℕ) → 1 ≤ n → first_of (range_with_len a n ++ rest) ≡ a
+first_of_range a zero rest h = absurd (omega arith)
+first_of_range a (suc n) rest h = refl
+
+three : (a b c d : ℕ) (s t : Bool) → a ≡ c → b ≡ d → s ≡ t → ◌≡◌ {A = ℕ × ℕ × Bool} (a, b, s) (c, d, t)
+three a b c d s t p q r = λ i. (p i, q i, r i)
+
+-- the hull of the bytes of a cover: its first byte, its length, and whether it has no hole
+pub hull_told : (e : Extent) (cover : List Extent) → IsCover (e ∷ cover) → told_of (spans (e ∷ cover)) ≡ hull_of (e ∷ cover)
+hull_told e cover h =
+    let first : first_of (spans (e ∷ cover)) ≡ e.at = first_of_range e.at e.len (spans cover) h.0 in
+    let r = end_of_cover e cover h in
+    let ends = r.0 in
+    three (first_of (spans (e ∷ cover))) (hull_len (spans (e ∷ cover))) e.at (end_after (e.at + e.len) cover - e.at)
+    (length (spans (e ∷ cover)) == hull_len (spans (e ∷ cover))) (is_single (e ∷ cover)) first (omega arith)
+    (by_rest e cover h first ends)
+  where
+    by_rest : (e : Extent) (cover : List Extent) → IsCover (e ∷ cover) → first_of (spans (e ∷ cover)) ≡ e.at
+        → last_of (spans (e ∷ cover)) + 1 ≡ end_after (e.at + e.len) cover
+        → (length (spans (e ∷ cover)) == hull_len (spans (e ∷ cover))) ≡ is_single (e ∷ cover)
+    by_rest e [] h first ends =
+        let b : length (range_with_len e.at e.len) ≡ e.len = range_long e.at e.len in
+        let c : length (range_with_len e.at e.len ++ []) ≡ length (range_with_len e.at e.len) = ap (λ (xs : List ℕ). length xs) (no_more (range_with_len e.at e.len)) in
+        eq_true (length (spans (e ∷ []))) (hull_len (spans (e ∷ []))) (omega arith)
+    by_rest e (f ∷ cover) h first ends =
+        let r = end_of_cover f cover h.2 in
+        let fits = r.1 in
+        let gap = h.1 f (inl refl) in
+        let long = length-append (range_with_len e.at e.len) (spans (f ∷ cover)) in
+        let b : length (range_with_len e.at e.len) ≡ e.len = range_long e.at e.len in
+        eq_false_below (length (spans (e ∷ f ∷ cover))) (hull_len (spans (e ∷ f ∷ cover))) (omega arith)
+
+-- ---- the walk
+
+spans_none : (cover : List Extent) → IsCover cover → length cover ≤ length (spans cover)
+spans_none [] h = omega arith
+spans_none (e ∷ cover) h =
+    let l = h.0 in
+    let r = spans_none cover h.2 in
+    let long = length-append (range_with_len e.at e.len) (spans cover) in
+    let b : length (range_with_len e.at e.len) ≡ e.len = range_long e.at e.len in
+    omega arith
+
+none_told : (stop : ℕ → ℕ) (fuel : ℕ) → extents_walked stop fuel [] ≡ []
+none_told stop zero = refl
+none_told stop (suc fuel) = refl
+
+-- the window that begins at a place, told: its extents are not none, since it ends past that place
+pub below_told : (stop : ℕ) (e : Extent) (cover : List Extent) → IsCover (e ∷ cover) → e.at < stop
+    → told_of (spans (below stop (e ∷ cover))) ≡ hull_of (below stop (e ∷ cover))
+below_told stop e cover h l = by_start (below_cover stop (e ∷ cover) h) (nat_le stop e.at) refl
+  where
+    by_end : (t : Bool) → IsCover (cond t (e ∷ below stop cover) (record { at = e.at; len = stop - e.at } ∷ []))
+        → told_of (spans (cond t (e ∷ below stop cover) (record { at = e.at; len = stop - e.at } ∷ []))) ≡ hull_of (cond t (e ∷ below stop cover) (record { at = e.at; len = stop - e.at } ∷ []))
+    by_end true k = hull_told e (below stop cover) k
+    by_end false k = hull_told (record { at = e.at; len = stop - e.at }) [] k
+
+    by_start : IsCover (below stop (e ∷ cover)) → (t : Bool) → nat_le stop e.at ≡ t → told_of (spans (below stop (e ∷ cover))) ≡ hull_of (below stop (e ∷ cover))
+    by_start k true g = let m : stop ≤ e.at = from_le stop e.at g in absurd (omega arith)
+    by_start k false g =
+        subst (λ (c : List Extent). told_of (spans c) ≡ hull_of c) (sym (opened g))
+        (by_end (nat_le (e.at + e.len) stop) (subst (λ (c : List Extent). IsCover c) (opened g) k))
+      where
+        opened : nat_le stop e.at ≡ false → below stop (e ∷ cover) ≡ cond (nat_le (e.at + e.len) stop) (e ∷ below stop cover) (record { at = e.at; len = stop - e.at } ∷ [])
+        opened g = ap (λ (t : Bool). cond t [] (cond (nat_le (e.at + e.len) stop) (e ∷ below stop cover) (record { at = e.at; len = stop - e.at } ∷ []))) g
+
+pub range_first : (a n : ℕ) (rest : List ℕ) → 1 ≤ n → (ys : List ℕ) × (range_with_len a n ++ rest ≡ a ∷ ys)
+range_first a zero rest h = absurd (omega arith)
+range_first a (suc n) rest h = (range_with_len (a + 1) n ++ rest, refl)
+
+-- the step of a walk, over the whole list
+walked_by : (stop : ℕ → ℕ) (fuel x : ℕ) (ys xs : List ℕ) → x < stop x → xs ≡ x ∷ ys
+    → walked stop (suc fuel) xs ≡ filter (λ y. nat_lt y (stop x)) xs ∷ walked stop fuel (filter (λ y. nat_le (stop x) y) xs)
+walked_by stop fuel x ys xs h e =
+    subst (λ (l : List ℕ). walked stop (suc fuel) l ≡ filter (λ y. nat_lt y (stop x)) l ∷ walked stop fuel (filter (λ y. nat_le (stop x) y) l)) (sym e)
+    (ap (λ r. filter (λ y. nat_lt y (stop x)) (x ∷ ys) ∷ walked stop fuel r)
+    (sym (drop_first x (filter (λ y. nat_le (stop x) y) ys) (nat_le (stop x) x) (le_false (stop x) x h))))
+
+-- the windows of the bytes, told, are those of the extents
+pub extents_told : (stop : ℕ → ℕ) (fuel : ℕ) (cover : List Extent) → ((x : ℕ) → x < stop x) → IsCover cover
+    → map told_of (walked stop fuel (spans cover)) ≡ extents_walked stop fuel cover
+extents_told stop zero cover s h = refl
+extents_told stop (suc fuel) [] s h = refl
+extents_told stop (suc fuel) (e ∷ cover) s h =
+    let first = range_first e.at e.len (spans cover) h.0 in
+    ap (λ (ws : List (List ℕ)). map told_of ws) (walked_by stop fuel e.at first.0 (spans (e ∷ cover)) (s e.at) first.1)
+    ∙ ap (λ r. told_of (filter (λ y. nat_lt y (stop e.at)) (spans (e ∷ cover))) ∷ r)
+    (ap (λ xs. map told_of (walked stop fuel xs)) (spans_above (stop e.at) (e ∷ cover) h)
+    ∙ extents_told stop fuel (above (stop e.at) (e ∷ cover)) s (above_cover (stop e.at) (e ∷ cover) h))
+    ∙ ap (λ w. w ∷ extents_walked stop fuel (above (stop e.at) (e ∷ cover)))
+    (ap (λ xs. told_of xs) (spans_below (stop e.at) (e ∷ cover) h) ∙ below_told (stop e.at) e cover h (s e.at))
+
+pub past_round : (lo buffer x : ℕ) → 1 ≤ buffer → x < round_end lo buffer x
+past_round lo buffer x h =
+    let whole = div-add-mod' (x - lo) buffer in
+    let part = mod_below (x - lo) buffer (omega arith) in
+    omega arith
+
+-- ---- the bytes of a cover stand in order
+
+pub range_then_ascends : (a n : ℕ) (rest : List ℕ) → IsAscending rest → ((y : ℕ) → In rest y → a + n ≤ y) → IsAscending (range_with_len a n ++ rest)
+range_then_ascends a zero rest h k = h
+range_then_ascends a (suc n) rest h k = (
+  (λ y g. elim (in_either (range_with_len (a + 1) n) rest y g)
+      [ inl l ↦ (let m = range_low (a + 1) n y l in omega arith) | inr l ↦ (let m = k y l in omega arith) ]),
+  range_then_ascends (a + 1) n rest h (λ y l. let m = k y l in omega arith),
+)
+
+pub spans_ascend : (cover : List Extent) → IsCover cover → IsAscending (spans cover)
+spans_ascend [] h = tt
+spans_ascend (e ∷ cover) h =
+    range_then_ascends e.at e.len (spans cover) (spans_ascend cover h.2) (λ y k. let m = spans_past cover (e.at + e.len) y h.1 k in omega arith)
+
+-- ascending lists with the same members are the same
+tail_members : (x : ℕ) (xs ys : List ℕ) → ((y : ℕ) → In xs y → x < y) → ((y : ℕ) → In (x ∷ xs) y → In (x ∷ ys) y) → (y : ℕ) → In xs y → In ys y
+tail_members x xs ys h k y g = elim (k y (inr g)) [ inl e ↦ (let l = h y g in absurd (omega arith)) | inr m ↦ m ]
+
+pub same_ascending : (xs ys : List ℕ) → IsAscending xs → IsAscending ys → ((y : ℕ) → In xs y → In ys y) → ((y : ℕ) → In ys y → In xs y) → xs ≡ ys
+same_ascending [] [] h k there back = refl
+same_ascending [] (y ∷ ys) h k there back = absurd (back y (inl refl))
+same_ascending (x ∷ xs) [] h k there back = absurd (there x (inl refl))
+same_ascending (x ∷ xs) (y ∷ ys) h k there back =
+    let r = rest heads in
+    ap (λ zs. x ∷ zs) (same_ascending xs ys h.1 k.1 r.0 r.1) ∙ ap (λ z. z ∷ ys) heads
+  where
+    heads : x ≡ y
+    heads = by_two (there x (inl refl)) (back y (inl refl))
+      where
+        by_two : In (y ∷ ys) x → In (x ∷ xs) y → x ≡ y
+        by_two (inl e) g = sym e
+        by_two (inr m) (inl e) = e
+        by_two (inr m) (inr n) = let a = k.0 x m in let b = h.0 y n in absurd (omega arith)
+
+    rest : x ≡ y → (((z : ℕ) → In xs z → In ys z) × ((z : ℕ) → In ys z → In xs z))
+    rest e = (
+      tail_members x xs ys h.0 (subst (λ (u : ℕ). (z : ℕ) → In (x ∷ xs) z → In (u ∷ ys) z) (sym e) there),
+      tail_members y ys xs k.0 (subst (λ (u : ℕ). (z : ℕ) → In (y ∷ ys) z → In (u ∷ xs) z) e back),
+    )
+
+-- a cover of the bytes of a list has just those in order
+pub cover_in_order : (cover : List Extent) (bytes : List ℕ) → IsCover cover → HaveSame (spans cover) bytes → spans cover ≡ in_order bytes
+cover_in_order cover bytes h same =
+    same_ascending (spans cover) (in_order bytes) (spans_ascend cover h) (in_order_ascends bytes)
+    (λ y k. in_in_order bytes y (same.0 y k)) (λ y k. same.1 y (in_order_in bytes y k))
+
+first_of_spans : (cover : List Extent) → IsCover cover → first_of (spans cover) ≡ first_at cover
+first_of_spans [] h = refl
+first_of_spans (e ∷ cover) h = first_of_range e.at e.len (spans cover) h.0
+
+pub windows_told : (buffer : ℕ) (cover : List Extent) → 1 ≤ buffer → IsCover cover
+    → map told_of (windows buffer (spans cover)) ≡ extents_walked (round_end (first_at cover) buffer) (length (spans cover)) cover
+windows_told buffer cover h k =
+    ap (λ (ws : List (List ℕ)). map told_of ws)
+    (windows_walked buffer (spans cover) h (spans_ascend cover k)
+    ∙ ap (λ (lo : ℕ). walked (round_end lo buffer) (length (spans cover)) (spans cover)) (first_of_spans cover k))
+    ∙ extents_told (round_end (first_at cover) buffer) (length (spans cover)) cover (λ x. past_round (first_at cover) buffer x h) k
+
+pub sieving_told : (buffer : ℕ) (cover : List Extent) → 1 ≤ buffer → IsCover cover
+    → map told_of (sieving_windows buffer (spans cover)) ≡ extents_walked (λ x. x + buffer) (length (spans cover)) cover
+sieving_told buffer cover h k =
+    ap (λ (ws : List (List ℕ)). map told_of ws) (sieved_walked (length (spans cover)) buffer (spans cover))
+    ∙ extents_told (λ x. x + buffer) (length (spans cover)) cover (λ x. omega arith) k

@@ -1,0 +1,322 @@
+-- The puts of a step are cells; sorted entries say what the puts say; the entries of a get collect its bytes.
+use Rattle.std.proofs.Common.{◌≡◌, ℕ, zero, suc, ◌+◌, ◌-◌, ◌<◌, ◌≤◌, refl, sym, ◌∙◌, ap, subst, inl, inr, ◌⊎◌, List, [], ◌∷◌, ◌++◌, length, take, drop, Bool, true, false, Option, Some, None, arith}
+use Rattle.std.proofs.lemmas.Grind.{common_steps, flat_map-append, fold-append}
+use Rattle.std.proofs.lemmas.List.{length-append, get_or_past}
+use borrow.Author.Tests.{ltb-true, ltb-false}
+use Rattle.std.proofs.lemmas.List.Sorted.{Contains-permutation, IsPermutation-sym}
+use Rattle.std.specs.List.Sorted.{IsPermutation}
+use Rattle.std.specs.Prelude.{fold, flat_map, nat_lt, map, zip, slice_get}
+use Rattle.std.specs.List.{enumerate_from, range_with_len, slice_index_or, Contains}
+use Rattle.nc_base.specs.declared.header.Header.{Header}
+use Rattle.nc_base.specs.declared.header.Var.{Var}
+use Rattle.nc_base.specs.declared.plan.Post.{Post}
+use Rattle.nc_base.specs.declared.plan.Owned.{Owned}
+use Rattle.serial_spec.specs.File.{at, read, written}
+use Rattle.serial_spec.specs.ExternalForm.{size_of}
+use Rattle.serial_spec.specs.Request.{cells, places}
+use Rattle.serial_spec.specs.SharedByte.{Puts, bytes_of, bytes_of_some}
+use Rattle.serial_spec.specs.FileStep.{Setting, put_post, put_some, get_post, get_some}
+use Rattle.serial_spec.specs.Said.{byte_or, said_at, Says, IsOneValued, Cell, write_cells, said_by, IsWithin}
+use Rattle.serial_spec.specs.SharedByte.{said_by_puts}
+use Rattle.overlay_laws.specs.Entries.{cells_of_some, cells_of, cells_of_puts, Source, cell_of, ranges, IsRun, IsGathered, got_cell, IsRunFrom, In, HaveSame}
+use Rattle.overlay_laws.proofs.SaidLaws.{same_some, said_past, said_in_any_order, same_said, said_inside, cells_said, cells_long, same_file}
+
+-- ---- a put is cells
+
+put_is_cells : (s : Setting) (v : Option Var) (post : Post) (file : List ℕ) → put_some s v post file ≡ write_cells file (cells_of_some s.header v post)
+put_is_cells s None post file = refl
+put_is_cells s (Some v) post file = refl
+
+-- the model's step, as cells
+pub puts_are_cells : (s : Setting) (puts : Puts) (file : List ℕ) → fold (put_post s) file puts ≡ write_cells file (cells_of_puts s.header puts)
+puts_are_cells s [] file = refl
+puts_are_cells s (p ∷ puts) file =
+    puts_are_cells s puts (put_post s file p)
+    ∙ ap (λ f. write_cells f (cells_of_puts s.header puts)) (put_is_cells s (slice_get s.header.vars p.1.var) p.1 file)
+    ∙ sym (fold-append (λ f cell. written f cell.0 cell.1) file (cells_of s.header p.1) (cells_of_puts s.header puts))
+
+-- ---- what cells of elements say
+
+zip_nothing : (s : List ℕ) → [] ≡ zip {K = ℕ} {X = ℕ} s []
+zip_nothing [] = refl
+zip_nothing (y ∷ s) = refl
+
+pub zip_append : (r s b : List ℕ) → zip (r ++ s) b ≡ zip r (take (length r) b) ++ zip s (drop (length r) b)
+zip_append [] s b = refl
+zip_append (x ∷ r) s [] = zip_nothing s
+zip_append (x ∷ r) s (v ∷ b) = ap (λ ps. (x, v) ∷ ps) (zip_append r s b)
+
+range_long : (p n : ℕ) → length (range_with_len p n) ≡ n
+range_long p zero = refl
+range_long p (suc n) = ap suc (range_long (p + 1) n)
+
+-- bytes from a place on
+zip_range : (p n : ℕ) (b : List ℕ) → enumerate_from p (take n b) ≡ zip (range_with_len p n) (take n b)
+zip_range p zero b = refl
+zip_range p (suc n) [] = refl
+zip_range p (suc n) (v ∷ b) = ap (λ ps. (p, v) ∷ ps) (zip_range (p + 1) n b)
+
+range_and_rest : (p n : ℕ) (rest b : List ℕ) → zip (range_with_len p n ++ rest) b ≡ enumerate_from p (take n b) ++ zip rest (drop n b)
+range_and_rest p n rest b =
+    zip_append (range_with_len p n) rest b
+    ∙ ap (λ m. zip (range_with_len p n) (take m b) ++ zip rest (drop m b)) (range_long p n)
+    ∙ ap (λ ps. ps ++ zip rest (drop n b)) (sym (zip_range p n b))
+
+pub cells_say : (size : ℕ) (ps bytes : List ℕ) → said_by (cells size ps bytes) ≡ zip (flat_map (λ x. range_with_len x size) ps) bytes
+cells_say size [] bytes = refl
+cells_say size (p ∷ ps) bytes =
+    ap (λ rest. enumerate_from p (take size bytes) ++ rest) (cells_say size ps (drop size bytes))
+    ∙ sym (range_and_rest p size (flat_map (λ x. range_with_len x size) ps) bytes)
+
+post_says : (header : Header) (v : Option Var) (post : Post) → said_by (cells_of_some header v post) ≡ zip (bytes_of_some header v post) post.bytes
+post_says header None post = refl
+post_says header (Some v) post = cells_say (size_of v.kind) (places header v post.region) post.bytes
+
+pub puts_say : (header : Header) (puts : Puts) → said_by (cells_of_puts header puts) ≡ said_by_puts header puts
+puts_say header [] = refl
+puts_say header (p ∷ puts) =
+    flat_map-append (λ cell. enumerate_from cell.0 cell.1) (cells_of header p.1) (cells_of_puts header puts)
+    ∙ ap (λ rest. said_by (cells_of header p.1) ++ rest) (puts_say header puts)
+    ∙ ap (λ first. first ++ said_by_puts header puts) (post_says header (slice_get header.vars p.1.var) p.1)
+
+-- ---- entries in order
+
+drop_again : (n m : ℕ) (b : List ℕ) → drop n (drop m b) ≡ drop (m + n) b
+drop_again n m b = grind (arith, common_steps)
+
+pub run_says : (bytes : List ℕ) (source : Source) (from : ℕ) (os : List Owned) → IsRun bytes source from os
+    → said_by (map (λ o. cell_of source o) os) ≡ zip (ranges os) (drop from bytes)
+run_says bytes source from [] h = refl
+run_says bytes source from (o ∷ os) h =
+    ap (λ rest. enumerate_from o.extent.at (take o.extent.len (drop o.from (source o.rank o.slot))) ++ rest) (run_says bytes source (from + o.extent.len) os h.2)
+    ∙ ap (λ b. enumerate_from o.extent.at (take o.extent.len (drop o.from b)) ++ zip (ranges os) (drop (from + o.extent.len) bytes)) h.1
+    ∙ ap (λ n. enumerate_from o.extent.at (take o.extent.len (drop n bytes)) ++ zip (ranges os) (drop (from + o.extent.len) bytes)) h.0
+    ∙ ap (λ b. enumerate_from o.extent.at (take o.extent.len (drop from bytes)) ++ zip (ranges os) b) (sym (drop_again o.extent.len from bytes))
+    ∙ sym (range_and_rest o.extent.at o.extent.len (ranges os) (drop from bytes))
+
+-- what the entries of a step say, in the order of the puts
+pub gathered_says : (header : Header) (source : Source) (puts : Puts) (ess : List (List Owned)) → IsGathered header source puts ess
+    → said_by (map (λ o. cell_of source o) (flat_map (λ os. os) ess)) ≡ said_by_puts header puts
+gathered_says header source [] [] h = refl
+gathered_says header source [] (os ∷ ess) h = absurd h
+gathered_says header source (p ∷ puts) [] h = absurd h
+gathered_says header source (p ∷ puts) (os ∷ ess) h =
+    ap (λ cells. said_by cells) (map_append (λ o. cell_of source o) os (flat_map (λ o. o) ess))
+    ∙ flat_map-append (λ cell. enumerate_from cell.0 cell.1) (map (λ o. cell_of source o) os) (map (λ o. cell_of source o) (flat_map (λ o. o) ess))
+    ∙ ap (λ rest. said_by (map (λ o. cell_of source o) os) ++ rest) (gathered_says header source puts ess h.2)
+    ∙ ap (λ first. first ++ said_by_puts header puts) (run_says p.1.bytes source 0 os h.0 ∙ ap (λ b. zip b p.1.bytes) h.1)
+  where
+    map_append : {X Y : Type 0} (f : X → Y) (xs ys : List X) → map f (xs ++ ys) ≡ map f xs ++ map f ys
+    map_append f [] ys = refl
+    map_append f (x ∷ xs) ys = ap (λ rest. f x ∷ rest) (map_append f xs ys)
+
+-- ---- entries in another order
+
+to_in : {X : Type 0} (xs : List X) (x : X) (k : ℕ) → k < length xs → slice_index_or xs k x ≡ x → In xs x
+to_in [] x k h e = absurd (omega arith)
+to_in (y ∷ ys) x zero h e = inl e
+to_in (y ∷ ys) x (suc k) h e = inr (to_in ys x k (omega arith) e)
+
+from_in : {X : Type 0} (xs : List X) (x : X) → In xs x → Contains xs x
+from_in [] x h = absurd h
+from_in (y ∷ ys) x (inl e) = (0, omega arith, e)
+from_in (y ∷ ys) x (inr h) = let c = from_in ys x h in let l : c.0 < length ys = c.1 in (suc c.0, omega arith, c.2)
+
+in_permuted : {X : Type 0} (xs ys : List X) (x : X) → IsPermutation xs ys → In xs x → In ys x
+in_permuted xs ys x p h = let c = Contains-permutation xs ys x p (from_in xs x h) in to_in ys x c.0 c.1 c.2
+
+pub says_left : {A : Type 0} (ps qs : List (ℕ × A)) (x : ℕ) (v : A) → Says ps x v → Says (ps ++ qs) x v
+says_left [] qs x v h = absurd h
+says_left (p ∷ ps) qs x v (inl h) = inl h
+says_left (p ∷ ps) qs x v (inr h) = inr (says_left ps qs x v h)
+
+pub says_right : {A : Type 0} (ps qs : List (ℕ × A)) (x : ℕ) (v : A) → Says qs x v → Says (ps ++ qs) x v
+says_right [] qs x v h = h
+says_right (p ∷ ps) qs x v h = inr (says_right ps qs x v h)
+
+pub says_cases : {A : Type 0} (ps qs : List (ℕ × A)) (x : ℕ) (v : A) → Says (ps ++ qs) x v → Says ps x v ⊎ Says qs x v
+says_cases [] qs x v h = inr h
+says_cases (p ∷ ps) qs x v (inl h) = inl (inl h)
+says_cases (p ∷ ps) qs x v (inr h) = elim (says_cases ps qs x v h) [ inl g ↦ inl (inr g) | inr g ↦ inr g ]
+
+says_of_one : {X A : Type 0} (f : X → List (ℕ × A)) (xs : List X) (o : X) (x : ℕ) (v : A) → In xs o → Says (f o) x v → Says (flat_map f xs) x v
+says_of_one f [] o x v h s = absurd h
+says_of_one {X} {A} f (y ∷ ys) o x v (inl e) s = says_left (f y) (flat_map f ys) x v (subst (λ (z : X). Says (f z) x v) (sym e) s)
+says_of_one f (y ∷ ys) o x v (inr h) s = says_right (f y) (flat_map f ys) x v (says_of_one f ys o x v h s)
+
+one_says_it : {X A : Type 0} (f : X → List (ℕ × A)) (xs : List X) (x : ℕ) (v : A) → Says (flat_map f xs) x v → (o : X) × In xs o × Says (f o) x v
+one_says_it f [] x v h = absurd h
+one_says_it f (y ∷ ys) x v h =
+    elim (says_cases (f y) (flat_map f ys) x v h) [
+      | inl g ↦ (y, inl refl, g)
+      | inr g ↦ (let r = one_says_it f ys x v g in (r.0, inr r.1, r.2))
+    ]
+
+pub says_moved : {X A : Type 0} (f : X → List (ℕ × A)) (xs ys : List X) (x : ℕ) (v : A) → ((o : X) → In xs o → In ys o)
+    → Says (flat_map f xs) x v → Says (flat_map f ys) x v
+says_moved f xs ys x v p h =
+    let r = one_says_it f xs x v h in
+    says_of_one f ys r.0 x v (p r.0 r.1) r.2
+
+cells_flat : {X : Type 0} (g : X → Cell) (xs : List X) → said_by (map g xs) ≡ flat_map (λ o. enumerate_from (g o).0 (g o).1) xs
+cells_flat g [] = refl
+cells_flat g (x ∷ xs) = ap (λ rest. enumerate_from (g x).0 (g x).1 ++ rest) (cells_flat g xs)
+
+-- what entries say does not depend on their order where no place is told two things
+pub cells_moved : {X : Type 0} (g : X → Cell) (xs ys : List X) → HaveSame xs ys → IsOneValued (said_by (map g xs))
+    → (x : ℕ) → said_at (said_by (map g xs)) x ≡ said_at (said_by (map g ys)) x
+cells_moved {X} g xs ys p once =
+    said_in_any_order (said_by (map g xs)) (said_by (map g ys)) once (λ x v h. there xs ys x v p.0 h) (λ x v h. there ys xs x v p.1 h)
+  where
+    there : (us bs : List X) (x v : ℕ) → ((o : X) → In us o → In bs o) → Says (said_by (map g us)) x v → Says (said_by (map g bs)) x v
+    there us bs x v q h =
+        subst (λ ps. Says ps x v) (sym (cells_flat g bs))
+        (says_moved (λ o. enumerate_from (g o).0 (g o).1) us bs x v q (subst (λ ps. Says ps x v) (cells_flat g us) h))
+
+pub same_permuted : {X : Type 0} (xs ys : List X) → IsPermutation xs ys → HaveSame xs ys
+same_permuted xs ys p = (λ o h. in_permuted xs ys o p h, λ o h. in_permuted ys xs o (IsPermutation-sym xs ys p) h)
+
+pub within_each : {X : Type 0} (g : X → Cell) (xs : List X) (n : ℕ) → ((o : X) → In xs o → (g o).0 + length (g o).1 ≤ n) → IsWithin (map g xs) n
+within_each g [] n h = tt
+within_each g (x ∷ xs) n h = (h x (inl refl), within_each g xs n (λ o k. h o (inr k)))
+
+each_within : {X : Type 0} (g : X → Cell) (xs : List X) (n : ℕ) (o : X) → IsWithin (map g xs) n → In xs o → (g o).0 + length (g o).1 ≤ n
+each_within g [] n o h k = absurd k
+each_within {X} g (x ∷ xs) n o h (inl e) = subst (λ (z : X). (g z).0 + length (g z).1 ≤ n) e h.0
+each_within g (x ∷ xs) n o h (inr k) = each_within g xs n o h.1 k
+
+pub within_moved : {X : Type 0} (g : X → Cell) (xs ys : List X) (n : ℕ) → HaveSame xs ys → IsWithin (map g xs) n → IsWithin (map g ys) n
+within_moved g xs ys n p h = within_each g ys n (λ o k. each_within g xs n o h (p.1 o k))
+
+pub list_says : (header : Header) (source : Source) (puts : Puts) (ess : List (List Owned)) (list : List Owned)
+    → IsGathered header source puts ess → IsPermutation (flat_map (λ os. os) ess) list → IsOneValued (said_by_puts header puts)
+    → (x : ℕ) → said_at (said_by (map (λ o. cell_of source o) list)) x ≡ said_at (said_by_puts header puts) x
+list_says header source puts ess list h p once x =
+    let e = gathered_says header source puts ess h in
+    sym (cells_moved (λ o. cell_of source o) (flat_map (λ os. os) ess) list (same_permuted (flat_map (λ os. os) ess) list p) (subst (λ ps. IsOneValued ps) (sym e) once) x)
+    ∙ ap (λ ps. said_at ps x) e
+
+-- the step of the model is the sorted entries written one by one
+pub list_writes : (s : Setting) (source : Source) (puts : Puts) (ess : List (List Owned)) (list : List Owned) (file : List ℕ)
+    → IsGathered s.header source puts ess → IsPermutation (flat_map (λ os. os) ess) list → IsOneValued (said_by_puts s.header puts)
+    → IsWithin (cells_of_puts s.header puts) (length file) → IsWithin (map (λ o. cell_of source o) list) (length file)
+    → fold (put_post s) file puts ≡ write_cells file (map (λ o. cell_of source o) list)
+list_writes s source puts ess list file h p once room fits =
+    puts_are_cells s puts file
+    ∙ same_said (cells_of_puts s.header puts) (map (λ o. cell_of source o) list) file room fits
+    (λ x. ap (λ ps. said_at ps x) (puts_say s.header puts) ∙ sym (list_says s.header source puts ess list h p once x))
+
+-- ---- gets
+
+read_flat : (file ps : List ℕ) (size : ℕ) → flat_map (λ x. read file x size) ps ≡ map (λ i. at file i) (flat_map (λ x. range_with_len x size) ps)
+read_flat file [] size = refl
+read_flat file (p ∷ ps) size =
+    ap (λ rest. read file p size ++ rest) (read_flat file ps size)
+    ∙ sym (map_append (range_with_len p size) (flat_map (λ x. range_with_len x size) ps))
+  where
+    map_append : (xs ys : List ℕ) → map (λ i. at file i) (xs ++ ys) ≡ map (λ i. at file i) xs ++ map (λ i. at file i) ys
+    map_append [] ys = refl
+    map_append (x ∷ xs) ys = ap (λ rest. at file x ∷ rest) (map_append xs ys)
+
+got_by : (s : Setting) (v : Option Var) (post : Post) (file : List ℕ) → get_some s v post file ≡ map (λ i. at file i) (bytes_of_some s.header v post)
+got_by s None post file = refl
+got_by s (Some v) post file = read_flat file (places s.header v post.region) (size_of v.kind)
+
+-- a get is the file's bytes at the bytes of the request
+pub get_is_bytes : (s : Setting) (post : Post) (file : List ℕ) → get_post s file post ≡ map (λ i. at file i) (bytes_of s.header post)
+get_is_bytes s post file = got_by s (slice_get s.header.vars post.var) post file
+
+-- ---- pieces of a get, each at its place in the blob
+
+map_long : (f : ℕ → ℕ) (xs : List ℕ) → length (map f xs) ≡ length xs
+map_long f [] = refl
+map_long f (x ∷ xs) = ap suc (map_long f xs)
+
+map_joined : (f : ℕ → ℕ) (xs ys : List ℕ) → map f (xs ++ ys) ≡ map f xs ++ map f ys
+map_joined f [] ys = refl
+map_joined f (x ∷ xs) ys = ap (λ rest. f x ∷ rest) (map_joined f xs ys)
+
+enumerate_joined : (n m : ℕ) (xs ys : List ℕ) → n + length xs ≡ m → enumerate_from n (xs ++ ys) ≡ enumerate_from n xs ++ enumerate_from m ys
+enumerate_joined n m [] ys e = let f : n ≡ m = omega arith in ap (λ k. enumerate_from k ys) f
+enumerate_joined n m (x ∷ xs) ys e = ap (λ rest. (n, x) ∷ rest) (enumerate_joined (n + 1) m xs ys (omega arith))
+
+run_got : (file : List ℕ) (from : ℕ) (os : List Owned) → IsRunFrom from os
+    → said_by (map (λ o. got_cell file o) os) ≡ enumerate_from from (map (λ i. at file i) (ranges os))
+run_got file from [] h = refl
+run_got file from (o ∷ os) h =
+    ap (λ rest. enumerate_from o.from (read file o.extent.at o.extent.len) ++ rest) (run_got file (from + o.extent.len) os h.1)
+    ∙ ap (λ n. enumerate_from n (read file o.extent.at o.extent.len) ++ enumerate_from (from + o.extent.len) (map (λ i. at file i) (ranges os))) h.0
+    ∙ sym (enumerate_joined from (from + o.extent.len) (read file o.extent.at o.extent.len) (map (λ i. at file i) (ranges os)) long)
+    ∙ ap (λ xs. enumerate_from from xs) (sym (map_joined (λ i. at file i) (range_with_len o.extent.at o.extent.len) (ranges os)))
+  where
+    long : from + length (read file o.extent.at o.extent.len) ≡ from + o.extent.len
+    long = ap (λ (n : ℕ). from + n) (map_long (λ i. at file i) (range_with_len o.extent.at o.extent.len) ∙ range_long o.extent.at o.extent.len)
+
+says_place : (n : ℕ) (b : List ℕ) (x v : ℕ) → Says (enumerate_from n b) x v → (n ≤ x) × (slice_get b (x - n) ≡ Some v)
+says_place n [] x v h = absurd h
+says_place n (w ∷ b) x v (inl h) =
+    let same : n ≡ x = h.0 in
+    let none : x - n ≡ 0 = omega arith in
+    (omega arith, ap (λ (k : ℕ). slice_get (w ∷ b) k) none ∙ ap Some h.1)
+says_place n (w ∷ b) x v (inr h) =
+    let r = says_place (n + 1) b x v h in
+    let low : n + 1 ≤ x = r.0 in
+    let next : x - n ≡ suc (x - (n + 1)) = omega arith in
+    (omega arith, ap (λ (k : ℕ). slice_get (w ∷ b) k) next ∙ r.1)
+
+run_once : (n : ℕ) (b : List ℕ) → IsOneValued (enumerate_from n b)
+run_once n b x v w h k = same_some v w (sym (says_place n b x v h).1 ∙ (says_place n b x w k).1)
+
+run_within : (file : List ℕ) (from n : ℕ) (os : List Owned) → IsRunFrom from os → from + length (ranges os) ≤ n → IsWithin (map (λ o. got_cell file o) os) n
+run_within file from n [] h k = tt
+run_within file from n (o ∷ os) h k =
+    let same : o.from ≡ from = h.0 in
+    let joined : length (range_with_len o.extent.at o.extent.len ++ ranges os) ≡ length (range_with_len o.extent.at o.extent.len) + length (ranges os)
+    = length-append (range_with_len o.extent.at o.extent.len) (ranges os) in
+    let long : length (range_with_len o.extent.at o.extent.len) ≡ o.extent.len = range_long o.extent.at o.extent.len in
+    let bytes : length (read file o.extent.at o.extent.len) ≡ length (range_with_len o.extent.at o.extent.len)
+    = map_long (λ i. at file i) (range_with_len o.extent.at o.extent.len) in
+    (omega arith, run_within file (from + o.extent.len) n os h.1 (omega arith))
+
+collected_as : (file blob bytes : List ℕ) (os list : List Owned) → bytes ≡ map (λ i. at file i) (ranges os) → IsRunFrom 0 os → HaveSame os list → length blob ≡ length bytes
+    → write_cells blob (map (λ o. got_cell file o) list) ≡ bytes
+collected_as file blob bytes os list is run same long =
+    same_file (write_cells blob (map (λ o. got_cell file o) list)) bytes
+    (cells_long (map (λ o. got_cell file o) list) blob (within_moved (λ o. got_cell file o) os list (length blob) same room) ∙ long)
+    (λ x. cells_said (map (λ o. got_cell file o) list) blob x
+    ∙ ap (λ (o : Option ℕ). byte_or o (at blob x))
+    (sym (cells_moved (λ o. got_cell file o) os list same (subst (λ ps. IsOneValued ps) (sym told) (run_once 0 bytes)) x)
+    ∙ ap (λ ps. said_at ps x) told)
+    ∙ by_place x (nat_lt x (length bytes)) refl)
+  where
+    told : said_by (map (λ o. got_cell file o) os) ≡ enumerate_from 0 bytes
+    told = run_got file 0 os run ∙ ap (λ xs. enumerate_from 0 xs) (sym is)
+
+    room : IsWithin (map (λ o. got_cell file o) os) (length blob)
+    room =
+        let e : length bytes ≡ length (map (λ i. at file i) (ranges os)) = ap (λ (xs : List ℕ). length xs) is in
+        let m : length (map (λ i. at file i) (ranges os)) ≡ length (ranges os) = map_long (λ i. at file i) (ranges os) in
+        run_within file 0 (length blob) os run (omega arith)
+
+    by_place : (x : ℕ) (t : Bool) → nat_lt x (length bytes) ≡ t → byte_or (said_at (enumerate_from 0 bytes) x) (at blob x) ≡ at bytes x
+    by_place x true e =
+        let l : x < length bytes = ltb-true _ _ e in
+        let none : x - 0 ≡ x = omega arith in
+        ap (λ (o : Option ℕ). byte_or o (at blob x)) (said_inside 0 bytes x 0 (omega arith) (omega arith)) ∙ ap (λ (k : ℕ). at bytes k) none
+    by_place x false e =
+        let l : length bytes ≤ x = ltb-false _ _ e in
+        ap (λ (o : Option ℕ). byte_or o (at blob x)) (said_past 0 bytes x (omega arith)) ∙ get_or_past blob x 0 (omega arith) ∙ sym (get_or_past bytes x 0 l)
+
+pub collected : (file blob : List ℕ) (os list : List Owned) → IsRunFrom 0 os → HaveSame os list → length blob ≡ length (ranges os)
+    → write_cells blob (map (λ o. got_cell file o) list) ≡ map (λ i. at file i) (ranges os)
+collected file blob os list run same long =
+    collected_as file blob (map (λ i. at file i) (ranges os)) os list refl run same (long ∙ sym (map_long (λ i. at file i) (ranges os)))
+
+-- the blob of a get, collected entry by entry in any order
+pub get_collected : (s : Setting) (post : Post) (file blob : List ℕ) (os list : List Owned) → IsRunFrom 0 os → ranges os ≡ bytes_of s.header post
+    → HaveSame os list → length blob ≡ length (bytes_of s.header post)
+    → write_cells blob (map (λ o. got_cell file o) list) ≡ get_post s file post
+get_collected s post file blob os list run e same long =
+    collected file blob os list run same (long ∙ ap (λ (xs : List ℕ). length xs) (sym e))
+    ∙ ap (λ xs. map (λ i. at file i) xs) e
+    ∙ sym (get_is_bytes s post file)

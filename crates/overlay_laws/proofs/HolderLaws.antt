@@ -1,0 +1,151 @@
+-- Entries and the puts that they were gathered from hold the same bytes for the same requests.
+use Rattle.std.proofs.Common.{◌≡◌, ℕ, refl, sym, ◌∙◌, ap, subst, inl, inr, List, [], ◌∷◌, Bool, true, false, ◌&&◌, arith}
+use Rattle.std.proofs.lemmas.Bool.Decides.{nat_tests}
+use Rattle.std.specs.Prelude.{flat_map, map, ◌==◌}
+use Rattle.std.specs.List.{list_any, range_with_len}
+use borrow.Author.Tests.{eqb-true}
+use Rattle.nc_base.specs.declared.header.Header.{Header}
+use Rattle.nc_base.specs.declared.plan.Post.{Post}
+use Rattle.nc_base.specs.declared.plan.Owned.{Owned}
+use Rattle.serial_spec.specs.SharedByte.{Puts, Key, bytes_of, holdings, holdings_of_entries, same_key, Holds, shared_pair, shared_pair_of}
+use Rattle.serial_spec.proofs.PairLaws.{same_pair}
+use Rattle.overlay_laws.specs.Entries.{Source, AreOf, IsGathered, In, HaveSame}
+use Rattle.overlay_laws.proofs.HullLaws.{or_left, or_right, or_split, any_in, in_any, in_left, in_right, in_either, in_flat, flat_in}
+
+and_left : (a b : Bool) → (a && b) ≡ true → a ≡ true
+and_left true b h = refl
+and_left false b h = cc
+
+and_right : (a b : Bool) → (a && b) ≡ true → b ≡ true
+and_right true b h = h
+and_right false b h = cc
+
+both_true : (a b : Bool) → a ≡ true → b ≡ true → (a && b) ≡ true
+both_true true b h k = k
+both_true false b h k = h
+
+no_false : {A : Type 0} → false ≡ true → A
+no_false h = cc
+
+pub same_keys : (a b : Key) → same_key a b ≡ true → (a.0 ≡ b.0) × (a.1 ≡ b.1)
+same_keys a b h = (eqb-true _ _ (and_left _ _ h), eqb-true _ _ (and_right _ _ h))
+
+pub keys_same : (a b : Key) → a.0 ≡ b.0 → a.1 ≡ b.1 → same_key a b ≡ true
+keys_same a b h k = grind (arith, nat_tests)
+
+-- who holds a byte, by members
+pub holds_by : {X : Type 0} (key : X → Key) (bytes : X → List ℕ) (xs : List X) (k : Key) (x : ℕ) (o : X) → In xs o → (key o).0 ≡ k.0 → (key o).1 ≡ k.1 → In (bytes o) x
+    → Holds (map (λ z. (key z, bytes z)) xs) k x
+holds_by key bytes [] k x o h e f m = absurd h
+holds_by {X} key bytes (y ∷ ys) k x o (inl g) e f m =
+    or_left (same_key (key y) k && list_any (λ z. z == x) (bytes y)) _
+    (subst (λ (z : X). (same_key (key z) k && list_any (λ u. u == x) (bytes z)) ≡ true) (sym g)
+    (both_true (same_key (key o) k) (list_any (λ u. u == x) (bytes o)) (keys_same (key o) k e f) (in_any (bytes o) x m)))
+holds_by key bytes (y ∷ ys) k x o (inr h) e f m =
+    or_right (same_key (key y) k && list_any (λ z. z == x) (bytes y)) _ (holds_by key bytes ys k x o h e f m)
+
+pub record IsHolder {X : Type 0} (key : X → Key) (bytes : X → List ℕ) (xs : List X) (k : Key) (x : ℕ) : Type 0 where
+  pub holder : X
+  pub is_one : In xs holder
+  pub rank : (key holder).0 ≡ k.0
+  pub request : (key holder).1 ≡ k.1
+  pub has : In (bytes holder) x
+
+pub holder_of : {X : Type 0} (key : X → Key) (bytes : X → List ℕ) (xs : List X) (k : Key) (x : ℕ) → Holds (map (λ z. (key z, bytes z)) xs) k x
+    → IsHolder key bytes xs k x
+holder_of key bytes [] k x h = no_false h
+holder_of key bytes (y ∷ ys) k x h =
+    elim (or_split (same_key (key y) k && list_any (λ z. z == x) (bytes y)) _ h) [
+      | inl g ↦ (let e = same_keys (key y) k (and_left _ _ g) in
+          record { holder = y; is_one = inl refl; rank = e.0; request = e.1; has = any_in (bytes y) x (and_right (same_key (key y) k) _ g) })
+      | inr g ↦ (let r = holder_of key bytes ys k x g in
+          record { holder = r.holder; is_one = inr r.is_one; rank = r.rank; request = r.request; has = r.has })
+    ]
+
+-- ---- from an entry to its put, and back
+
+entry_of : (p : ℕ × Post) (os : List Owned) (o : Owned) → AreOf p os → In os o → (o.rank ≡ p.0) × (o.request ≡ p.1.id)
+entry_of p [] o h k = absurd k
+entry_of p (q ∷ os) o h (inl e) = (ap (λ (z : Owned). z.rank) (sym e) ∙ h.0, ap (λ (z : Owned). z.request) (sym e) ∙ h.1)
+entry_of p (q ∷ os) o h (inr k) = entry_of p os o h.2 k
+
+pub record HasPut (header : Header) (puts : Puts) (o : Owned) (x : ℕ) : Type 0 where
+  pub put : ℕ × Post
+  pub is_one : In puts put
+  pub rank : o.rank ≡ put.0
+  pub request : o.request ≡ put.1.id
+  pub has : In (bytes_of header put.1) x
+
+pub to_put : (header : Header) (source : Source) (puts : Puts) (ess : List (List Owned)) (o : Owned) (x : ℕ) → IsGathered header source puts ess
+    → In (flat_map (λ os. os) ess) o → In (range_with_len o.extent.at o.extent.len) x → HasPut header puts o x
+to_put header source [] [] o x h k m = absurd k
+to_put header source [] (os ∷ ess) o x h k m = absurd h
+to_put header source (p ∷ puts) [] o x h k m = absurd h
+to_put header source (p ∷ puts) (os ∷ ess) o x h k m =
+    elim (in_either os (flat_map (λ q. q) ess) o k) [
+      | inl g ↦ (let e = entry_of p os o h.3 g in
+          record {
+            put = p;
+            is_one = inl refl;
+            rank = e.0;
+            request = e.1;
+            has = subst (λ (xs : List ℕ). In xs x) h.1 (in_flat (λ q. range_with_len q.extent.at q.extent.len) os o x g m);
+          })
+      | inr g ↦ (let r = to_put header source puts ess o x h.2 g m in
+          record { put = r.put; is_one = inr r.is_one; rank = r.rank; request = r.request; has = r.has })
+    ]
+
+record HasEntry (ess : List (List Owned)) (p : ℕ × Post) (x : ℕ) : Type 0 where
+  entry : Owned
+  is_one : In (flat_map (λ os. os) ess) entry
+  rank : entry.rank ≡ p.0
+  request : entry.request ≡ p.1.id
+  has : In (range_with_len entry.extent.at entry.extent.len) x
+
+to_entry : (header : Header) (source : Source) (puts : Puts) (ess : List (List Owned)) (p : ℕ × Post) (x : ℕ) → IsGathered header source puts ess
+    → In puts p → In (bytes_of header p.1) x → HasEntry ess p x
+to_entry header source [] [] p x h k m = absurd k
+to_entry header source [] (os ∷ ess) p x h k m = absurd h
+to_entry header source (q ∷ puts) [] p x h k m = absurd h
+to_entry header source (q ∷ puts) (os ∷ ess) p x h (inr k) m =
+    let r = to_entry header source puts ess p x h.2 k m in
+    record { entry = r.entry; is_one = in_right os (flat_map (λ z. z) ess) r.entry r.is_one; rank = r.rank; request = r.request; has = r.has }
+to_entry header source (q ∷ puts) (os ∷ ess) p x h (inl e) m =
+    let r = flat_in (λ o. range_with_len o.extent.at o.extent.len) os x
+    (subst (λ (xs : List ℕ). In xs x) (sym h.1) (subst (λ (z : ℕ × Post). In (bytes_of header z.1) x) (sym e) m)) in
+    let f = entry_of q os r.0 h.3 r.1 in
+    record {
+      entry = r.0;
+      is_one = in_left os (flat_map (λ z. z) ess) r.0 r.1;
+      rank = f.0 ∙ ap (λ (z : ℕ × Post). z.0) e;
+      request = f.1 ∙ ap (λ (z : ℕ × Post). z.1.id) e;
+      has = r.2;
+    }
+
+-- ---- the pair
+
+abbrev entry_key : Owned → Key
+entry_key o = (o.rank, o.request)
+
+abbrev entry_bytes : Owned → List ℕ
+entry_bytes o = range_with_len o.extent.at o.extent.len
+
+abbrev put_key : ℕ × Post → Key
+put_key p = (p.0, p.1.id)
+
+pub entries_pair : (header : Header) (source : Source) (puts : Puts) (ess : List (List Owned)) (list : List Owned)
+    → IsGathered header source puts ess → HaveSame (flat_map (λ os. os) ess) list
+    → shared_pair_of (holdings_of_entries list) ≡ shared_pair header puts
+entries_pair header source puts ess list h same = same_pair (holdings_of_entries list) (holdings header puts) there back
+  where
+    there : (k : Key) (x : ℕ) → Holds (holdings_of_entries list) k x → Holds (holdings header puts) k x
+    there k x g =
+        let r = holder_of entry_key entry_bytes list k x g in
+        let p = to_put header source puts ess r.holder x h (same.1 r.holder r.is_one) r.has in
+        holds_by put_key (λ q. bytes_of header q.1) puts k x p.put p.is_one (sym p.rank ∙ r.rank) (sym p.request ∙ r.request) p.has
+
+    back : (k : Key) (x : ℕ) → Holds (holdings header puts) k x → Holds (holdings_of_entries list) k x
+    back k x g =
+        let r = holder_of put_key (λ q. bytes_of header q.1) puts k x g in
+        let o = to_entry header source puts ess r.holder x h r.is_one r.has in
+        holds_by entry_key entry_bytes list k x o.entry (same.0 o.entry o.is_one) (o.rank ∙ r.rank) (o.request ∙ r.request) o.has

@@ -1,0 +1,408 @@
+-- The windows of the device calls have every covered byte, so that hulls written over them are the step.
+use Rattle.std.proofs.Common.{◌≡◌, ℕ, zero, suc, ◌+◌, ◌-◌, ◌*◌, ◌/◌, ◌%◌, ◌<◌, ◌≤◌, refl, sym, ◌∙◌, ap, subst, inl, inr, ◌⊎◌, List, [], ◌∷◌, ◌++◌, length, Bool, true, false, not, ◌||◌, cond, min, max, arith}
+use Rattle.std.proofs.lemmas.Bool.Decides.{nat_tests}
+use Rattle.std.proofs.lemmas.Nat.{div_below, le-div, mod_below, div-add-mod', mul-le}
+use Rattle.std.proofs.Math.Nat.{mul_comm}
+use Rattle.std.specs.Prelude.{fold, flat_map, filter, map, zip, nat_lt, nat_le, ◌==◌}
+use Rattle.std.specs.List.{range_with_len, list_any}
+use borrow.Author.Tests.{ltb-false, eqb-true}
+use Rattle.nc_base.specs.declared.header.Header.{Header}
+use Rattle.nc_base.specs.declared.script.Hints.{Hints}
+use Rattle.serial_spec.specs.Layout.{greatest}
+use Rattle.serial_spec.specs.SharedByte.{Puts, covered, bytes_of}
+use Rattle.serial_spec.specs.FileStep.{Setting, put_post}
+use Rattle.serial_spec.specs.DeviceCalls.{in_order, first_of, last_of, is_empty, not_empty, domain_size, domains, windows, collective_windows, sieved, sieving_windows}
+use Rattle.serial_spec.specs.Said.{Cell, said_at, said_by, Says, IsWithin}
+use Rattle.overlay_laws.specs.Windows.{IsInOne, HasEach}
+use Rattle.serial_spec.specs.SharedByte.{said_by_puts}
+use Rattle.overlay_laws.specs.Entries.{In, cells_of_puts}
+use Rattle.overlay_laws.specs.Hulls.{hulls, IsAscending, written_over, AreHints}
+use Rattle.overlay_laws.proofs.SaidLaws.{said_is, same_said}
+use Rattle.overlay_laws.proofs.EntryLaws.{says_cases, puts_are_cells, puts_say}
+use Rattle.overlay_laws.proofs.WindowLaws.{windows_done}
+
+-- ---- members of lists
+
+no_false : {A : Type 0} → false ≡ true → A
+no_false h = cc
+
+keep_in : {X : Type 0} (t : X → Bool) (y x : X) (rest : List X) (b : Bool) → t y ≡ b → In rest x → In (cond b (y ∷ rest) rest) x
+keep_in t y x rest true e h = inr h
+keep_in t y x rest false e h = h
+
+keep_first : {X : Type 0} (y : X) (rest : List X) (b : Bool) → b ≡ true → In (cond b (y ∷ rest) rest) y
+keep_first y rest true e = inl refl
+keep_first y rest false e = no_false e
+
+in_filter : {X : Type 0} (t : X → Bool) (xs : List X) (x : X) → In xs x → t x ≡ true → In (filter t xs) x
+in_filter t [] x h e = absurd h
+in_filter {X} t (y ∷ ys) x (inl g) e = subst (λ (z : X). In (filter t (y ∷ ys)) z) g (keep_first y (filter t ys) (t y) (ap t g ∙ e))
+in_filter t (y ∷ ys) x (inr h) e = keep_in t y x (filter t ys) (t y) refl (in_filter t ys x h e)
+
+kept_in : {X : Type 0} (t : X → Bool) (y x : X) (ys rest : List X) (b : Bool) → t y ≡ b → (In rest x → In ys x × (t x ≡ true))
+    → In (cond b (y ∷ rest) rest) x → In (y ∷ ys) x × (t x ≡ true)
+kept_in {X} t y x ys rest true e ih (inl g) = (inl g, subst (λ (z : X). t z ≡ true) g e)
+kept_in t y x ys rest true e ih (inr h) = let r = ih h in (inr r.0, r.1)
+kept_in t y x ys rest false e ih h = let r = ih h in (inr r.0, r.1)
+
+pub filter_in : {X : Type 0} (t : X → Bool) (xs : List X) (x : X) → In (filter t xs) x → In xs x × (t x ≡ true)
+filter_in t [] x h = absurd h
+filter_in t (y ∷ ys) x h = kept_in t y x ys (filter t ys) (t y) refl (filter_in t ys x) h
+
+in_map : {X Y : Type 0} (f : X → Y) (xs : List X) (x : X) → In xs x → In (map f xs) (f x)
+in_map f [] x h = absurd h
+in_map f (y ∷ ys) x (inl e) = inl (ap f e)
+in_map f (y ∷ ys) x (inr h) = inr (in_map f ys x h)
+
+map_in : {X Y : Type 0} (f : X → Y) (xs : List X) (y : Y) → In (map f xs) y → (x : X) × (f x ≡ y)
+map_in f [] y h = absurd h
+map_in f (x ∷ xs) y (inl e) = (x, e)
+map_in f (x ∷ xs) y (inr h) = map_in f xs y h
+
+pub in_left : {X : Type 0} (xs ys : List X) (x : X) → In xs x → In (xs ++ ys) x
+in_left [] ys x h = absurd h
+in_left (z ∷ xs) ys x (inl e) = inl e
+in_left (z ∷ xs) ys x (inr h) = inr (in_left xs ys x h)
+
+pub in_right : {X : Type 0} (xs ys : List X) (x : X) → In ys x → In (xs ++ ys) x
+in_right [] ys x h = h
+in_right (z ∷ xs) ys x h = inr (in_right xs ys x h)
+
+pub in_either : {X : Type 0} (xs ys : List X) (x : X) → In (xs ++ ys) x → In xs x ⊎ In ys x
+in_either [] ys x h = inr h
+in_either (z ∷ xs) ys x (inl e) = inl (inl e)
+in_either (z ∷ xs) ys x (inr h) = elim (in_either xs ys x h) [ inl g ↦ inl (inr g) | inr g ↦ inr g ]
+
+pub in_flat : {X Y : Type 0} (f : X → List Y) (xs : List X) (x : X) (y : Y) → In xs x → In (f x) y → In (flat_map f xs) y
+in_flat f [] x y h k = absurd h
+in_flat {X} f (z ∷ xs) x y (inl e) k = in_left (f z) (flat_map f xs) y (subst (λ (u : X). In (f u) y) (sym e) k)
+in_flat f (z ∷ xs) x y (inr h) k = in_right (f z) (flat_map f xs) y (in_flat f xs x y h k)
+
+pub flat_in : {X Y : Type 0} (f : X → List Y) (xs : List X) (y : Y) → In (flat_map f xs) y → (x : X) × In xs x × In (f x) y
+flat_in f [] y h = absurd h
+flat_in f (z ∷ xs) y h =
+    elim (in_either (f z) (flat_map f xs) y h) [
+      | inl g ↦ (z, inl refl, g)
+      | inr g ↦ (let r = flat_in f xs y g in (r.0, inr r.1, r.2))
+    ]
+
+pub in_range : (a n x : ℕ) → a ≤ x → x < a + n → In (range_with_len a n) x
+in_range a zero x h k = absurd (omega arith)
+in_range a (suc n) x h k = by_first (λ l. in_range (a + 1) n x l (omega arith)) (a == x) refl
+  where
+    by_first : (a + 1 ≤ x → In (range_with_len (a + 1) n) x) → (t : Bool) → (a == x) ≡ t → In (range_with_len a (suc n)) x
+    by_first rest true e = inl (eqb-true _ _ e)
+    by_first rest false e = inr (rest (grind (arith, nat_tests)))
+
+pub range_low : (a n x : ℕ) → In (range_with_len a n) x → a ≤ x
+range_low a zero x h = absurd h
+range_low a (suc n) x (inl e) = omega arith
+range_low a (suc n) x (inr h) = let l = range_low (a + 1) n x h in omega arith
+
+pub range_high : (a n x : ℕ) → In (range_with_len a n) x → x < a + n
+range_high a zero x h = absurd h
+range_high a (suc n) x (inl e) = omega arith
+range_high a (suc n) x (inr h) = let l = range_high (a + 1) n x h in omega arith
+
+pub or_left : (a b : Bool) → a ≡ true → (a || b) ≡ true
+or_left true b h = refl
+or_left false b h = cc
+
+pub or_right : (a b : Bool) → b ≡ true → (a || b) ≡ true
+or_right true b h = refl
+or_right false b h = h
+
+pub or_split : (a b : Bool) → (a || b) ≡ true → (a ≡ true) ⊎ (b ≡ true)
+or_split true b h = inl refl
+or_split false b h = inr h
+
+pub any_in : (xs : List ℕ) (x : ℕ) → list_any (λ z. z == x) xs ≡ true → In xs x
+any_in [] x h = no_false h
+any_in (y ∷ ys) x h = elim (or_split (y == x) _ h) [ inl e ↦ inl (eqb-true _ _ e) | inr g ↦ inr (any_in ys x g) ]
+
+itself : (x y : ℕ) → y ≡ x → (y == x) ≡ true
+itself x y e = grind (arith, nat_tests)
+
+pub in_any : (xs : List ℕ) (x : ℕ) → In xs x → list_any (λ z. z == x) xs ≡ true
+in_any [] x h = absurd h
+in_any (y ∷ ys) x (inl e) = or_left (y == x) _ (itself x y e)
+in_any (y ∷ ys) x (inr h) = or_right (y == x) _ (in_any ys x h)
+
+-- ---- ascending lists
+
+pub range_ascends : (a n : ℕ) → IsAscending (range_with_len a n)
+range_ascends a zero = tt
+range_ascends a (suc n) = ((λ y h. let l = range_low (a + 1) n y h in omega arith), range_ascends (a + 1) n)
+
+kept_ascends : (t : ℕ → Bool) (x : ℕ) (xs : List ℕ) (b : Bool) → ((y : ℕ) → In xs y → x < y) → IsAscending (filter t xs) → IsAscending (cond b (x ∷ filter t xs) (filter t xs))
+kept_ascends t x xs true h k = ((λ y g. h y (filter_in t xs y g).0), k)
+kept_ascends t x xs false h k = k
+
+pub filter_ascends : (t : ℕ → Bool) (xs : List ℕ) → IsAscending xs → IsAscending (filter t xs)
+filter_ascends t [] h = tt
+filter_ascends t (x ∷ xs) h = kept_ascends t x xs (t x) h.0 (filter_ascends t xs h.1)
+
+pub first_least : (xs : List ℕ) (x : ℕ) → IsAscending xs → In xs x → first_of xs ≤ x
+first_least [] x h k = absurd k
+first_least (y ∷ ys) x h (inl e) = omega arith
+first_least (y ∷ ys) x h (inr k) = let l = h.0 x k in omega arith
+
+pub last_most : (xs : List ℕ) (x : ℕ) → In xs x → x ≤ last_of xs
+last_most [] x h = absurd h
+last_most (y ∷ ys) x (inl e) = omega arith
+last_most (y ∷ ys) x (inr h) = let l = last_most ys x h in omega arith
+
+pub last_below : (xs : List ℕ) (n : ℕ) → 1 ≤ n → ((x : ℕ) → In xs x → x < n) → last_of xs + 1 ≤ n
+last_below [] n l h = omega arith
+last_below (y ∷ ys) n l h = let a = h y (inl refl) in let b = last_below ys n l (λ x k. h x (inr k)) in omega arith
+
+first_last : (xs : List ℕ) → first_of xs ≤ last_of xs + 1
+first_last [] = omega arith
+first_last (y ∷ ys) = omega arith
+
+-- ---- the covered bytes in order
+
+least_low : (x : ℕ) (xs : List ℕ) (y : ℕ) → (y ≡ x) ⊎ In xs y → fold (λ a b. min a b) x xs ≤ y
+least_low x [] y (inl e) = omega arith
+least_low x [] y (inr h) = absurd h
+least_low x (z ∷ xs) y (inl e) = let l = least_low (min x z) xs (min x z) (inl refl) in omega arith
+least_low x (z ∷ xs) y (inr (inl e)) = let l = least_low (min x z) xs (min x z) (inl refl) in omega arith
+least_low x (z ∷ xs) y (inr (inr h)) = least_low (min x z) xs y (inr h)
+
+pub in_in_order : (xs : List ℕ) (y : ℕ) → In xs y → In (in_order xs) y
+in_in_order [] y h = absurd h
+in_in_order (x ∷ xs) y h =
+    let lo = fold (λ a b. min a b) x xs in
+    let low : fold (λ a b. min a b) x xs ≤ y = least_low x xs y (turned h) in
+    let high : y ≤ greatest (x ∷ xs) = last_most (x ∷ xs) y h in
+    in_filter (λ y. list_any (λ z. z == y) (x ∷ xs)) (range_with_len lo (greatest (x ∷ xs) + 1 - lo)) y
+    (in_range lo (greatest (x ∷ xs) + 1 - lo) y low (omega arith)) (in_any (x ∷ xs) y h)
+  where
+    turned : In (x ∷ xs) y → (y ≡ x) ⊎ In xs y
+    turned (inl e) = inl (sym e)
+    turned (inr k) = inr k
+
+pub in_order_in : (xs : List ℕ) (y : ℕ) → In (in_order xs) y → In xs y
+in_order_in [] y h = absurd h
+in_order_in (x ∷ xs) y h =
+    any_in (x ∷ xs) y (filter_in (λ y. list_any (λ z. z == y) (x ∷ xs)) (range_with_len (fold (λ a b. min a b) x xs) (greatest (x ∷ xs) + 1 - fold (λ a b. min a b) x xs)) y h).1
+
+pub in_order_ascends : (xs : List ℕ) → IsAscending (in_order xs)
+in_order_ascends [] = tt
+in_order_ascends (x ∷ xs) =
+    filter_ascends (λ y. list_any (λ z. z == y) (x ∷ xs)) (range_with_len (fold (λ a b. min a b) x xs) (greatest (x ∷ xs) + 1 - fold (λ a b. min a b) x xs))
+    (range_ascends (fold (λ a b. min a b) x xs) (greatest (x ∷ xs) + 1 - fold (λ a b. min a b) x xs))
+
+-- ---- a window that has the byte
+
+pub record HasWindow (ws : List (List ℕ)) (x : ℕ) : Type 0 where
+  pub window : List ℕ
+  pub is_one : In ws window
+  pub has : In window x
+  pub ascends : IsAscending window
+
+not_empty_has : (w : List ℕ) (x : ℕ) → In w x → not (is_empty w) ≡ true
+not_empty_has [] x h = absurd h
+not_empty_has (y ∷ ys) x h = refl
+
+has_hull : (ws : List (List ℕ)) (w : List ℕ) (x : ℕ) → In ws w → In w x → IsAscending w → HasEach (hulls ws) x
+has_hull [] w x h k g = absurd h
+has_hull (v ∷ ws) w x (inl e) k g =
+    inl (subst (λ (u : List ℕ). (first_of u ≤ x) × (x < last_of u + 1)) (sym e) (first_least w x g k, (let l = last_most w x k in omega arith)))
+has_hull (v ∷ ws) w x (inr h) k g = inr (has_hull ws w x h k g)
+
+pub window_hull : (ws : List (List ℕ)) (x : ℕ) → HasWindow ws x → HasEach (hulls ws) x
+window_hull ws x h = has_hull ws h.window x h.is_one h.has h.ascends
+
+-- ---- division
+
+ceil_covers : (n k : ℕ) → 1 ≤ k → n ≤ (n + (k - 1)) / k * k
+ceil_covers n k h =
+    let whole = div-add-mod' (n + (k - 1)) k in
+    let part = mod_below (n + (k - 1)) k (omega arith) in
+    omega arith
+
+pub div_grows : (m n k : ℕ) → 1 ≤ k → m ≤ n → m / k ≤ n / k
+div_grows m n k h l = let whole = div-add-mod' m k in le-div (m / k) n k (omega arith) (omega arith)
+
+-- ---- windows of a domain
+
+pub windows_have : (buffer : ℕ) (bytes : List ℕ) (x : ℕ) → 1 ≤ buffer → IsAscending bytes → In bytes x → HasWindow (windows buffer bytes) x
+windows_have buffer bytes x h asc k =
+    let lo = first_of bytes in
+    let high = last_most bytes x k in
+    let grows = div_grows (x - lo) (last_of bytes - lo) buffer h (omega arith) in
+    let found = in_filter (λ y. (y - lo) / buffer == (x - lo) / buffer) bytes x k (itself ((x - lo) / buffer) ((x - lo) / buffer) refl) in
+    record {
+      window = filter (λ y. (y - lo) / buffer == (x - lo) / buffer) bytes;
+      is_one = in_filter (λ w. not (is_empty w)) (map (λ j. filter (λ y. (y - lo) / buffer == j) bytes) (range_with_len 0 ((last_of bytes - lo) / buffer + 1)))
+          (filter (λ y. (y - lo) / buffer == (x - lo) / buffer) bytes)
+          (in_map (λ j. filter (λ y. (y - lo) / buffer == j) bytes) (range_with_len 0 ((last_of bytes - lo) / buffer + 1)) ((x - lo) / buffer)
+          (in_range 0 ((last_of bytes - lo) / buffer + 1) ((x - lo) / buffer) (omega arith) (omega arith)))
+          (not_empty_has (filter (λ y. (y - lo) / buffer == (x - lo) / buffer) bytes) x found);
+      has = found;
+      ascends = filter_ascends (λ y. (y - lo) / buffer == (x - lo) / buffer) bytes asc;
+    }
+
+windows_only : (buffer : ℕ) (bytes w : List ℕ) (x : ℕ) → In (windows buffer bytes) w → In w x → In bytes x
+windows_only buffer bytes w x h k =
+    let lo = first_of bytes in
+    let made = filter_in (λ w. not (is_empty w)) (map (λ j. filter (λ y. (y - lo) / buffer == j) bytes) (range_with_len 0 ((last_of bytes - lo) / buffer + 1))) w h in
+    let r = map_in (λ j. filter (λ y. (y - lo) / buffer == j) bytes) (range_with_len 0 ((last_of bytes - lo) / buffer + 1)) w made.0 in
+    (filter_in (λ y. (y - lo) / buffer == r.0) bytes x (subst (λ (u : List ℕ). In u x) (sym r.1) k)).0
+
+-- ---- domains
+
+domains_have : (nodes unit : ℕ) (bytes : List ℕ) (x : ℕ) → 1 ≤ nodes → 1 ≤ unit → IsAscending bytes → In bytes x → HasWindow (domains nodes unit bytes) x
+domains_have nodes unit bytes x h u asc k =
+    let lo = first_of bytes in
+    let low = lo - lo % unit in
+    let n = last_of bytes + 1 - low in
+    let c = (n + (nodes - 1)) / nodes in
+    let s = max 1 (domain_size low (last_of bytes + 1) nodes unit) in
+    let high : x ≤ last_of bytes = last_most bytes x k in
+    let covers : n ≤ c * nodes = ceil_covers n nodes h in
+    let rounded : c ≤ (c + (unit - 1)) / unit * unit = ceil_covers c unit u in
+    let grown : c * nodes ≤ s * nodes = mul-le c nodes s nodes (omega arith) (omega arith) in
+    let one : 1 * 1 ≤ s * nodes = mul-le 1 1 s nodes (omega arith) h in
+    let turned : s * nodes ≡ nodes * s = mul_comm s nodes in
+    let below : (x - low) / s < nodes = div_below (x - low) s nodes (omega arith) (omega arith) in
+    record {
+      window = filter (λ y. (y - low) / s == (x - low) / s) bytes;
+      is_one = in_map (λ a. filter (λ y. (y - low) / s == a) bytes) (range_with_len 0 nodes) ((x - low) / s) (in_range 0 nodes ((x - low) / s) (omega arith) (omega arith));
+      has = in_filter (λ y. (y - low) / s == (x - low) / s) bytes x k (itself ((x - low) / s) ((x - low) / s) refl);
+      ascends = filter_ascends (λ y. (y - low) / s == (x - low) / s) bytes asc;
+    }
+
+domains_only : (nodes unit : ℕ) (bytes d : List ℕ) (x : ℕ) → In (domains nodes unit bytes) d → In d x → In bytes x
+domains_only nodes unit bytes d x h k =
+    let lo = first_of bytes in
+    let low = lo - lo % unit in
+    let s = max 1 (domain_size low (last_of bytes + 1) nodes unit) in
+    let r = map_in (λ a. filter (λ y. (y - low) / s == a) bytes) (range_with_len 0 nodes) d h in
+    (filter_in (λ y. (y - low) / s == r.0) bytes x (subst (λ (u : List ℕ). In u x) (sym r.1) k)).0
+
+pub collective_have : (hints : Hints) (bytes : List ℕ) (x : ℕ) → AreHints hints → IsAscending bytes → In bytes x → HasWindow (collective_windows hints bytes) x
+collective_have hints bytes x h asc k =
+    let d = domains_have hints.cb_nodes hints.striping_unit bytes x h.0 h.1 asc k in
+    let w = windows_have hints.cb_buffer d.window x h.2 d.ascends d.has in
+    record {
+      window = w.window;
+      is_one = in_flat (λ d. windows hints.cb_buffer d) (not_empty (domains hints.cb_nodes hints.striping_unit bytes)) d.window w.window
+          (in_filter (λ w. not (is_empty w)) (domains hints.cb_nodes hints.striping_unit bytes) d.window d.is_one (not_empty_has d.window x d.has)) w.is_one;
+      has = w.has;
+      ascends = w.ascends;
+    }
+
+pub collective_only : (hints : Hints) (bytes w : List ℕ) (x : ℕ) → In (collective_windows hints bytes) w → In w x → In bytes x
+collective_only hints bytes w x h k =
+    let r = flat_in (λ d. windows hints.cb_buffer d) (not_empty (domains hints.cb_nodes hints.striping_unit bytes)) w h in
+    let d = filter_in (λ w. not (is_empty w)) (domains hints.cb_nodes hints.striping_unit bytes) r.0 r.1 in
+    domains_only hints.cb_nodes hints.striping_unit bytes r.0 x d.0 (windows_only hints.cb_buffer r.0 w x r.2 k)
+
+-- ---- sieving windows
+
+kept_short : (t : ℕ → Bool) (y : ℕ) (ys rest : List ℕ) (b : Bool) → length rest ≤ length ys → length (cond b (y ∷ rest) rest) ≤ suc (length ys)
+kept_short t y ys rest true h = omega arith
+kept_short t y ys rest false h = omega arith
+
+pub filter_short : (t : ℕ → Bool) (xs : List ℕ) → length (filter t xs) ≤ length xs
+filter_short t [] = omega arith
+filter_short t (y ∷ ys) = kept_short t y ys (filter t ys) (t y) (filter_short t ys)
+
+later_window : (w : List ℕ) (ws : List (List ℕ)) (x : ℕ) → HasWindow ws x → HasWindow (w ∷ ws) x
+later_window w ws x h = record { window = h.window; is_one = inr h.is_one; has = h.has; ascends = h.ascends }
+
+sieved_have : (fuel buffer : ℕ) (bytes : List ℕ) (x : ℕ) → 1 ≤ buffer → length bytes ≤ fuel → IsAscending bytes → In bytes x → HasWindow (sieved fuel buffer bytes) x
+sieved_have zero buffer [] x h l asc k = absurd k
+sieved_have zero buffer (y ∷ ys) x h l asc k = absurd (omega arith)
+sieved_have (suc fuel) buffer [] x h l asc k = absurd k
+sieved_have (suc fuel) buffer (y ∷ ys) x h l asc k =
+    by_test
+    (λ g. sieved_have fuel buffer (filter (λ z. nat_le (y + buffer) z) ys) x h (let m = filter_short (λ z. nat_le (y + buffer) z) ys in omega arith)
+    (filter_ascends (λ z. nat_le (y + buffer) z) ys asc.1) g)
+    k (nat_lt x (y + buffer)) refl
+  where
+    le_true : nat_lt x (y + buffer) ≡ false → nat_le (y + buffer) x ≡ true
+    le_true e = grind (arith, nat_tests)
+
+    by_test : (In (filter (λ z. nat_le (y + buffer) z) ys) x → HasWindow (sieved fuel buffer (filter (λ z. nat_le (y + buffer) z) ys)) x)
+        → In (y ∷ ys) x → (t : Bool) → nat_lt x (y + buffer) ≡ t → HasWindow (sieved (suc fuel) buffer (y ∷ ys)) x
+    by_test rest g true e = record {
+      window = filter (λ z. nat_lt z (y + buffer)) (y ∷ ys);
+      is_one = inl refl;
+      has = in_filter (λ z. nat_lt z (y + buffer)) (y ∷ ys) x g e;
+      ascends = filter_ascends (λ z. nat_lt z (y + buffer)) (y ∷ ys) asc;
+    }
+    by_test rest (inl g) false e = let m : y + buffer ≤ x = ltb-false _ _ e in absurd (omega arith)
+    by_test rest (inr g) false e =
+        later_window (filter (λ z. nat_lt z (y + buffer)) (y ∷ ys)) (sieved fuel buffer (filter (λ z. nat_le (y + buffer) z) ys)) x
+        (rest (in_filter (λ z. nat_le (y + buffer) z) ys x g (le_true e)))
+
+sieved_only : (fuel buffer : ℕ) (bytes w : List ℕ) (x : ℕ) → In (sieved fuel buffer bytes) w → In w x → In bytes x
+sieved_only zero buffer bytes w x h k = absurd h
+sieved_only (suc fuel) buffer [] w x h k = absurd h
+sieved_only (suc fuel) buffer (y ∷ ys) w x (inl e) k =
+    (filter_in (λ z. nat_lt z (y + buffer)) (y ∷ ys) x (subst (λ (u : List ℕ). In u x) (sym e) k)).0
+sieved_only (suc fuel) buffer (y ∷ ys) w x (inr h) k =
+    inr (filter_in (λ z. nat_le (y + buffer) z) ys x (sieved_only fuel buffer (filter (λ z. nat_le (y + buffer) z) ys) w x h k)).0
+
+pub sieving_have : (buffer : ℕ) (bytes : List ℕ) (x : ℕ) → 1 ≤ buffer → IsAscending bytes → In bytes x → HasWindow (sieving_windows buffer bytes) x
+sieving_have buffer bytes x h asc k = sieved_have (length bytes) buffer bytes x h (omega arith) asc k
+
+pub sieving_only : (buffer : ℕ) (bytes w : List ℕ) (x : ℕ) → In (sieving_windows buffer bytes) w → In w x → In bytes x
+sieving_only buffer bytes w x h k = sieved_only (length bytes) buffer bytes w x h k
+
+-- ---- the step, hull by hull
+
+hulls_in : (ws : List (List ℕ)) (n : ℕ) → 1 ≤ n → ((w : List ℕ) (x : ℕ) → In ws w → In w x → x < n) → IsInOne (hulls ws) n
+hulls_in [] n l h = tt
+hulls_in (w ∷ ws) n l h = (first_last w, last_below w n l (λ x k. h w x (inl refl) k), hulls_in ws n l (λ v x g k. h v x (inr g) k))
+
+zip_in : (xs b : List ℕ) (x v : ℕ) → Says (zip xs b) x v → In xs x
+zip_in [] b x v h = absurd h
+zip_in (y ∷ xs) [] x v h = absurd h
+zip_in (y ∷ xs) (w ∷ b) x v (inl h) = inl h.0
+zip_in (y ∷ xs) (w ∷ b) x v (inr h) = inr (zip_in xs b x v h)
+
+pub said_covered : (header : Header) (puts : Puts) (x v : ℕ) → Says (said_by_puts header puts) x v → In (covered header puts) x
+said_covered header [] x v h = absurd h
+said_covered header (p ∷ puts) x v h =
+    elim (says_cases (zip (bytes_of header p.1) p.1.bytes) (said_by_puts header puts) x v h) [
+      | inl g ↦ in_left (bytes_of header p.1) (covered header puts) x (zip_in (bytes_of header p.1) p.1.bytes x v g)
+      | inr g ↦ in_right (bytes_of header p.1) (covered header puts) x (said_covered header puts x v g)
+    ]
+
+hulls_done : (s : Setting) (puts : Puts) (file : List ℕ) (cells : List Cell) (ws : List (List ℕ)) → 1 ≤ length file
+    → IsWithin (cells_of_puts s.header puts) (length file) → IsWithin cells (length file)
+    → ((x : ℕ) → said_at (said_by cells) x ≡ said_at (said_by_puts s.header puts) x)
+    → ((x : ℕ) → In (covered s.header puts) x → x < length file)
+    → ((w : List ℕ) (x : ℕ) → In ws w → In w x → In (covered s.header puts) x)
+    → ((x : ℕ) → In (covered s.header puts) x → HasWindow ws x)
+    → written_over file cells ws ≡ fold (put_post s) file puts
+hulls_done s puts file cells ws one room fits same below only each =
+    windows_done file cells (hulls ws) fits
+    (hulls_in ws (length file) one (λ w x h k. below x (only w x h k)))
+    (λ x v e. window_hull ws x (each x (said_covered s.header puts x v (said_is (said_by_puts s.header puts) x v (sym (same x) ∙ e)))))
+    ∙ same_said cells (cells_of_puts s.header puts) file fits room (λ x. same x ∙ ap (λ ps. said_at ps x) (sym (puts_say s.header puts)))
+    ∙ sym (puts_are_cells s puts file)
+
+pub collective_done : (hints : Hints) (s : Setting) (puts : Puts) (file : List ℕ) (cells : List Cell) → AreHints hints → 1 ≤ length file
+    → IsWithin (cells_of_puts s.header puts) (length file) → IsWithin cells (length file)
+    → ((x : ℕ) → said_at (said_by cells) x ≡ said_at (said_by_puts s.header puts) x)
+    → ((x : ℕ) → In (covered s.header puts) x → x < length file)
+    → written_over file cells (collective_windows hints (in_order (covered s.header puts))) ≡ fold (put_post s) file puts
+collective_done hints s puts file cells h one room fits same below =
+    hulls_done s puts file cells (collective_windows hints (in_order (covered s.header puts))) one room fits same below
+    (λ w x g k. in_order_in (covered s.header puts) x (collective_only hints (in_order (covered s.header puts)) w x g k))
+    (λ x g. collective_have hints (in_order (covered s.header puts)) x h (in_order_ascends (covered s.header puts)) (in_in_order (covered s.header puts) x g))
+
+pub sieving_done : (buffer : ℕ) (s : Setting) (puts : Puts) (file : List ℕ) (cells : List Cell) → 1 ≤ buffer → 1 ≤ length file
+    → IsWithin (cells_of_puts s.header puts) (length file) → IsWithin cells (length file)
+    → ((x : ℕ) → said_at (said_by cells) x ≡ said_at (said_by_puts s.header puts) x)
+    → ((x : ℕ) → In (covered s.header puts) x → x < length file)
+    → written_over file cells (sieving_windows buffer (in_order (covered s.header puts))) ≡ fold (put_post s) file puts
+sieving_done buffer s puts file cells h one room fits same below =
+    hulls_done s puts file cells (sieving_windows buffer (in_order (covered s.header puts))) one room fits same below
+    (λ w x g k. in_order_in (covered s.header puts) x (sieving_only buffer (in_order (covered s.header puts)) w x g k))
+    (λ x g. sieving_have buffer (in_order (covered s.header puts)) x h (in_order_ascends (covered s.header puts)) (in_in_order (covered s.header puts) x g))

@@ -1,0 +1,16 @@
+pub mod SaidLaws
+pub mod WindowLaws
+pub mod EntryLaws
+pub mod ShareLaws
+pub mod OriginLaws
+pub mod PartLaws
+pub mod HullLaws
+pub mod WalkLaws
+pub mod CoverLaws
+pub mod HolderLaws
+pub mod DomainLaws
+pub mod StepLaws
+pub mod RoomLaws
+pub mod OnceLaws
+pub mod RegionLaws
+pub mod ReadLaws

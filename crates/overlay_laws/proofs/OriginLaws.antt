@@ -1,0 +1,190 @@
+-- The bytes of entries by where they come from; where requests overlap, the last in rank order counts.
+use Rattle.std.proofs.Common.{◌≡◌, ℕ, zero, suc, ◌+◌, ◌<◌, ◌≤◌, refl, sym, ◌∙◌, ap, subst, inl, inr, ◌⊎◌, List, [], ◌∷◌, ◌++◌, length, take, drop, Bool, true, false, Option, Some, None, arith}
+use Rattle.std.proofs.lemmas.List.{drop_more}
+use Rattle.std.specs.Prelude.{fold, flat_map, map, option_map, ◌==◌}
+use Rattle.std.specs.List.{enumerate_from, range_with_len}
+use Rattle.nc_base.specs.declared.plan.Owned.{Owned}
+use Rattle.serial_spec.specs.File.{at}
+use Rattle.serial_spec.specs.SharedByte.{Puts}
+use Rattle.serial_spec.specs.FileStep.{Setting, put_post}
+use Rattle.std.specs.Option.{option_or}
+use Rattle.serial_spec.specs.Said.{one_says, said_at, Says, IsOneValued, write_cells, said_by, IsWithin}
+use Rattle.overlay_laws.specs.Entries.{cells_of_puts, Source, cell_of, IsGathered, In, HaveSame}
+use Rattle.overlay_laws.specs.Origins.{Origin, origins_of, origins, byte_at, AreFound, AtMost, IsGreatest, IsResolved, IsOnceEach, IsInOrder}
+use Rattle.overlay_laws.proofs.SaidLaws.{no_none_some, same_some, one_hit, said_is, says_some, one_said, same_said}
+use Rattle.overlay_laws.proofs.EntryLaws.{says_cases, says_moved, puts_are_cells, puts_say, gathered_says}
+
+-- ---- bytes by their origins
+
+one_mapped : {A B : Type 0} (f : A → B) (y : ℕ) (a : A) (x : ℕ) → one_says y (f a) x ≡ option_map f (one_says y a x)
+one_mapped {A} {B} f y a x = by_test (y == x) refl
+  where
+    by_test : (t : Bool) → (y == x) ≡ t → one_says y (f a) x ≡ option_map f (one_says y a x)
+    by_test true e = one_hit y x (f a) e ∙ ap (λ o. option_map f o) (sym (one_hit y x a e))
+    by_test false e = miss (f a) e ∙ ap (λ o. option_map f o) (sym (miss a e))
+      where
+        miss : {C : Type 0} (c : C) → (y == x) ≡ false → one_says y c x ≡ None
+        miss c g = cc
+
+else_mapped : {A B : Type 0} (f : A → B) (o q : Option A) → option_or (option_map f o) (option_map f q) ≡ option_map f (option_or o q)
+else_mapped f None q = refl
+else_mapped f (Some a) q = refl
+
+pub said_mapped : {A B : Type 0} (f : A → B) (ps : List (ℕ × A)) (x : ℕ) → said_at (map (λ p. (p.0, f p.1)) ps) x ≡ option_map f (said_at ps x)
+said_mapped f [] x = refl
+said_mapped f (p ∷ ps) x =
+    ap (λ o. option_or o (one_says p.0 (f p.1) x)) (said_mapped f ps x)
+    ∙ ap (λ q. option_or (option_map f (said_at ps x)) q) (one_mapped f p.0 p.1 x)
+    ∙ else_mapped f (said_at ps x) (one_says p.0 p.1 x)
+
+slice_step : (b : List ℕ) (from n : ℕ) → from < length b → take (suc n) (drop from b) ≡ at b from ∷ take n (drop (from + 1) b)
+slice_step b from n h = ap (λ (xs : List ℕ). take (suc n) xs) (drop_more b from 0 h)
+
+cell_origins : (source : Source) (r k p from n : ℕ) → from + n ≤ length (source r k)
+    → enumerate_from p (take n (drop from (source r k)))
+    ≡ map (λ q. (q.0, byte_at source q.1)) (enumerate_from p (map (λ i. (r, k, i)) (range_with_len from n)))
+cell_origins source r k p from zero h = refl
+cell_origins source r k p from (suc n) h =
+    ap (λ xs. enumerate_from p xs) (slice_step (source r k) from n (omega arith))
+    ∙ ap (λ rest. (p, at (source r k) from) ∷ rest) (cell_origins source r k (p + 1) (from + 1) n (omega arith))
+
+map_joined : {A B : Type 0} (f : A → B) (xs ys : List A) → map f (xs ++ ys) ≡ map f xs ++ map f ys
+map_joined f [] ys = refl
+map_joined f (x ∷ xs) ys = ap (λ rest. f x ∷ rest) (map_joined f xs ys)
+
+pub cells_by_origins : (source : Source) (os : List Owned) → AreFound source os
+    → said_by (map (λ o. cell_of source o) os) ≡ map (λ q. (q.0, byte_at source q.1)) (origins os)
+cells_by_origins source [] h = refl
+cells_by_origins source (o ∷ os) h =
+    ap (λ rest. enumerate_from o.extent.at (take o.extent.len (drop o.from (source o.rank o.slot))) ++ rest) (cells_by_origins source os h.1)
+    ∙ ap (λ first. first ++ map (λ q. (q.0, byte_at source q.1)) (origins os)) (cell_origins source o.rank o.slot o.extent.at o.from o.extent.len h.0)
+    ∙ sym (map_joined (λ q. (q.0, byte_at source q.1)) (origins_of o) (origins os))
+
+-- ---- the greatest is the last
+
+AllInOrder : List (ℕ × Origin) → Type 0
+AllInOrder [] = Unit {0}
+AllInOrder (p ∷ ps) = ((x : ℕ) (b : Origin) → Says ps x b → AtMost p.1 b) × AllInOrder ps
+
+itself : (a : Origin) → AtMost a a
+itself a = inr (refl, omega arith)
+
+last_is_greatest : (ps : List (ℕ × Origin)) → AllInOrder ps → (x : ℕ) (a b : Origin) → said_at ps x ≡ Some a → Says ps x b → AtMost b a
+unfolding AllInOrder
+last_is_greatest [] h x a b e k = absurd k
+last_is_greatest (p ∷ ps) h x a b e k = by_rest (λ g l. last_is_greatest ps h.1 x a b g l) (said_at ps x) refl k e
+  where
+    by_one : (t : Bool) → (p.0 == x) ≡ t → one_says p.0 p.1 x ≡ Some a → p.1 ≡ a
+    by_one true g l = same_some p.1 a (sym (one_hit p.0 x p.1 g) ∙ l)
+    by_one false g l = no_none_some a (sym (miss g) ∙ l)
+      where
+        miss : (p.0 == x) ≡ false → one_says p.0 p.1 x ≡ None
+        miss g = cc
+
+    by_rest : (said_at ps x ≡ Some a → Says ps x b → AtMost b a) → (o : Option Origin) → said_at ps x ≡ o
+        → ((p.0 ≡ x) × (p.1 ≡ b)) ⊎ Says ps x b → option_or o (one_says p.0 p.1 x) ≡ Some a → AtMost b a
+    by_rest ih (Some c) g (inr l) f = ih (g ∙ f) l
+    by_rest ih (Some c) g (inl l) f = subst (λ (z : Origin). AtMost z a) l.1 (h.0 x a (said_is ps x a (g ∙ f)))
+    by_rest ih None g (inr l) f = let s = says_some ps x b l in no_none_some s.0 (sym g ∙ s.1)
+    by_rest ih None g (inl l) f = subst (λ (z : Origin). AtMost z a) l.1 (subst (λ (z : Origin). AtMost p.1 z) (by_one (p.0 == x) refl f) (itself p.1))
+
+same_ends : (a b : Origin) → AtMost a b → AtMost b a → (a.0 ≡ b.0) × (a.1 ≡ b.1)
+same_ends a b (inl h) (inl k) = absurd (omega arith)
+same_ends a b (inl h) (inr k) = let e = k.0 in absurd (omega arith)
+same_ends a b (inr h) (inl k) = let e = h.0 in absurd (omega arith)
+same_ends a b (inr h) (inr k) = let e = h.1 in let f = k.1 in (h.0, omega arith)
+
+pub greatest_once : (ps : List (ℕ × Origin)) → IsOnceEach ps → (x : ℕ) (a b : Origin) → IsGreatest ps x a → IsGreatest ps x b → a ≡ b
+greatest_once ps once x a b ha hb =
+    let e = same_ends a b (hb.1 a ha.0) (ha.1 b hb.0) in
+    once x a b ha.0 hb.0 e.0 e.1
+
+-- ---- entries in order
+
+says_key : (r k p : ℕ) (is : List ℕ) (x : ℕ) (a : Origin) → Says (enumerate_from p (map (λ i. (r, k, i)) is)) x a → (a.0 ≡ r) × (a.1 ≡ k)
+says_key r k p [] x a h = absurd h
+says_key r k p (i ∷ is) x a (inl h) = (ap (λ (z : Origin). z.0) (sym h.1), ap (λ (z : Origin). z.1) (sym h.1))
+says_key r k p (i ∷ is) x a (inr h) = says_key r k (p + 1) is x a h
+
+key_at_most : (r k i : ℕ) (q : Owned) (a : Origin) → AtMost (r, k, 0) (q.rank, q.slot, 0) → (a.0 ≡ q.rank) × (a.1 ≡ q.slot) → AtMost (r, k, i) a
+key_at_most r k i q a (inl h) e = let f = e.0 in inl (omega arith)
+key_at_most r k i q a (inr h) e = let f = e.0 in let g = e.1 in let m = h.0 in let n = h.1 in inr (omega arith, omega arith)
+
+says_entry : (os : List Owned) (x : ℕ) (a : Origin) → Says (origins os) x a → (q : Owned) × In os q × (a.0 ≡ q.rank) × (a.1 ≡ q.slot)
+says_entry [] x a h = absurd h
+says_entry (o ∷ os) x a h =
+    elim (says_cases (origins_of o) (origins os) x a h) [
+      | inl g ↦ (let e = says_key o.rank o.slot o.extent.at (range_with_len o.from o.extent.len) x a g in (o, inl refl, e.0, e.1))
+      | inr g ↦ (let r = says_entry os x a g in (r.0, inr r.1, r.2, r.3))
+    ]
+
+entry_in_order : (r k p : ℕ) (is : List ℕ) (rest : List (ℕ × Origin)) → AllInOrder rest
+    → ((i x : ℕ) (a : Origin) → Says rest x a → AtMost (r, k, i) a) → AllInOrder (enumerate_from p (map (λ i. (r, k, i)) is) ++ rest)
+unfolding AllInOrder
+entry_in_order r k p [] rest h before = h
+entry_in_order r k p (i ∷ is) rest h before = (
+  λ x a g. elim (says_cases (enumerate_from (p + 1) (map (λ j. (r, k, j)) is)) rest x a g) [
+    | inl l ↦ (let e = says_key r k (p + 1) is x a l in inr (sym e.0, at_most_same k a.1 (sym e.1)))
+    | inr l ↦ before i x a l
+  ],
+  entry_in_order r k (p + 1) is rest h before,
+)
+  where
+    at_most_same : (m n : ℕ) → m ≡ n → m ≤ n
+    at_most_same m n e = omega arith
+
+origins_in_order : (os : List Owned) → IsInOrder os → AllInOrder (origins os)
+unfolding AllInOrder
+origins_in_order [] h = tt
+origins_in_order (o ∷ os) h =
+    entry_in_order o.rank o.slot o.extent.at (range_with_len o.from o.extent.len) (origins os) (origins_in_order os h.1)
+    (λ i x a g. let r = says_entry os x a g in key_at_most o.rank o.slot i r.0 a (h.0 r.0 r.1) (r.2, r.3))
+
+-- ---- a resolved list
+
+origins_moved : (xs ys : List Owned) → ((o : Owned) → In xs o → In ys o) → (x : ℕ) (a : Origin) → Says (origins xs) x a → Says (origins ys) x a
+origins_moved xs ys p x a h = says_moved origins_of xs ys x a p h
+
+pub resolved_says : (ordered list result : List Owned) → HaveSame ordered list → IsInOrder ordered → IsOnceEach (origins ordered) → IsResolved list result
+    → (x : ℕ) → said_at (origins result) x ≡ said_at (origins ordered) x
+resolved_says ordered list result same order once resolved x = by_ordered (said_at (origins ordered) x) refl
+  where
+    there : (b : Origin) → Says (origins list) x b → Says (origins ordered) x b
+    there b h = origins_moved list ordered same.1 x b h
+
+    back : (b : Origin) → Says (origins ordered) x b → Says (origins list) x b
+    back b h = origins_moved ordered list same.0 x b h
+
+    great : (a : Origin) → said_at (origins ordered) x ≡ Some a → IsGreatest (origins list) x a
+    great a e = (back a (said_is (origins ordered) x a e), λ b h. last_is_greatest (origins ordered) (origins_in_order ordered order) x a b e (there b h))
+
+    once_list : IsOnceEach (origins list)
+    once_list y a b ha hb = once y a b (origins_moved list ordered same.1 y a ha) (origins_moved list ordered same.1 y b hb)
+
+    once_result : IsOneValued (origins result)
+    once_result y a b ha hb = greatest_once (origins list) once_list y a b (resolved.0 y a ha) (resolved.0 y b hb)
+
+    by_result : (o : Option Origin) → said_at (origins result) x ≡ o → said_at (origins ordered) x ≡ None → said_at (origins result) x ≡ said_at (origins ordered) x
+    by_result None g e = g ∙ sym e
+    by_result (Some a) g e =
+        let s = says_some (origins ordered) x a (there a (resolved.0 x a (said_is (origins result) x a g)).0) in
+        no_none_some s.0 (sym e ∙ s.1)
+
+    by_ordered : (o : Option Origin) → said_at (origins ordered) x ≡ o → said_at (origins result) x ≡ said_at (origins ordered) x
+    by_ordered None e = by_result (said_at (origins result) x) refl e
+    by_ordered (Some a) e = one_said (origins result) once_result x a (resolved.1 x a (great a e)) ∙ sym e
+
+-- the step of the model, where requests overlap, is the resolved entries written one by one
+pub resolved_writes : (s : Setting) (source : Source) (puts : Puts) (ess : List (List Owned)) (list result : List Owned) (file : List ℕ)
+    → IsGathered s.header source puts ess → HaveSame (flat_map (λ os. os) ess) list → IsInOrder (flat_map (λ os. os) ess) → IsOnceEach (origins (flat_map (λ os. os) ess))
+    → IsResolved list result → AreFound source (flat_map (λ os. os) ess) → AreFound source result
+    → IsWithin (cells_of_puts s.header puts) (length file) → IsWithin (map (λ o. cell_of source o) result) (length file)
+    → fold (put_post s) file puts ≡ write_cells file (map (λ o. cell_of source o) result)
+resolved_writes s source puts ess list result file h same order once resolved found found_result room fits =
+    puts_are_cells s puts file
+    ∙ same_said (cells_of_puts s.header puts) (map (λ o. cell_of source o) result) file room fits
+    (λ x. ap (λ ps. said_at ps x) (puts_say s.header puts ∙ sym (gathered_says s.header source puts ess h) ∙ cells_by_origins source (flat_map (λ os. os) ess) found)
+    ∙ said_mapped (byte_at source) (origins (flat_map (λ os. os) ess)) x
+    ∙ ap (λ o. option_map (byte_at source) o) (sym (resolved_says (flat_map (λ os. os) ess) list result same order once resolved x))
+    ∙ sym (said_mapped (byte_at source) (origins result) x)
+    ∙ ap (λ ps. said_at ps x) (sym (cells_by_origins source result found_result)))

@@ -1,0 +1,57 @@
+-- Windows that are each read, overlaid and written, one after another.
+use Rattle.std.proofs.Common.{◌≡◌, ℕ, zero, suc, ◌+◌, ◌-◌, ◌<◌, ◌≤◌, None, refl, sym, ◌∙◌, ap, subst, List, [], ◌∷◌, length, Some, arith}
+use Rattle.std.specs.Prelude.{fold, map}
+use Rattle.serial_spec.specs.File.{at, read, written}
+use Rattle.serial_spec.specs.Said.{Cell, write_cells, IsWithin, IsFrom, moved_down, said_at, said_by}
+use Rattle.overlay_laws.specs.Windows.{clips, IsInOne, HasEach, HasPlace, read_overlaid, all_read_overlaid}
+use Rattle.overlay_laws.proofs.SaidLaws.{cells_long, no_none_some}
+use Rattle.overlay_laws.proofs.WindowLaws.{clips_within, clips_from, within_more, window_done, windows_done}
+
+read_at : (file : List ℕ) (x n i : ℕ) → i < n → at (read file x n) i ≡ at file (x + i)
+read_at file x zero i h = absurd (omega arith)
+read_at file x (suc n) zero h = let e : x ≡ x + 0 = omega arith in ap (λ (k : ℕ). at file k) e
+read_at file x (suc n) (suc i) h = let e : x + 1 + i ≡ x + suc i = omega arith in read_at file (x + 1) n i (omega arith) ∙ ap (λ (k : ℕ). at file k) e
+
+pub kept_read : (file buf : List ℕ) (lo n x : ℕ) → buf ≡ read file lo n → lo ≤ x → x < lo + n → at buf (x - lo) ≡ at file x
+kept_read file buf lo n x e h k =
+    let place : lo + (x - lo) ≡ x = omega arith in
+    ap (λ (b : List ℕ). at b (x - lo)) e ∙ read_at file lo n (x - lo) (omega arith) ∙ ap (λ (i : ℕ). at file i) place
+
+pub kept_full : (file buf : List ℕ) (cells : List Cell) (lo x : ℕ) → HasPlace cells x → said_at (said_by cells) x ≡ None → at buf (x - lo) ≡ at file x
+kept_full file buf cells lo x h e = no_none_some h.0 (sym e ∙ h.1)
+
+pub window_answer : (file buf : List ℕ) (n lo : ℕ) (cells : List Cell) → length buf ≡ n → lo + n ≤ length file → IsFrom lo cells → IsWithin cells (lo + n)
+    → ((x : ℕ) → lo ≤ x → x < lo + n → said_at (said_by cells) x ≡ None → at buf (x - lo) ≡ at file x)
+    → written file lo (write_cells buf (moved_down lo cells)) ≡ write_cells file cells
+window_answer file buf n lo cells e room low high kept =
+    window_done file buf lo cells (omega arith) low (subst (λ (k : ℕ). IsWithin cells (lo + k)) (sym e) high) (λ x h k g. kept x h (omega arith) g)
+
+pub read_long : (file : List ℕ) (x n : ℕ) → length (read file x n) ≡ n
+read_long file x zero = refl
+read_long file x (suc n) = ap suc (read_long file (x + 1) n)
+
+one_read : (file : List ℕ) (cells : List Cell) (w : ℕ × ℕ) → w.0 ≤ w.1 → w.1 ≤ length file
+    → read_overlaid file cells w ≡ write_cells file (clips w.0 w.1 cells)
+one_read file cells w h k =
+    let whole : w.0 + (w.1 - w.0) ≡ w.1 = omega arith in
+    window_answer file (read file w.0 (w.1 - w.0)) (w.1 - w.0) w.0 (clips w.0 w.1 cells) (read_long file w.0 (w.1 - w.0)) (omega arith)
+    (clips_from w.0 w.1 cells h) (subst (λ (n : ℕ). IsWithin (clips w.0 w.1 cells) n) (sym whole) (clips_within w.0 w.1 cells h))
+    (λ x l m g. kept_read file (read file w.0 (w.1 - w.0)) w.0 (w.1 - w.0) x refl l m)
+
+in_one_moved : (windows : List (ℕ × ℕ)) (n m : ℕ) → n ≡ m → IsInOne windows n → IsInOne windows m
+in_one_moved windows n m e h = subst (λ (k : ℕ). IsInOne windows k) e h
+
+windows_read : (windows : List (ℕ × ℕ)) (file : List ℕ) (cells : List Cell) → IsInOne windows (length file)
+    → all_read_overlaid file cells windows ≡ fold (λ f pieces. write_cells f pieces) file (map (λ w. clips w.0 w.1 cells) windows)
+windows_read [] file cells h = refl
+windows_read (w ∷ windows) file cells h =
+    let same = one_read file cells w h.0 h.1 in
+    let long = cells_long (clips w.0 w.1 cells) file (within_more (clips w.0 w.1 cells) w.1 (length file) h.1 (clips_within w.0 w.1 cells h.0)) in
+    ap (λ f. all_read_overlaid f cells windows) same
+    ∙ windows_read windows (write_cells file (clips w.0 w.1 cells)) cells (in_one_moved windows (length file) (length (write_cells file (clips w.0 w.1 cells))) (sym long) h.2)
+
+-- windows that have every place of the cells, each read, overlaid with its part of the cells and written, write the cells
+pub all_read : (file : List ℕ) (cells : List Cell) (windows : List (ℕ × ℕ)) → IsWithin cells (length file) → IsInOne windows (length file)
+    → ((x v : ℕ) → said_at (said_by cells) x ≡ Some v → HasEach windows x)
+    → all_read_overlaid file cells windows ≡ write_cells file cells
+all_read file cells windows within each has = windows_read windows file cells each ∙ windows_done file cells windows within each has

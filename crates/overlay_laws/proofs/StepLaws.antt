@@ -1,0 +1,75 @@
+-- A step: gathered entries, written window by window over hulls, make the file of the model.
+use Rattle.std.proofs.Common.{◌≡◌, ℕ, ◌≤◌, sym, ◌∙◌, ap, subst, List, length, None}
+use Rattle.std.specs.Prelude.{flat_map, map}
+use Rattle.nc_base.specs.declared.script.Hints.{Hints}
+use Rattle.nc_base.specs.declared.plan.Owned.{Owned}
+use Rattle.nc_base.specs.declared.header.Header.{Header}
+use Rattle.serial_spec.specs.File.{longer}
+use Rattle.serial_spec.specs.SharedByte.{Puts, covered, holdings, holdings_of_entries, shared_pair_of}
+use Rattle.serial_spec.specs.Records.{needed_by}
+use Rattle.serial_spec.specs.FileStep.{Setting, end_for, after_puts}
+use Rattle.serial_spec.specs.DeviceCalls.{in_order, collective_windows, sieving_windows}
+use Rattle.serial_spec.specs.Said.{said_at, said_by, IsOneValued}
+use Rattle.serial_spec.specs.SharedByte.{said_by_puts, IsOwnOnce}
+use Rattle.overlay_laws.specs.Entries.{Source, cell_of, IsGathered, HaveSame}
+use Rattle.overlay_laws.specs.Hulls.{written_over, AreHints}
+use Rattle.overlay_laws.specs.Origins.{origins, byte_at, AreFound, IsResolved, IsOnceEach, IsInOrder}
+use Rattle.overlay_laws.specs.Steps.{HasRoom}
+use Rattle.overlay_laws.proofs.EntryLaws.{gathered_says, cells_moved}
+use Rattle.overlay_laws.proofs.ShareLaws.{no_pair_once}
+use Rattle.overlay_laws.proofs.HolderLaws.{entries_pair}
+use Rattle.overlay_laws.proofs.OriginLaws.{cells_by_origins, said_mapped, resolved_says}
+use Rattle.overlay_laws.proofs.HullLaws.{collective_done, sieving_done}
+use Rattle.std.specs.Prelude.{option_map}
+
+list_told : (header : Header) (source : Source) (puts : Puts) (ess : List (List Owned)) (list : List Owned)
+    → IsGathered header source puts ess → HaveSame (flat_map (λ os. os) ess) list → IsOneValued (said_by_puts header puts)
+    → (x : ℕ) → said_at (said_by (map (λ o. cell_of source o) list)) x ≡ said_at (said_by_puts header puts) x
+list_told header source puts ess list h same once x =
+    let e = gathered_says header source puts ess h in
+    sym (cells_moved (λ o. cell_of source o) (flat_map (λ os. os) ess) list same (subst (λ ps. IsOneValued ps) (sym e) once) x) ∙ ap (λ ps. said_at ps x) e
+
+resolved_told : (header : Header) (source : Source) (puts : Puts) (ess : List (List Owned)) (list result : List Owned)
+    → IsGathered header source puts ess → HaveSame (flat_map (λ os. os) ess) list → IsInOrder (flat_map (λ os. os) ess) → IsOnceEach (origins (flat_map (λ os. os) ess))
+    → IsResolved list result → AreFound source (flat_map (λ os. os) ess) → AreFound source result
+    → (x : ℕ) → said_at (said_by (map (λ o. cell_of source o) result)) x ≡ said_at (said_by_puts header puts) x
+resolved_told header source puts ess list result h same order once resolved found found_result x =
+    ap (λ ps. said_at ps x) (cells_by_origins source result found_result)
+    ∙ said_mapped (byte_at source) (origins result) x
+    ∙ ap (λ o. option_map (byte_at source) o) (resolved_says (flat_map (λ os. os) ess) list result same order once resolved x)
+    ∙ sym (said_mapped (byte_at source) (origins (flat_map (λ os. os) ess)) x)
+    ∙ ap (λ ps. said_at ps x) (sym (cells_by_origins source (flat_map (λ os. os) ess) found))
+    ∙ ap (λ ps. said_at ps x) (gathered_says header source puts ess h)
+
+-- a collective step without a pair
+pub collective_step : (hints : Hints) (s : Setting) (source : Source) (puts : Puts) (ess : List (List Owned)) (list : List Owned) (file : List ℕ)
+    → AreHints hints → IsGathered s.header source puts ess → HaveSame (flat_map (λ os. os) ess) list
+    → shared_pair_of (holdings_of_entries list) ≡ None → IsOwnOnce (holdings s.header puts)
+    → HasRoom s source puts list (length (longer file (end_for s (needed_by s.header puts))))
+    → written_over (longer file (end_for s (needed_by s.header puts))) (map (λ o. cell_of source o) list) (collective_windows hints (in_order (covered s.header puts)))
+    ≡ after_puts s puts None file
+collective_step hints s source puts ess list file h g same none own room =
+    collective_done hints s puts (longer file (end_for s (needed_by s.header puts))) (map (λ o. cell_of source o) list) h room.0 room.1 room.2
+    (list_told s.header source puts ess list g same (no_pair_once s.header puts (sym (entries_pair s.header source puts ess list g same) ∙ none) own)) room.3
+
+-- a solo step without a pair
+pub solo_step : (buffer : ℕ) (s : Setting) (source : Source) (puts : Puts) (ess : List (List Owned)) (list : List Owned) (file : List ℕ)
+    → 1 ≤ buffer → IsGathered s.header source puts ess → HaveSame (flat_map (λ os. os) ess) list
+    → shared_pair_of (holdings_of_entries list) ≡ None → IsOwnOnce (holdings s.header puts)
+    → HasRoom s source puts list (length (longer file (end_for s (needed_by s.header puts))))
+    → written_over (longer file (end_for s (needed_by s.header puts))) (map (λ o. cell_of source o) list) (sieving_windows buffer (in_order (covered s.header puts)))
+    ≡ after_puts s puts None file
+solo_step buffer s source puts ess list file h g same none own room =
+    sieving_done buffer s puts (longer file (end_for s (needed_by s.header puts))) (map (λ o. cell_of source o) list) h room.0 room.1 room.2
+    (list_told s.header source puts ess list g same (no_pair_once s.header puts (sym (entries_pair s.header source puts ess list g same) ∙ none) own)) room.3
+
+-- a collective step under the serial rule
+pub serial_step : (hints : Hints) (s : Setting) (source : Source) (puts : Puts) (ess : List (List Owned)) (list result : List Owned) (file : List ℕ)
+    → AreHints hints → IsGathered s.header source puts ess → HaveSame (flat_map (λ os. os) ess) list → IsInOrder (flat_map (λ os. os) ess)
+    → IsOnceEach (origins (flat_map (λ os. os) ess)) → IsResolved list result → AreFound source (flat_map (λ os. os) ess) → AreFound source result
+    → HasRoom s source puts result (length (longer file (end_for s (needed_by s.header puts))))
+    → written_over (longer file (end_for s (needed_by s.header puts))) (map (λ o. cell_of source o) result) (collective_windows hints (in_order (covered s.header puts)))
+    ≡ after_puts s puts None file
+serial_step hints s source puts ess list result file h g same order once resolved found found_result room =
+    collective_done hints s puts (longer file (end_for s (needed_by s.header puts))) (map (λ o. cell_of source o) result) h room.0 room.1 room.2
+    (resolved_told s.header source puts ess list result g same order once resolved found found_result) room.3
