@@ -4,10 +4,11 @@ ghost use Rattle.std.specs.List.{AllByRecursion, flat_map};
 ghost use Rattle.serial_spec.specs.HeaderGrammar.{attribute, canon, count, dimension, fits_count, is_writable, is_writable_attr, is_writable_dim, list_of, variable};
 ghost use Rattle.cdf_header.specs.Writable.{IsWritableList, IsWritableVar};
 
-use crate::fields::{push_absent, push_begin, push_count, push_name, push_padded, push_tag};
-use crate::sizes::{number_of, stored_size};
+use crate::pushing::{push_absent, push_begin, push_count, push_name, push_padded, push_tag};
+use crate::type_numbers::number_of;
 use nc_base::{Attr, Blob, Dim, Header, Memory, Var};
 use std::alloc::Global;
+use var_layout::vsize_of;
 
 const DIMS: u32 = 10;
 
@@ -15,8 +16,9 @@ const VARS: u32 = 11;
 
 const ATTRS: u32 = 12;
 
+/// The bytes of a header of version 1, 2 or 5, in the one spelling that is written: zero padding, a zero tag and a zero count
+/// for an empty list, and the size that the layout gives each variable.
 #[tactic(auto, using(crate::proofs::Appends::then_append), unfolding(serial_spec::specs::HeaderGrammar::canon))]
-/// The one spelling of a header that is written: zero padding, no tag before an empty list, and each variable's `vsize`.
 pub fn encode(alloc: Global, header: &Header) -> Result<Blob, Memory>
     requires { is_writable header.now ≡ true }
     ensures { IfOk result (λ bytes. bytes ≡ canon header.now) }
@@ -107,7 +109,7 @@ fn push_var(out: &mut Vec<u8>, header: &Header, var: &Var) -> Result<(), Memory>
     push_ids(out, version, var.dims.as_slice())?;
     push_attrs(out, version, var.attrs.as_slice())?;
     push_tag(out, number_of(var.kind))?;
-    push_count(out, version, stored_size(header, var))?;
+    push_count(out, version, vsize_of(header, var))?;
     push_begin(out, version, var.begin)?;
     Ok(())
 }

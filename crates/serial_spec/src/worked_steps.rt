@@ -1,21 +1,31 @@
 //! Small runs: requests, steps, device calls and arrivals.
 
-ghost use Rattle.std.specs.Prelude.{◌≡◌, ◌+◌, [], ◌∷◌, ◌++◌, length, Some, None, pos, replicate, true, map, false};
+ghost use Rattle.std.specs.Prelude.{◌≡◌, ◌+◌, [], ◌∷◌, ◌++◌, length, Some, None, pos, replicate, true, map, false, ℕ};
 ghost use Rattle.serial_spec.specs.File.{at};
 ghost use Rattle.serial_spec.specs.HeaderGrammar.{canon};
-ghost use Rattle.serial_spec.specs.Examples.{header_a, region, setting_a, created, overlapping, side_by_side, int_bytes, ended, device_calls, halves, interleaved, whole, with_hole, one_record, arrived, empty_offer, two_seats, after_five, with_strange, independent_calls};
+ghost use Rattle.serial_spec.specs.Examples.{dataset_a, first_of_halves, offer_of_halves, reply_with, three_holders, header_a, region, setting_a, created, overlapping, side_by_side, int_bytes, ended, device_calls, halves, interleaved, whole, with_hole, one_record, arrived, empty_offer, two_seats, after_five, with_strange, independent_calls, many_bytes, dataset_b, packed_region, given, var};
 ghost use Rattle.serial_spec.specs.Request.{packed_bytes, spread};
-ghost use Rattle.nc_base.specs.declared.header.NcType.TheVariants.{Int};
+ghost use Rattle.nc_base.specs.declared.header.NcType.TheVariants.{Int, Short};
 ghost use Rattle.nc_base.specs.declared.request.Values.TheVariants.{Numbers};
 ghost use Rattle.serial_spec.specs.FileStep.{meeting};
 ghost use Rattle.nc_base.specs.declared.step.Mark.TheVariants.{Meet, Solo};
 ghost use Rattle.nc_base.specs.declared.step.DiskCall.TheVariants.{Grow, Load, Store};
 ghost use Rattle.serial_spec.specs.History.{marks, done};
 ghost use Rattle.serial_spec.specs.Desk.{is_strange, served, owed, OnlyReplies};
-ghost use Rattle.nc_base.specs.declared.step.OwnerItem.TheVariants.{Stop};
+ghost use Rattle.nc_base.specs.declared.step.OwnerItem.TheVariants.{Reply, Stop};
 ghost use Rattle.nc_base.specs.declared.step.MeetKind.TheVariants.{Begin, End as EndKind};
+ghost use Rattle.std.specs.List.{range_with_len};
+ghost use Rattle.serial_spec.specs.Said.{said_at, write_cells};
+ghost use Rattle.serial_spec.specs.SharedByte.{shared_pair_of};
+ghost use Rattle.serial_spec.specs.RankMachine.{answer};
+ghost use Rattle.serial_spec.specs.RankSide.{offered, rank_stop, rank_end};
+ghost use Rattle.nc_base.specs.declared.answer.Code.TheVariants.{Ok, ENotVar, EInvalCoords, EStride, EEdge, ETooLarge};
+ghost use Rattle.nc_base.specs.declared.run.RankStop.TheVariants.{Done, Stopped, Misfit};
+ghost use Rattle.serial_spec.specs.RegionCheck.{check, widen};
+ghost use Rattle.nc_base.specs.declared.request.Direction.TheVariants.{Put, Get};
 ghost use Rattle.nc_base.specs.declared.step.RankItem.TheVariants as item;
 ghost use Rattle.nc_base.specs.declared.step.OfferKind.TheVariants as offer;
+ghost use Rattle.nc_base.specs.declared.request.Form.TheVariants as form;
 
 /// Memory by an index map.
 pub fn worked_map()
@@ -42,6 +52,7 @@ pub fn worked_calls()
     ensures halves { device_calls halves (Meet 0 ∷ []) ≡ Store 80 8 ∷ Store 88 8 ∷ [] }
     ensures interleaved { device_calls interleaved (Meet 0 ∷ []) ≡ Store 80 4 ∷ Store 84 4 ∷ Store 88 4 ∷ Store 92 4 ∷ [] }
     ensures three { device_calls (whole 3 16) (Meet 0 ∷ []) ≡ Store 80 6 ∷ Store 86 6 ∷ Store 92 4 ∷ [] }
+    ensures many { device_calls (whole 64 16777216) (Meet 0 ∷ []) ≡ map (λ x. Store x 1) (range_with_len 80 16) }
     ensures small { device_calls (whole 1 3) (Meet 0 ∷ [])
         ≡ Store 80 3 ∷ Store 83 3 ∷ Store 86 3 ∷ Store 89 3 ∷ Store 92 3 ∷ Store 95 1 ∷ [] }
     ensures hole { device_calls with_hole (Meet 0 ∷ []) ≡ Load 80 16 ∷ Store 80 16 ∷ [] }
@@ -71,6 +82,49 @@ pub fn worked_arrivals()
     ensures no_stop { OnlyReplies (owed setting_a two_seats arrived 0) }
     ensures none_strange { (served setting_a two_seats arrived).stranger ≡ None }
     ensures stranger { (served setting_a two_seats with_strange).stranger ≡ Some 0 }
+    ensures file { (served setting_a two_seats arrived).desk.state.file ≡ header_a ++ int_bytes (1 ∷ 2 ∷ 3 ∷ 4 ∷ []) }
+    ensures no_order { (served setting_a two_seats with_strange).marks ≡ [] }
     ensures stopped { owed setting_a two_seats with_strange 0 ≡ Stop ∷ [] }
+    ensures nothing { owed setting_a two_seats with_strange 1 ≡ [] }
     ensures memory { is_strange setting_a after_five (1, item.Ended true) ≡ false }
+{}
+
+/// What one rank puts and answers for what comes back to it.
+#[tactic(auto, unfolding(crate::specs::HeaderGrammar::canon))]
+pub fn worked_rank()
+    ensures waits { offered dataset_a first_of_halves [] ≡ item.Offer 0 offer_of_halves ∷ [] }
+    ensures puts { offered dataset_a first_of_halves (Reply (reply_with []) ∷ []) ≡ item.Offer 0 offer_of_halves ∷ item.Ended false ∷ [] }
+    ensures done { rank_stop dataset_a first_of_halves (Reply (reply_with []) ∷ []) ≡ Some Done }
+    ensures answers { (rank_end dataset_a first_of_halves (Reply (reply_with []) ∷ [])).answers ≡ answer Ok ∷ [] }
+    ensures stopped { rank_stop dataset_a first_of_halves (Stop ∷ []) ≡ Some Stopped }
+    ensures misfit { rank_stop dataset_a first_of_halves (Reply (reply_with ((0 ∷ []) ∷ [])) ∷ []) ≡ Some Misfit }
+    ensures misfit_puts { offered dataset_a first_of_halves (Reply (reply_with ((0 ∷ []) ∷ [])) ∷ []) ≡ item.Offer 0 offer_of_halves ∷ item.Ended false ∷ [] }
+    ensures no_answer { (rank_end dataset_a first_of_halves (Stop ∷ [])).answers ≡ [] }
+{}
+
+/// Bytes that three requests hold, and what pairs say of a place.
+pub fn worked_shared()
+    ensures pair { shared_pair_of three_holders ≡ Some (record { rank1 = 0; request1 = 7; rank2 = 1; request2 = 0; at = 2 }) }
+    ensures none { shared_pair_of (((0, 7), 1 ∷ 2 ∷ []) ∷ ((0, 7), 2 ∷ 3 ∷ []) ∷ []) ≡ None }
+    ensures last { said_at {A = ℕ} ((4, 1) ∷ (5, 2) ∷ (4, 3) ∷ []) 4 ≡ Some 3 }
+    ensures unsaid { said_at {A = ℕ} ((4, 1) ∷ (5, 2) ∷ (4, 3) ∷ []) 6 ≡ None }
+    ensures cells { write_cells (9 ∷ 9 ∷ 9 ∷ []) ((1, 1 ∷ 2 ∷ []) ∷ (2, 3 ∷ 4 ∷ []) ∷ []) ≡ 9 ∷ 1 ∷ 3 ∷ 4 ∷ [] }
+{}
+
+/// When a call's region is refused: of a variable with two million bytes, of one with four elements, and of a record variable.
+#[tactic(auto, unfolding(crate::specs::HeaderGrammar::canon))]
+pub fn worked_regions()
+    ensures many { check many_bytes 0 (packed_region (0 ∷ []) (1048576 ∷ []) (1 ∷ [])) 0 Put ≡ Ok }
+    ensures too_many { check many_bytes 0 (packed_region (0 ∷ []) (1048577 ∷ []) (1 ∷ [])) 0 Put ≡ ETooLarge }
+    ensures no_variable { check dataset_a 1 (packed_region (0 ∷ []) (1 ∷ []) (1 ∷ [])) 0 Put ≡ ENotVar }
+    ensures other_shape { check dataset_a 0 (packed_region (0 ∷ 0 ∷ []) (1 ∷ []) (1 ∷ [])) 0 Put ≡ EInvalCoords }
+    ensures no_stride { check dataset_a 0 (packed_region (9 ∷ []) (1 ∷ []) (0 ∷ [])) 0 Put ≡ EStride }
+    ensures start_past { check dataset_a 0 (packed_region (4 ∷ []) (1 ∷ []) (1 ∷ [])) 0 Put ≡ EInvalCoords }
+    ensures start_at_end { check dataset_a 0 (packed_region (4 ∷ []) (0 ∷ []) (1 ∷ [])) 0 Put ≡ Ok }
+    ensures edge { check dataset_a 0 (packed_region (3 ∷ []) (2 ∷ []) (1 ∷ [])) 0 Put ≡ EEdge }
+    ensures new_record { check dataset_b 0 (packed_region (3 ∷ []) (1 ∷ []) (1 ∷ [])) 3 Put ≡ Ok }
+    ensures unknown_record { check dataset_b 0 (packed_region (3 ∷ []) (1 ∷ []) (1 ∷ [])) 3 Get ≡ EInvalCoords }
+    ensures last_record { check dataset_b 0 (packed_region (2147483646 ∷ []) (1 ∷ []) (1 ∷ [])) 0 Put ≡ Ok }
+    ensures past_records { check dataset_b 0 (packed_region (2147483647 ∷ []) (1 ∷ []) (1 ∷ [])) 0 Put ≡ ETooLarge }
+    ensures whole { widen dataset_b (var 115 Short (0 ∷ [])) (given form.Var [] [] []) 3 ≡ packed_region (0 ∷ []) (3 ∷ []) (1 ∷ []) }
 {}

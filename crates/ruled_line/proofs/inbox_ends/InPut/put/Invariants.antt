@@ -1,0 +1,10 @@
+use Rattle.std.proofs.Common.{◌≡◌}
+use Rattle.crossbeam_channel.specs.Claims.{view, IsSeatAt}
+use Rattle.crossbeam_channel.specs.Ends.{sends_on}
+use Rattle.ruled_line.proofs.inbox_ends.InPut.put.Given as goal
+
+abbrev pub invariant-loop : goal.invariant-loop
+invariant-loop g l =
+    IsSeatAt (sends_on l.self-inside.sender) l.self-inside.pass × (view l.self-inside.pass ≡ view l.initial.self-inside.pass)
+    × (sends_on l.self-inside.sender ≡ sends_on l.initial.self-inside.sender) × (l.next ≡ l.initial.next)
+    × (l.self-inside.number ≡ l.initial.self-inside.number)

@@ -1,0 +1,9 @@
+use Rattle.std.proofs.Common.{◌≡◌}
+use Rattle.crossbeam_channel.specs.Claims.{view, IsSeatAt}
+use Rattle.crossbeam_channel.specs.Ends.{receives_on}
+use Rattle.ruled_line.proofs.inbox_ends.InTake.take.Given as goal
+
+abbrev pub invariant-loop : goal.invariant-loop
+invariant-loop g l =
+    IsSeatAt (receives_on l.self-inside.receiver) l.self-inside.pass × (view l.self-inside.pass ≡ view l.initial.self-inside.pass)
+    × (receives_on l.self-inside.receiver ≡ receives_on l.initial.self-inside.receiver)

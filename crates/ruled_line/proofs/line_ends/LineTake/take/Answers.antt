@@ -1,0 +1,6 @@
+use Rattle.std.proofs.Common.{rules}
+use Rattle.ruled_line.proofs.LineMoves.{takes}
+use Rattle.ruled_line.proofs.line_ends.LineTake.take.Goals as goal
+
+pub recv_as-requires-clause-rule : goal.recv_as-requires-clause-rule
+recv_as-requires-clause-rule g c = (takes _ _ (search rules), λ _ _ _ _. tt)

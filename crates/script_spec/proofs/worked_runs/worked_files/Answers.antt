@@ -1,0 +1,28 @@
+use Rattle.std.proofs.Common.{refl}
+use Rattle.std.specs.Fmt.{digits}
+use Rattle.serial_spec.specs.HeaderGrammar.{canon}
+use Rattle.script_spec.proofs.worked_runs.worked_files.Goals as goal
+
+pub returns-clause-overlap : goal.returns-clause-overlap
+unfolding digits canon
+returns-clause-overlap c = refl
+
+pub returns-clause-refusals : goal.returns-clause-refusals
+unfolding digits canon
+returns-clause-refusals c = refl
+
+pub returns-clause-buffer : goal.returns-clause-buffer
+unfolding digits canon
+returns-clause-buffer c = refl
+
+pub returns-clause-independent : goal.returns-clause-independent
+unfolding digits canon
+returns-clause-independent c = refl
+
+pub returns-clause-modes : goal.returns-clause-modes
+unfolding digits canon
+returns-clause-modes c = refl
+
+pub returns-clause-serial : goal.returns-clause-serial
+unfolding digits canon
+returns-clause-serial c = refl

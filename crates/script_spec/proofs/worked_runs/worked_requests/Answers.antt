@@ -1,0 +1,16 @@
+use Rattle.std.proofs.Common.{refl}
+use Rattle.std.specs.Fmt.{digits}
+use Rattle.serial_spec.specs.HeaderGrammar.{canon}
+use Rattle.script_spec.proofs.worked_runs.worked_requests.Goals as goal
+
+pub returns-clause-three : goal.returns-clause-three
+unfolding digits canon
+returns-clause-three c = refl
+
+pub returns-clause-ten : goal.returns-clause-ten
+unfolding digits canon
+returns-clause-ten c = refl
+
+pub returns-clause-ten_calls : goal.returns-clause-ten_calls
+unfolding digits canon
+returns-clause-ten_calls c = refl

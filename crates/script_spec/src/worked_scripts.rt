@@ -1,0 +1,124 @@
+//! What scripts mean, and which are refused.
+
+ghost use Rattle.std.specs.Prelude.{◌≡◌, ◌+◌, [], ◌∷◌, ◌++◌, length, None, true, codes, Ok, false};
+ghost use Rattle.serial_spec.specs.HeaderGrammar.{is_writable};
+ghost use Rattle.serial_spec.specs.Examples.{laid_out};
+ghost use Rattle.script_spec.specs.TextExamples.{script_halves, halves_read, fault_at, start_lines, script_read};
+ghost use Rattle.script_spec.specs.ScriptGrammar.{fault_of, script_of_utf8};
+ghost use Rattle.script_spec.specs.Shown.{shown};
+ghost use Rattle.script_spec.specs.Texts.{text_line};
+ghost use Rattle.script_spec.specs.RunScripts.{script_atts, script_modes, script_varn, script_fill_record, script_extras};
+ghost use Rattle.script_spec.specs.FaultyScripts.{faulty_unclosed, faulty_escape, faulty_glued, faulty_extra, faulty_name, faulty_later_record, faulty_kind, faulty_post_twice, faulty_opened, faulty_fits, faulty_new_type, faulty_extra_twice, faulty_extra_shape, faulty_without_end, faulty_after_end, faulty_dimensions};
+ghost use Rattle.serial_spec.specs.Lawful.{is_lawful};
+ghost use Rattle.nc_base.specs.declared.errors.ScriptKind.TheVariants as kind;
+ghost use Rattle.nc_base.specs.declared.errors.LimitName.TheVariants as limit;
+ghost use Rattle.nc_base.specs.declared.request.Call.TheVariants as call;
+
+/// A script is read, and what is shown of it is read again.
+pub fn worked_script()
+    ensures right { fault_of (script_of_utf8 script_halves) ≡ None }
+    ensures read { script_of_utf8 script_halves ≡ Ok halves_read }
+    ensures again { script_of_utf8 (shown halves_read) ≡ Ok halves_read }
+{}
+
+/// Scripts with a fault.
+pub fn worked_script_faults()
+    ensures ranks_twice { fault_of (script_of_utf8 (start_lines ++ text_line (codes "ranks 1")))
+        ≡ fault_at 3 kind.TwiceNamed }
+    ensures no_ranks { fault_of (script_of_utf8 (text_line (codes "create 1") ++ text_line (codes "dim x 4") ++ text_line (codes "data")))
+        ≡ fault_at 3 kind.MissingWord }
+    ensures no_dim { fault_of (script_of_utf8 (start_lines ++ text_line (codes "var int v [x]")))
+        ≡ fault_at 3 kind.UnknownName }
+    ensures bad_rank { fault_of (script_of_utf8 (start_lines ++ text_line (codes "data") ++ text_line (codes "1 buffer_detach")))
+        ≡ fault_at 4 kind.BadRank }
+    ensures large_rank { fault_of (script_of_utf8 (start_lines ++ text_line (codes "data") ++ text_line (codes "999999999999999999999999 buffer_detach")))
+        ≡ fault_at 4 kind.BadRank }
+    ensures version { fault_of (script_of_utf8 (text_line (codes "create 7")))
+        ≡ fault_at 1 kind.BadNumber }
+    ensures two_unlimited { fault_of (script_of_utf8 (start_lines ++ text_line (codes "dim t unlimited") ++ text_line (codes "dim u unlimited")))
+        ≡ fault_at 4 kind.BadShape }
+    ensures nothing { fault_of (script_of_utf8 ([]))
+        ≡ fault_at 1 kind.NoHead }
+    ensures no_end { fault_of (script_of_utf8 (start_lines ++ text_line (codes "data")))
+        ≡ fault_at 4 kind.NoEnd }
+    ensures after_end { fault_of (script_of_utf8 (start_lines ++ text_line (codes "data") ++ text_line (codes "end") ++ text_line (codes "x")))
+        ≡ fault_at 5 kind.AfterEnd }
+    ensures elements { fault_of (script_of_utf8 (start_lines ++ text_line (codes "var byte c []") ++ text_line (codes "data") ++ text_line (codes "0 put_var_all c seq 1048577 0 0")))
+        ≡ fault_at 5 (kind.Limit limit.Elements) }
+    ensures mismatch { fault_of (script_of_utf8 (text_line (codes "create 1") ++ text_line (codes "ranks 2") ++ text_line (codes "dim x 4") ++ text_line (codes "var int v [x]") ++ text_line (codes "data") ++ text_line (codes "0 iput_var1 0 v [0] 9") ++ text_line (codes "0 wait_all all") ++ text_line (codes "end")))
+        ≡ fault_at 8 (kind.Mismatch 0 0 1) }
+{}
+
+/// Where a word is looked at, and what it is then.
+pub fn worked_readings()
+    ensures long_rank { fault_of (script_of_utf8 (start_lines ++ text_line (codes "data") ++ text_line (codes "0000000000000000000000000 buffer_detach") ++ text_line (codes "end")))
+        ≡ None }
+    ensures text_for_rank { fault_of (script_of_utf8 (start_lines ++ text_line (codes "data") ++ text_line (codes "\"x")))
+        ≡ fault_at 4 kind.BadText }
+    ensures closed_for_rank { fault_of (script_of_utf8 (start_lines ++ text_line (codes "data") ++ text_line (codes "\"x\"")))
+        ≡ fault_at 4 kind.UnknownWord }
+    ensures text_for_head { fault_of (script_of_utf8 (text_line (codes "\"x")))
+        ≡ fault_at 1 kind.NoHead }
+    ensures first_value { fault_of (script_of_utf8 (start_lines ++ text_line (codes "att : a byte 128 \"x")))
+        ≡ fault_at 3 kind.BadNumber }
+    ensures second_value { fault_of (script_of_utf8 (start_lines ++ text_line (codes "att : a byte 127 \"x")))
+        ≡ fault_at 3 kind.BadText }
+    ensures no_sequence { fault_of (script_of_utf8 (start_lines ++ text_line (codes "att : a char seq 0 1 1") ++ text_line (codes "data") ++ text_line (codes "end")))
+        ≡ None }
+    ensures other_sequence { fault_of (script_of_utf8 (start_lines ++ text_line (codes "att : a float seq 1 \"x")))
+        ≡ fault_at 3 kind.BadNumber }
+    ensures first_term { fault_of (script_of_utf8 (start_lines ++ text_line (codes "att : a byte seq 2 128 \"x")))
+        ≡ fault_at 3 kind.BadNumber }
+    ensures last_term { fault_of (script_of_utf8 (start_lines ++ text_line (codes "att : a byte seq 3 126 1")))
+        ≡ fault_at 3 kind.BadNumber }
+    ensures empty_text { fault_of (script_of_utf8 (start_lines ++ text_line (codes "att : a int \"\"")))
+        ≡ fault_at 3 kind.BadNumber }
+    ensures last_line { fault_of (script_of_utf8 (start_lines ++ codes "data"))
+        ≡ fault_at 4 kind.NoEnd }
+    ensures after_end { fault_of (script_of_utf8 (text_line (codes "create 1") ++ text_line (codes "ranks 2") ++ text_line (codes "data") ++ text_line (codes "0 sync_numrecs") ++ text_line (codes "end") ++ text_line (codes "end")))
+        ≡ fault_at 6 kind.AfterEnd }
+    ensures two_ranks { fault_of (script_of_utf8 (text_line (codes "create 1") ++ text_line (codes "ranks 4") ++ text_line (codes "data") ++ text_line (codes "3 sync_numrecs") ++ text_line (codes "2 sync_numrecs") ++ text_line (codes "end")))
+        ≡ fault_at 6 (kind.Mismatch 0 0 2) }
+{}
+
+/// Words of every kind are read, shown and read again, and more faults.
+pub fn worked_words()
+    ensures right { fault_of (script_of_utf8 script_atts) ≡ None }
+    ensures again { script_read (shown (script_read script_atts)) ≡ script_read script_atts }
+    ensures sound { is_writable (laid_out (script_read script_atts).header) ≡ true }
+    ensures unclosed { fault_of (script_of_utf8 faulty_unclosed) ≡ fault_at 5 kind.BadText }
+    ensures escape { fault_of (script_of_utf8 faulty_escape) ≡ fault_at 3 kind.BadText }
+    ensures glued { fault_of (script_of_utf8 faulty_glued) ≡ fault_at 3 kind.BadText }
+    ensures extra_word { fault_of (script_of_utf8 faulty_extra) ≡ fault_at 2 kind.ExtraWord }
+    ensures bad_name { fault_of (script_of_utf8 faulty_name) ≡ fault_at 3 kind.BadName }
+    ensures later_record { fault_of (script_of_utf8 faulty_later_record) ≡ fault_at 5 kind.BadShape }
+    ensures bad_kind { fault_of (script_of_utf8 faulty_kind) ≡ fault_at 6 kind.BadNumber }
+    ensures post_twice { fault_of (script_of_utf8 faulty_post_twice) ≡ fault_at 7 kind.TwiceNamed }
+    ensures fill_after_open { fault_of (script_of_utf8 faulty_opened) ≡ fault_at 3 kind.UnknownWord }
+    ensures bad_value { fault_of (script_of_utf8 faulty_fits) ≡ fault_at 3 kind.BadNumber }
+    ensures new_type { fault_of (script_of_utf8 faulty_new_type) ≡ fault_at 3 kind.UnknownWord }
+    ensures without_end { fault_of (script_of_utf8 faulty_without_end) ≡ fault_at 8 kind.NoEnd }
+    ensures text_after_end { fault_of (script_of_utf8 faulty_after_end) ≡ fault_at 9 kind.AfterEnd }
+    ensures many_dimensions { fault_of (script_of_utf8 faulty_dimensions) ≡ fault_at 4 (kind.Limit limit.VarDims) }
+{}
+
+/// Lines that add to an existing file.
+pub fn worked_extras()
+    ensures right { fault_of (script_of_utf8 script_extras) ≡ None }
+    ensures four { length (script_read script_extras).extra ≡ 4 }
+    ensures again { script_read (shown (script_read script_extras)) ≡ script_read script_extras }
+    ensures twice { fault_of (script_of_utf8 faulty_extra_twice) ≡ fault_at 4 kind.TwiceNamed }
+    ensures shape { fault_of (script_of_utf8 faulty_extra_shape) ≡ fault_at 4 kind.BadShape }
+{}
+
+/// Scripts that are read are lawful.
+pub fn worked_lawful()
+    ensures halves { is_lawful (script_read script_halves) ≡ true }
+    ensures attributes { is_lawful (script_read script_atts) ≡ true }
+    ensures regions { is_lawful (script_read script_varn) ≡ true }
+    ensures fills { is_lawful (script_read script_fill_record) ≡ true }
+    ensures extras { is_lawful (script_read script_extras) ≡ true }
+    ensures modes { is_lawful (script_read script_modes) ≡ true }
+    ensures other_kinds { is_lawful (record (script_read script_halves) { calls = (call.BeginIndep ∷ []) ∷ (call.EndIndep ∷ []) ∷ [] }) ≡ false }
+    ensures rank_left_out { is_lawful (record (script_read script_halves) { calls = [] ∷ [] }) ≡ false }
+{}

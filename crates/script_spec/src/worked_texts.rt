@@ -1,0 +1,62 @@
+//! What is printed, and the generated script.
+
+ghost use Rattle.std.specs.Prelude.{◌≡◌, ◌+◌, [], ◌∷◌, ◌++◌, length, codes, ◌-◌, option_map, Some, take};
+ghost use Rattle.serial_spec.specs.HeaderGrammar.{header_len, field_fault};
+ghost use Rattle.serial_spec.specs.Examples.{header_a, ended, halves, no_align, thin_script, dataset_b, dim, var, moved, defined};
+ghost use Rattle.serial_spec.specs.Layout.{recsize, begins};
+ghost use Rattle.script_spec.specs.TextExamples.{with_layout, text_of, text_halves, script_read, thin_lines, thin_answers, thin_printed, offsets_of_record, offsets_with_room};
+ghost use Rattle.nc_base.specs.declared.step.Mark.TheVariants.{Meet};
+ghost use Rattle.script_spec.specs.Texts.{text_line, watch_text, script_line, redef_line, layout_line, offsets_text, header_line};
+ghost use Rattle.script_spec.specs.Generator.{first_row, made_calls, made_header};
+ghost use Rattle.nc_base.specs.declared.header.NcType.TheVariants.{Float, Short, Int};
+ghost use Rattle.script_spec.specs.Thin.{IsBuilt, thin_text};
+ghost use Rattle.serial_spec.specs.Redefinition.{layout_fault};
+ghost use Rattle.nc_base.specs.declared.errors.HeaderErr.TheVariants.{Streaming};
+ghost use Rattle.nc_base.specs.declared.errors.ScriptKind.TheVariants as kind;
+ghost use Rattle.nc_base.specs.declared.errors.LimitName.TheVariants as limit;
+ghost use Rattle.nc_base.specs.declared.errors.LayoutErr.TheVariants as layout;
+ghost use Rattle.nc_base.specs.declared.errors.RedefErr.TheVariants as redef;
+
+/// The printed text of a run.
+pub fn worked_text()
+    ensures { text_of halves (Meet 0 ∷ []) ≡ text_halves }
+{}
+
+/// A thin text, its file and what is printed.
+pub fn worked_thin()
+    ensures thin { IsBuilt thin_lines (script_read thin_lines) }
+    ensures spelled { thin_text (script_read thin_lines) ≡ thin_lines }
+    ensures read { with_layout (script_read thin_lines) ≡ thin_script }
+    ensures bytes { (ended thin_script (Meet 0 ∷ [])).bytes ≡ header_a ++ 0 ∷ 0 ∷ 0 ∷ 0 ∷ 0 ∷ 0 ∷ 0 ∷ 5 ∷ 255 ∷ 255 ∷ 255 ∷ 255 ∷ 0 ∷ 0 ∷ 0 ∷ 0 ∷ [] }
+    ensures text { thin_answers ≡ thin_printed }
+{}
+
+/// Lines that tell a fault.
+pub fn worked_lines()
+    ensures script { script_line (record { line = 5; kind = kind.Limit limit.Parts }) ≡ text_line (codes "ncrun: script line 5: limit of parts") }
+    ensures differ { script_line (record { line = 8; kind = kind.Mismatch 0 0 1 }) ≡ text_line (codes "ncrun: script line 8: ranks 0 and 1 differ at collective call 0") }
+    ensures taken { redef_line (redef.Taken 0) ≡ text_line (codes "ncrun: redefinition 0: name taken") }
+    ensures watchers { watch_text (((0, 0) ∷ (2, 4) ∷ []) ∷ []) ≡ text_line (codes "watcher 0") ++ text_line (codes "0 0") ++ text_line (codes "2 4") }
+    ensures large { layout_line (layout.VarSize 2) ≡ text_line (codes "ncrun: variable 2 is too large") }
+{}
+
+/// The generator.
+#[tactic(auto, unfolding(serial_spec::specs::HeaderGrammar::canon))]
+pub fn worked_generator()
+    ensures rows { first_row 8 - first_row 7 ≡ 23 }
+    ensures count { length (made_calls 0 12 0) ≡ 40 }
+    ensures begin { (begins made_header no_align (header_len made_header)).vars ≡
+        record { name = codes "temp"; dims = 0 ∷ 1 ∷ 2 ∷ []; attrs = []; kind = Float; begin = 160 }
+        ∷ record { name = codes "precip"; dims = 0 ∷ 1 ∷ 2 ∷ []; attrs = []; kind = Short; begin = 259360 } ∷ [] }
+    ensures size { recsize made_header ≡ 388800 }
+{}
+
+/// What is told of a layout, and of a header or a layout that is refused.
+pub fn worked_offsets()
+    ensures record { offsets_text dataset_b ≡ offsets_of_record }
+    ensures room { offsets_text moved ≡ offsets_with_room }
+    ensures too_large { option_map layout_line (layout_fault (defined 1 (dim 120 600000000 ∷ []) (var 118 Int (0 ∷ []) ∷ [])) no_align)
+        ≡ Some (text_line (codes "ncrun: variable 0 is too large")) }
+    ensures cut { option_map header_line (field_fault (take 70 header_a)) ≡ Some (text_line (codes "ncrun: header truncated at byte 68")) }
+    ensures streaming { header_line Streaming ≡ text_line (codes "ncrun: header has a streaming record count") }
+{}

@@ -1,0 +1,401 @@
+-- The boxes of a range of row-major numbers have just the indices with these numbers, in order.
+use Rattle.std.proofs.Common.{◌≡◌, ℕ, zero, suc, ◌+◌, ◌-◌, ◌*◌, ◌/◌, ◌%◌, ◌<◌, ◌≤◌, refl, sym, ◌∙◌, ap, subst, List, [], ◌∷◌, ◌++◌, length, map, take, drop, replicate, Bool, true, false, append_assoc, arith}
+use Rattle.std.proofs.Math.Nat.{add-mul, le_of_mul-le-mul_right, mul-le-mul_right}
+use Rattle.std.proofs.Math.Seq.{take-add, drop-append-add, take-append-add}
+use Rattle.std.proofs.lemmas.Nat.{div-add-mod', mod_below, le-div}
+use Rattle.std.proofs.lemmas.List.{drop-drop, drop-append-le, take-append-le, length-drop, drop-map, take-map, map-append, append-nil}
+use Rattle.std.proofs.lemmas.Grind.{flat_map-append}
+use Rattle.std.specs.Prelude.{flat_map, nat_lt, ◌==◌}
+use Rattle.std.specs.List.{range_with_len}
+use Rattle.std.proofs.lemmas.Bool.{eqb-false}
+use borrow.Author.Tests.{ltb-true, ltb-false, eqb-true}
+use Rattle.nc_base.specs.declared.request.Part.{Part}
+use Rattle.serial_spec.specs.Layout.{product}
+use Rattle.serial_spec.specs.Request.{coordinates}
+use Rattle.serial_spec.specs.Fill.{boxes, in_row, whole_rows, shifted, box_indices, AreBoxes}
+use Rattle.serial_spec.proofs.ElementLaws.{length-coordinates, map_long}
+
+-- ---- parts of a list
+
+-- the entries from `from` to below `to`
+abbrev part : {A : Type 0} → ℕ → ℕ → List A → List A
+part from to xs = take (to - from) (drop from xs)
+
+part_joined : {A : Type 0} (xs : List A) (from mid to : ℕ) → from ≤ mid → mid ≤ to → part from to xs ≡ part from mid xs ++ part mid to xs
+part_joined xs from mid to h k =
+    let whole : to - from ≡ (mid - from) + (to - mid) = omega arith in
+    let middle : from + (mid - from) ≡ mid = omega arith in
+    ap (λ (n : ℕ). take n (drop from xs)) whole
+    ∙ take-add (mid - from) (to - mid) (drop from xs)
+    ∙ ap (λ ys. take (mid - from) (drop from xs) ++ take (to - mid) ys) (drop-drop (mid - from) from xs ∙ ap (λ (n : ℕ). drop n xs) middle)
+
+part_none : {A : Type 0} (xs : List A) (from to : ℕ) → to ≤ from → part from to xs ≡ []
+part_none xs from to h = let none : to - from ≡ 0 = omega arith in ap (λ (n : ℕ). take n (drop from xs)) none
+
+part_map : {A B : Type 0} (f : A → B) (xs : List A) (from to : ℕ) → part from to (map f xs) ≡ map f (part from to xs)
+part_map f xs from to = ap (λ ys. take (to - from) ys) (drop-map f from xs) ∙ take-map f (to - from) (drop from xs)
+
+-- ---- rows of one length
+
+drop_rows : {A : Type 0} (f : ℕ → List A) (p : ℕ) → ((x : ℕ) → length (f x) ≡ p) → (i a n m : ℕ) → i ≤ n → m ≡ i * p
+    → drop m (flat_map f (range_with_len a n)) ≡ flat_map f (range_with_len (a + i) (n - i))
+drop_rows f p l zero a n m h e =
+    let none : m ≡ 0 = omega arith in
+    let first : a ≡ a + 0 = omega arith in
+    let all : n ≡ n - 0 = omega arith in
+    ap (λ (k : ℕ). drop k (flat_map f (range_with_len a n))) none ∙ (λ t. flat_map f (range_with_len (first t) (all t)))
+drop_rows f p l (suc i) a zero m h e = absurd (omega arith)
+drop_rows f p l (suc i) a (suc n) m h e =
+    let long : length (f a) ≡ p = l a in
+    let split : m ≡ length (f a) + i * p = omega arith in
+    let next : a + 1 + i ≡ a + suc i = omega arith in
+    ap (λ (k : ℕ). drop k (f a ++ flat_map f (range_with_len (a + 1) n))) split
+    ∙ drop-append-add (f a) (flat_map f (range_with_len (a + 1) n)) (i * p)
+    ∙ drop_rows f p l i (a + 1) n (i * p) (omega arith) refl
+    ∙ (λ t. flat_map f (range_with_len (next t) (less t)))
+  where
+    less : n - i ≡ suc n - suc i
+    less = omega arith
+
+take_rows : {A : Type 0} (f : ℕ → List A) (p : ℕ) → ((x : ℕ) → length (f x) ≡ p) → (i a n m : ℕ) → i ≤ n → m ≡ i * p
+    → take m (flat_map f (range_with_len a n)) ≡ flat_map f (range_with_len a i)
+take_rows f p l zero a n m h e =
+    let none : m ≡ 0 = omega arith in ap (λ (k : ℕ). take k (flat_map f (range_with_len a n))) none
+take_rows f p l (suc i) a zero m h e = absurd (omega arith)
+take_rows f p l (suc i) a (suc n) m h e =
+    let long : length (f a) ≡ p = l a in
+    let split : m ≡ length (f a) + i * p = omega arith in
+    ap (λ (k : ℕ). take k (f a ++ flat_map f (range_with_len (a + 1) n))) split
+    ∙ take-append-add (f a) (flat_map f (range_with_len (a + 1) n)) (i * p)
+    ∙ ap (λ ys. f a ++ ys) (take_rows f p l i (a + 1) n (i * p) (omega arith) refl)
+
+-- whole rows
+part_rows : {A : Type 0} (f : ℕ → List A) (p : ℕ) → ((x : ℕ) → length (f x) ≡ p) → (n q d from to : ℕ) → q + d ≤ n → from ≡ q * p → to ≡ from + d * p
+    → part from to (flat_map f (range_with_len 0 n)) ≡ flat_map f (range_with_len q d)
+part_rows f p l n q d from to h e g =
+    let many : to - from ≡ d * p = omega arith in
+    let first : 0 + q ≡ q = omega arith in
+    ap (λ ys. take (to - from) ys) (drop_rows f p l q 0 n from (omega arith) e)
+    ∙ take_rows f p l d (0 + q) (n - q) (to - from) (omega arith) many
+    ∙ ap (λ (k : ℕ). flat_map f (range_with_len k d)) first
+
+-- within one row
+part_within : {A : Type 0} (f : ℕ → List A) (p : ℕ) → ((x : ℕ) → length (f x) ≡ p) → (n q lo hi base from to : ℕ) → q < n → lo ≤ hi → hi ≤ p
+    → base ≡ q * p → from ≡ base + lo → to ≡ base + hi → part from to (flat_map f (range_with_len 0 n)) ≡ part lo hi (f q)
+part_within f p l n q lo hi base from to h k m b e g =
+    let many : to - from ≡ hi - lo = omega arith in
+    let long : length (f q) ≡ p = l q in
+    let left = length-drop lo (f q) in
+    ap (λ ys. take (to - from) ys)
+    (ap (λ (i : ℕ). drop i (flat_map f (range_with_len 0 n))) e ∙ sym (drop-drop lo base (flat_map f (range_with_len 0 n))) ∙ ap (λ ys. drop lo ys) (at_row ∙ first_row (n - q) (omega arith))
+    ∙ drop-append-le lo (f q) (flat_map f (range_with_len (q + 1) (n - q - 1))) (omega arith))
+    ∙ take-append-le (to - from) (drop lo (f q)) (flat_map f (range_with_len (q + 1) (n - q - 1))) (omega arith)
+    ∙ ap (λ (i : ℕ). take i (drop lo (f q))) many
+  where
+    at_row : drop base (flat_map f (range_with_len 0 n)) ≡ flat_map f (range_with_len q (n - q))
+    at_row =
+        let first : 0 + q ≡ q = omega arith in
+        drop_rows f p l q 0 n base (omega arith) b ∙ ap (λ (i : ℕ). flat_map f (range_with_len i (n - q))) first
+
+    first_row : (k : ℕ) → 0 < k → flat_map f (range_with_len q k) ≡ f q ++ flat_map f (range_with_len (q + 1) (k - 1))
+    first_row zero h = absurd (omega arith)
+    first_row (suc k) h = let less : k ≡ suc k - 1 = omega arith in ap (λ (i : ℕ). f q ++ flat_map f (range_with_len (q + 1) i)) less
+
+-- ---- the indices of boxes
+
+-- the indices with first coordinate i
+abbrev slice : List ℕ → ℕ → List (List ℕ)
+slice lengths i = map (λ c. i ∷ c) (coordinates lengths)
+
+slice_long : (lengths : List ℕ) (i : ℕ) → length (slice lengths i) ≡ product lengths
+slice_long lengths i = map_long (λ c. i ∷ c) (coordinates lengths) ∙ length-coordinates lengths
+
+map_map : {A B C : Type 0} (f : B → C) (g : A → B) (xs : List A) → map f (map g xs) ≡ map (λ x. f (g x)) xs
+map_map f g [] = refl
+map_map f g (x ∷ xs) = ap (λ ys. f (g x) ∷ ys) (map_map f g xs)
+
+map_flat : {A B C : Type 0} (f : B → C) (g : A → List B) (xs : List A) → map f (flat_map g xs) ≡ flat_map (λ x. map f (g x)) xs
+map_flat f g [] = refl
+map_flat f g (x ∷ xs) = map-append f (g x) (flat_map g xs) ∙ ap (λ ys. map f (g x) ++ ys) (map_flat f g xs)
+
+flat_same : {A B : Type 0} (f g : A → List B) → ((x : A) → f x ≡ g x) → (xs : List A) → flat_map f xs ≡ flat_map g xs
+flat_same f g h [] = refl
+flat_same f g h (x ∷ xs) = λ t. h x t ++ flat_same f g h xs t
+
+rows_from : {B : Type 0} (f : ℕ → List B) (first a n : ℕ) → flat_map (λ i. f (first + i)) (range_with_len a n) ≡ flat_map f (range_with_len (first + a) n)
+rows_from f first a zero = refl
+rows_from f first a (suc n) =
+    let next : first + (a + 1) ≡ first + a + 1 = omega arith in
+    ap (λ ys. f (first + a) ++ ys) (rows_from f first (a + 1) n ∙ ap (λ (k : ℕ). flat_map f (range_with_len k n)) next)
+
+-- a box of one first coordinate
+row_indices : (i : ℕ) (p : Part) → box_indices (record { start = i ∷ p.start; count = 1 ∷ p.count }) ≡ map (λ c. i ∷ c) (box_indices p)
+row_indices i p =
+    let plain : i + 0 ≡ i = omega arith in
+    ap (λ ys. map (λ c. shifted (i ∷ p.start) c) ys) (append-nil (slice p.count 0))
+    ∙ map_map (λ c. shifted (i ∷ p.start) c) (λ c. 0 ∷ c) (coordinates p.count)
+    ∙ ap (λ (k : ℕ). map (λ c. k ∷ shifted p.start c) (coordinates p.count)) plain
+    ∙ sym (map_map (λ c. i ∷ c) (λ c. shifted p.start c) (coordinates p.count))
+
+in_row_indices : (i : ℕ) (parts : List Part) → flat_map box_indices (in_row i parts) ≡ map (λ c. i ∷ c) (flat_map box_indices parts)
+in_row_indices i [] = refl
+in_row_indices i (p ∷ parts) =
+    (λ t. row_indices i p t ++ in_row_indices i parts t) ∙ sym (map-append (λ c. i ∷ c) (box_indices p) (flat_map box_indices parts))
+
+unshifted : (lengths : List ℕ) → map (λ c. shifted (replicate (length lengths) 0) c) (coordinates lengths) ≡ coordinates lengths
+unshifted [] = refl
+unshifted (n ∷ lengths) =
+    map_flat (λ c. shifted (0 ∷ replicate (length lengths) 0) c) (slice lengths) (range_with_len 0 n)
+    ∙ flat_same (λ i. map (λ c. shifted (0 ∷ replicate (length lengths) 0) c) (slice lengths i)) (slice lengths) (each (unshifted lengths)) (range_with_len 0 n)
+  where
+    each : map (λ c. shifted (replicate (length lengths) 0) c) (coordinates lengths) ≡ coordinates lengths
+        → (i : ℕ) → map (λ c. shifted (0 ∷ replicate (length lengths) 0) c) (slice lengths i) ≡ slice lengths i
+    each same i =
+        let plain : 0 + i ≡ i = omega arith in
+        map_map (λ c. shifted (0 ∷ replicate (length lengths) 0) c) (λ c. i ∷ c) (coordinates lengths)
+        ∙ ap (λ (k : ℕ). map (λ c. k ∷ shifted (replicate (length lengths) 0) c) (coordinates lengths)) plain
+        ∙ sym (map_map (λ c. i ∷ c) (λ c. shifted (replicate (length lengths) 0) c) (coordinates lengths))
+        ∙ ap (λ ys. map (λ c. i ∷ c) ys) same
+
+-- a box of whole rows
+whole_box : (lengths : List ℕ) (first count : ℕ)
+    → box_indices (record { start = first ∷ replicate (length lengths) 0; count = count ∷ lengths }) ≡ flat_map (slice lengths) (range_with_len first count)
+whole_box lengths first count =
+    let plain : first + 0 ≡ first = omega arith in
+    map_flat (λ c. shifted (first ∷ replicate (length lengths) 0) c) (slice lengths) (range_with_len 0 count)
+    ∙ flat_same (λ i. map (λ c. shifted (first ∷ replicate (length lengths) 0) c) (slice lengths i)) (λ i. slice lengths (first + i)) each (range_with_len 0 count)
+    ∙ rows_from (slice lengths) first 0 count
+    ∙ ap (λ (k : ℕ). flat_map (slice lengths) (range_with_len k count)) plain
+  where
+    each : (i : ℕ) → map (λ c. shifted (first ∷ replicate (length lengths) 0) c) (slice lengths i) ≡ slice lengths (first + i)
+    each i =
+        map_map (λ c. shifted (first ∷ replicate (length lengths) 0) c) (λ c. i ∷ c) (coordinates lengths)
+        ∙ sym (map_map (λ c. (first + i) ∷ c) (λ c. shifted (replicate (length lengths) 0) c) (coordinates lengths))
+        ∙ ap (λ ys. map (λ c. (first + i) ∷ c) ys) (unshifted lengths)
+
+whole_indices : (lengths : List ℕ) (first last : ℕ) → flat_map box_indices (whole_rows lengths first last) ≡ flat_map (slice lengths) (range_with_len first (last - first))
+whole_indices lengths first last = by_test (nat_lt first last) refl
+  where
+    by_test : (t : Bool) → nat_lt first last ≡ t
+        → flat_map box_indices (elim t as (λ u. List Part) [
+          | false ↦ []
+          | true ↦ record { start = first ∷ replicate (length lengths) 0; count = (last - first) ∷ lengths } ∷ []
+        ]) ≡ flat_map (slice lengths) (range_with_len first (last - first))
+    by_test true e =
+        append-nil (box_indices (record { start = first ∷ replicate (length lengths) 0; count = (last - first) ∷ lengths }))
+        ∙ whole_box lengths first (last - first)
+    by_test false e =
+        let low : last ≤ first = ltb-false _ _ e in
+        let none : 0 ≡ last - first = omega arith in
+        ap (λ (k : ℕ). flat_map (slice lengths) (range_with_len first k)) none
+
+-- ---- the law
+
+-- what the boxes of each range within these lengths have
+abbrev Right : List ℕ → Type 0
+Right lengths = (from to : ℕ) → from ≤ to → to ≤ product lengths → AreBoxes lengths from to (boxes lengths from to)
+
+scalar_boxes : Right []
+scalar_boxes from to h k = by_test (nat_lt from to) refl
+  where
+    by_test : (t : Bool) → nat_lt from to ≡ t
+        → flat_map box_indices (elim t as (λ u. List Part) [ true ↦ record { start = []; count = [] } ∷ [] | false ↦ [] ]) ≡ part from to ([] ∷ [])
+    by_test true e =
+        let low : from < to = ltb-true _ _ e in
+        let first : 0 ≡ from = omega arith in
+        let last : 1 ≡ to = omega arith in
+        λ t. part (first t) (last t) ([] ∷ [])
+    by_test false e = sym (part_none ([] ∷ []) from to (ltb-false _ _ e))
+
+some_size : (n size x : ℕ) → x < n * size → 0 < size
+some_size n zero x h = absurd (omega arith)
+some_size n (suc size) x h = omega arith
+
+-- the row of a number, and its place there
+record InRow (size x q r : ℕ) : Type 0 where
+  whole : q * size + r ≡ x
+  less : r < size
+
+in_row_of : (size x : ℕ) → 0 < size → InRow size x (x / size) (x % size)
+in_row_of size x h = record { whole = div-add-mod' x size; less = mod_below x size h }
+
+-- the last row's part, from its front
+last_part : (n : ℕ) (lengths : List ℕ) (q r to : ℕ) → Right lengths → InRow (product lengths) to q r → to ≤ n * product lengths
+    → flat_map box_indices (in_row q (boxes lengths 0 r)) ≡ part (q * product lengths) to (coordinates (n ∷ lengths))
+last_part n lengths q r to ih w h = in_row_indices q (boxes lengths 0 r) ∙ ap (λ ys. map (λ c. q ∷ c) ys) (ih 0 r (omega arith) (low w.less)) ∙ by_row (nat_lt q n) refl
+  where
+    size : ℕ
+    size = product lengths
+
+    low : r < product lengths → r ≤ product lengths
+    low l = omega arith
+
+    by_row : (t : Bool) → nat_lt q n ≡ t → map (λ c. q ∷ c) (part 0 r (coordinates lengths)) ≡ part (q * product lengths) to (coordinates (n ∷ lengths))
+    by_row true e =
+        let plain : q * product lengths ≡ q * product lengths + 0 = omega arith in
+        sym (part_map (λ c. q ∷ c) (coordinates lengths) 0 r)
+        ∙ sym (part_within (slice lengths) (product lengths) (slice_long lengths) n q 0 r (q * product lengths) (q * product lengths) to (ltb-true _ _ e) (omega arith) (low w.less) refl plain (sym w.whole))
+    by_row false e =
+        let past : n ≤ q = ltb-false _ _ e in
+        let over : n * product lengths ≤ q * product lengths = mul-le-mul_right (product lengths) past in
+        let sum = w.whole in
+        let none : r ≤ 0 = omega arith in
+        ap (λ ys. map (λ c. q ∷ c) ys) (part_none (coordinates lengths) 0 r none)
+        ∙ sym (part_none (coordinates (n ∷ lengths)) (q * product lengths) to (omega arith))
+
+-- both ends in one row
+one_row : (n : ℕ) (lengths : List ℕ) (q r s from to : ℕ) → Right lengths → InRow (product lengths) from q r → InRow (product lengths) to q s
+    → from ≤ to → from < n * product lengths
+    → flat_map box_indices (in_row q (boxes lengths r s)) ≡ part from to (coordinates (n ∷ lengths))
+one_row n lengths q r s from to ih v w h k =
+    let a = v.whole in
+    let b = w.whole in
+    let l = w.less in
+    let ordered : r ≤ s = omega arith in
+    let size_pos : 0 < product lengths = some_size n (product lengths) from k in
+    let below : q < n = below_n (nat_lt q n) refl in
+    in_row_indices q (boxes lengths r s)
+    ∙ ap (λ ys. map (λ c. q ∷ c) ys) (ih r s ordered (omega arith))
+    ∙ sym (part_map (λ c. q ∷ c) (coordinates lengths) r s)
+    ∙ sym (part_within (slice lengths) (product lengths) (slice_long lengths) n q r s (q * product lengths) from to below ordered (omega arith) refl (sym a) (sym b))
+  where
+    below_n : (t : Bool) → nat_lt q n ≡ t → q < n
+    below_n true e = ltb-true _ _ e
+    below_n false e =
+        let past : n ≤ q = ltb-false _ _ e in
+        let over : n * product lengths ≤ q * product lengths = mul-le-mul_right (product lengths) past in
+        let a = v.whole in
+        absurd (omega arith)
+
+-- whole rows, and the last row's part
+from_front : (n : ℕ) (lengths : List ℕ) (p q r to : ℕ) → Right lengths → InRow (product lengths) to q r → to ≤ n * product lengths → p ≤ q
+    → flat_map box_indices (whole_rows lengths p q ++ in_row q (boxes lengths 0 r)) ≡ part (p * product lengths) to (coordinates (n ∷ lengths))
+from_front n lengths p q r to ih w h k =
+    let sum = w.whole in
+    let less = w.less in
+    let upto : q * product lengths ≤ n * product lengths = omega arith in
+    let few : q ≤ n = le_of_mul-le-mul_right upto (omega arith) in
+    let over : p * product lengths ≤ q * product lengths = mul-le-mul_right (product lengths) k in
+    let there : p + (q - p) ≡ q = omega arith in
+    let far : p * product lengths + (q - p) * product lengths ≡ q * product lengths = sym (add-mul p (q - p) (product lengths)) ∙ ap (λ (k : ℕ). k * product lengths) there in
+    flat_map-append box_indices (whole_rows lengths p q) (in_row q (boxes lengths 0 r))
+    ∙ (λ t. (whole_indices lengths p q ∙ sym (part_rows (slice lengths) (product lengths) (slice_long lengths) n p (q - p) (p * product lengths) (q * product lengths) (omega arith) refl (sym far))) t
+    ++ last_part n lengths q r to ih w h t)
+    ∙ sym (part_joined (coordinates (n ∷ lengths)) (p * product lengths) (q * product lengths) to over (omega arith))
+
+rest_small : (n size x : ℕ) → x ≤ n * size → x % size ≤ size
+rest_small n zero x h =
+    let none : x ≡ 0 = omega arith in
+    let same : x % 0 ≡ 0 = ap (λ (y : ℕ). y % 0) none in
+    omega (arith, same)
+rest_small n (suc size) x h = let l = mod_below x (suc size) (omega arith) in omega arith
+
+same_row : (n : ℕ) (lengths : List ℕ) (from to : ℕ) → Right lengths → from ≤ to → to ≤ n * product lengths → from / product lengths ≡ to / product lengths
+    → flat_map box_indices (in_row (from / product lengths) (boxes lengths (from % product lengths) (to % product lengths))) ≡ part from to (coordinates (n ∷ lengths))
+same_row n lengths from to ih h k e = by_end (nat_lt from (n * product lengths)) refl
+  where
+    by_end : (t : Bool) → nat_lt from (n * product lengths) ≡ t
+        → flat_map box_indices (in_row (from / product lengths) (boxes lengths (from % product lengths) (to % product lengths))) ≡ part from to (coordinates (n ∷ lengths))
+    by_end true f =
+        let low : from < n * product lengths = ltb-true _ _ f in
+        let some = some_size n (product lengths) from low in
+        one_row n lengths (from / product lengths) (from % product lengths) (to % product lengths) from to ih (in_row_of (product lengths) from some)
+        (subst (λ (q : ℕ). InRow (product lengths) to q (to % product lengths)) (sym e) (in_row_of (product lengths) to some)) h low
+    by_end false f =
+        let past : n * product lengths ≤ from = ltb-false _ _ f in
+        let same : from ≡ to = omega arith in
+        let rests : from % product lengths ≡ to % product lengths = ap (λ (x : ℕ). x % product lengths) same in
+        in_row_indices (from / product lengths) (boxes lengths (from % product lengths) (to % product lengths))
+        ∙ ap (λ ys. map (λ c. (from / product lengths) ∷ c) ys)
+        (ih (from % product lengths) (to % product lengths) (omega arith) (rest_small n (product lengths) to k)
+        ∙ part_none (coordinates lengths) (from % product lengths) (to % product lengths) (omega arith))
+        ∙ sym (part_none (coordinates (n ∷ lengths)) from to (omega arith))
+
+-- from within one row to a later one
+first_part : (n : ℕ) (lengths : List ℕ) (p q r s from to : ℕ) → Right lengths → InRow (product lengths) from p r → InRow (product lengths) to q s
+    → to ≤ n * product lengths → p < q
+    → flat_map box_indices (in_row p (boxes lengths r (product lengths)) ++ whole_rows lengths (p + 1) q ++ in_row q (boxes lengths 0 s)) ≡ part from to (coordinates (n ∷ lengths))
+first_part n lengths p q r s from to ih v w h k =
+    let a = v.whole in
+    let b = w.whole in
+    let l = v.less in
+    let m = w.less in
+    let next : p + 1 ≤ q = omega arith in
+    let far : (p + 1) * product lengths ≤ q * product lengths = mul-le-mul_right (product lengths) next in
+    let one : (p + 1) * product lengths ≡ p * product lengths + product lengths = omega arith in
+    let upto : q * product lengths ≤ n * product lengths = omega arith in
+    let few : q ≤ n = le_of_mul-le-mul_right upto (omega arith) in
+    ap (λ parts. flat_map box_indices parts) (append_assoc (in_row p (boxes lengths r (product lengths))) (whole_rows lengths (p + 1) q) (in_row q (boxes lengths 0 s)))
+    ∙ flat_map-append box_indices (in_row p (boxes lengths r (product lengths))) (whole_rows lengths (p + 1) q ++ in_row q (boxes lengths 0 s))
+    ∙ (λ t. first (omega arith) (omega arith) one t ++ from_front n lengths (p + 1) q s to ih w h next t)
+    ∙ sym (part_joined (coordinates (n ∷ lengths)) from ((p + 1) * product lengths) to (omega arith) (omega arith))
+  where
+    first : p < n → r ≤ product lengths → (p + 1) * product lengths ≡ p * product lengths + product lengths
+        → flat_map box_indices (in_row p (boxes lengths r (product lengths))) ≡ part from ((p + 1) * product lengths) (coordinates (n ∷ lengths))
+    first below low one =
+        in_row_indices p (boxes lengths r (product lengths))
+        ∙ ap (λ ys. map (λ c. p ∷ c) ys) (ih r (product lengths) low (omega arith))
+        ∙ sym (part_map (λ c. p ∷ c) (coordinates lengths) r (product lengths))
+        ∙ sym (part_within (slice lengths) (product lengths) (slice_long lengths) n p r (product lengths) (p * product lengths) from ((p + 1) * product lengths) below low (omega arith) refl (sym v.whole) one)
+
+rows_right : (n : ℕ) (lengths : List ℕ) → Right lengths → Right (n ∷ lengths)
+rows_right n lengths ih from to h k = by_row (from / product lengths == to / product lengths) refl
+  where
+    ordered : (from / product lengths == to / product lengths) ≡ false → from < to
+    ordered e = by_test (nat_lt from to) refl
+      where
+        by_test : (t : Bool) → nat_lt from to ≡ t → from < to
+        by_test true f = ltb-true _ _ f
+        by_test false f =
+            let low : to ≤ from = ltb-false _ _ f in
+            let same : from ≡ to = omega arith in
+            absurd (eqb-false _ _ e (ap (λ (x : ℕ). x / product lengths) same))
+
+    later : (some : 0 < product lengths) → (from / product lengths == to / product lengths) ≡ false → from / product lengths < to / product lengths
+    later some e =
+        let a = div-add-mod' from (product lengths) in
+        let up : from / product lengths ≤ to / product lengths = le-div (from / product lengths) to (product lengths) some (omega arith) in
+        let apart = eqb-false _ _ e in
+        by_test (nat_lt (from / product lengths) (to / product lengths)) refl up apart
+      where
+        by_test : (t : Bool) → nat_lt (from / product lengths) (to / product lengths) ≡ t → from / product lengths ≤ to / product lengths
+            → (from / product lengths ≡ to / product lengths → ⊥) → from / product lengths < to / product lengths
+        by_test true f up apart = ltb-true _ _ f
+        by_test false f up apart =
+            let low : to / product lengths ≤ from / product lengths = ltb-false _ _ f in
+            absurd (apart (omega arith))
+
+    by_front : (some : 0 < product lengths) → from / product lengths < to / product lengths → (u : Bool) → (from % product lengths == 0) ≡ u
+        → flat_map box_indices (elim u as (λ v. List Part) [
+          | true ↦ whole_rows lengths (from / product lengths) (to / product lengths) ++ in_row (to / product lengths) (boxes lengths 0 (to % product lengths))
+          | false ↦ in_row (from / product lengths) (boxes lengths (from % product lengths) (product lengths))
+              ++ whole_rows lengths (from / product lengths + 1) (to / product lengths) ++ in_row (to / product lengths) (boxes lengths 0 (to % product lengths))
+        ]) ≡ part from to (coordinates (n ∷ lengths))
+    by_front some l true e =
+        let none : from % product lengths ≡ 0 = eqb-true _ _ e in
+        let a = div-add-mod' from (product lengths) in
+        let front : from / product lengths * product lengths ≡ from = omega arith in
+        from_front n lengths (from / product lengths) (to / product lengths) (to % product lengths) to ih (in_row_of (product lengths) to some) k (omega arith)
+        ∙ ap (λ (x : ℕ). part x to (coordinates (n ∷ lengths))) front
+    by_front some l false e =
+        first_part n lengths (from / product lengths) (to / product lengths) (from % product lengths) (to % product lengths) from to ih
+        (in_row_of (product lengths) from some) (in_row_of (product lengths) to some) k l
+
+    by_row : (t : Bool) → (from / product lengths == to / product lengths) ≡ t
+        → flat_map box_indices (elim t as (λ v. List Part) [
+          | true ↦ in_row (from / product lengths) (boxes lengths (from % product lengths) (to % product lengths))
+          | false ↦ elim (from % product lengths == 0) as (λ v. List Part) [
+            | true ↦ whole_rows lengths (from / product lengths) (to / product lengths) ++ in_row (to / product lengths) (boxes lengths 0 (to % product lengths))
+            | false ↦ in_row (from / product lengths) (boxes lengths (from % product lengths) (product lengths))
+                ++ whole_rows lengths (from / product lengths + 1) (to / product lengths) ++ in_row (to / product lengths) (boxes lengths 0 (to % product lengths))
+          ]
+        ]) ≡ part from to (coordinates (n ∷ lengths))
+    by_row true e = same_row n lengths from to ih h k (eqb-true _ _ e)
+    by_row false e =
+        let l = ordered e in
+        let some : 0 < product lengths = some_size n (product lengths) from (omega arith) in
+        by_front some (later some e) (from % product lengths == 0) refl
+
+pub boxes_right : (lengths : List ℕ) (from to : ℕ) → from ≤ to → to ≤ product lengths → AreBoxes lengths from to (boxes lengths from to)
+boxes_right [] = scalar_boxes
+boxes_right (n ∷ lengths) = rows_right n lengths (boxes_right lengths)

@@ -1,0 +1,188 @@
+-- Elements end within the file, and an index below the known lengths is an element.
+use Rattle.std.proofs.Common.{◌≡◌, ℕ, zero, suc, ◌+◌, ◌-◌, ◌*◌, ◌<◌, ◌≤◌, refl, sym, ◌∙◌, ap, subst, List, [], ◌∷◌, length, map, drop, Bool, true, false, ◌||◌, cond, Option, Some, None, arith}
+use Rattle.std.proofs.Math.Nat.{mul-le-mul_right}
+use Rattle.std.proofs.lemmas.Bool.Decides.{nat_tests}
+use Rattle.std.proofs.lemmas.Iterator.Adapters.{position_from-zero}
+use Rattle.std.specs.List.{list_any, position_from, AllByRecursion}
+use Rattle.std.specs.Prelude.{slice_get, position, option_map, MatchBool, ◌==◌, if◌then◌else◌}
+use Rattle.nc_base.specs.declared.header.Header.{Header}
+use Rattle.nc_base.specs.declared.header.Var.{Var}
+use Rattle.nc_base.specs.declared.errors.HeaderErr.TheVariants as fault
+use Rattle.serial_spec.specs.ExternalForm.{size_of}
+use Rattle.serial_spec.specs.Layout.{greatest, length_of, lengths, starts_with_zero, without_record, is_record, slab, vsize, recsize, last_share, record_slabs, end_of_var, end_of}
+use Rattle.serial_spec.specs.Place.{place, record_of, within_record, HasRecord, IsIndex, IsElementBelow}
+use Rattle.serial_spec.specs.HeaderGrammar.{is_sound, first_check, first_with, fault_if, two_record_dims, record_later, is_record_id}
+use Rattle.serial_spec.specs.RegionCheck.{known_lengths}
+use Rattle.serial_spec.proofs.ApartLaws.{span_fixed, span_record, neither, no_some, and_right}
+use Rattle.serial_spec.proofs.ElementLaws.{get_map}
+
+-- ---- the end of a file
+
+greatest_holds : (ns : List ℕ) (k n : ℕ) → slice_get ns k ≡ Some n → n ≤ greatest ns
+greatest_holds [] k n h = absurd cc
+greatest_holds (m ∷ ns) zero n h = let same : m ≡ n = cc in omega arith
+greatest_holds (m ∷ ns) (suc k) n h = let l = greatest_holds ns k n h in omega arith
+
+pub end_holds : (header : Header) (first n k : ℕ) (v : Var) → slice_get header.vars k ≡ Some v → end_of_var header n v ≤ end_of header first n
+end_holds header first n k v h =
+    let l = greatest_holds (map (λ w. end_of_var header n w) header.vars) k (end_of_var header n v) (get_map (λ w. end_of_var header n w) header.vars k v h) in
+    omega arith
+
+slab_small : (header : Header) (v : Var) → slab header v ≤ vsize header v
+slab_small header v = omega arith
+
+slab_shared : (header : Header) (v : Var) → slab header v ≤ last_share header v
+slab_shared header v = by_test (length (record_slabs header) == 1)
+  where
+    by_test : (t : Bool) → slab header v ≤ cond t (slab header v) (vsize header v)
+    by_test true = omega arith
+    by_test false = slab_small header v
+
+end_fixed : (header : Header) (n : ℕ) (v : Var) → is_record header v ≡ false → end_of_var header n v ≡ v.begin + vsize header v
+end_fixed header n v e = ap (λ (t : Bool). cond t (cond (n == 0) 0 (v.begin + (n - 1) * recsize header + last_share header v)) (v.begin + vsize header v)) e
+
+end_record : (header : Header) (n : ℕ) (v : Var) → is_record header v ≡ true → (n == 0) ≡ false
+    → end_of_var header n v ≡ v.begin + (n - 1) * recsize header + last_share header v
+end_record header n v e f =
+    ap (λ (t : Bool). cond t (cond (n == 0) 0 (v.begin + (n - 1) * recsize header + last_share header v)) (v.begin + vsize header v)) e
+    ∙ ap (λ (t : Bool). cond t 0 (v.begin + (n - 1) * recsize header + last_share header v)) f
+
+some_record : (r n : ℕ) → r < n → (n == 0) ≡ false
+some_record r n h = grind (arith, nat_tests)
+
+-- an element in a record below n ends within the file of n records
+pub element_inside : (header : Header) (first n k : ℕ) (v : Var) (index : List ℕ) → slice_get header.vars k ≡ Some v → IsElementBelow header v n index
+    → place header v index + size_of v.kind ≤ end_of header first n
+element_inside header first n k v index h p = by_kind (is_record header v) refl
+  where
+    by_kind : (t : Bool) → is_record header v ≡ t → place header v index + size_of v.kind ≤ end_of header first n
+    by_kind false e =
+        let w = span_fixed header v index e p.0 in
+        let high = w.high in
+        let small = slab_small header v in
+        let own = end_fixed header n v e in
+        let whole = end_holds header first n k v h in
+        omega arith
+    by_kind true e =
+        let w = span_record header v index e p.0 in
+        let high = w.high in
+        let below : record_of index < n = subst (λ (t : Bool). MatchBool t (record_of index < n) (Unit {0})) e p.1 in
+        let rows : record_of index * recsize header ≤ (n - 1) * recsize header = mul-le-mul_right (recsize header) (omega (arith, below)) in
+        let small = slab_shared header v in
+        let own = end_record header n v e (some_record (record_of index) n below) in
+        let whole = end_holds header first n k v h in
+        omega arith
+
+-- ---- the end grows with the records
+
+greatest_grows : (f g : Var → ℕ) → ((v : Var) → f v ≤ g v) → (vs : List Var) → greatest (map f vs) ≤ greatest (map g vs)
+greatest_grows f g h [] = omega arith
+greatest_grows f g h (v ∷ vs) = let a = h v in let b = greatest_grows f g h vs in omega arith
+
+var_grows : (header : Header) (n m : ℕ) → n ≤ m → (v : Var) → end_of_var header n v ≤ end_of_var header m v
+var_grows header n m h v = by_kind (is_record header v) refl (n == 0) refl
+  where
+    by_kind : (t : Bool) → is_record header v ≡ t → (u : Bool) → (n == 0) ≡ u → end_of_var header n v ≤ end_of_var header m v
+    by_kind false e u f = let a = end_fixed header n v e in let b = end_fixed header m v e in omega arith
+    by_kind true e true f =
+        let none : end_of_var header n v ≡ 0 =
+        ap (λ (t : Bool). cond t (cond (n == 0) 0 (v.begin + (n - 1) * recsize header + last_share header v)) (v.begin + vsize header v)) e
+        ∙ ap (λ (t : Bool). cond t 0 (v.begin + (n - 1) * recsize header + last_share header v)) f in
+        omega arith
+    by_kind true e false f =
+        let some : (m == 0) ≡ false = grind (arith, nat_tests) in
+        let rows : (n - 1) * recsize header ≤ (m - 1) * recsize header = mul-le-mul_right (recsize header) (omega arith) in
+        let a = end_record header n v e f in
+        let b = end_record header m v e some in
+        omega arith
+
+pub end_grows : (header : Header) (first n m : ℕ) → n ≤ m → end_of header first n ≤ end_of header first m
+end_grows header first n m h =
+    let l = greatest_grows (λ v. end_of_var header n v) (λ v. end_of_var header m v) (var_grows header n m h) header.vars in
+    omega arith
+
+-- ---- an index below the known lengths
+
+-- the record dimension's length is the known count
+abbrev pub known_of : ℕ → ℕ → ℕ
+known_of known n = if n == 0 then known else n
+
+suc_is_some : (n : ℕ) → (suc n == 0) ≡ false
+suc_is_some n = grind (arith, nat_tests)
+
+none_known : (known : ℕ) (ns : List ℕ) → AllByRecursion (λ n. (n == 0) ≡ false) ns → map (known_of known) ns ≡ ns
+none_known known [] h = refl
+none_known known (n ∷ ns) h = λ t. ap (λ (b : Bool). cond b known n) h.0 t ∷ none_known known ns h.1 t
+
+-- an index below the known lengths, in words of the lengths alone
+by_lengths : (known : ℕ) (ls : List ℕ) (index : List ℕ) → AllByRecursion (λ n. (n == 0) ≡ false) (drop 1 ls) → IsIndex (map (known_of known) ls) index
+    → MatchBool (starts_with_zero ls) (HasRecord index × IsIndex (without_record ls) (within_record index)) (IsIndex (without_record ls) index)
+    × MatchBool (starts_with_zero ls) (record_of index < known) (Unit {0})
+by_lengths known [] index some h = (h, tt)
+by_lengths known (zero ∷ ls) [] some h = absurd h
+by_lengths known (zero ∷ ls) (r ∷ index) some h = ((tt, subst (λ (ns : List ℕ). IsIndex ns index) (none_known known ls some) h.1), h.0)
+by_lengths known (suc n ∷ ls) index some h =
+    let e : (suc n == 0) ≡ false = suc_is_some n in
+    let whole : map (known_of known) (suc n ∷ ls) ≡ suc n ∷ ls = λ t. cond_at e t ∷ none_known known ls some t in
+    let own : IsIndex (suc n ∷ ls) index = subst (λ (ns : List ℕ). IsIndex ns index) whole h in (
+      subst (λ (t : Bool). MatchBool t (HasRecord index × IsIndex (suc n ∷ ls) (within_record index)) (IsIndex (suc n ∷ ls) index)) (sym e) own,
+      subst (λ (t : Bool). MatchBool t (record_of index < known) (Unit {0})) (sym e) tt,
+    )
+  where
+    cond_at : (suc n == 0) ≡ false → known_of known (suc n) ≡ suc n
+    cond_at e = ap (λ (t : Bool). cond t known (suc n)) e
+
+-- ---- the record dimension stands only first
+
+pub unmapped : {A B : Type 0} (f : A → B) (o : Option A) → option_map f o ≡ None → o ≡ None
+unmapped f None h = refl
+unmapped f (Some x) h = absurd cc
+
+pub untested : {A : Type 0} (test : A → Bool) (n : ℕ) (xs : List A) (k : ℕ) (x : A) → position_from test n xs ≡ None → slice_get xs k ≡ Some x → test x ≡ false
+untested test n [] k x h g = absurd cc
+untested test n (y ∷ xs) zero x h g =
+    let same : y ≡ x = cc in by_test (test y) refl same h
+  where
+    by_test : (t : Bool) → test y ≡ t → y ≡ x → cond t (Some n) (position_from test (n + 1) xs) ≡ None → test x ≡ false
+    by_test true e same h = absurd cc
+    by_test false e same h = ap test (sym same) ∙ e
+untested test n (y ∷ xs) (suc k) x h g = untested test (n + 1) xs k x (by_test (test y) h) g
+  where
+    by_test : (t : Bool) → cond t (Some n) (position_from test (n + 1) xs) ≡ None → position_from test (n + 1) xs ≡ None
+    by_test true h = absurd cc
+    by_test false h = h
+
+pub none_any : (test : ℕ → Bool) (ids : List ℕ) → list_any test ids ≡ false → AllByRecursion (λ id. test id ≡ false) ids
+none_any test [] h = tt
+none_any test (id ∷ ids) h = (neither_left (test id) (list_any test ids) h, none_any test ids (neither_right (test id) (list_any test ids) h))
+  where
+    neither_left : (a b : Bool) → (a || b) ≡ false → a ≡ false
+    neither_left true b h = h
+    neither_left false b h = refl
+
+    neither_right : (a b : Bool) → (a || b) ≡ false → b ≡ false
+    neither_right true b h = absurd cc
+    neither_right false b h = h
+
+later_some : (header : Header) (ids : List ℕ) → list_any (λ id. is_record_id header id) (drop 1 ids) ≡ false
+    → AllByRecursion (λ n. (n == 0) ≡ false) (drop 1 (map (λ id. length_of (slice_get header.dims id)) ids))
+later_some header [] h = tt
+later_some header (id ∷ ids) h = each ids (none_any (λ id. is_record_id header id) ids h)
+  where
+    each : (ids : List ℕ) → AllByRecursion (λ id. is_record_id header id ≡ false) ids → AllByRecursion (λ n. (n == 0) ≡ false) (map (λ id. length_of (slice_get header.dims id)) ids)
+    each [] h = tt
+    each (id ∷ ids) h = (h.0, each ids h.1)
+
+-- no length but the first is that of the record dimension
+pub none_later : (header : Header) (k : ℕ) (v : Var) → is_sound header ≡ true → slice_get header.vars k ≡ Some v
+    → AllByRecursion (λ n. (n == 0) ≡ false) (drop 1 (lengths header v))
+none_later header k v h g =
+    let checks : first_check header ≡ None = no_some _ (and_right _ _ h) in
+    let a = (neither (fault_if (two_record_dims header) fault.TwoRecordDims) _ checks).1 in
+    let b = (neither (first_with (record_later header) (λ n. fault.RecordDimNotFirst n) header.vars) _ a).0 in
+    let none : position (record_later header) header.vars ≡ None = unmapped (λ n. fault.RecordDimNotFirst n) _ b in
+    later_some header v.dims (untested (record_later header) 0 header.vars k v (sym (position_from-zero (record_later header) header.vars) ∙ none) g)
+
+pub index_is_element : (header : Header) (k : ℕ) (v : Var) (known : ℕ) (index : List ℕ) → is_sound header ≡ true → slice_get header.vars k ≡ Some v
+    → IsIndex (known_lengths header v known) index → IsElementBelow header v known index
+index_is_element header k v known index h g p = by_lengths known (lengths header v) index (none_later header k v h g) p

@@ -1,0 +1,208 @@
+-- The pair of variables that is computed is the least pair that shares a byte, and there is none where none is computed.
+use Rattle.std.proofs.Common.{◌≡◌, ℕ, zero, suc, ◌+◌, ◌<◌, ◌≤◌, refl, sym, ◌∙◌, ap, subst, inl, inr, ◌⊎◌, List, [], ◌∷◌, Bool, true, false, cond, Option, Some, None, arith}
+use Rattle.std.specs.Prelude.{slice_get, nat_lt, IsTrue}
+use Rattle.std.specs.Option.{option_or}
+use borrow.Author.Tests.{ltb-true, ltb-false}
+use Rattle.nc_base.specs.declared.header.Header.{Header}
+use Rattle.nc_base.specs.declared.header.Var.{Var}
+use Rattle.serial_spec.specs.Layout.{share, sharing, sharing_with, sharing_from, Shares, IsSharing}
+use Rattle.serial_spec.proofs.ApartLaws.{not_shared, neither, none_with}
+
+-- `Shares` over a list of variables
+abbrev SharesOf : Header → ℕ → List Var → ℕ → ℕ → Type 0
+SharesOf header first vs i j =
+    (v : Var) × (slice_get vs i ≡ Some v)
+    × (((j ≡ i) × (v.begin < first)) ⊎ ((i < j) × (w : Var) × (slice_get vs j ≡ Some w) × IsTrue (share header v w)))
+
+record IsLeast (header : Header) (first : ℕ) (vs : List Var) (i j : ℕ) : Type 0 where
+  pair : SharesOf header first vs i j
+  least_first : (a b : ℕ) → SharesOf header first vs a b → i ≤ a
+  least_second : (b : ℕ) → SharesOf header first vs i b → j ≤ b
+
+-- ---- the first partner of one variable
+
+record IsPartner (header : Header) (v : Var) (ws : List Var) (j : ℕ) : Type 0 where
+  other : Var
+  there : slice_get ws j ≡ Some other
+  shares : share header v other ≡ true
+  least : (b : ℕ) (w : Var) → slice_get ws b ≡ Some w → share header v w ≡ true → j ≤ b
+
+first_partner : (header : Header) (v : Var) (k m : ℕ) (ws : List Var) (p : ℕ × ℕ) → sharing_with header v k m ws ≡ Some p
+    → (j : ℕ) × (p ≡ (k, m + j)) × IsPartner header v ws j
+first_partner header v k m [] p h = absurd cc
+first_partner header v k m (w ∷ ws) p h = by_test (λ g. first_partner header v k (suc m) ws p g) (share header v w) refl h
+  where
+    by_test : (sharing_with header v k (suc m) ws ≡ Some p → (j : ℕ) × (p ≡ (k, suc m + j)) × IsPartner header v ws j)
+        → (t : Bool) → share header v w ≡ t → cond t (Some (k, m)) (sharing_with header v k (suc m) ws) ≡ Some p
+        → (j : ℕ) × (p ≡ (k, m + j)) × IsPartner header v (w ∷ ws) j
+    by_test rest true e h =
+        let same : (k, m) ≡ p = cc in
+        let back : m ≡ m + 0 = omega arith in
+        (0, sym same ∙ ap (λ (n : ℕ). (k, n)) back, record { other = w; there = refl; shares = e; least = λ b x g s. omega arith })
+    by_test rest false e h =
+        let found = rest h in
+        let on : suc m + found.0 ≡ m + suc found.0 = omega arith in
+        (suc found.0, found.1 ∙ ap (λ (n : ℕ). (k, n)) on, record { other = found.2.other; there = found.2.there; shares = found.2.shares; least = later found.0 found.2 e })
+      where
+        later : (j : ℕ) → IsPartner header v ws j → share header v w ≡ false
+            → (b : ℕ) (x : Var) → slice_get (w ∷ ws) b ≡ Some x → share header v x ≡ true → suc j ≤ b
+        later j found e zero x g s =
+            let same : w ≡ x = cc in
+            let yes : share header v w ≡ true = ap (λ (y : Var). share header v y) same ∙ s in
+            absurd cc
+        later j found e (suc b) x g s = let l = found.least b x g s in omega arith
+
+-- ---- the least pair of a list
+
+begins_in : (first : ℕ) (v : Var) → nat_lt v.begin first ≡ false → v.begin < first → ⊥
+begins_in first v e h = let l : first ≤ v.begin = ltb-false _ _ e in absurd (omega arith)
+
+-- a variable that neither begins in the header nor has a partner stands first in no pair
+stands_alone : (header : Header) (first k m : ℕ) (v : Var) (vs : List Var) → nat_lt v.begin first ≡ false → sharing_with header v k m vs ≡ None
+    → (b : ℕ) → SharesOf header first (v ∷ vs) 0 b → ⊥
+stands_alone header first k m v vs e none zero (x, g, inl (s, l)) =
+    let same : x ≡ v = cc in
+    begins_in first v e (subst (λ (y : Var). y.begin < first) same l)
+stands_alone header first k m v vs e none (suc b) (x, g, inl (s, l)) = absurd (omega arith)
+stands_alone header first k m v vs e none zero (x, g, inr (l, w, f, s)) = absurd (omega arith)
+stands_alone header first k m v vs e none (suc b) (x, g, inr (l, w, f, s)) =
+    let same : x ≡ v = cc in
+    let yes : share header v w ≡ true = subst (λ (y : Var). share header y w ≡ true) same s in
+    let no : share header v w ≡ false = none_with header v k m vs b w none f in
+    absurd cc
+
+-- a pair behind the first variable is one of the list behind it
+behind : (header : Header) (first : ℕ) (v : Var) (vs : List Var) (a b : ℕ) → SharesOf header first (v ∷ vs) (suc a) b
+    → (c : ℕ) × (b ≡ suc c) × SharesOf header first vs a c
+behind header first v vs a zero (x, g, inl (s, l)) = absurd (omega arith)
+behind header first v vs a (suc b) (x, g, inl (s, l)) = (b, refl, (x, g, inl (omega arith, l)))
+behind header first v vs a zero (x, g, inr (l, w, f, s)) = absurd (omega arith)
+behind header first v vs a (suc b) (x, g, inr (l, w, f, s)) = (b, refl, (x, g, inr (omega arith, w, f, s)))
+
+before : (header : Header) (first : ℕ) (v : Var) (vs : List Var) (a b : ℕ) → SharesOf header first vs a b → SharesOf header first (v ∷ vs) (suc a) (suc b)
+before header first v vs a b (x, g, inl (s, l)) = (x, g, inl (ap suc s, l))
+before header first v vs a b (x, g, inr (l, w, f, s)) = (x, g, inr (omega arith, w, f, s))
+
+abbrev Found : Header → ℕ → ℕ → List Var → ℕ × ℕ → Type 0
+Found header first k vs p = (i : ℕ) × (j : ℕ) × (p ≡ (k + i, k + j)) × IsLeast header first vs i j
+
+in_header : (header : Header) (first k : ℕ) (v : Var) (vs : List Var) → nat_lt v.begin first ≡ true → Found header first k (v ∷ vs) (k, k)
+in_header header first k v vs e =
+    let back : k ≡ k + 0 = omega arith in
+    let low : v.begin < first = ltb-true _ _ e in (
+      0,
+      0,
+      λ i. (back i, back i),
+      record { pair = (v, refl, inl (refl, low)); least_first = λ a b s. omega arith; least_second = λ b s. omega arith },
+    )
+
+with_partner : (header : Header) (first k : ℕ) (v : Var) (vs : List Var) (p : ℕ × ℕ) → nat_lt v.begin first ≡ false
+    → sharing_with header v k (suc k) vs ≡ Some p → Found header first k (v ∷ vs) p
+with_partner header first k v vs p e h =
+    let found = first_partner header v k (suc k) vs p h in
+    let back : k ≡ k + 0 = omega arith in
+    let on : suc k + found.0 ≡ k + suc found.0 = omega arith in
+    let low : 0 < suc found.0 = omega arith in (
+      0,
+      suc found.0,
+      found.1 ∙ (λ i. (back i, on i)),
+      record {
+        pair = (v, refl, inr (low, found.2.other, found.2.there, found.2.shares));
+        least_first = λ a b s. omega arith;
+        least_second = second found.0 found.2;
+      },
+    )
+  where
+    second : (j : ℕ) → IsPartner header v vs j → (b : ℕ) → SharesOf header first (v ∷ vs) 0 b → suc j ≤ b
+    second j found zero (x, g, inl (s, l)) =
+        let same : x ≡ v = cc in
+        absurd (begins_in first v e (subst (λ (y : Var). y.begin < first) same l))
+    second j found (suc b) (x, g, inl (s, l)) = absurd (omega arith)
+    second j found zero (x, g, inr (l, w, f, s)) = absurd (omega arith)
+    second j found (suc b) (x, g, inr (l, w, f, s)) =
+        let same : x ≡ v = cc in
+        let lower = found.least b w f (subst (λ (y : Var). share header y w ≡ true) same s) in
+        omega arith
+
+further : (header : Header) (first k : ℕ) (v : Var) (vs : List Var) (p : ℕ × ℕ) → nat_lt v.begin first ≡ false
+    → sharing_with header v k (suc k) vs ≡ None → Found header first (suc k) vs p → Found header first k (v ∷ vs) p
+further header first k v vs p e none found =
+    let i = found.0 in
+    let j = found.1 in
+    let one : suc k + i ≡ k + suc i = omega arith in
+    let two : suc k + j ≡ k + suc j = omega arith in (
+      suc i,
+      suc j,
+      found.2 ∙ (λ t. (one t, two t)),
+      record { pair = before header first v vs i j found.3.pair; least_first = lower i j found.3; least_second = second i j found.3 },
+    )
+  where
+    lower : (i j : ℕ) → IsLeast header first vs i j → (a b : ℕ) → SharesOf header first (v ∷ vs) a b → suc i ≤ a
+    lower i j l zero b s = absurd (stands_alone header first k (suc k) v vs e none b s)
+    lower i j l (suc a) b s = let c = behind header first v vs a b s in let m = l.least_first a c.0 c.2 in omega arith
+
+    second : (i j : ℕ) → IsLeast header first vs i j → (b : ℕ) → SharesOf header first (v ∷ vs) (suc i) b → suc j ≤ b
+    second i j l b s = let c = behind header first v vs i b s in let m = l.least_second c.0 c.2 in omega (arith, c.1)
+
+least_of : (header : Header) (first k : ℕ) (vs : List Var) (p : ℕ × ℕ) → sharing_from header first k vs ≡ Some p → Found header first k vs p
+least_of header first k [] p h = absurd cc
+least_of header first k (v ∷ vs) p h = by_begin (λ g. least_of header first (suc k) vs p g) (nat_lt v.begin first) refl h
+  where
+    by_partner : nat_lt v.begin first ≡ false → (sharing_from header first (suc k) vs ≡ Some p → Found header first (suc k) vs p)
+        → (o : Option (ℕ × ℕ)) → sharing_with header v k (suc k) vs ≡ o → option_or o (sharing_from header first (suc k) vs) ≡ Some p
+        → Found header first k (v ∷ vs) p
+    by_partner e rest (Some q) f g = with_partner header first k v vs p e (f ∙ g)
+    by_partner e rest None f g = further header first k v vs p e f (rest g)
+
+    by_begin : (sharing_from header first (suc k) vs ≡ Some p → Found header first (suc k) vs p)
+        → (t : Bool) → nat_lt v.begin first ≡ t
+        → cond t (Some (k, k)) (option_or (sharing_with header v k (suc k) vs) (sharing_from header first (suc k) vs)) ≡ Some p
+        → Found header first k (v ∷ vs) p
+    by_begin rest true e g =
+        let same : (k, k) ≡ p = cc in
+        subst (λ (q : ℕ × ℕ). Found header first k (v ∷ vs) q) same (in_header header first k v vs e)
+    by_begin rest false e g = by_partner e rest (sharing_with header v k (suc k) vs) refl g
+
+no_pair : (header : Header) (first k : ℕ) (vs : List Var) → sharing_from header first k vs ≡ None → (a b : ℕ) → SharesOf header first vs a b → ⊥
+no_pair header first k [] h a b (x, g, s) = absurd cc
+no_pair header first k (v ∷ vs) h zero b s =
+    let out = not_shared (nat_lt v.begin first) (k, k) _ h in
+    stands_alone header first k (suc k) v vs out.0 (neither (sharing_with header v k (suc k) vs) (sharing_from header first (suc k) vs) out.1).0 b s
+no_pair header first k (v ∷ vs) h (suc a) b s =
+    let out = not_shared (nat_lt v.begin first) (k, k) _ h in
+    let c = behind header first v vs a b s in
+    no_pair header first (suc k) vs (neither (sharing_with header v k (suc k) vs) (sharing_from header first (suc k) vs) out.1).1 a c.0 c.2
+
+-- ---- the law
+
+pub sharing_found : (header : Header) (first k m : ℕ) → sharing header first ≡ Some (k, m) → IsSharing header first k m
+sharing_found header first k m h =
+    let found = least_of header first 0 header.vars (k, m) h in
+    let i : found.0 ≡ k = omega (arith, ap (λ (p : ℕ × ℕ). p.0) found.2) in
+    let j : found.1 ≡ m = omega (arith, ap (λ (p : ℕ × ℕ). p.1) found.2) in
+    by_same found.0 found.1 i j found.3
+  where
+    by_same : (i j : ℕ) → i ≡ k → j ≡ m → IsLeast header first header.vars i j → IsSharing header first k m
+    by_same i j e f l =
+        let there = subst (λ (n : ℕ). IsLeast header first header.vars n m) e (subst (λ (n : ℕ). IsLeast header first header.vars i n) f l) in
+        record { pair = there.pair; least_first = there.least_first; least_second = there.least_second }
+
+pub sharing_none : (header : Header) (first : ℕ) → sharing header first ≡ None → (k m : ℕ) → Shares header first k m → ⊥
+sharing_none header first h k m s = no_pair header first 0 header.vars h k m s
+
+same_least : (header : Header) (first : ℕ) (p q : ℕ × ℕ) → IsSharing header first p.0 p.1 → IsSharing header first q.0 q.1 → p ≡ q
+same_least header first p q a b =
+    let low = a.least_first q.0 q.1 b.pair in
+    let high = b.least_first p.0 p.1 a.pair in
+    let one : p.0 ≡ q.0 = omega arith in
+    let left = a.least_second q.1 (subst (λ (n : ℕ). Shares header first n q.1) (sym one) b.pair) in
+    let right = b.least_second p.1 (subst (λ (n : ℕ). Shares header first n p.1) one a.pair) in
+    let two : p.1 ≡ q.1 = omega arith in
+    λ t. (one t, two t)
+
+pub sharing_only : (header : Header) (first k m : ℕ) → IsSharing header first k m → sharing header first ≡ Some (k, m)
+sharing_only header first k m s = by_answer (k, m) s (sharing header first) refl
+  where
+    by_answer : (q : ℕ × ℕ) → IsSharing header first q.0 q.1 → (o : Option (ℕ × ℕ)) → sharing header first ≡ o → o ≡ Some q
+    by_answer q t None e = absurd (sharing_none header first e q.0 q.1 t.pair)
+    by_answer q t (Some p) e = ap (λ (r : ℕ × ℕ). Some r) (same_least header first p q (sharing_found header first p.0 p.1 e) t)
