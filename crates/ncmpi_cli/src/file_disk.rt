@@ -23,7 +23,12 @@ pub struct FileDisk<R: Files<File = File> + Clone + Send + Drop> {
 
 impl<R: Files<File = File> + Clone + Send + Drop> FileDisk<R> {
     /// A disk that has not begun with a file.
-    pub fn new(rt: R, alloc: Global) -> Self {
+    pub fn new(rt: R, alloc: Global) -> Self
+        ensures handle { result.rt ≡ rt }
+        ensures from { result.from ≡ 0 }
+        ensures end { result.end ≡ 0 }
+        ensures faults { result.faults ≡ 0 }
+    {
         FileDisk {
             rt,
             name: String::new(alloc),

@@ -1,4 +1,6 @@
 // A writer as a sink. It tells no content.
+ghost use Rattle.std.specs.Prelude.{◌≡◌};
+
 use nc_outside::{Failed, Sink};
 use std::io::Write;
 
@@ -10,7 +12,10 @@ pub struct StdSink<W: Write> {
 }
 
 impl<W: Write> StdSink<W> {
-    pub fn new(writer: W) -> Self {
+    pub fn new(writer: W) -> Self
+        ensures writer { result.writer ≡ writer }
+        ensures faults { result.faults ≡ 0 }
+    {
         StdSink { writer, faults: 0 }
     }
 }

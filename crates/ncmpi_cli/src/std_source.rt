@@ -1,4 +1,6 @@
 // A reader as a source. It tells no content.
+ghost use Rattle.std.specs.Prelude.{◌≡◌};
+
 use nc_outside::{Failed, Source};
 use std::io::Read;
 
@@ -10,7 +12,10 @@ pub struct StdSource<R: Read> {
 }
 
 impl<R: Read> StdSource<R> {
-    pub fn new(reader: R) -> Self {
+    pub fn new(reader: R) -> Self
+        ensures reader { result.reader ≡ reader }
+        ensures faults { result.faults ≡ 0 }
+    {
         StdSource { reader, faults: 0 }
     }
 }
