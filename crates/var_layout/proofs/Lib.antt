@@ -6,3 +6,4 @@ pub mod Searches
 pub mod CreatedFiles
 pub mod LaidOut
 pub mod LaidWritable
+pub mod SmallFiles

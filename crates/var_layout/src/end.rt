@@ -11,8 +11,8 @@ use crate::sizes::{is_record, vsize_of};
 use crate::written::header_len;
 use nc_base::{Header, Var};
 
-#[tactic(auto, using(crate::proofs::Capping::capped_times))]
 /// Where a variable ends in a file of so many records, where a record takes `size`.
+#[tactic(auto, using(crate::proofs::Capping::capped_times))]
 pub(crate) fn end_of_var(header: &Header, lone: bool, size: u64, records: u64, var: &Var) -> u64
     requires lone { lone ≡ (length (layout.record_slabs header.now) == 1) }
     requires size { size ≡ capped (layout.recsize header.now) }

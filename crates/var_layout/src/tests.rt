@@ -1,5 +1,6 @@
 // Layouts of small datasets.
-ghost use Rattle.std.specs.Prelude.{◌≡◌, ◌<◌, ◌≤◌, ◌^◌, [], ◌∷◌, true, IfOk, codes};
+ghost use Rattle.std.specs.Prelude.{◌≡◌, ◌<◌, ◌≤◌, ◌^◌, [], ◌∷◌, true, IfOk};
+ghost use Rattle.nc_base.specs.declared.header.NcType.TheVariants.{Short, Int};
 ghost use Rattle.serial_spec.specs.HeaderGrammar.{is_sound, is_version};
 ghost use Rattle.var_layout.specs.Unplaced.{is_unplaced};
 
@@ -234,5 +235,37 @@ fn variable_above_the_classic_limit(rt: HostRuntime) -> Result<(), Fail> {
     let mut header = one_variable(rt.alloc(), 1, 600000000, NcType::Int)?;
     let answer = lay_out(&mut header, &Align { header: 4, var: 4 });
     assert_eq!(rt; answer, Err(LayoutErr::VarSize(0)));
+    Ok(())
+}
+
+/// Two record variables with their begins.
+fn two_placed(alloc: Global) -> Result<Header, AllocError>
+    ensures { IfOk result (λ header. header ≡ record {
+      version = 1;
+      records = 0;
+      dims = record { name = 120 ∷ []; len = 0 } ∷ [];
+      attrs = [];
+      vars = record { name = 118 ∷ []; dims = 0 ∷ []; attrs = []; kind = Short; begin = 116 }
+          ∷ record { name = 119 ∷ []; dims = 0 ∷ []; attrs = []; kind = Int; begin = 120 } ∷ [];
+    }) }
+{
+    let mut v = variable(alloc, b'v', NcType::Short)?;
+    v.begin = 116;
+    let mut w = variable(alloc, b'w', NcType::Int)?;
+    w.begin = 120;
+    Ok(Header {
+        version: 1,
+        records: 0,
+        dims: dimensions(alloc, 0)?,
+        attrs: AttrList::new(alloc),
+        vars: VarList::from_vec(vec![in alloc; v, w]?),
+    })
+}
+
+#[test]
+fn second_record_of_a_variable(rt: HostRuntime) -> Result<(), Fail> {
+    let header = two_placed(rt.alloc())?;
+    assert_eq!(rt; header.vars.len(), 2);
+    assert_eq!(rt; place(&header, 0, &[1]), 124);
     Ok(())
 }
