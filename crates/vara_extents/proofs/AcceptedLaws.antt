@@ -1,5 +1,5 @@
 -- What is known of a region that a check accepts.
-use Rattle.std.proofs.Common.{◌≡◌, ℕ, ◌+◌, ◌-◌, ◌*◌, ◌^◌, ◌<◌, ◌≤◌, ◌∙◌, ap, sym, subst, refl, inl, inr, ◌⊎◌, List, [], ◌∷◌, length, Bool, true, false, not, cond, ltb, leb, eqb, ◌||◌, ◌&&◌, Option, Some, None, zip, arith}
+use Rattle.std.proofs.Common.{◌≡◌, ℕ, ◌^◌, ◌<◌, ◌≤◌, ◌∙◌, ap, sym, refl, inl, inr, ◌⊎◌, List, [], ◌∷◌, length, Bool, true, false, not, cond, ltb, leb, eqb, ◌||◌, ◌&&◌, Option, Some, arith}
 use Rattle.std.specs.Prelude.{slice_get}
 use Rattle.std.specs.List.{list_any}
 use Rattle.std.proofs.lemmas.Bool.{or_parts, leb-false}
@@ -13,7 +13,7 @@ use Rattle.serial_spec.specs.HeaderGrammar.{header_len}
 use Rattle.serial_spec.specs.Layout.{product, end_of}
 use Rattle.serial_spec.specs.Limits.{most_elements, record_limit, file_limit}
 use Rattle.serial_spec.specs.Records.{records_of}
-use Rattle.serial_spec.specs.RegionCheck.{check, check_some, check_var, bounds, other_shape, some_start, some_edge, is_too_large, last_position}
+use Rattle.serial_spec.specs.RegionCheck.{check_some, check_var, bounds, other_shape, some_start, some_edge, is_too_large, last_position}
 use Rattle.vara_extents.specs.Accepted.{IsAccepted}
 
 pub no_starts : (ends : List (Option ℕ)) (starts counts : List ℕ) → length starts ≡ 0 → some_start ends starts counts ≡ false

@@ -1,4 +1,4 @@
-use Rattle.std.proofs.Common.{◌≡◌, ◌-◌, ◌*◌, ℕ, List, ap, ◌∙◌, get_or, zip, arith}
+use Rattle.std.proofs.Common.{◌-◌, ◌*◌, ℕ, List, ap, ◌∙◌, get_or, zip, arith}
 use Rattle.std.specs.Prelude.{sum_by}
 use Rattle.std.proofs.lemmas.List.{take_all}
 use Rattle.std.proofs.lemmas.Slice.Zip.{length-zip}

@@ -1,4 +1,4 @@
-use Rattle.std.proofs.Common.{◌≡◌, ◌∙◌, sym, Some, arith}
+use Rattle.std.proofs.Common.{◌≡◌, sym, Some, arith}
 use Rattle.std.specs.Prelude.{slice_get}
 use Rattle.var_layout.proofs.Soundness.{if_there}
 use Rattle.serial_spec.specs.Records.{records_of}
