@@ -1,19 +1,16 @@
 //! Runs from the text of a script: answers, files and device calls.
 
 ghost use Rattle.std.specs.Prelude.{◌≡◌, ◌+◌, [], ◌∷◌, ◌++◌, replicate};
-ghost use Rattle.script_spec.specs.TextExamples.{fault_at, printed, data_of, calls_made, script_read, opened};
+ghost use Rattle.script_spec.specs.TextExamples.{fault_at, printed, data_of, calls_made, script_read, opened, printed_on, calls_on};
 ghost use Rattle.nc_base.specs.declared.step.Mark.TheVariants.{Meet, Solo};
 ghost use Rattle.nc_base.specs.declared.step.DiskCall.TheVariants.{Grow, Load, Store};
 ghost use Rattle.script_spec.specs.ScriptGrammar.{fault_of, script_of_utf8};
 ghost use Rattle.script_spec.specs.Shown.{shown};
-ghost use Rattle.script_spec.specs.RunScripts.{script_close, printed_close, script_gets, script_none, script_two_records, script_cancelled, script_left, script_chars, printed_none, printed_cancelled, printed_left, printed_chars, script_three, printed_three, script_ten, printed_ten, script_overlap, script_refusals, script_buffer, script_kinds, script_independent, script_items, script_known, script_modes, script_map, script_serial, printed_overlap, printed_refusals, printed_buffer, printed_kinds, printed_items, printed_known, printed_modes, printed_map, script_varn, printed_varn, script_varn_self, printed_varn_self, script_varn_empty, printed_varn_empty, script_varn_post, printed_varn_post, script_varn_refused, printed_varn_refused, script_fill, printed_fill, script_fill_record, printed_fill_record, script_fill_fixed, printed_fill_fixed};
-ghost use Rattle.serial_spec.specs.Examples.{int_bytes};
+ghost use Rattle.script_spec.specs.RunScripts.{script_close, printed_close, script_gets, script_none, script_two_records, script_cancelled, script_left, script_chars, printed_none, printed_cancelled, printed_left, printed_chars, script_three, printed_three, script_ten, printed_ten, script_overlap, script_refusals, script_buffer, script_kinds, script_independent, script_items, script_known, script_modes, script_map, script_serial, printed_overlap, printed_refusals, printed_buffer, printed_kinds, printed_items, printed_known, printed_modes, printed_map, script_varn, printed_varn, script_varn_self, printed_varn_self, script_varn_empty, printed_varn_empty, script_varn_post, printed_varn_post, script_varn_refused, printed_varn_refused, script_fill, printed_fill, script_fill_record, printed_fill_record, script_fill_fixed, printed_fill_fixed, script_serial_posts, printed_serial_posts, script_uint64, printed_uint64, script_opened, printed_opened, script_added, printed_added};
+ghost use Rattle.serial_spec.specs.Examples.{int_bytes, dataset_a, file_halves, moved, file_moved};
 ghost use Rattle.script_spec.specs.FaultyScripts.{faulty_fill_twice, faulty_no_part, faulty_many_parts, faulty_part};
 ghost use Rattle.nc_base.specs.declared.errors.ScriptKind.TheVariants as kind;
 ghost use Rattle.nc_base.specs.declared.errors.LimitName.TheVariants as limit;
-ghost use Rattle.script_spec.specs.RunScripts.{script_serial_posts, printed_serial_posts, script_uint64, printed_uint64, script_opened, printed_opened, script_added, printed_added};
-ghost use Rattle.script_spec.specs.TextExamples.{printed_on, calls_on};
-ghost use Rattle.serial_spec.specs.Examples.{dataset_a, file_halves, moved, file_moved};
 
 /// The printed text of small runs.
 pub fn worked_answers()

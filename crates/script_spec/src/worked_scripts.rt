@@ -1,21 +1,18 @@
 //! What scripts mean, and which are refused.
 
 ghost use Rattle.std.specs.Prelude.{◌≡◌, ◌+◌, [], ◌∷◌, ◌++◌, length, None, true, codes, Ok, false};
-ghost use Rattle.serial_spec.specs.File.{read};
 ghost use Rattle.serial_spec.specs.HeaderGrammar.{is_writable};
-ghost use Rattle.serial_spec.specs.Examples.{var, halves, laid_out, dim};
-ghost use Rattle.serial_spec.specs.Request.{elements};
+ghost use Rattle.serial_spec.specs.Examples.{laid_out};
 ghost use Rattle.script_spec.specs.TextExamples.{script_halves, halves_read, fault_at, start_lines, script_read};
 ghost use Rattle.script_spec.specs.ScriptGrammar.{fault_of, script_of_utf8};
 ghost use Rattle.script_spec.specs.Shown.{shown};
 ghost use Rattle.script_spec.specs.Texts.{text_line};
 ghost use Rattle.script_spec.specs.RunScripts.{script_atts, script_modes, script_varn, script_fill_record, script_extras};
-ghost use Rattle.script_spec.specs.FaultyScripts.{faulty_unclosed, faulty_escape, faulty_glued, faulty_extra, faulty_name, faulty_later_record, faulty_kind, faulty_post_twice, faulty_opened, faulty_fits, faulty_new_type, faulty_extra_twice, faulty_extra_shape};
+ghost use Rattle.script_spec.specs.FaultyScripts.{faulty_unclosed, faulty_escape, faulty_glued, faulty_extra, faulty_name, faulty_later_record, faulty_kind, faulty_post_twice, faulty_opened, faulty_fits, faulty_new_type, faulty_extra_twice, faulty_extra_shape, faulty_without_end, faulty_after_end, faulty_dimensions};
 ghost use Rattle.serial_spec.specs.Lawful.{is_lawful};
 ghost use Rattle.nc_base.specs.declared.errors.ScriptKind.TheVariants as kind;
 ghost use Rattle.nc_base.specs.declared.errors.LimitName.TheVariants as limit;
 ghost use Rattle.nc_base.specs.declared.request.Call.TheVariants as call;
-ghost use Rattle.script_spec.specs.FaultyScripts.{faulty_without_end, faulty_after_end, faulty_dimensions};
 
 /// A script is read, and what is shown of it is read again.
 pub fn worked_script()

@@ -1,28 +1,21 @@
 //! What is printed, and the generated script.
 
-ghost use Rattle.std.specs.Prelude.{◌≡◌, ◌+◌, [], ◌∷◌, ◌++◌, length, codes, ◌-◌};
-ghost use Rattle.serial_spec.specs.File.{at, read};
-ghost use Rattle.serial_spec.specs.HeaderGrammar.{header_len};
-ghost use Rattle.serial_spec.specs.Examples.{header_a, ended, halves, no_align, thin_script};
+ghost use Rattle.std.specs.Prelude.{◌≡◌, ◌+◌, [], ◌∷◌, ◌++◌, length, codes, ◌-◌, option_map, Some, take};
+ghost use Rattle.serial_spec.specs.HeaderGrammar.{header_len, field_fault};
+ghost use Rattle.serial_spec.specs.Examples.{header_a, ended, halves, no_align, thin_script, dataset_b, dim, var, moved, defined};
 ghost use Rattle.serial_spec.specs.Layout.{recsize, begins};
-ghost use Rattle.script_spec.specs.TextExamples.{with_layout, text_of, text_halves, script_read, thin_lines, thin_answers, thin_printed};
+ghost use Rattle.script_spec.specs.TextExamples.{with_layout, text_of, text_halves, script_read, thin_lines, thin_answers, thin_printed, offsets_of_record, offsets_with_room};
 ghost use Rattle.nc_base.specs.declared.step.Mark.TheVariants.{Meet};
-ghost use Rattle.script_spec.specs.Texts.{text_line, watch_text, script_line, redef_line, layout_line};
+ghost use Rattle.script_spec.specs.Texts.{text_line, watch_text, script_line, redef_line, layout_line, offsets_text, header_line};
 ghost use Rattle.script_spec.specs.Generator.{first_row, made_calls, made_header};
-ghost use Rattle.nc_base.specs.declared.header.NcType.TheVariants.{Float, Short};
+ghost use Rattle.nc_base.specs.declared.header.NcType.TheVariants.{Float, Short, Int};
 ghost use Rattle.script_spec.specs.Thin.{IsBuilt, thin_text};
+ghost use Rattle.serial_spec.specs.Redefinition.{layout_fault};
+ghost use Rattle.nc_base.specs.declared.errors.HeaderErr.TheVariants.{Streaming};
 ghost use Rattle.nc_base.specs.declared.errors.ScriptKind.TheVariants as kind;
 ghost use Rattle.nc_base.specs.declared.errors.LimitName.TheVariants as limit;
 ghost use Rattle.nc_base.specs.declared.errors.LayoutErr.TheVariants as layout;
 ghost use Rattle.nc_base.specs.declared.errors.RedefErr.TheVariants as redef;
-ghost use Rattle.std.specs.Prelude.{option_map, Some, take};
-ghost use Rattle.script_spec.specs.TextExamples.{offsets_of_record, offsets_with_room};
-ghost use Rattle.script_spec.specs.Texts.{offsets_text, header_line};
-ghost use Rattle.serial_spec.specs.Redefinition.{layout_fault};
-ghost use Rattle.serial_spec.specs.HeaderGrammar.{field_fault};
-ghost use Rattle.serial_spec.specs.Examples.{dataset_b, dim, var, moved, defined};
-ghost use Rattle.nc_base.specs.declared.header.NcType.TheVariants.{Int};
-ghost use Rattle.nc_base.specs.declared.errors.HeaderErr.TheVariants.{Streaming};
 
 /// The printed text of a run.
 pub fn worked_text()

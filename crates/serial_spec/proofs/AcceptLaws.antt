@@ -28,25 +28,25 @@ use Rattle.serial_spec.proofs.RoomLaws.{none_later, element_inside, end_grows}
 
 -- ---- all entries of lists
 
-all_map : {A B : Type 0} (P : B → Type 0) (f : A → B) (xs : List A) → AllByRecursion (λ x. P (f x)) xs → AllByRecursion P (map f xs)
+pub all_map : {A B : Type 0} (P : B → Type 0) (f : A → B) (xs : List A) → AllByRecursion (λ x. P (f x)) xs → AllByRecursion P (map f xs)
 all_map P f [] h = tt
 all_map P f (x ∷ xs) h = (h.0, all_map P f xs h.1)
 
-all_joined : {A : Type 0} (P : A → Type 0) (xs ys : List A) → AllByRecursion P xs → AllByRecursion P ys → AllByRecursion P (xs ++ ys)
+pub all_joined : {A : Type 0} (P : A → Type 0) (xs ys : List A) → AllByRecursion P xs → AllByRecursion P ys → AllByRecursion P (xs ++ ys)
 all_joined P [] ys h k = k
 all_joined P (x ∷ xs) ys h k = (h.0, all_joined P xs ys h.1 k)
 
-all_flat : {A B : Type 0} (P : B → Type 0) (f : A → List B) (xs : List A) → AllByRecursion (λ x. AllByRecursion P (f x)) xs → AllByRecursion P (flat_map f xs)
+pub all_flat : {A B : Type 0} (P : B → Type 0) (f : A → List B) (xs : List A) → AllByRecursion (λ x. AllByRecursion P (f x)) xs → AllByRecursion P (flat_map f xs)
 all_flat P f [] h = tt
 all_flat P f (x ∷ xs) h = all_joined P (f x) (flat_map f xs) h.0 (all_flat P f xs h.1)
 
-all_same : {A : Type 0} (P Q : A → Type 0) → ((x : A) → P x → Q x) → (xs : List A) → AllByRecursion P xs → AllByRecursion Q xs
+pub all_same : {A : Type 0} (P Q : A → Type 0) → ((x : A) → P x → Q x) → (xs : List A) → AllByRecursion P xs → AllByRecursion Q xs
 all_same P Q f [] h = tt
 all_same P Q f (x ∷ xs) h = (f x h.0, all_same P Q f xs h.1)
 
 -- ---- coordinates
 
-all_below : (P : ℕ → Type 0) (a k n : ℕ) → a + k ≤ n → ((i : ℕ) → i < n → P i) → AllByRecursion P (range_with_len a k)
+pub all_below : (P : ℕ → Type 0) (a k n : ℕ) → a + k ≤ n → ((i : ℕ) → i < n → P i) → AllByRecursion P (range_with_len a k)
 all_below P a zero n h f = tt
 all_below P a (suc k) n h f = (f a (omega arith), all_below P (a + 1) k n (omega arith) f)
 

@@ -134,11 +134,11 @@ by_lengths known (suc n ∷ ls) index some h =
 
 -- ---- the record dimension stands only first
 
-unmapped : {A B : Type 0} (f : A → B) (o : Option A) → option_map f o ≡ None → o ≡ None
+pub unmapped : {A B : Type 0} (f : A → B) (o : Option A) → option_map f o ≡ None → o ≡ None
 unmapped f None h = refl
 unmapped f (Some x) h = absurd cc
 
-untested : {A : Type 0} (test : A → Bool) (n : ℕ) (xs : List A) (k : ℕ) (x : A) → position_from test n xs ≡ None → slice_get xs k ≡ Some x → test x ≡ false
+pub untested : {A : Type 0} (test : A → Bool) (n : ℕ) (xs : List A) (k : ℕ) (x : A) → position_from test n xs ≡ None → slice_get xs k ≡ Some x → test x ≡ false
 untested test n [] k x h g = absurd cc
 untested test n (y ∷ xs) zero x h g =
     let same : y ≡ x = cc in by_test (test y) refl same h
@@ -152,7 +152,7 @@ untested test n (y ∷ xs) (suc k) x h g = untested test (n + 1) xs k x (by_test
     by_test true h = absurd cc
     by_test false h = h
 
-none_any : (test : ℕ → Bool) (ids : List ℕ) → list_any test ids ≡ false → AllByRecursion (λ id. test id ≡ false) ids
+pub none_any : (test : ℕ → Bool) (ids : List ℕ) → list_any test ids ≡ false → AllByRecursion (λ id. test id ≡ false) ids
 none_any test [] h = tt
 none_any test (id ∷ ids) h = (neither_left (test id) (list_any test ids) h, none_any test ids (neither_right (test id) (list_any test ids) h))
   where

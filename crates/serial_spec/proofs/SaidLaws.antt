@@ -24,15 +24,15 @@ use Rattle.serial_spec.proofs.FileLaws.{at-longer, at-written_before, at-written
 no_none_some : {A B : Type 0} (a : A) → None ≡ Some a → B
 no_none_some a h = cc
 
-both_none : {A : Type 0} (o q : Option A) → o ≡ None → q ≡ None → option_or o q ≡ None
+pub both_none : {A : Type 0} (o q : Option A) → o ≡ None → q ≡ None → option_or o q ≡ None
 both_none None q h k = k
 both_none (Some a) q h k = h
 
-second_counts : {A : Type 0} (o q : Option A) → o ≡ None → option_or o q ≡ q
+pub second_counts : {A : Type 0} (o q : Option A) → o ≡ None → option_or o q ≡ q
 second_counts None q h = refl
 second_counts (Some a) q h = no_none_some a (sym h)
 
-first_counts : {A : Type 0} (o q : Option A) (a : A) → o ≡ Some a → option_or o q ≡ Some a
+pub first_counts : {A : Type 0} (o q : Option A) (a : A) → o ≡ Some a → option_or o q ≡ Some a
 first_counts None q a h = no_none_some a h
 first_counts (Some b) q a h = h
 
@@ -63,15 +63,15 @@ missed y x h e = grind (arith, nat_tests)
 
 -- ---- one cell
 
-said_below : {A : Type 0} (p : ℕ) (b : List A) (x : ℕ) → x < p → said_at (enumerate_from p b) x ≡ None
+pub said_below : {A : Type 0} (p : ℕ) (b : List A) (x : ℕ) → x < p → said_at (enumerate_from p b) x ≡ None
 said_below p [] x h = refl
 said_below p (v ∷ b) x h = both_none (said_at (enumerate_from (p + 1) b) x) _ (said_below (p + 1) b x (omega arith)) (one_miss p x v (above_miss p x h))
 
-said_past : {A : Type 0} (p : ℕ) (b : List A) (x : ℕ) → p + length b ≤ x → said_at (enumerate_from p b) x ≡ None
+pub said_past : {A : Type 0} (p : ℕ) (b : List A) (x : ℕ) → p + length b ≤ x → said_at (enumerate_from p b) x ≡ None
 said_past p [] x h = refl
 said_past p (v ∷ b) x h = both_none (said_at (enumerate_from (p + 1) b) x) _ (said_past (p + 1) b x (omega arith)) (one_miss p x v (below_miss p x (omega arith)))
 
-said_inside : {A : Type 0} (p : ℕ) (b : List A) (x : ℕ) (d : A) → p ≤ x → x < p + length b → said_at (enumerate_from p b) x ≡ Some (get_or b (x - p) d)
+pub said_inside : {A : Type 0} (p : ℕ) (b : List A) (x : ℕ) (d : A) → p ≤ x → x < p + length b → said_at (enumerate_from p b) x ≡ Some (get_or b (x - p) d)
 said_inside p [] x d h k = absurd (omega arith)
 said_inside {A} p (v ∷ b) x d h k = by_test (λ l. said_inside (p + 1) b x d l (omega arith)) (p == x) refl
   where

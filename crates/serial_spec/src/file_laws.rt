@@ -4,18 +4,18 @@ ghost use Rattle.std.specs.Prelude.{◌≡◌, ℕ, ◌+◌, ◌<◌, ◌≤◌,
 ghost use Rattle.serial_spec.specs.File.{at, written};
 ghost use Rattle.serial_spec.specs.ExternalForm.{fits, ext, val};
 ghost use Rattle.serial_spec.specs.HeaderGrammar.{header_len, is_sound};
-ghost use Rattle.serial_spec.specs.Layout.{product};
+ghost use Rattle.serial_spec.specs.Layout.{product, end_of};
 ghost use Rattle.serial_spec.specs.Request.{coordinates};
-ghost use Rattle.serial_spec.specs.Place.{row, IsIndex, IsElement, AreApart, place};
+ghost use Rattle.serial_spec.specs.Place.{row, IsIndex, IsElement, AreApart, place, IsElementBelow};
 ghost use Rattle.nc_base.specs.declared.header.NcType.{NcType};
 ghost use Rattle.nc_base.specs.declared.request.Value.{Value};
 ghost use Rattle.nc_base.specs.declared.header.Header.{Header};
 ghost use Rattle.nc_base.specs.declared.header.Var.{Var};
-ghost use Rattle.serial_spec.specs.ExternalForm as external;
 ghost use Rattle.serial_spec.specs.Fill.{boxes, AreBoxes};
-ghost use Rattle.serial_spec.specs.Place.{IsElementBelow};
-ghost use Rattle.serial_spec.specs.Layout.{end_of};
 ghost use Rattle.serial_spec.specs.RegionCheck.{known_lengths};
+ghost use Rattle.serial_spec.specs.Redefinition.{redefined, redefined_header, KeepsVars, IsRedefined};
+ghost use Rattle.nc_base.specs.declared.script.Extra.{Extra};
+ghost use Rattle.serial_spec.specs.ExternalForm as external;
 
 /// A write keeps every other byte.
 pub fn write_keeps()
@@ -66,4 +66,11 @@ pub fn elements_end()
 pub fn known_elements()
     ensures { (header : Header) (k : ℕ) (v : Var) (known : ℕ) (index : List ℕ) → is_sound header ≡ true → slice_get header.vars k ≡ Some v
         → IsIndex (known_lengths header v known) index → IsElementBelow header v known index }
+{}
+
+/// A redefined file has the new header at its front, every old element at its new place, zeros elsewhere below its end, and the
+/// old bytes past it, where the new header is sound and keeps the old variables; and what is added to a header keeps them.
+pub fn redefined_law()
+    ensures keeps { (old : Header) (extras : List Extra) → is_sound old ≡ true → KeepsVars old (redefined_header old extras) }
+    ensures file { (file : List ℕ) (old new : Header) → is_sound new ≡ true → KeepsVars old new → IsRedefined old new file (redefined file old new) }
 {}

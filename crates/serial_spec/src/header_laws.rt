@@ -1,7 +1,6 @@
 //! Laws over the grammar of headers.
 
 ghost use Rattle.std.specs.Prelude.{◌≡◌, ℕ, ◌+◌, List, ◌++◌, length, Some, true};
-ghost use Rattle.serial_spec.specs.File.{written};
 ghost use Rattle.serial_spec.specs.HeaderGrammar.{Spells, HasFieldFault, canon, header_len, field_fault, is_writable};
 ghost use Rattle.nc_base.specs.declared.errors.HeaderErr.{HeaderErr};
 ghost use Rattle.nc_base.specs.declared.header.Header.{Header};

@@ -1,19 +1,15 @@
 //! Laws over the steps of a file.
 
-ghost use Rattle.std.specs.Prelude.{◌≡◌, ℕ, ◌+◌, ◌<◌, ◌≤◌, List, Some, None, false, flat_map, ◌⊎◌, ◌==◌};
+ghost use Rattle.std.specs.Prelude.{◌≡◌, ℕ, ◌+◌, ◌<◌, ◌≤◌, List, Some, None, false, flat_map, ◌⊎◌, ◌==◌, true, slice_get};
 ghost use Rattle.serial_spec.specs.File.{at};
-ghost use Rattle.serial_spec.specs.HeaderGrammar.{count_width};
-ghost use Rattle.serial_spec.specs.FileStep.{meeting, solo, puts_of, Setting, Counted};
-ghost use Rattle.serial_spec.specs.SharedByte.{covered, Holds, Key, IsSharedPair, IsUnshared, Holding, shared_pair_of};
+ghost use Rattle.serial_spec.specs.HeaderGrammar.{count_width, is_sound};
+ghost use Rattle.serial_spec.specs.FileStep.{meeting, solo, puts_of, Setting, Counted, after_puts};
+ghost use Rattle.serial_spec.specs.SharedByte.{covered, Holds, Key, IsSharedPair, IsUnshared, Holding, shared_pair_of, Puts, said_by_puts, bytes_of};
 ghost use Rattle.nc_base.specs.declared.answer.Pair.{Pair};
 ghost use Rattle.nc_base.specs.declared.step.Offer.{Offer};
-ghost use Rattle.std.specs.List.{list_any, enumerate_from};
+ghost use Rattle.std.specs.List.{list_any, enumerate_from, AllByRecursion};
 ghost use Rattle.std.specs.Int.{byte_len};
 ghost use Rattle.serial_spec.specs.Said.{said_at, said_by, byte_or, Cell, write_cells};
-ghost use Rattle.serial_spec.specs.SharedByte.{Puts, said_by_puts};
-ghost use Rattle.serial_spec.specs.FileStep.{after_puts};
-ghost use Rattle.std.specs.Prelude.{true, slice_get};
-ghost use Rattle.std.specs.List.{AllByRecursion};
 ghost use Rattle.nc_base.specs.declared.header.Header.{Header};
 ghost use Rattle.nc_base.specs.declared.header.Var.{Var};
 ghost use Rattle.nc_base.specs.declared.request.Region.{Region};
@@ -21,13 +17,11 @@ ghost use Rattle.nc_base.specs.declared.request.Direction.{Direction};
 ghost use Rattle.nc_base.specs.declared.request.Direction.TheVariants.{Put};
 ghost use Rattle.nc_base.specs.declared.plan.Post.{Post};
 ghost use Rattle.nc_base.specs.declared.answer.Code.TheVariants.{Ok};
-ghost use Rattle.serial_spec.specs.HeaderGrammar.{is_sound};
 ghost use Rattle.serial_spec.specs.Layout.{end_of};
 ghost use Rattle.serial_spec.specs.Place.{IsElementBelow};
 ghost use Rattle.serial_spec.specs.Request.{elements};
 ghost use Rattle.serial_spec.specs.RegionCheck.{check_var, check};
 ghost use Rattle.serial_spec.specs.Records.{records_of, needed, needed_by};
-ghost use Rattle.serial_spec.specs.SharedByte.{bytes_of};
 
 /// The pair is the least byte that two requests hold, with the two least of them, and there is none where no byte is shared.
 pub fn shared_pair_law()

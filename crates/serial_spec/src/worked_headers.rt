@@ -1,20 +1,16 @@
 //! Headers and layouts of small datasets.
 
-ghost use Rattle.std.specs.Prelude.{◌≡◌, ◌+◌, [], ◌∷◌, ◌++◌, Some, None, take, true, drop};
+ghost use Rattle.std.specs.Prelude.{◌≡◌, ◌+◌, [], ◌∷◌, ◌++◌, Some, None, take, true, drop, ◌/◌, ◌*◌, map};
 ghost use Rattle.serial_spec.specs.HeaderGrammar.{canon, header_len, field_fault, first_check, is_writable};
-ghost use Rattle.serial_spec.specs.Examples.{dataset_2, dataset_a, dataset_b, dataset_bq, header_a, var, int_bytes, device_calls, halves, word, header_a_with, dataset_5, two_bytes, begin_list, end_of_file, aligned, striped, striped_part, file_halves, reopened, moved};
-ghost use Rattle.serial_spec.specs.Layout.{recsize, end_of};
+ghost use Rattle.serial_spec.specs.Examples.{dataset_2, dataset_a, dataset_b, dataset_bq, header_a, var, int_bytes, device_calls, halves, word, header_a_with, dataset_5, two_bytes, begin_list, end_of_file, aligned, striped, striped_part, file_halves, reopened, moved, one_record};
+ghost use Rattle.serial_spec.specs.Layout.{recsize, end_of, vsize};
 ghost use Rattle.nc_base.specs.declared.header.NcType.TheVariants.{Int};
 ghost use Rattle.nc_base.specs.declared.errors.HeaderErr.TheVariants.{NotCdf, BadVersion, Truncated, BadTag, BadType, BadNumber, BadDimId, Streaming, TooLarge, Shared};
 ghost use Rattle.nc_base.specs.declared.step.Mark.TheVariants.{Meet};
 ghost use Rattle.nc_base.specs.declared.step.DiskCall.TheVariants.{Grow, Load, Store};
-ghost use Rattle.serial_spec.specs.DeviceCalls.{opening_calls};
+ghost use Rattle.serial_spec.specs.DeviceCalls.{opening_calls, all_calls};
 ghost use Rattle.serial_spec.specs.SerialEnd.{serial};
-ghost use Rattle.std.specs.Prelude.{◌/◌, ◌*◌, map};
 ghost use Rattle.std.specs.List.{range_with_len};
-ghost use Rattle.serial_spec.specs.DeviceCalls.{all_calls};
-ghost use Rattle.serial_spec.specs.Layout.{vsize};
-ghost use Rattle.serial_spec.specs.Examples.{one_record};
 
 /// The header of the first data set.
 #[tactic(auto, unfolding(crate::specs::HeaderGrammar::canon))]

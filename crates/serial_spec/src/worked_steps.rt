@@ -1,11 +1,11 @@
 //! Small runs: requests, steps, device calls and arrivals.
 
-ghost use Rattle.std.specs.Prelude.{◌≡◌, ◌+◌, [], ◌∷◌, ◌++◌, length, Some, None, pos, replicate, true, map, false};
+ghost use Rattle.std.specs.Prelude.{◌≡◌, ◌+◌, [], ◌∷◌, ◌++◌, length, Some, None, pos, replicate, true, map, false, ℕ};
 ghost use Rattle.serial_spec.specs.File.{at};
 ghost use Rattle.serial_spec.specs.HeaderGrammar.{canon};
-ghost use Rattle.serial_spec.specs.Examples.{dataset_a, first_of_halves, offer_of_halves, reply_with, three_holders, header_a, region, setting_a, created, overlapping, side_by_side, int_bytes, ended, device_calls, halves, interleaved, whole, with_hole, one_record, arrived, empty_offer, two_seats, after_five, with_strange, independent_calls};
+ghost use Rattle.serial_spec.specs.Examples.{dataset_a, first_of_halves, offer_of_halves, reply_with, three_holders, header_a, region, setting_a, created, overlapping, side_by_side, int_bytes, ended, device_calls, halves, interleaved, whole, with_hole, one_record, arrived, empty_offer, two_seats, after_five, with_strange, independent_calls, many_bytes, dataset_b, packed_region, given, var};
 ghost use Rattle.serial_spec.specs.Request.{packed_bytes, spread};
-ghost use Rattle.nc_base.specs.declared.header.NcType.TheVariants.{Int};
+ghost use Rattle.nc_base.specs.declared.header.NcType.TheVariants.{Int, Short};
 ghost use Rattle.nc_base.specs.declared.request.Values.TheVariants.{Numbers};
 ghost use Rattle.serial_spec.specs.FileStep.{meeting};
 ghost use Rattle.nc_base.specs.declared.step.Mark.TheVariants.{Meet, Solo};
@@ -14,22 +14,18 @@ ghost use Rattle.serial_spec.specs.History.{marks, done};
 ghost use Rattle.serial_spec.specs.Desk.{is_strange, served, owed, OnlyReplies};
 ghost use Rattle.nc_base.specs.declared.step.OwnerItem.TheVariants.{Reply, Stop};
 ghost use Rattle.nc_base.specs.declared.step.MeetKind.TheVariants.{Begin, End as EndKind};
-ghost use Rattle.nc_base.specs.declared.step.RankItem.TheVariants as item;
-ghost use Rattle.nc_base.specs.declared.step.OfferKind.TheVariants as offer;
-ghost use Rattle.std.specs.Prelude.{ℕ};
 ghost use Rattle.std.specs.List.{range_with_len};
 ghost use Rattle.serial_spec.specs.Said.{said_at, write_cells};
 ghost use Rattle.serial_spec.specs.SharedByte.{shared_pair_of};
 ghost use Rattle.serial_spec.specs.RankMachine.{answer};
 ghost use Rattle.serial_spec.specs.RankSide.{offered, rank_stop, rank_end};
-ghost use Rattle.nc_base.specs.declared.answer.Code.TheVariants.{Ok};
+ghost use Rattle.nc_base.specs.declared.answer.Code.TheVariants.{Ok, ENotVar, EInvalCoords, EStride, EEdge, ETooLarge};
 ghost use Rattle.nc_base.specs.declared.run.RankStop.TheVariants.{Done, Stopped, Misfit};
 ghost use Rattle.serial_spec.specs.RegionCheck.{check, widen};
-ghost use Rattle.serial_spec.specs.Examples.{many_bytes, dataset_b, packed_region, given, var};
-ghost use Rattle.nc_base.specs.declared.answer.Code.TheVariants.{ENotVar, EInvalCoords, EStride, EEdge, ETooLarge};
 ghost use Rattle.nc_base.specs.declared.request.Direction.TheVariants.{Put, Get};
+ghost use Rattle.nc_base.specs.declared.step.RankItem.TheVariants as item;
+ghost use Rattle.nc_base.specs.declared.step.OfferKind.TheVariants as offer;
 ghost use Rattle.nc_base.specs.declared.request.Form.TheVariants as form;
-ghost use Rattle.nc_base.specs.declared.header.NcType.TheVariants.{Short};
 
 /// Memory by an index map.
 pub fn worked_map()

@@ -1,0 +1,75 @@
+-- Bytes have one answer.
+use Rattle.std.proofs.Common.{◌≡◌, ℕ, ◌+◌, ◌-◌, ◌≤◌, ◌^◌, List, [], ◌∷◌, ◌++◌, take, drop, length, true, Option, Some, None, refl, sym, ap, subst, ◌∙◌, length-append, arith, inl, inr}
+use Rattle.std.specs.Prelude.{is_none}
+use Rattle.std.proofs.lemmas.List.{take-append-drop, length-take, append-nil}
+use Rattle.std.proofs.Math.Seq.{take-append_seam, take-append-add}
+use Rattle.nc_base.specs.declared.header.Header.{Header}
+use Rattle.nc_base.specs.declared.errors.HeaderErr.{HeaderErr}
+use Rattle.serial_spec.specs.HeaderGrammar.{Spells, HasFault, canon, header_len, field_fault, first_check, is_writable, is_sound}
+use Rattle.serial_spec.proofs.SpellingLaws.{left, right, canon_spelled}
+use Rattle.serial_spec.proofs.FaultLaws.{fault_only}
+use Rattle.serial_spec.proofs.OnceLaws.{spells_once}
+use Rattle.cdf_header.specs.Decoding.{BeginsWith}
+use Rattle.cdf_header.proofs.Types.{le_from}
+use Rattle.cdf_header.proofs.Walks.{no_fault}
+
+no_some : {A : Type 0} (o : Option A) (x : A) → o ≡ None → o ≡ Some x → ⊥
+no_some o x h k = absurd cc
+
+same_some : {A : Type 0} (o : Option A) (x y : A) → o ≡ Some x → o ≡ Some y → x ≡ y
+same_some o x y h k = cc
+
+taken : (bytes : List ℕ) (n : ℕ) → n ≤ length bytes → length (take n bytes) ≡ n
+taken bytes n h = let e = length-take n bytes in omega (arith, e)
+
+pub one_header : (bytes : List ℕ) (h k : Header) (n m : ℕ) → BeginsWith bytes h n → BeginsWith bytes k m → (h ≡ k) × (n ≡ m)
+one_header bytes h k n m p q =
+    let once = spells_once h k (take n bytes) (take m bytes) (drop n bytes) (drop m bytes) p.0 q.0 (take-append-drop n bytes ∙ sym (take-append-drop m bytes)) in
+    (once.0, sym (taken bytes n p.3) ∙ ap (λ (t : List ℕ). length t) once.1 ∙ taken bytes m q.3)
+
+pub one_fault : (bytes : List ℕ) (e f : HeaderErr) → HasFault bytes e → HasFault bytes f → e ≡ f
+one_fault bytes e f (inl p) (inl q) = same_some (field_fault bytes) e f (fault_only bytes e p) (fault_only bytes f q)
+one_fault bytes e f (inl p) (inr q) = absurd (no_some (field_fault bytes) e q.5 (fault_only bytes e p))
+one_fault bytes e f (inr p) (inl q) = absurd (no_some (field_fault bytes) f p.5 (fault_only bytes f q))
+one_fault bytes e f (inr p) (inr q) =
+    let once = spells_once p.0 q.0 p.1 q.1 p.2 q.2 p.4 q.4 (sym p.3 ∙ q.3) in
+    same_some (first_check q.0) e f (ap first_check (sym once.0) ∙ p.6) q.6
+
+pub never_both : (bytes : List ℕ) (h : Header) (n : ℕ) (e : HeaderErr) → BeginsWith bytes h n → HasFault bytes e → ⊥
+never_both bytes h n e p (inl q) = no_some (field_fault bytes) e p.1 (fault_only bytes e q)
+never_both bytes h n e p (inr q) =
+    let once = spells_once h q.0 (take n bytes) q.1 (drop n bytes) q.2 p.0 q.4 (take-append-drop n bytes ∙ q.3) in
+    no_some (first_check h) e p.2 (ap first_check once.0 ∙ q.6)
+
+no_check : (o : Option HeaderErr) → is_none o ≡ true → o ≡ None
+no_check None h = refl
+no_check (Some e) h = absurd cc
+
+pub begins_whole : (header : Header) (more : List ℕ) → is_writable header ≡ true → BeginsWith (canon header ++ more) header (header_len header)
+begins_whole header more is =
+    let sound : is_sound header ≡ true = left _ _ (left _ _ (left _ _ (left _ _ is))) in
+    let whole : take (header_len header) (canon header ++ more) ≡ canon header = take-append_seam (canon header) more in
+    let long = length-append (canon header) more in
+    (subst (λ (t : List ℕ). Spells header t) (sym whole) (canon_spelled header is), no_fault header more is, no_check (first_check header) (right _ _ sound), omega (arith, long))
+
+-- the first 2^20 bytes
+cut_after : (t more : List ℕ) (n : ℕ) → length t ≤ n → (rest : List ℕ) × (take n (t ++ more) ≡ t ++ rest)
+cut_after t more n h =
+    let far : n ≡ length t + (n - length t) = omega arith in
+    (take (n - length t) more, ap (λ (k : ℕ). take k (t ++ more)) far ∙ take-append-add t more (n - length t))
+
+pub begins_cut : (header : Header) (more : List ℕ) → is_writable header ≡ true → BeginsWith (take (2 ^ 20) (canon header ++ more)) header (header_len header)
+begins_cut header more is =
+    let sound : is_sound header ≡ true = left _ _ (left _ _ (left _ _ (left _ _ is))) in
+    let short : header_len header ≤ 2 ^ 20 = le_from (header_len header) (2 ^ 20) (right _ _ (left _ _ sound)) in
+    let cut = cut_after (canon header) more (2 ^ 20) short in
+    subst (λ (t : List ℕ). BeginsWith t header (header_len header)) (sym cut.1) (begins_whole header cut.0 is)
+
+nothing_more : (t more : List ℕ) → t ≡ t ++ more → more ≡ []
+nothing_more t [] e = refl
+nothing_more t (x ∷ more) e = absurd (let l = ap (λ (s : List ℕ). length s) e ∙ length-append t (x ∷ more) in omega (arith, l))
+
+pub no_longer : (h k : Header) (bytes more : List ℕ) → Spells h bytes → Spells k (bytes ++ more) → more ≡ []
+no_longer h k bytes more p q =
+    let once = spells_once h k bytes (bytes ++ more) more [] p q (sym (append-nil (bytes ++ more))) in
+    nothing_more bytes more once.1

@@ -1,0 +1,129 @@
+-- Spans that are seen to share no byte share none.
+use Rattle.std.proofs.Common.{◌≡◌, ℕ, ◌+◌, ◌<◌, ◌≤◌, min, List, [], ◌∷◌, Bool, true, false, None, length, get_or, drop, refl, sym, ap, subst, ◌∙◌, inl, inr, ◌⊎◌, arith}
+use Rattle.std.specs.Prelude.{nat_lt, nat_le, cond}
+use Rattle.std.specs.List.{All, AllPairs, Contains}
+use Rattle.std.proofs.lemmas.Bool.{cases_lt}
+use Rattle.std.proofs.lemmas.List.{get_or_default, get_or-drop, length-drop}
+use Rattle.std.proofs.lemmas.List.Elements.{All-contains, All-head, All-tail, All-get_or, Contains-get_or}
+use Rattle.cdf_header.specs.declared.spans.Span.{Span}
+use Rattle.cdf_header.specs.Spans.{fixed_meet, records_meet, share, partner, NoneShares, EndsBefore, EndsBeforeNext, AreApart, HasAll, AreSpans}
+
+-- two different elements of a list stand one after the other
+pair_of : {X : Type 0} (R : X → X → Type 0) (xs : List X) (x y : X) → AllPairs R xs → Contains xs x → Contains xs y → (x ≡ y → ⊥) → R x y ⊎ R y x
+pair_of {X = X} R xs x y all p q differ =
+    elim (cases_lt p.0 q.0) [
+      | inl lt ↦ inl (subst (λ (u : X). R u y) p.2 (subst (λ (w : X). R (get_or xs p.0 x) w) (get_or_default xs q.0 x y q.1 ∙ q.2) (all p.0 q.0 x lt q.1)))
+      | inr le ↦
+          elim (cases_lt q.0 p.0) [
+            | inl lt ↦ inr (subst (λ (w : X). R y w) p.2 (subst (λ (u : X). R u (get_or xs p.0 x)) (get_or_default xs q.0 x y q.1 ∙ q.2) (all q.0 p.0 x lt p.1)))
+            | inr ge ↦ absurd (differ (let same : p.0 ≡ q.0 = omega arith in sym p.2 ∙ ap (λ (n : ℕ). get_or xs n x) same ∙ get_or_default xs q.0 x y q.1 ∙ q.2))
+          ]
+    ]
+
+apart_fixed : (p q : Span) → (p.end ≤ q.begin) ⊎ (q.end ≤ p.begin) → fixed_meet p q ≡ false
+apart_fixed p q (inl h) = grind arith
+apart_fixed p q (inr h) = grind arith
+
+apart_records : (size : ℕ) (p q : Span) → p.end ≤ q.begin → q.end ≤ p.begin + size → records_meet size p q ≡ false
+apart_records size p q h k = grind arith
+
+not_before : (a b : ℕ) → b ≤ a → nat_lt a b ≡ false
+not_before a b h = grind arith
+
+at_or_before : (a b : ℕ) → a ≤ b → nat_le a b ≡ true
+at_or_before a b h = grind arith
+
+after : (a b : ℕ) → b < a → nat_le a b ≡ false
+after a b h = grind arith
+
+record_pair : (size : ℕ) (p q : Span) → p.begin < p.end → q.begin < q.end → (p.end ≤ q.begin) ⊎ (q.end ≤ p.begin) → q.end ≤ p.begin + size → p.end ≤ q.begin + size
+    → cond (nat_le p.begin q.begin) (records_meet size p q) (records_meet size q p) ≡ false
+record_pair size p q some more (inl h) k m =
+    let b : nat_le p.begin q.begin ≡ true = at_or_before p.begin q.begin (omega arith) in rw b (apart_records size p q h k)
+record_pair size p q some more (inr h) k m =
+    let b : nat_le p.begin q.begin ≡ false = after p.begin q.begin (omega arith) in rw b (apart_records size q p h m)
+
+by_kind : (size : ℕ) (p q : Span) (s t : Bool) → p.is_record ≡ s → q.is_record ≡ t
+    → cond s (cond t (cond (nat_le p.begin q.begin) (records_meet size p q) (records_meet size q p)) (nat_lt p.begin q.end)) (cond t (nat_lt q.begin p.end) (fixed_meet p q)) ≡ false
+    → share size p q ≡ false
+by_kind size p q s t e f h = rw (e, f) h
+
+-- p and q stand in the list of all spans, and p has a number below n
+pub record AreTwo (n : ℕ) (spans : List Span) (p q : Span) : Type 0 where
+  pub in_p : Contains spans p
+  pub in_q : Contains spans q
+  pub filled_p : p.begin < p.end
+  pub filled_q : q.begin < q.end
+  pub low : p.number < n
+  pub differ : p ≡ q → ⊥
+
+low_left : (n a b : ℕ) → a < n → min a b < n
+low_left n a b h = omega arith
+
+low_right : (n a b : ℕ) → a < n → min b a < n
+low_right n a b h = omega arith
+
+ends_before : (n : ℕ) (p q : Span) → p.number < n → EndsBefore n p q ⊎ EndsBefore n q p → (p.end ≤ q.begin) ⊎ (q.end ≤ p.begin)
+ends_before n p q low (inl h) = inl (h (low_left n p.number q.number low))
+ends_before n p q low (inr h) = inr (h (low_right n p.number q.number low))
+
+by_kinds : (n size : ℕ) (spans fixed records : List Span) (p q : Span) → AreApart n size fixed records → HasAll false spans fixed → HasAll true spans records
+    → AreTwo n spans p q → (s t : Bool) → p.is_record ≡ s → q.is_record ≡ t
+    → cond s (cond t (cond (nat_le p.begin q.begin) (records_meet size p q) (records_meet size q p)) (nat_lt p.begin q.end)) (cond t (nat_lt q.begin p.end) (fixed_meet p q)) ≡ false
+by_kinds n size spans fixed records p q clear has_fixed has_records two false false e f =
+    let here = All-contains (λ s. s.is_record ≡ false → Contains fixed s) spans p has_fixed two.in_p e in
+    let there = All-contains (λ s. s.is_record ≡ false → Contains fixed s) spans q has_fixed two.in_q f in
+    apart_fixed p q (ends_before n p q two.low (pair_of (EndsBefore n) fixed p q clear.fixed_apart here there two.differ))
+by_kinds n size spans fixed records p q clear has_fixed has_records two false true e f =
+    let here = All-contains (λ s. s.is_record ≡ false → Contains fixed s) spans p has_fixed two.in_p e in
+    let there = All-contains (λ s. s.is_record ≡ true → Contains records s) spans q has_records two.in_q f in
+    let first = All-contains (λ s. EndsBefore n p s) records q (All-contains (λ r. All (λ s. EndsBefore n r s) records) fixed p clear.fixed_first here) there in
+    not_before q.begin p.end (first (low_left n p.number q.number two.low))
+by_kinds n size spans fixed records p q clear has_fixed has_records two true false e f =
+    let here = All-contains (λ s. s.is_record ≡ true → Contains records s) spans p has_records two.in_p e in
+    let there = All-contains (λ s. s.is_record ≡ false → Contains fixed s) spans q has_fixed two.in_q f in
+    let first = All-contains (λ s. EndsBefore n q s) records p (All-contains (λ r. All (λ s. EndsBefore n r s) records) fixed q clear.fixed_first there) here in
+    not_before p.begin q.end (first (low_right n p.number q.number two.low))
+by_kinds n size spans fixed records p q clear has_fixed has_records two true true e f =
+    let here = All-contains (λ s. s.is_record ≡ true → Contains records s) spans p has_records two.in_p e in
+    let there = All-contains (λ s. s.is_record ≡ true → Contains records s) spans q has_records two.in_q f in
+    let next = All-contains (λ s. EndsBeforeNext n size p s) records q (All-contains (λ r. All (λ s. EndsBeforeNext n size r s) records) records p clear.next_apart here) there in
+    let other = All-contains (λ s. EndsBeforeNext n size q s) records p (All-contains (λ r. All (λ s. EndsBeforeNext n size r s) records) records q clear.next_apart there) here in
+    record_pair size p q two.filled_p two.filled_q (ends_before n p q two.low (pair_of (EndsBefore n) records p q clear.records_apart here there two.differ))
+    (next (low_left n p.number q.number two.low)) (other (low_right n p.number q.number two.low))
+
+pub apart : (n size : ℕ) (spans fixed records : List Span) (p q : Span) → AreApart n size fixed records → HasAll false spans fixed → HasAll true spans records
+    → AreTwo n spans p q → share size p q ≡ false
+apart n size spans fixed records p q clear has_fixed has_records two =
+    by_kind size p q p.is_record q.is_record refl refl (by_kinds n size spans fixed records p q clear has_fixed has_records two p.is_record q.is_record refl refl)
+
+two_of : (n : ℕ) (spans : List Span) → AreSpans spans → (i j : ℕ) (d : Span) → i < j → j < length spans → (get_or spans i d).number < n → AreTwo n spans (get_or spans i d) (get_or spans j d)
+two_of n spans are i j d lt within low =
+    let inside : i < length spans = omega arith in
+    record {
+      in_p = Contains-get_or spans i d inside;
+      in_q = Contains-get_or spans j d within;
+      filled_p = All-get_or (λ s. s.begin < s.end) spans i d inside are.filled;
+      filled_q = All-get_or (λ s. s.begin < s.end) spans j d within are.filled;
+      low = low;
+      differ = λ same. (let rising = are.rising i j d lt within in let equal : (get_or spans i d).number ≡ (get_or spans j d).number = ap (λ (s : Span). s.number) same in absurd (omega (arith, rising, equal)));
+    }
+
+pub none_shares : (n size : ℕ) (spans fixed records : List Span) → AreSpans spans → AreApart n size fixed records → HasAll false spans fixed → HasAll true spans records
+    → NoneShares n size spans
+none_shares n size spans fixed records are clear has_fixed has_records i j d lt within low =
+    apart n size spans fixed records (get_or spans i d) (get_or spans j d) clear has_fixed has_records (two_of n spans are i j d lt within low)
+
+no_partner : (size : ℕ) (p : Span) (qs : List Span) → All (λ q. share size p q ≡ false) qs → partner size p qs ≡ None
+no_partner size p [] h = refl
+no_partner size p (q ∷ qs) h =
+    let none : share size p q ≡ false = All-head (λ s. share size p s ≡ false) q qs h in
+    rw none (no_partner size p qs (All-tail (λ s. share size p s ≡ false) q qs h))
+
+-- the spans behind the one at i have no byte of it
+pub none_behind : (n size : ℕ) (spans : List Span) → NoneShares n size spans → (i : ℕ) (d : Span) → i < length spans → (get_or spans i d).number < n
+    → partner size (get_or spans i d) (drop (i + 1) spans) ≡ None
+none_behind n size spans none i d within low =
+    no_partner size (get_or spans i d) (drop (i + 1) spans)
+    (λ k e inside. rw get_or-drop (subst (λ (s : Span). share size s (get_or spans (i + 1 + k) e) ≡ false) (get_or_default spans i e d within)
+    (none i (i + 1 + k) e (omega arith) (let len = length-drop (i + 1) spans in omega (arith, len, inside)) (subst (λ (s : Span). s.number < n) (sym (get_or_default spans i e d within)) low))))

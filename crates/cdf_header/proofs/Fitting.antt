@@ -1,0 +1,21 @@
+-- Numbers that fit their fields.
+use Rattle.std.proofs.Common.{◌≡◌, ℕ, ◌*◌, ◌^◌, ◌<◌, Bool, true, false, refl, subst, arith, w32, w64}
+use Rattle.std.specs.Prelude.{if◌then◌else◌, ◌==◌}
+use borrow.Author.Tests.{ltb-true}
+use Rattle.serial_spec.specs.HeaderGrammar.{begin_width, fits_count, fits_field}
+
+fits_word : (n : ℕ) → fits_field w32 n ≡ true → n < 2 ^ 32
+fits_word n h = let k : 2 * n < 2 ^ 32 = ltb-true _ _ h in omega arith
+
+pub small_count : (version n : ℕ) → fits_count version n ≡ true → (version == 5) ≡ false → n < 2 ^ 32
+small_count version n h e = fits_word n (subst (λ (b : Bool). fits_field (if b then w64 else w32) n ≡ true) e h)
+
+pub small_begin : (version n : ℕ) → fits_field (begin_width version) n ≡ true → (version == 1) ≡ true → n < 2 ^ 32
+small_begin version n h e = fits_word n (subst (λ (b : Bool). fits_field (if b then w32 else w64) n ≡ true) e h)
+
+zero_in : (b : Bool) → fits_field (if b then w64 else w32) 0 ≡ true
+zero_in true = refl
+zero_in false = refl
+
+pub zero_fits : (version : ℕ) → fits_count version 0 ≡ true
+zero_fits version = zero_in (version == 5)

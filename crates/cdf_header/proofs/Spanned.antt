@@ -1,0 +1,78 @@
+-- The pair that the spans of a header's variables give is that of the header.
+use Rattle.std.proofs.Common.{◌≡◌, ℕ, zero, suc, ◌+◌, ◌<◌, ◌≤◌, List, [], ◌∷◌, length, get_or, Bool, true, false, cond, Option, Some, None, refl, sym, ◌∙◌, arith}
+use Rattle.std.specs.Prelude.{nat_lt, option_map, position}
+use Rattle.std.specs.List.{AllPairs, AllByRecursion, position_from}
+use Rattle.std.specs.Option.{option_or}
+use Rattle.std.proofs.lemmas.Iterator.Adapters.{position_from-zero}
+use Rattle.std.proofs.lemmas.List.Elements.{All-from_recursion}
+use Rattle.std.proofs.Math.Nat.{mul-le-mul_left}
+use Rattle.nc_base.specs.declared.header.Header.{Header}
+use Rattle.nc_base.specs.declared.header.Var.{Var}
+use Rattle.serial_spec.specs.ExternalForm.{size_of}
+use Rattle.serial_spec.specs.Layout.{product, inner_lengths, slab, is_record, recsize, sharing_with, sharing_from, sharing}
+use Rattle.serial_spec.specs.Layout as layout
+use Rattle.serial_spec.specs.HeaderGrammar.{record_later}
+use Rattle.cdf_header.specs.declared.spans.Span.{Span}
+use Rattle.cdf_header.specs.Spans.{span_of, spans_of, partner, shared_pair, AreSpans}
+use Rattle.cdf_header.proofs.Products.{inner-pos, product-pos, size-pos}
+
+one_partner : (t : Bool) (k m : ℕ) (o : Option (ℕ × ℕ)) (p : Option ℕ) → o ≡ option_map (λ n. (k, n)) p
+    → cond t (Some (k, m)) o ≡ option_map (λ n. (k, n)) (cond t (Some m) p)
+one_partner true k m o p h = refl
+one_partner false k m o p h = h
+
+by_partner : (header : Header) (v : Var) (k m : ℕ) (ws : List Var)
+    → sharing_with header v k m ws ≡ option_map (λ n. (k, n)) (partner (recsize header) (span_of header k v) (spans_of header m ws))
+by_partner header v k m [] = refl
+by_partner header v k m (w ∷ ws) =
+    one_partner (layout.share header v w) k m (sharing_with header v k (suc m) ws) (partner (recsize header) (span_of header k v) (spans_of header (suc m) ws)) (by_partner header v k (suc m) ws)
+
+one_pair : (t : Bool) (s : ℕ × ℕ) (w p rest more : Option (ℕ × ℕ)) → w ≡ p → rest ≡ more → cond t (Some s) (option_or w rest) ≡ option_or (cond t (Some s) p) more
+one_pair true s w p rest more h k = refl
+one_pair false s w p rest more h k = rw (h, k) refl
+
+by_pair : (header : Header) (first k : ℕ) (vs : List Var) → sharing_from header first k vs ≡ shared_pair (recsize header) first (spans_of header k vs)
+by_pair header first k [] = refl
+by_pair header first k (v ∷ vs) =
+    one_pair (nat_lt v.begin first) (k, k) (sharing_with header v k (suc k) vs) (option_map (λ n. (k, n)) (partner (recsize header) (span_of header k v) (spans_of header (suc k) vs)))
+    (sharing_from header first (suc k) vs) (shared_pair (recsize header) first (spans_of header (suc k) vs))
+    (by_partner header v k (suc k) vs) (by_pair header first (suc k) vs)
+
+pub sharing_by_spans : (header : Header) (first : ℕ) → sharing header first ≡ shared_pair (recsize header) first (spans_of header 0 header.vars)
+sharing_by_spans header first = by_pair header first 0 header.vars
+
+-- ---- the spans are in order, and none is empty
+
+number_of : (header : Header) (k : ℕ) (vs : List Var) (i : ℕ) (d : Span) → i < length (spans_of header k vs) → (get_or (spans_of header k vs) i d).number ≡ k + i
+number_of header k [] i d h = absurd (omega arith)
+number_of header k (v ∷ vs) zero d h = omega arith
+number_of header k (v ∷ vs) (suc i) d h = let e = number_of header (suc k) vs i d (omega arith) in omega (arith, e)
+
+rising : (header : Header) (vs : List Var) → AllPairs (λ p q. p.number < q.number) (spans_of header 0 vs)
+rising header vs i j d lt within =
+    let a = number_of header 0 vs i d (omega arith) in
+    let b = number_of header 0 vs j d within in
+    omega (arith, a, b)
+
+some_bytes : (header : Header) (v : Var) → record_later header v ≡ false → v.begin < v.begin + slab header v
+some_bytes header v h =
+    let elements : 1 ≤ product (inner_lengths header v) = product-pos (inner_lengths header v) (inner-pos header v h) in
+    let size : 1 ≤ size_of v.kind = size-pos v.kind in
+    let more = mul-le-mul_left (product (inner_lengths header v)) size in
+    omega (arith, elements, more)
+
+found_none : (t : Bool) (k : ℕ) (o : Option ℕ) → cond t (Some k) o ≡ None → (t ≡ false) × (o ≡ None)
+found_none true k o h = absurd cc
+found_none false k o h = (refl, h)
+
+filled : (header : Header) (k n : ℕ) (vs : List Var) → position_from (record_later header) n vs ≡ None → AllByRecursion (λ s. s.begin < s.end) (spans_of header k vs)
+filled header k n [] h = tt
+filled header k n (v ∷ vs) h =
+    let p = found_none (record_later header v) n (position_from (record_later header) (n + 1) vs) h in
+    (some_bytes header v p.0, filled header (suc k) (n + 1) vs p.1)
+
+pub are_spans : (header : Header) → position (record_later header) header.vars ≡ None → AreSpans (spans_of header 0 header.vars)
+are_spans header h = record {
+  rising = rising header header.vars;
+  filled = All-from_recursion (λ s. s.begin < s.end) (spans_of header 0 header.vars) (filled header 0 0 header.vars (sym (position_from-zero (record_later header) header.vars) ∙ h));
+}

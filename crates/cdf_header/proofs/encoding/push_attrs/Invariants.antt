@@ -1,0 +1,7 @@
+use Rattle.std.proofs.Common.{◌≡◌, ◌++◌, take}
+use Rattle.std.specs.List.{flat_map}
+use Rattle.serial_spec.specs.HeaderGrammar.{attribute}
+use Rattle.cdf_header.proofs.encoding.push_attrs.Given as goal
+
+abbrev pub invariant-loop-attr : goal.invariant-loop-attr
+invariant-loop-attr l = l.out.items ≡ l.initial.out.items ++ flat_map (λ a. attribute l.version a) (take l.attr-index l.attrs)

@@ -1,0 +1,7 @@
+use Rattle.std.proofs.Common.{◌≡◌, ◌++◌, take}
+use Rattle.std.specs.List.{flat_map}
+use Rattle.serial_spec.specs.HeaderGrammar.{dimension}
+use Rattle.cdf_header.proofs.encoding.push_dims.Given as goal
+
+abbrev pub invariant-loop-dim : goal.invariant-loop-dim
+invariant-loop-dim l = l.out.items ≡ l.initial.out.items ++ flat_map (λ d. dimension l.version d) (take l.dim-index l.dims)

@@ -1,0 +1,7 @@
+use Rattle.std.proofs.Common.{◌≡◌, ◌++◌, take}
+use Rattle.std.specs.List.{flat_map}
+use Rattle.serial_spec.specs.HeaderGrammar.{variable}
+use Rattle.cdf_header.proofs.encoding.push_vars.Given as goal
+
+abbrev pub invariant-loop-var : goal.invariant-loop-var
+invariant-loop-var l = l.out.items ≡ l.initial.out.items ++ flat_map (λ v. variable l.header v) (take l.var-index l.vars)

@@ -1,0 +1,7 @@
+pub mod Limits
+pub mod OnePut
+pub mod Words
+pub mod Headline
+pub mod Stops
+pub mod Says
+pub mod Reading

@@ -1,0 +1,207 @@
+-- The listed requests leave: what waits is what is not listed, and the others keep their states.
+use Rattle.std.proofs.Common.{◌≡◌, ℕ, ◌+◌, ◌∙◌, ap, sym, refl, inl, inr, ◌⊎◌, List, [], ◌∷◌, map, Bool, true, false, cond, eqb, not, ◌&&◌, Option, Some, None, length, arith}
+use Rattle.nc_base.specs.declared.plan.Post.{Post}
+use Rattle.std.specs.Prelude.{find, filter, option_map, sum_by}
+use Rattle.std.proofs.lemmas.Bool.{cond_both, cond-false, cond-true, ne_eqb, cases_Bool, and_right, and_from, both_ways}
+use Rattle.std.proofs.lemmas.List.Sums.{sum_by-cons}
+use Rattle.attached_buffer.specs.Buffer.{Account}
+use Rattle.serial_spec.specs.RankMachine.{Posted, Status, NullRequest, Waiting, Gone, is_waiting, status_of}
+use Rattle.request_queue.specs.declared.queue.Posting.{Posting}
+use Rattle.request_queue.specs.declared.queue.Request.{Request}
+use Rattle.request_queue.specs.Kept.{status_in, posted_of, as_posted, is_null, held, is_buffered, Accounts, Holds, is_listed, removed, freed}
+
+abbrev pub left : (ℕ → Bool) → List Request → List Request
+left listed w = filter (λ (r : Request). not (listed r.id)) w
+
+abbrev pub taken : (ℕ → Bool) → List Request → List Request
+taken listed w = filter (λ (r : Request). listed r.id) w
+
+abbrev marked : (ℕ → Bool) → Posted → Posted
+marked listed p = cond (is_listed listed p) (record p { status = Gone }) p
+
+-- ---- states
+
+listed_gone_more : (listed : ℕ → Bool) (r : Request) (w : List Request) (id : ℕ) → listed id ≡ true → status_in (left listed w) id ≡ Gone
+    → (b : Bool) → listed r.id ≡ b → status_in (left listed (r ∷ w)) id ≡ Gone
+listed_gone_more listed r w id t ih true e = rw e ih
+listed_gone_more listed r w id t ih false e =
+    let other : eqb r.id id ≡ false = ne_eqb r.id id (λ same. both_ways (listed id) (ap listed (sym same) ∙ e) t) in
+    rw e (cond-false (eqb r.id id) (Waiting r.kind r.posts) (status_in (left listed w) id) other ∙ ih)
+
+listed_gone : (listed : ℕ → Bool) (w : List Request) (id : ℕ) → listed id ≡ true → status_in (left listed w) id ≡ Gone
+listed_gone listed [] id t = refl
+listed_gone listed (r ∷ w) id t = listed_gone_more listed r w id t (listed_gone listed w id t) (listed r.id) refl
+
+other_stays_more : (listed : ℕ → Bool) (r : Request) (w : List Request) (id : ℕ) → listed id ≡ false → status_in (left listed w) id ≡ status_in w id
+    → (b : Bool) → listed r.id ≡ b → status_in (left listed (r ∷ w)) id ≡ status_in (r ∷ w) id
+other_stays_more listed r w id f ih true e =
+    let other : eqb r.id id ≡ false = ne_eqb r.id id (λ same. both_ways (listed id) f (ap listed (sym same) ∙ e)) in
+    rw e (ih ∙ sym (cond-false (eqb r.id id) (Waiting r.kind r.posts) (status_in w id) other))
+other_stays_more listed r w id f ih false e = rw e (ap (λ (s : Status). cond (eqb r.id id) (Waiting r.kind r.posts) s) ih)
+
+other_stays : (listed : ℕ → Bool) (w : List Request) (id : ℕ) → listed id ≡ false → status_in (left listed w) id ≡ status_in w id
+other_stays listed [] id f = refl
+other_stays listed (r ∷ w) id f = other_stays_more listed r w id f (other_stays listed w id f) (listed r.id) refl
+
+waits_or_gone : (w : List Request) (id : ℕ) → (is_waiting (status_in w id) ≡ true) ⊎ (status_in w id ≡ Gone)
+waits_or_gone [] id = inr refl
+waits_or_gone (r ∷ w) id =
+    cond_both (eqb r.id id) (Waiting r.kind r.posts) (status_in w id) (λ (s : Status). (is_waiting s ≡ true) ⊎ (s ≡ Gone)) (λ _. inl refl) (λ _. waits_or_gone w id)
+
+mark_status : (listed : ℕ → Bool) (id : ℕ) (s t : Status) → (listed id ≡ true → t ≡ Gone) → (listed id ≡ false → t ≡ s) → (is_waiting s ≡ true) ⊎ (s ≡ Gone)
+    → record { id = id; status = t } ≡ marked listed (record { id = id; status = s })
+mark_status listed id s t when_listed when_not kind = by_test (cases_Bool (listed id)) kind
+  where
+    plain : Status → Posted
+    plain x = record { id = id; status = x }
+
+    by_test : (listed id ≡ true) ⊎ (listed id ≡ false) → (is_waiting s ≡ true) ⊎ (s ≡ Gone) → record { id = id; status = t } ≡ marked listed (record { id = id; status = s })
+    by_test (inl e) (inl waits) =
+        ap (λ (x : Status). record { id = id; status = x }) (when_listed e)
+        ∙ sym (cond-true (is_waiting s && listed id) (record { id = id; status = Gone }) (record { id = id; status = s }) (and_from (is_waiting s) (listed id) waits e))
+    by_test (inl e) (inr gone) =
+        ap (λ (x : Status). record { id = id; status = x }) (when_listed e)
+        ∙ sym (ap (λ (x : Status). marked listed (record { id = id; status = x })) gone)
+    by_test (inr e) _ =
+        ap (λ (x : Status). record { id = id; status = x }) (when_not e)
+        ∙ sym (cond-false (is_waiting s && listed id) (record { id = id; status = Gone }) (record { id = id; status = s }) (and_right (is_waiting s) (listed id) e))
+
+mark_standing : (listed : ℕ → Bool) (w : List Request) (id : ℕ) (null : Bool)
+    → record { id = id; status = cond null NullRequest (status_in (left listed w) id) } ≡ marked listed (record { id = id; status = cond null NullRequest (status_in w id) })
+mark_standing listed w id true = refl
+mark_standing listed w id false =
+    mark_status listed id (status_in w id) (status_in (left listed w) id) (listed_gone listed w id) (other_stays listed w id) (waits_or_gone w id)
+
+pub posted-left : (listed : ℕ → Bool) (history : List Posting) (w : List Request) → posted_of history (left listed w) ≡ removed listed (posted_of history w)
+posted-left listed [] w = refl
+posted-left listed (p ∷ history) w = λ i. mark_standing listed w p.id p.null i ∷ posted-left listed history w i
+
+-- ---- null requests
+
+mark_null : (listed : ℕ → Bool) (id : ℕ) (s : Status) → is_null (Some (marked listed (record { id = id; status = s })).status) ≡ is_null (Some s)
+mark_null listed id NullRequest = refl
+mark_null listed id Gone = refl
+mark_null listed id (Waiting kind posts) =
+    cond_both (listed id) (record { id = id; status = Gone }) (record { id = id; status = Waiting kind posts })
+    (λ (p : Posted). is_null (Some p.status) ≡ false) (λ _. refl) (λ _. refl)
+
+mark_id : (listed : ℕ → Bool) (p : Posted) → (marked listed p).id ≡ p.id
+mark_id listed p = cond_both (is_listed listed p) (record p { status = Gone }) p (λ (q : Posted). q.id ≡ p.id) (λ _. refl) (λ _. refl)
+
+both_conds : (b : Bool) (f : Option Posted → Bool) (s t x y : Option Posted) → f s ≡ f t → f x ≡ f y → f (cond b s x) ≡ f (cond b t y)
+both_conds true f s t x y h k = h
+both_conds false f s t x y h k = k
+
+abbrev null_in : Option Posted → Bool
+null_in o = is_null (option_map (λ (q : Posted). q.status) o)
+
+pub is_null-removed : (listed : ℕ → Bool) (posted : List Posted) (id : ℕ) → is_null (status_of (removed listed posted) id) ≡ is_null (status_of posted id)
+is_null-removed listed [] id = refl
+is_null-removed listed (p ∷ posted) id =
+    ap (λ (n : ℕ). null_in (cond (eqb n id) (Some (marked listed p)) (find (λ (q : Posted). eqb q.id id) (removed listed posted)))) (mark_id listed p)
+    ∙ both_conds (eqb p.id id) null_in (Some (marked listed p)) (Some p) (find (λ (q : Posted). eqb q.id id) (removed listed posted)) (find (λ (q : Posted). eqb q.id id) posted)
+    (mark_null listed p.id p.status) (is_null-removed listed posted id)
+
+-- ---- what waits
+
+waiting_more : (listed : ℕ → Bool) (id : ℕ) (s : Status) (posted : List Posted)
+    → filter (λ (p : Posted). is_waiting p.status) (removed listed posted) ≡ filter (λ (p : Posted). not (listed p.id)) (filter (λ (p : Posted). is_waiting p.status) posted)
+    → filter (λ (p : Posted). is_waiting p.status) (removed listed (record { id = id; status = s } ∷ posted))
+    ≡ filter (λ (p : Posted). not (listed p.id)) (filter (λ (p : Posted). is_waiting p.status) (record { id = id; status = s } ∷ posted))
+waiting_more listed id NullRequest posted ih = ih
+waiting_more listed id Gone posted ih = ih
+waiting_more listed id (Waiting kind posts) posted ih = by_test (cases_Bool (listed id))
+  where
+    by_test : (listed id ≡ true) ⊎ (listed id ≡ false) → filter (λ (p : Posted). is_waiting p.status) (removed listed (record { id = id; status = Waiting kind posts } ∷ posted))
+        ≡ filter (λ (p : Posted). not (listed p.id)) (filter (λ (p : Posted). is_waiting p.status) (record { id = id; status = Waiting kind posts } ∷ posted))
+    by_test (inl e) = rw e ih
+    by_test (inr e) = rw e (ap (λ (l : List Posted). record { id = id; status = Waiting kind posts } ∷ l) ih)
+
+waiting-removed : (listed : ℕ → Bool) (posted : List Posted)
+    → filter (λ (p : Posted). is_waiting p.status) (removed listed posted) ≡ filter (λ (p : Posted). not (listed p.id)) (filter (λ (p : Posted). is_waiting p.status) posted)
+waiting-removed listed [] = refl
+waiting-removed listed (p ∷ posted) = waiting_more listed p.id p.status posted (waiting-removed listed posted)
+
+both_lists : (b : Bool) (f : List Request → List Posted) (x y : List Request) (s t : List Posted) → s ≡ f x → t ≡ f y → cond b s t ≡ f (cond b x y)
+both_lists true f x y s t h k = h
+both_lists false f x y s t h k = k
+
+filter-as_posted : (test : ℕ → Bool) (w : List Request) → filter (λ (p : Posted). test p.id) (map as_posted w) ≡ map as_posted (filter (λ (r : Request). test r.id) w)
+filter-as_posted test [] = refl
+filter-as_posted test (r ∷ w) =
+    both_lists (test r.id) (map as_posted) (r ∷ filter (λ (r : Request). test r.id) w) (filter (λ (r : Request). test r.id) w)
+    (as_posted r ∷ filter (λ (p : Posted). test p.id) (map as_posted w)) (filter (λ (p : Posted). test p.id) (map as_posted w))
+    (ap (λ (l : List Posted). as_posted r ∷ l) (filter-as_posted test w)) (filter-as_posted test w)
+
+pub waiting-left : (listed : ℕ → Bool) (history : List Posting) (w : List Request) → filter (λ (p : Posted). is_waiting p.status) (posted_of history w) ≡ map as_posted w
+    → filter (λ (p : Posted). is_waiting p.status) (posted_of history (left listed w)) ≡ map as_posted (left listed w)
+waiting-left listed history w kept =
+    ap (filter (λ (p : Posted). is_waiting p.status)) (posted-left listed history w) ∙ waiting-removed listed (posted_of history w)
+    ∙ ap (filter (λ (p : Posted). not (listed p.id))) kept ∙ filter-as_posted (λ (n : ℕ). not (listed n)) w
+
+chosen_more : (listed : ℕ → Bool) (id : ℕ) (s : Status) (posted : List Posted)
+    → filter (is_listed listed) posted ≡ filter (λ (p : Posted). listed p.id) (filter (λ (p : Posted). is_waiting p.status) posted)
+    → filter (is_listed listed) (record { id = id; status = s } ∷ posted)
+    ≡ filter (λ (p : Posted). listed p.id) (filter (λ (p : Posted). is_waiting p.status) (record { id = id; status = s } ∷ posted))
+chosen_more listed id NullRequest posted ih = ih
+chosen_more listed id Gone posted ih = ih
+chosen_more listed id (Waiting kind posts) posted ih =
+    ap (λ (l : List Posted). cond (listed id) (record { id = id; status = Waiting kind posts } ∷ l) l) ih
+
+chosen-waiting : (listed : ℕ → Bool) (posted : List Posted)
+    → filter (is_listed listed) posted ≡ filter (λ (p : Posted). listed p.id) (filter (λ (p : Posted). is_waiting p.status) posted)
+chosen-waiting listed [] = refl
+chosen-waiting listed (p ∷ posted) = chosen_more listed p.id p.status posted (chosen-waiting listed posted)
+
+pub taken_is : (listed : ℕ → Bool) (history : List Posting) (w : List Request) → filter (λ (p : Posted). is_waiting p.status) (posted_of history w) ≡ map as_posted w
+    → map as_posted (taken listed w) ≡ filter (is_listed listed) (posted_of history w)
+taken_is listed history w kept =
+    sym (chosen-waiting listed (posted_of history w) ∙ ap (filter (λ (p : Posted). listed p.id)) kept ∙ filter-as_posted listed w)
+
+-- ---- the account
+
+sum_by-parts_more : (f : Request → ℕ) (listed : ℕ → Bool) (r : Request) (w : List Request) → sum_by f (taken listed w) + sum_by f (left listed w) ≡ sum_by f w
+    → (listed r.id ≡ true) ⊎ (listed r.id ≡ false) → sum_by f (taken listed (r ∷ w)) + sum_by f (left listed (r ∷ w)) ≡ sum_by f (r ∷ w)
+sum_by-parts_more f listed r w ih (inl e) = rw e (omega (arith, ih, sum_by-cons f r (taken listed w), sum_by-cons f r w))
+sum_by-parts_more f listed r w ih (inr e) = rw e (omega (arith, ih, sum_by-cons f r (left listed w), sum_by-cons f r w))
+
+pub sum_by-parts : (f : Request → ℕ) (listed : ℕ → Bool) (w : List Request) → sum_by f (taken listed w) + sum_by f (left listed w) ≡ sum_by f w
+sum_by-parts f listed [] = refl
+sum_by-parts f listed (r ∷ w) = sum_by-parts_more f listed r w (sum_by-parts f listed w) (cases_Bool (listed r.id))
+
+pub holds_taken : (room : Option Account) (listed : ℕ → Bool) (w : List Request) → Accounts room w → Holds room (taken listed w)
+holds_taken None listed w a = omega (arith, sum_by-parts (λ (r : Request). cond (is_buffered r) 1 0) listed w, a)
+holds_taken (Some room) listed w a =
+    let b = a.1 in let c = a.2 in (omega (arith, sum_by-parts held listed w, a.0), omega (arith, b, c))
+
+pub accounts_left : (room : Option Account) (listed : ℕ → Bool) (w : List Request) → Accounts room w → Accounts (freed room (sum_by held (taken listed w))) (left listed w)
+accounts_left None listed w a = omega (arith, sum_by-parts (λ (r : Request). cond (is_buffered r) 1 0) listed w, a)
+accounts_left (Some room) listed w a =
+    let c = a.2 in (omega (arith, sum_by-parts held listed w, a.0), a.1, omega (arith, c))
+
+pub size-freed : (room : Option Account) (len : ℕ) → option_map (λ (a : Account). a.size) (freed room len) ≡ option_map (λ (a : Account). a.size) room
+size-freed None len = refl
+size-freed (Some room) len = refl
+
+-- ---- the ids
+
+ids-as_posted : (w : List Request) → map (λ (p : Posted). p.id) (map as_posted w) ≡ map (λ (r : Request). r.id) w
+ids-as_posted [] = refl
+ids-as_posted (r ∷ w) = ap (λ (l : List ℕ). r.id ∷ l) (ids-as_posted w)
+
+pub waiting_ids_is : (posted : List Posted) (w : List Request) → filter (λ (p : Posted). is_waiting p.status) posted ≡ map as_posted w
+    → map (λ (p : Posted). p.id) (filter (λ (p : Posted). is_waiting p.status) posted) ≡ map (λ (r : Request). r.id) w
+waiting_ids_is posted w kept = ap (map (λ (p : Posted). p.id)) kept ∙ ids-as_posted w
+
+-- ---- the posts
+
+sum-as_posted : (f : Status → List Post) (w : List Request) → sum_by (λ (p : Posted). length (f p.status)) (map as_posted w) ≡ sum_by (λ (r : Request). length (f (Waiting r.kind r.posts))) w
+sum-as_posted f [] = refl
+sum-as_posted f (r ∷ w) =
+    let ih = sum-as_posted f w in
+    omega (arith, sum_by-cons (λ (p : Posted). length (f p.status)) (as_posted r) (map as_posted w), sum_by-cons (λ (r : Request). length (f (Waiting r.kind r.posts))) r w, ih)
+
+-- the same requests have as many posts
+pub same_posts : (f : Status → List Post) (a b : List Request) → map as_posted a ≡ map as_posted b
+    → sum_by (λ (r : Request). length (f (Waiting r.kind r.posts))) a ≡ sum_by (λ (r : Request). length (f (Waiting r.kind r.posts))) b
+same_posts f a b h = sym (sum-as_posted f a) ∙ ap (sum_by (λ (p : Posted). length (f p.status))) h ∙ sum-as_posted f b

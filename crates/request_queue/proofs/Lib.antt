@@ -1,0 +1,4 @@
+pub mod AccountLaws
+pub mod PostedLaws
+pub mod TakeLaws
+pub mod LeaveLaws

@@ -1,0 +1,17 @@
+use Rattle.std.proofs.Common.{◌∙◌, sym, subst, Option, Some}
+use Rattle.attached_buffer.specs.Buffer.{Account}
+use Rattle.request_queue.specs.Kept.{Accounts}
+use Rattle.request_queue.proofs.AccountLaws.{accounts-new, detached}
+use Rattle.request_queue.proofs.queue.Queue.attach.Goals as goal
+
+pub invariant_of-self : goal.invariant_of-self
+invariant_of-self c =
+    let a = c.self.inside in
+    let none = detached a.room (sym c.is_some.ensures ∙ c.if-is_some.false) in
+    let room = accounts-new a.waiting.items c.args.size (subst (λ (o : Option Account). Accounts o a.waiting.items) none c.self.invariant.room) c.in-Ok.ensures.right in
+    record {
+      nulls = c.self.invariant.nulls;
+      waiting = c.self.invariant.waiting;
+      room = subst (λ (o : Account). Accounts (Some o) a.waiting.items) (sym c.in-Ok.ensures.ok) room;
+      buffered = c.self.invariant.buffered;
+    }

@@ -1,0 +1,28 @@
+use Rattle.std.proofs.Common.{◌≡◌, ◌∷◌, ◌++◌, [], ◌∙◌, ap, sym, subst, List, None, Bool, true, ◌||◌, eqb}
+use Rattle.std.proofs.lemmas.List.{map-append}
+use Rattle.std.specs.Ordering.{nat_cmp}
+use Rattle.std.specs.BTreeSet.{contains}
+use Rattle.serial_spec.specs.RankMachine.{Posted, status_of}
+use Rattle.request_queue.specs.declared.queue.Posting.{Posting}
+use Rattle.request_queue.specs.Queued.{Queued}
+use Rattle.request_queue.specs.Kept.{posted_of, standing, is_null}
+use Rattle.request_queue.proofs.PostedLaws.{not_posted, null-push, waiting-null}
+use Rattle.request_queue.proofs.TakeLaws.{insert_is}
+use Rattle.request_queue.proofs.queue.Queue.post_null.Goals as goal
+
+pub invariant_of-self-2 : goal.invariant_of-self-2
+invariant_of-self-2 c =
+    let a = c.self.inside in
+    let k = c.args.id in
+    let posted = posted_of a.history.items a.waiting.items in
+    let new : Posting = record { id = k; null = true } in
+    let history = c.push_reserved.ensures.items ∙ ap (λ (l : List Posting). l ++ new ∷ []) c.reserve.ensures.items in
+    let listed = ap (λ (l : List Posting). posted_of l a.waiting.items) history ∙ map-append (standing a.waiting.items) a.history.items (new ∷ []) in
+    let lacks = not_posted posted k (subst (λ (q : Queued). status_of q.posted k ≡ None) (sym c.self.view_is) c.requires.fresh) in
+    record {
+      nulls = λ id. c.in_ok-insert.ensures.updates.0 id ∙ insert_is k id (contains nat_cmp a.nulls id) ∙ ap (λ (b : Bool). eqb k id || b) (c.self.invariant.nulls id)
+          ∙ sym (null-push posted k id lacks) ∙ ap (λ (l : List Posted). is_null (status_of l id)) (sym listed);
+      waiting = rw listed (waiting-null posted k ∙ c.self.invariant.waiting);
+      room = c.self.invariant.room;
+      buffered = c.self.invariant.buffered;
+    }

@@ -1,0 +1,14 @@
+//! The requests that a rank has posted and not yet completed, and its attached buffer.
+//!
+//! The calls are those of the PnetCDF library on nonblocking and buffered requests: `ncmpi_iput_*`, `ncmpi_iget_*`,
+//! `ncmpi_bput_*`, `ncmpi_wait`, `ncmpi_cancel`, `ncmpi_buffer_attach` and `ncmpi_buffer_detach`.
+#![tactic(auto)]
+
+mod queue;
+mod taking;
+
+pub use queue::Queue;
+pub use taking::Taken;
+
+#[cfg(test)]
+mod tests;

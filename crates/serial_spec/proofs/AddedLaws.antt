@@ -1,0 +1,133 @@
+-- What is added to a header keeps its variables: their kinds, and the lengths of their dimensions.
+use Rattle.std.proofs.Common.{◌≡◌, ℕ, zero, suc, ◌+◌, ◌<◌, refl, sym, ◌∙◌, ap, List, [], ◌∷◌, ◌++◌, length, map, Bool, true, false, cond, Some, None, append_assoc, arith}
+use Rattle.std.proofs.lemmas.Bool.Decides.{nat_tests}
+use Rattle.std.proofs.lemmas.List.{append-nil}
+use Rattle.std.proofs.lemmas.Iterator.Adapters.{position_from-zero}
+use Rattle.std.specs.List.{enumerate_from, AllByRecursion}
+use Rattle.std.specs.Prelude.{slice_get, position, bytes_eq, nat_le}
+use Rattle.nc_base.specs.declared.header.Header.{Header}
+use Rattle.nc_base.specs.declared.header.Dim.{Dim}
+use Rattle.nc_base.specs.declared.header.Var.{Var}
+use Rattle.nc_base.specs.declared.header.Attr.{Attr}
+use Rattle.nc_base.specs.declared.script.Extra.{Extra}
+use Rattle.nc_base.specs.declared.script.Extra.TheVariants as extra
+use Rattle.nc_base.specs.declared.errors.HeaderErr.TheVariants as fault
+use Rattle.serial_spec.specs.Layout.{length_of}
+use Rattle.serial_spec.specs.HeaderGrammar.{is_sound, first_check, first_with, fault_if, two_record_dims, record_later, bad_id}
+use Rattle.serial_spec.specs.Redefinition.{with_attr, with_extra, added, begins_by_number, begin_of_number, with_begins, redefined_header, KeepsVars}
+use Rattle.serial_spec.proofs.ApartLaws.{neither, no_some, and_right}
+use Rattle.serial_spec.proofs.ElementLaws.{get_left, get_map}
+use Rattle.serial_spec.proofs.RoomLaws.{unmapped, untested, none_any}
+
+-- ---- a header of which another is a part
+
+record Grew (h g : Header) : Type 0 where
+  more : List Dim
+  dims : g.dims ≡ h.dims ++ more
+  vars : (k : ℕ) (v : Var) → slice_get h.vars k ≡ Some v → (w : Var) × (slice_get g.vars k ≡ Some w) × (w.kind ≡ v.kind) × (w.dims ≡ v.dims)
+
+same_vars : (h : Header) (k : ℕ) (v : Var) → slice_get h.vars k ≡ Some v → (w : Var) × (slice_get h.vars k ≡ Some w) × (w.kind ≡ v.kind) × (w.dims ≡ v.dims)
+same_vars h k v e = (v, e, refl, refl)
+
+grew_none : (h : Header) → Grew h h
+grew_none h = record { more = []; dims = sym (append-nil h.dims); vars = same_vars h }
+
+grew_on : (h g f : Header) → Grew h g → Grew g f → Grew h f
+grew_on h g f a b =
+    record {
+      more = a.more ++ b.more;
+      dims = b.dims ∙ ap (λ (ds : List Dim). ds ++ b.more) a.dims ∙ append_assoc h.dims a.more b.more;
+      vars = λ k v e. let one = a.vars k v e in let two = b.vars k one.0 one.1 in (two.0, two.1, two.2 ∙ one.2, two.3 ∙ one.3);
+    }
+
+in_front : (vs ws : List Var) (k : ℕ) (v : Var) → slice_get vs k ≡ Some v → slice_get (vs ++ ws) k ≡ Some v
+in_front [] ws k v h = absurd cc
+in_front (x ∷ vs) ws zero v h = h
+in_front (x ∷ vs) ws (suc k) v h = in_front vs ws k v h
+
+attr_kept : (name : List ℕ) (a : Attr) (vs : List Var) (k : ℕ) (v : Var) → slice_get vs k ≡ Some v
+    → (w : Var) × (slice_get (with_attr name a vs) k ≡ Some w) × (w.kind ≡ v.kind) × (w.dims ≡ v.dims)
+attr_kept name a [] k v h = absurd cc
+attr_kept name a (x ∷ vs) k v h = by_name (λ j y g. attr_kept name a vs j y g) (bytes_eq x.name name) k h
+  where
+    by_name : ((j : ℕ) (y : Var) → slice_get vs j ≡ Some y → (w : Var) × (slice_get (with_attr name a vs) j ≡ Some w) × (w.kind ≡ y.kind) × (w.dims ≡ y.dims))
+        → (t : Bool) → (k : ℕ) → slice_get (x ∷ vs) k ≡ Some v
+        → (w : Var) × (slice_get (cond t (record x { attrs = x.attrs ++ a ∷ [] } ∷ vs) (x ∷ with_attr name a vs)) k ≡ Some w) × (w.kind ≡ v.kind) × (w.dims ≡ v.dims)
+    by_name rest true zero h =
+        let same : x ≡ v = cc in (record x { attrs = x.attrs ++ a ∷ [] }, refl, ap (λ (y : Var). y.kind) same, ap (λ (y : Var). y.dims) same)
+    by_name rest true (suc k) h = (v, h, refl, refl)
+    by_name rest false zero h = (v, h, refl, refl)
+    by_name rest false (suc k) h = rest k v h
+
+one_more : (h : Header) (e : Extra) → Grew h (with_extra h e)
+one_more h (extra.Dim d) = record { more = d ∷ []; dims = refl; vars = same_vars h }
+one_more h (extra.Var kind name dims) =
+    record { more = []; dims = sym (append-nil h.dims); vars = λ k v e. (v, in_front h.vars _ k v e, refl, refl) }
+one_more h (extra.Att None a) = record { more = []; dims = sym (append-nil h.dims); vars = same_vars h }
+one_more h (extra.Att (Some owner) a) = record { more = []; dims = sym (append-nil h.dims); vars = attr_kept owner a h.vars }
+
+all_more : (h : Header) (extras : List Extra) → Grew h (added h extras)
+all_more h [] = grew_none h
+all_more h (e ∷ extras) = grew_on h (with_extra h e) (added (with_extra h e) extras) (one_more h e) (all_more (with_extra h e) extras)
+
+-- ---- begins
+
+numbered : (n : ℕ) (vs : List Var) (k : ℕ) (v : Var) → slice_get vs k ≡ Some v → slice_get (enumerate_from n vs) k ≡ Some (n + k, v)
+numbered n [] k v h = absurd cc
+numbered n (x ∷ vs) zero v h =
+    let same : x ≡ v = cc in
+    let plain : n ≡ n + 0 = omega arith in
+    λ t. Some (plain t, same t)
+numbered n (x ∷ vs) (suc k) v h =
+    let next : n + 1 + k ≡ n + suc k = omega arith in
+    numbered (n + 1) vs k v h ∙ ap (λ (m : ℕ). Some (m, v)) next
+
+placed_more : (h : Header) (found : List (ℕ × ℕ)) → Grew h (with_begins h found)
+placed_more h found =
+    record {
+      more = [];
+      dims = sym (append-nil h.dims);
+      vars = λ k v e. (
+        record v { begin = begin_of_number found (0 + k) },
+        get_map (λ p. record p.1 { begin = begin_of_number found p.0 }) (enumerate_from 0 h.vars) k (0 + k, v) (numbered 0 h.vars k v e),
+        refl,
+        refl,
+      );
+    }
+
+-- ---- the lengths stay
+
+below_count : (n id : ℕ) → nat_le n id ≡ false → id < n
+below_count n id h = grind (arith, nat_tests)
+
+same_lengths : (dims more : List Dim) (ids : List ℕ) → AllByRecursion (λ id. nat_le (length dims) id ≡ false) ids
+    → map (λ id. length_of (slice_get (dims ++ more) id)) ids ≡ map (λ id. length_of (slice_get dims id)) ids
+same_lengths dims more [] h = refl
+same_lengths dims more (id ∷ ids) h =
+    λ t. ap length_of (get_left dims more id (below_count (length dims) id h.0)) t ∷ same_lengths dims more ids h.1 t
+
+ids_known : (header : Header) (k : ℕ) (v : Var) → is_sound header ≡ true → slice_get header.vars k ≡ Some v
+    → AllByRecursion (λ id. nat_le (length header.dims) id ≡ false) v.dims
+ids_known header k v h g =
+    let checks : first_check header ≡ None = no_some _ (and_right _ _ h) in
+    let a = (neither (fault_if (two_record_dims header) fault.TwoRecordDims) _ checks).1 in
+    let b = (neither (first_with (record_later header) (λ n. fault.RecordDimNotFirst n) header.vars) _ a).1 in
+    let c = (neither (first_with (bad_id header) (λ n. fault.BadDimId n) header.vars) _ b).0 in
+    let none : position (bad_id header) header.vars ≡ None = unmapped (λ n. fault.BadDimId n) _ c in
+    none_any (λ id. nat_le (length header.dims) id) v.dims
+    (untested (bad_id header) 0 header.vars k v (sym (position_from-zero (bad_id header) header.vars) ∙ none) g)
+
+pub redefined_keeps : (old : Header) (extras : List Extra) → is_sound old ≡ true → KeepsVars old (redefined_header old extras)
+redefined_keeps old extras sound k v h =
+    let header = added old extras in
+    let new = redefined_header old extras in
+    let grew = grew_on old header new (all_more old extras) (placed_more header (begins_by_number header (length old.vars))) in
+    let found = grew.vars k v h in
+    let ids = ids_known old k v sound h in (
+      found.0,
+      found.1,
+      found.2,
+      ap (λ (is : List ℕ). map (λ id. length_of (slice_get new.dims id)) is) found.3
+          ∙ ap (λ (ds : List Dim). map (λ id. length_of (slice_get ds id)) v.dims) grew.dims
+          ∙ same_lengths old.dims grew.more v.dims ids,
+    )

@@ -1,0 +1,144 @@
+-- Cells that lie apart, and what is written of them.
+use Rattle.std.proofs.Common.{◌≡◌, ℕ, zero, suc, ◌+◌, ◌-◌, ◌<◌, ◌≤◌, refl, sym, ◌∙◌, ap, subst, inl, inr, ◌⊎◌, List, [], ◌∷◌, ◌++◌, length, map, get_or, Bool, true, false, Some, None, arith}
+use Rattle.std.proofs.lemmas.Bool.{eqb-false}
+use Rattle.std.specs.List.{AllByRecursion, enumerate_from}
+use Rattle.std.specs.Prelude.{flat_map, slice_get, ◌==◌}
+use Rattle.std.specs.Option.{option_or}
+use borrow.Author.Tests.{eqb-true}
+use Rattle.serial_spec.specs.File.{at, read, written}
+use Rattle.serial_spec.specs.Place.{AreApart}
+use Rattle.serial_spec.specs.Said.{said_at, Cell, write_cells, said_by}
+use Rattle.serial_spec.proofs.FileLaws.{length-written_inside}
+use Rattle.serial_spec.proofs.SaidLaws.{said_below, said_past, said_inside, second_counts, first_counts, both_none, said_append}
+
+-- ---- members
+
+abbrev pub Has : {A : Type 0} → List A → A → Type 0
+Has [] x = ⊥
+Has (y ∷ ys) x = (y ≡ x) ⊎ Has ys x
+
+has_left : {A : Type 0} (xs ys : List A) (x : A) → Has xs x → Has (xs ++ ys) x
+has_left [] ys x h = absurd h
+has_left (y ∷ xs) ys x (inl e) = inl e
+has_left (y ∷ xs) ys x (inr h) = inr (has_left xs ys x h)
+
+has_right : {A : Type 0} (xs ys : List A) (x : A) → Has ys x → Has (xs ++ ys) x
+has_right [] ys x h = h
+has_right (y ∷ xs) ys x h = inr (has_right xs ys x h)
+
+pub has_map : {A B : Type 0} (f : A → B) (xs : List A) (x : A) → Has xs x → Has (map f xs) (f x)
+has_map f [] x h = absurd h
+has_map f (y ∷ xs) x (inl e) = inl (ap f e)
+has_map f (y ∷ xs) x (inr h) = inr (has_map f xs x h)
+
+pub has_flat : {A B : Type 0} (f : A → List B) (xs : List A) (x : A) (b : B) → Has xs x → Has (f x) b → Has (flat_map f xs) b
+has_flat f [] x b h k = absurd h
+has_flat {B = B} f (y ∷ xs) x b (inl e) k = has_left (f y) (flat_map f xs) b (subst (λ z. Has {A = B} (f z) b) (sym e) k)
+has_flat f (y ∷ xs) x b (inr h) k = has_right (f y) (flat_map f xs) b (has_flat f xs x b h k)
+
+pub has_at : {A : Type 0} (xs : List A) (k : ℕ) (x : A) → slice_get xs k ≡ Some x → Has xs x
+has_at [] k x h = absurd cc
+has_at (y ∷ xs) zero x h = inl cc
+has_at (y ∷ xs) (suc k) x h = inr (has_at xs k x h)
+
+-- ---- the same or not
+
+pub same_number : (a b : ℕ) → (a ≡ b) ⊎ (a ≡ b → ⊥)
+same_number a b = by_test (a == b) refl
+  where
+    by_test : (t : Bool) → (a == b) ≡ t → (a ≡ b) ⊎ (a ≡ b → ⊥)
+    by_test true e = inl (eqb-true _ _ e)
+    by_test false e = inr (eqb-false _ _ e)
+
+pub same_index : (i j : List ℕ) → (i ≡ j) ⊎ (i ≡ j → ⊥)
+same_index [] [] = inl refl
+same_index [] (y ∷ j) = inr (λ e. absurd cc)
+same_index (x ∷ i) [] = inr (λ e. absurd cc)
+same_index (x ∷ i) (y ∷ j) = by_both (same_number x y) (same_index i j)
+  where
+    by_both : ((x ≡ y) ⊎ (x ≡ y → ⊥)) → ((i ≡ j) ⊎ (i ≡ j → ⊥)) → ((x ∷ i) ≡ (y ∷ j)) ⊎ ((x ∷ i) ≡ (y ∷ j) → ⊥)
+    by_both (inl h) (inl k) = inl (λ t. h t ∷ k t)
+    by_both (inr n) k = inr (λ e. let h : x ≡ y = cc in n h)
+    by_both (inl h) (inr n) = inr (λ e. let k : i ≡ j = cc in n k)
+
+-- ---- what cells say
+
+-- the cell is this one, or shares no byte with it
+abbrev pub IsOrApart : Cell → Cell → Type 0
+IsOrApart c d = (d ≡ c) ⊎ AreApart d.0 (length d.1) c.0 (length c.1)
+
+unsaid_by_one : (d : Cell) (a n x : ℕ) → AreApart d.0 (length d.1) a n → a ≤ x → x < a + n → said_at (enumerate_from d.0 d.1) x ≡ None
+unsaid_by_one d a n x (inl p) low high = said_past d.0 d.1 x (omega arith)
+unsaid_by_one d a n x (inr p) low high = said_below d.0 d.1 x (omega arith)
+
+said_by_one : (c d : Cell) (x : ℕ) → d ≡ c → c.0 ≤ x → x < c.0 + length c.1 → said_at (enumerate_from d.0 d.1) x ≡ Some (get_or c.1 (x - c.0) 0)
+said_by_one c d x e low high = ap (λ (f : Cell). said_at (enumerate_from f.0 f.1) x) e ∙ said_inside c.0 c.1 x 0 low high
+
+-- cells of which each is this one or apart from it say of its bytes what it says, or nothing
+said_or_none : (c : Cell) (x : ℕ) → c.0 ≤ x → x < c.0 + length c.1 → (ds : List Cell) → AllByRecursion (IsOrApart c) ds
+    → (said_at (said_by ds) x ≡ Some (get_or c.1 (x - c.0) 0)) ⊎ (said_at (said_by ds) x ≡ None)
+said_or_none c x low high [] h = inr refl
+said_or_none c x low high (d ∷ ds) h = by_rest (said_or_none c x low high ds h.1) h.0
+  where
+    whole : said_at (said_by (d ∷ ds)) x ≡ option_or (said_at (said_by ds) x) (said_at (enumerate_from d.0 d.1) x)
+    whole = said_append (enumerate_from d.0 d.1) (said_by ds) x
+
+    by_rest : ((said_at (said_by ds) x ≡ Some (get_or c.1 (x - c.0) 0)) ⊎ (said_at (said_by ds) x ≡ None)) → IsOrApart c d
+        → (said_at (said_by (d ∷ ds)) x ≡ Some (get_or c.1 (x - c.0) 0)) ⊎ (said_at (said_by (d ∷ ds)) x ≡ None)
+    by_rest (inl s) q = inl (whole ∙ first_counts (said_at (said_by ds) x) (said_at (enumerate_from d.0 d.1) x) _ s)
+    by_rest (inr s) (inl e) = inl (whole ∙ second_counts (said_at (said_by ds) x) (said_at (enumerate_from d.0 d.1) x) s ∙ said_by_one c d x e low high)
+    by_rest (inr s) (inr a) = inr (whole ∙ both_none (said_at (said_by ds) x) (said_at (enumerate_from d.0 d.1) x) s (unsaid_by_one d c.0 (length c.1) x a low high))
+
+pub said_of : (c : Cell) (x : ℕ) → c.0 ≤ x → x < c.0 + length c.1 → (ds : List Cell) → AllByRecursion (IsOrApart c) ds → Has ds c
+    → said_at (said_by ds) x ≡ Some (get_or c.1 (x - c.0) 0)
+said_of c x low high [] h m = absurd m
+said_of c x low high (d ∷ ds) h (inl e) =
+    said_append (enumerate_from d.0 d.1) (said_by ds) x ∙ by_rest (said_or_none c x low high ds h.1)
+  where
+    by_rest : ((said_at (said_by ds) x ≡ Some (get_or c.1 (x - c.0) 0)) ⊎ (said_at (said_by ds) x ≡ None))
+        → option_or (said_at (said_by ds) x) (said_at (enumerate_from d.0 d.1) x) ≡ Some (get_or c.1 (x - c.0) 0)
+    by_rest (inl s) = first_counts (said_at (said_by ds) x) (said_at (enumerate_from d.0 d.1) x) _ s
+    by_rest (inr s) = second_counts (said_at (said_by ds) x) (said_at (enumerate_from d.0 d.1) x) s ∙ said_by_one c d x e low high
+said_of c x low high (d ∷ ds) h (inr m) =
+    said_append (enumerate_from d.0 d.1) (said_by ds) x
+    ∙ first_counts (said_at (said_by ds) x) (said_at (enumerate_from d.0 d.1) x) _ (said_of c x low high ds h.1 m)
+
+-- cells that lie apart from a place say nothing of it
+pub unsaid : (x : ℕ) (ds : List Cell) → AllByRecursion (λ d. AreApart d.0 (length d.1) x 1) ds → said_at (said_by ds) x ≡ None
+unsaid x [] h = refl
+unsaid x (d ∷ ds) h =
+    said_append (enumerate_from d.0 d.1) (said_by ds) x
+    ∙ both_none (said_at (said_by ds) x) (said_at (enumerate_from d.0 d.1) x) (unsaid x ds h.1) (unsaid_by_one d x 1 x h.0 (omega arith) (omega arith))
+
+pub cells_within : (file : List ℕ) (ds : List Cell) (n : ℕ) → length file ≡ n → AllByRecursion (λ d. d.0 + length d.1 ≤ n) ds → length (write_cells file ds) ≡ n
+cells_within file [] n e h = e
+cells_within file (d ∷ ds) n e h = cells_within (written file d.0 d.1) ds n (length-written_inside file d.0 d.1 (omega (arith, h.0, e)) ∙ e) h.1
+
+-- ---- reading
+
+pub read_long : (file : List ℕ) (x n : ℕ) → length (read file x n) ≡ n
+read_long file x zero = refl
+read_long file x (suc n) = ap suc (read_long file (x + 1) n)
+
+pub read_at : (file : List ℕ) (x n j : ℕ) → j < n → get_or (read file x n) j 0 ≡ at file (x + j)
+read_at file x zero j h = absurd (omega arith)
+read_at file x (suc n) zero h = let plain : x ≡ x + 0 = omega arith in ap (λ (k : ℕ). at file k) plain
+read_at file x (suc n) (suc j) h =
+    let next : x + 1 + j ≡ x + suc j = omega arith in
+    read_at file (x + 1) n j (omega arith) ∙ ap (λ (k : ℕ). at file k) next
+
+pub read_same : (f g : List ℕ) (a b n : ℕ) → ((j : ℕ) → j < n → at f (a + j) ≡ at g (b + j)) → read f a n ≡ read g b n
+read_same f g a b zero h = refl
+read_same f g a b (suc n) h = λ t. first t ∷ read_same f g (a + 1) (b + 1) n later t
+  where
+    first : at f a ≡ at g b
+    first =
+        let one : a ≡ a + 0 = omega arith in
+        let two : b + 0 ≡ b = omega arith in
+        ap (λ (k : ℕ). at f k) one ∙ h 0 (omega arith) ∙ ap (λ (k : ℕ). at g k) two
+
+    later : (j : ℕ) → j < n → at f (a + 1 + j) ≡ at g (b + 1 + j)
+    later j l =
+        let one : a + 1 + j ≡ a + suc j = omega arith in
+        let two : b + suc j ≡ b + 1 + j = omega arith in
+        ap (λ (k : ℕ). at f k) one ∙ h (suc j) (omega arith) ∙ ap (λ (k : ℕ). at g k) two

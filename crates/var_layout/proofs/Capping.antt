@@ -1,0 +1,100 @@
+-- Capped sums and products, one step at a time.
+use Rattle.std.proofs.Common.{◌≡◌, ℕ, zero, suc, ◌+◌, ◌*◌, ◌^◌, ◌<◌, ◌≤◌, List, [], ◌∷◌, ◌++◌, length, take, get_or, map, Bool, true, false, cond, sym, ap, ◌∙◌, arith, inl, inr, ◌⊎◌, max}
+use Rattle.std.specs.Prelude.{sum_by, filter}
+use Rattle.std.proofs.lemmas.List.{take_more, map-append, append-nil}
+use Rattle.std.proofs.lemmas.List.Sums.{sum_by_more, sum_by_push}
+use Rattle.std.proofs.lemmas.List.Elements.{filter_more}
+use Rattle.std.proofs.lemmas.Bool.{cases_lt}
+use Rattle.std.proofs.Math.Nat.{mul_comm, mul_assoc, mul-one}
+use Rattle.serial_spec.specs.Layout.{product, greatest}
+use Rattle.var_layout.specs.Capped.{capped}
+
+small : (n : ℕ) → n < 2 ^ 62 → capped n ≡ n
+small n h = omega arith
+
+large : (n : ℕ) → 2 ^ 62 ≤ n → capped n ≡ 2 ^ 62
+large n h = omega arith
+
+pub capped_sum : (a b : ℕ) → capped (capped a + b) ≡ capped (a + b)
+capped_sum a b = omega arith
+
+pub capped_both : (a b : ℕ) → capped (capped a + capped b) ≡ capped (a + b)
+capped_both a b = omega arith
+
+large_product : (b : ℕ) (a : ℕ) → 2 ^ 62 ≤ a → capped (2 ^ 62 * b) ≡ capped (a * b)
+large_product zero a h = omega arith
+large_product (suc b) a h = omega arith
+
+pub capped_product : (a b : ℕ) → capped (capped a * b) ≡ capped (a * b)
+capped_product a b = by_size (cases_lt a (2 ^ 62))
+  where
+    by_size : (a < 2 ^ 62) ⊎ (2 ^ 62 ≤ a) → capped (capped a * b) ≡ capped (a * b)
+    by_size (inl h) = ap (λ (n : ℕ). capped (n * b)) (small a h)
+    by_size (inr h) = ap (λ (n : ℕ). capped (n * b)) (large a h) ∙ large_product b a h
+
+pub capped_times : (a b s : ℕ) → s ≡ capped b → capped (a * s) ≡ capped (a * b)
+capped_times a b s e =
+    ap (λ (n : ℕ). capped n) (ap (λ (n : ℕ). a * n) e ∙ mul_comm a (capped b))
+    ∙ capped_product b a
+    ∙ ap (λ (n : ℕ). capped n) (mul_comm b a)
+
+-- where a record variable ends that begins at a, after n records of size s and with a share of w
+pub capped_end : (a n s w b r t e : ℕ) → s ≡ capped r → b ≡ capped (a + capped (n * s)) → t ≡ capped w → e ≡ capped (b + t)
+    → e ≡ capped (a + n * r + w)
+capped_end a n s w b r t e f g h k = let whole = capped_times n r s f in omega arith
+
+greatest-push : (xs : List ℕ) (y : ℕ) → greatest (xs ++ y ∷ []) ≡ max (greatest xs) y
+greatest-push [] y = omega arith
+greatest-push (x ∷ xs) y = let rest = greatest-push xs y in omega arith
+
+-- the greatest of one more
+pub capped_greatest_more : {A : Type 0} (f : A → ℕ) (xs : List A) (i : ℕ) (d : A) (first e n : ℕ) → i < length xs
+    → e ≡ capped (max first (greatest (map f (take i xs)))) → n ≡ capped (f (get_or xs i d))
+    → max e n ≡ capped (max first (greatest (map f (take (i + 1) xs))))
+capped_greatest_more f xs i d first e n h g k =
+    let more = ap (λ ys. greatest (map f ys)) (take_more xs i d h)
+    ∙ ap (λ ns. greatest ns) (map-append f (take i xs) (get_or xs i d ∷ []))
+    ∙ greatest-push (map f (take i xs)) (f (get_or xs i d)) in
+    omega arith
+
+pub product-append : (xs ys : List ℕ) → product (xs ++ ys) ≡ product xs * product ys
+product-append [] ys = omega arith
+product-append (x ∷ xs) ys = ap (λ (n : ℕ). x * n) (product-append xs ys) ∙ sym (mul_assoc x (product xs) (product ys))
+
+pub product-map_more : {A : Type 0} (f : A → ℕ) (xs : List A) (i : ℕ) (d : A) → i < length xs
+    → product (map f (take (i + 1) xs)) ≡ product (map f (take i xs)) * f (get_or xs i d)
+product-map_more f xs i d h =
+    ap (λ ys. product (map f ys)) (take_more xs i d h)
+    ∙ ap (λ ns. product ns) (map-append f (take i xs) (get_or xs i d ∷ []))
+    ∙ product-append (map f (take i xs)) (f (get_or xs i d) ∷ [])
+    ∙ ap (λ (n : ℕ). product (map f (take i xs)) * n) (mul-one (f (get_or xs i d)))
+
+-- the capped product of one more length
+pub capped_product_more : {A : Type 0} (f : A → ℕ) (xs : List A) (i : ℕ) (d : A) (n : ℕ) → i < length xs
+    → n ≡ capped (product (map f (take i xs)))
+    → capped (n * f (get_or xs i d)) ≡ capped (product (map f (take (i + 1) xs)))
+capped_product_more f xs i d n h e =
+    ap (λ (m : ℕ). capped (m * f (get_or xs i d))) e
+    ∙ capped_product (product (map f (take i xs))) (f (get_or xs i d))
+    ∙ ap (λ (m : ℕ). capped m) (sym (product-map_more f xs i d h))
+
+pub filter_yes : {A : Type 0} (p : A → Bool) (xs : List A) (i : ℕ) (d : A) → i < length xs → p (get_or xs i d) ≡ true
+    → filter p (take (i + 1) xs) ≡ filter p (take i xs) ++ get_or xs i d ∷ []
+filter_yes p xs i d h t =
+    filter_more p xs i d h ∙ ap (λ (b : Bool). filter p (take i xs) ++ cond b (get_or xs i d ∷ []) []) t
+
+pub filter_no : {A : Type 0} (p : A → Bool) (xs : List A) (i : ℕ) (d : A) → i < length xs → p (get_or xs i d) ≡ false
+    → filter p (take (i + 1) xs) ≡ filter p (take i xs)
+filter_no p xs i d h t =
+    filter_more p xs i d h ∙ ap (λ (b : Bool). filter p (take i xs) ++ cond b (get_or xs i d ∷ []) []) t ∙ append-nil (filter p (take i xs))
+
+pub sum_filter_yes : {A : Type 0} (p : A → Bool) (f : A → ℕ) (xs : List A) (i : ℕ) (d : A) → i < length xs → p (get_or xs i d) ≡ true
+    → sum_by f (filter p (take (i + 1) xs)) ≡ sum_by f (filter p (take i xs)) + f (get_or xs i d)
+sum_filter_yes p f xs i d h t =
+    ap (λ ys. sum_by f ys) (filter_yes p xs i d h t) ∙ sum_by_push f (filter p (take i xs)) (get_or xs i d)
+
+-- the capped sum of one more item
+pub capped_sum_more : {A : Type 0} (f : A → ℕ) (xs : List A) (i : ℕ) (d : A) (a s n : ℕ) → i < length xs
+    → s ≡ capped (a + sum_by f (take i xs)) → n ≡ capped (f (get_or xs i d))
+    → capped (s + n) ≡ capped (a + sum_by f (take (i + 1) xs))
+capped_sum_more f xs i d a s n h e g = let more = sum_by_more f xs i d h in omega arith

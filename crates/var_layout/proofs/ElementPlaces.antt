@@ -1,0 +1,200 @@
+-- Rows of elements, one dimension at a time, and where elements end.
+use Rattle.std.proofs.Common.{◌≡◌, ℕ, zero, suc, ◌+◌, ◌-◌, ◌*◌, ◌^◌, ◌<◌, ◌≤◌, List, [], ◌∷◌, length, drop, get_or, map, Bool, true, false, cond, Some, refl, sym, ap, subst, ◌∙◌, arith}
+use Rattle.std.specs.Prelude.{slice_get, MatchBool, nat_lt, ◌==◌}
+use Rattle.std.proofs.lemmas.List.{drop_more, drop_all}
+use Rattle.std.proofs.lemmas.Nat.{row_fits, mul-le}
+use Rattle.std.proofs.Math.Nat.{mul-le-mul_left}
+use Rattle.std.proofs.lemmas.Bool.Decides.{nat_tests}
+use Rattle.nc_base.specs.declared.header.Header.{Header}
+use Rattle.nc_base.specs.declared.header.Var.{Var}
+use Rattle.nc_base.specs.declared.header.NcType.{NcType}
+use Rattle.nc_base.specs.declared.header.NcType.TheVariants.{Byte, Char, Short, Int, Float, Double, UByte, UShort, UInt, Int64, UInt64}
+use Rattle.serial_spec.specs.ExternalForm.{size_of}
+use Rattle.serial_spec.specs.Layout.{product, greatest, is_record, inner_lengths, slab, vsize, recsize, record_slabs, last_share, end_of, end_of_var}
+use Rattle.serial_spec.specs.Place.{row, place, record_of, within_record, IsIndex, HasRecord, IsElement}
+use Rattle.serial_spec.proofs.RowLaws.{row_below}
+use Rattle.var_layout.specs.Reached.{records_for}
+use Rattle.var_layout.proofs.Soundness.{Keeps, slab_below, var_kept, header_short}
+use Rattle.serial_spec.specs.HeaderGrammar.{is_sound, header_len}
+use borrow.Author.Tests.{ltb-true, ltb-false}
+
+-- ---- a row, one dimension at a time
+
+pub product_pos : (lengths index : List ℕ) → IsIndex lengths index → 1 ≤ product lengths
+product_pos lengths index h = let below = row_below lengths index h in omega arith
+
+pub same_len : (lengths index : List ℕ) → IsIndex lengths index → length index ≡ length lengths
+same_len [] [] h = refl
+same_len [] (i ∷ index) h = absurd h
+same_len (n ∷ lengths) [] h = absurd h
+same_len (n ∷ lengths) (i ∷ index) h = ap (λ (k : ℕ). suc k) (same_len lengths index h.1)
+
+-- `so_far` is the row of the first k coordinates
+pub record RowSoFar (lengths index : List ℕ) (k so_far : ℕ) : Type 0 where
+  pub whole : so_far * product (drop k lengths) + row (drop k lengths) (drop k index) ≡ row lengths index
+  pub valid : IsIndex (drop k lengths) (drop k index)
+
+pub no_row : (lengths index : List ℕ) → IsIndex lengths index → RowSoFar lengths index 0 0
+no_row lengths index h = record { whole = omega arith; valid = h }
+
+step_whole : (a n p i r : ℕ) → a * (n * p) + (i * p + r) ≡ (a * n + i) * p + r
+step_whole a n p i r = omega arith
+
+next_row : (lengths index ns is : List ℕ) (n i so_far : ℕ) (k : ℕ) → drop k lengths ≡ n ∷ ns → drop k index ≡ i ∷ is → RowSoFar lengths index k so_far
+    → ((so_far * n + i) * product ns + row ns is ≡ row lengths index) × IsIndex ns is
+next_row lengths index ns is n i so_far k e f h =
+    let whole = ap (λ xs. so_far * product xs + row xs (drop k index)) (sym e) in
+    let there = ap (λ ys. so_far * product (n ∷ ns) + row (n ∷ ns) ys) (sym f) in
+    let valid : IsIndex (n ∷ ns) (i ∷ is) = subst (λ ys. IsIndex (n ∷ ns) ys) f (subst (λ xs. IsIndex xs (drop k index)) e h.valid) in
+    (sym (step_whole so_far n (product ns) i (row ns is)) ∙ there ∙ whole ∙ h.whole, valid.1)
+
+pub one_more : (lengths index : List ℕ) (k d n i so_far : ℕ) → k < length lengths → k < length index → n ≡ get_or lengths k d → i ≡ get_or index k 0
+    → RowSoFar lengths index k so_far → RowSoFar lengths index (k + 1) (so_far * n + i)
+one_more lengths index k d n i so_far h g e f so =
+    let ns = drop_more lengths k d h ∙ ap (λ (m : ℕ). m ∷ drop (k + 1) lengths) (sym e) in
+    let is = drop_more index k 0 g ∙ ap (λ (m : ℕ). m ∷ drop (k + 1) index) (sym f) in
+    let next = next_row lengths index (drop (k + 1) lengths) (drop (k + 1) index) n i so_far k ns is so in
+    record { whole = next.0; valid = next.1 }
+
+-- it never passes the whole row
+pub so_far_below : (lengths index : List ℕ) (k so_far : ℕ) → RowSoFar lengths index k so_far → so_far ≤ row lengths index
+so_far_below lengths index k so_far h =
+    let some = product_pos (drop k lengths) (drop k index) h.valid in
+    let e = h.whole in
+    omega (arith, mul-le-mul_left so_far some)
+
+pub all_rows : (lengths index : List ℕ) (k so_far : ℕ) → length lengths ≤ k → RowSoFar lengths index k so_far → so_far ≡ row lengths index
+all_rows lengths index k so_far h so =
+    let none = ap (λ xs. so_far * product xs + row xs (drop k index)) (drop_all k lengths h) in
+    let e = so.whole in
+    omega arith
+
+-- ---- elements
+
+pub index_fixed : (header : Header) (v : Var) (index : List ℕ) → is_record header v ≡ false → IsElement header v index → IsIndex (inner_lengths header v) index
+index_fixed header v index e h = subst (λ (t : Bool). MatchBool t (HasRecord index × IsIndex (inner_lengths header v) (within_record index)) (IsIndex (inner_lengths header v) index)) e h
+
+pub index_record : (header : Header) (v : Var) (index : List ℕ) → is_record header v ≡ true → IsElement header v index
+    → HasRecord index × IsIndex (inner_lengths header v) (within_record index)
+index_record header v index e h = subst (λ (t : Bool). MatchBool t (HasRecord index × IsIndex (inner_lengths header v) (within_record index)) (IsIndex (inner_lengths header v) index)) e h
+
+pub place_fixed : (header : Header) (v : Var) (index : List ℕ) → is_record header v ≡ false
+    → place header v index ≡ v.begin + row (inner_lengths header v) index * size_of v.kind
+place_fixed header v index e = ap (λ (t : Bool). cond t (v.begin + record_of index * recsize header + row (inner_lengths header v) (within_record index) * size_of v.kind) (v.begin + row (inner_lengths header v) index * size_of v.kind)) e
+
+pub place_record : (header : Header) (v : Var) (index : List ℕ) → is_record header v ≡ true
+    → place header v index ≡ v.begin + record_of index * recsize header + row (inner_lengths header v) (within_record index) * size_of v.kind
+place_record header v index e = ap (λ (t : Bool). cond t (v.begin + record_of index * recsize header + row (inner_lengths header v) (within_record index) * size_of v.kind) (v.begin + row (inner_lengths header v) index * size_of v.kind)) e
+
+pub size_pos : (kind : NcType) → 1 ≤ size_of kind
+size_pos Byte = omega arith
+size_pos Char = omega arith
+size_pos Short = omega arith
+size_pos Int = omega arith
+size_pos Float = omega arith
+size_pos Double = omega arith
+size_pos UByte = omega arith
+size_pos UShort = omega arith
+size_pos UInt = omega arith
+size_pos Int64 = omega arith
+size_pos UInt64 = omega arith
+
+in_slab : (header : Header) (v : Var) (index : List ℕ) → IsIndex (inner_lengths header v) index
+    → row (inner_lengths header v) index * size_of v.kind + size_of v.kind ≤ slab header v
+in_slab header v index h =
+    row_fits (row (inner_lengths header v) index) (size_of v.kind) (product (inner_lengths header v)) (size_of v.kind) (row_below (inner_lengths header v) index h) (omega arith)
+
+-- a row is no more than its bytes
+pub row_below_bytes : (n : ℕ) (kind : NcType) → n ≤ n * size_of kind
+row_below_bytes n kind = omega (arith, mul-le-mul_left n (size_pos kind))
+
+-- ---- the end of the file
+
+greatest_holds : {A : Type 0} (f : A → ℕ) (xs : List A) (k : ℕ) (x : A) → slice_get xs k ≡ Some x → f x ≤ greatest (map f xs)
+greatest_holds f [] k x h = cc
+greatest_holds f (y ∷ xs) zero x h = let e : f y ≡ f x = cc in omega arith
+greatest_holds f (y ∷ xs) (suc k) x h = let l = greatest_holds f xs k x h in omega arith
+
+share_holds : (header : Header) (v : Var) → slab header v ≤ last_share header v
+share_holds header v = by_test (length (record_slabs header) == 1)
+  where
+    by_test : (t : Bool) → slab header v ≤ cond t (slab header v) (vsize header v)
+    by_test true = omega arith
+    by_test false = slab_below header v
+
+end_fixed : (header : Header) (n : ℕ) (v : Var) → is_record header v ≡ false → end_of_var header n v ≡ v.begin + vsize header v
+end_fixed header n v e = ap (λ (t : Bool). cond t (cond (n == 0) 0 (v.begin + (n - 1) * recsize header + last_share header v)) (v.begin + vsize header v)) e
+
+end_record : (header : Header) (n : ℕ) (v : Var) → is_record header v ≡ true → 0 < n → end_of_var header n v ≡ v.begin + (n - 1) * recsize header + last_share header v
+end_record header n v e h =
+    ap (λ (t : Bool). cond t (cond (n == 0) 0 (v.begin + (n - 1) * recsize header + last_share header v)) (v.begin + vsize header v)) e
+    ∙ ap (λ (t : Bool). cond t 0 (v.begin + (n - 1) * recsize header + last_share header v)) (not_none n h)
+  where
+    not_none : (m : ℕ) → 0 < m → (m == 0) ≡ false
+    not_none m l = grind (arith, nat_tests)
+
+end_none : (header : Header) (n : ℕ) (v : Var) → is_record header v ≡ true → n ≡ 0 → end_of_var header n v ≡ 0
+end_none header n v e h =
+    ap (λ (t : Bool). cond t (cond (n == 0) 0 (v.begin + (n - 1) * recsize header + last_share header v)) (v.begin + vsize header v)) e
+    ∙ ap (λ (t : Bool). cond t 0 (v.begin + (n - 1) * recsize header + last_share header v)) (ap (λ (m : ℕ). m == 0) h)
+
+for_record : (header : Header) (v : Var) (index : List ℕ) → is_record header v ≡ true → records_for header v index ≡ record_of index + 1
+for_record header v index e = ap (λ (t : Bool). cond t (record_of index + 1) 0) e
+
+before_end_of_var : (header : Header) (v : Var) (index : List ℕ) (n : ℕ) → IsElement header v index → records_for header v index ≤ n
+    → place header v index + size_of v.kind ≤ end_of_var header n v
+before_end_of_var header v index n h l = by_test (is_record header v) refl
+  where
+    by_test : (t : Bool) → is_record header v ≡ t → place header v index + size_of v.kind ≤ end_of_var header n v
+    by_test false e =
+        let p = place_fixed header v index e in
+        let q = end_fixed header n v e in
+        let s = in_slab header v index (index_fixed header v index e h) in
+        let m = slab_below header v in
+        omega arith
+    by_test true e =
+        let r = for_record header v index e in
+        let p = place_record header v index e in
+        let q = end_record header n v e (omega arith) in
+        let s = in_slab header v (within_record index) (index_record header v index e h).1 in
+        let m = share_holds header v in
+        let last : record_of index * recsize header ≤ (n - 1) * recsize header = mul-le (record_of index) (recsize header) (n - 1) (recsize header) (omega arith) (omega arith) in
+        omega arith
+
+pub before_end : (header : Header) (first k : ℕ) (v : Var) (index : List ℕ) (n : ℕ) → slice_get header.vars k ≡ Some v → IsElement header v index
+    → records_for header v index ≤ n → place header v index + size_of v.kind ≤ end_of header first n
+before_end header first k v index n h e l =
+    let own = before_end_of_var header v index n e l in
+    let all = greatest_holds (λ w. end_of_var header n w) header.vars k v h in
+    omega arith
+
+-- ---- a sound header's file
+
+greatest_below : {A : Type 0} (f : A → ℕ) (xs : List A) (n : ℕ) → 0 < n → ((k : ℕ) (x : A) → slice_get xs k ≡ Some x → f x < n) → greatest (map f xs) < n
+greatest_below f [] n pos h = pos
+greatest_below f (x ∷ xs) n pos h =
+    let here = h 0 x refl in
+    let rest = greatest_below f xs n pos (λ k y g. h (suc k) y g) in
+    omega arith
+
+var_end : (header : Header) (k : ℕ) (v : Var) (n : ℕ) → is_sound header ≡ true → slice_get header.vars k ≡ Some v → n ≤ header.records → end_of_var header n v < 2 ^ 62
+var_end header k v n h g l = by_test (is_record header v) refl (var_kept header k v h g).1
+  where
+    by_test : (t : Bool) → is_record header v ≡ t → {before : ℕ} → Keeps header before v → end_of_var header n v < 2 ^ 62
+    by_test false e k = let q = end_fixed header n v e in let m = k.end in omega arith
+    by_test true e k = by_count (nat_lt 0 n) refl
+      where
+        by_count : (t : Bool) → nat_lt 0 n ≡ t → end_of_var header n v < 2 ^ 62
+        by_count true p =
+            let pos : 0 < n = ltb-true _ _ p in
+            let q = end_record header n v e pos in
+            let m = k.last e (omega arith) in
+            let rows : (n - 1) * recsize header ≤ (header.records - 1) * recsize header = mul-le (n - 1) (recsize header) (header.records - 1) (recsize header) (omega arith) (omega arith) in
+            omega arith
+        by_count false p = let none = ltb-false _ _ p in let q = end_none header n v e (omega arith) in omega arith
+
+pub sound_end : (header : Header) (n : ℕ) → is_sound header ≡ true → n ≤ header.records → end_of header (header_len header) n < 2 ^ 62
+sound_end header n h l =
+    let all = greatest_below (λ v. end_of_var header n v) header.vars (2 ^ 62) (omega arith) (λ k v g. var_end header k v n h g l) in
+    let short = header_short header h in
+    omega arith

@@ -1,0 +1,235 @@
+-- What a sound header bounds.
+use Rattle.std.proofs.Common.{◌≡◌, ℕ, zero, suc, ◌+◌, ◌-◌, ◌*◌, ◌^◌, ◌<◌, ◌≤◌, List, [], ◌∷◌, length, take, drop, get_or, map, Bool, true, false, cond, ◌&&◌, ◌||◌, Option, Some, None, refl, sym, ap, subst, ◌∙◌, arith}
+use Rattle.std.specs.Prelude.{count_by, sum_by, not, nat_lt, nat_le, ◌==◌, slice_get, is_none, IfSome}
+use borrow.Author.Tests.{ltb-true}
+use Rattle.std.proofs.lemmas.Bool.Decides.{nat_tests}
+use Rattle.std.specs.Option.{option_or}
+use Rattle.std.proofs.lemmas.List.{take_all, drop_more, length-map}
+use Rattle.std.proofs.lemmas.List.Sums.{length-filter, sum_by-cons, sum_by_more}
+use Rattle.nc_base.specs.declared.header.Header.{Header}
+use Rattle.nc_base.specs.declared.header.Var.{Var}
+use Rattle.nc_base.specs.declared.errors.HeaderErr.TheVariants as fault
+use Rattle.serial_spec.specs.Limits.{file_limit}
+use Rattle.serial_spec.specs.Layout.{slab, vsize, is_record, recsize, record_size, record_slabs, record_variables, record_share, last_share, round_up}
+use Rattle.serial_spec.specs.HeaderGrammar.{is_sound, header_len, first_check, fault_if, first_with, two_record_dims, record_later, bad_id, is_too_large, all_ones, measure, past_bound, keeps_bound}
+use Rattle.var_layout.specs.Capped.{capped}
+
+-- ---- tests
+
+pub and_left : (a b : Bool) → (a && b) ≡ true → a ≡ true
+and_left true b h = refl
+and_left false b h = cc
+
+pub and_right : (a b : Bool) → (a && b) ≡ true → b ≡ true
+and_right true b h = h
+and_right false b h = cc
+
+pub no_some : {A : Type 0} (o : Option A) → is_none o ≡ true → o ≡ None
+no_some None h = refl
+no_some (Some x) h = cc
+
+or_left : (a b : Bool) → (a || b) ≡ false → a ≡ false
+or_left true b h = cc
+or_left false b h = refl
+
+not_true : (a : Bool) → not a ≡ false → a ≡ true
+not_true true h = refl
+not_true false h = cc
+
+pub neither : {A : Type 0} (a b : Option A) → option_or a b ≡ None → (a ≡ None) × (b ≡ None)
+neither None b h = (refl, h)
+neither (Some x) b h = cc
+
+no_fault : {A : Type 0} (t : Bool) (x : A) → cond t (Some x) None ≡ None → t ≡ false
+no_fault true x h = cc
+no_fault false x h = refl
+
+-- ---- each variable keeps its bound
+
+pub measured : (header : Header) → is_sound header ≡ true → measure header ≡ None
+measured header h =
+    let checks : first_check header ≡ None = no_some _ (and_right _ _ h) in
+    let a = (neither (fault_if (two_record_dims header) fault.TwoRecordDims) _ checks).1 in
+    let b = (neither (first_with (record_later header) (λ k. fault.RecordDimNotFirst k) header.vars) _ a).1 in
+    let c = (neither (first_with (bad_id header) (λ k. fault.BadDimId k) header.vars) _ b).1 in
+    let d = (neither (fault_if (header.records == all_ones header.version) fault.Streaming) _ c).1 in
+    let e = (neither (fault_if (is_too_large header) fault.TooLarge) _ d).0 in
+    no_some _ (not_true _ (or_left _ _ (no_fault (is_too_large header) fault.TooLarge e)))
+
+pub header_short : (header : Header) → is_sound header ≡ true → header_len header ≤ 2 ^ 20
+header_short header h = short (header_len header) (and_right _ _ (and_left _ _ h))
+  where
+    short : (n : ℕ) → nat_le n (2 ^ 20) ≡ true → n ≤ 2 ^ 20
+    short n e = grind (arith, nat_tests)
+
+kept_or : {A : Type 0} (t : Bool) (o : Option A) (x : A) → cond t o (Some x) ≡ None → (t ≡ true) × (o ≡ None)
+kept_or true o x h = (refl, h)
+kept_or false o x h = cc
+
+pub record Keeps (header : Header) (before : ℕ) (v : Var) : Type 0 where
+  pub size : vsize header v < 2 ^ 62
+  pub end : v.begin + vsize header v < 2 ^ 62
+  pub records : is_record header v ≡ true → before + vsize header v < 2 ^ 62
+  pub last : is_record header v ≡ true → 0 < header.records → v.begin + (header.records - 1) * recsize header + last_share header v < 2 ^ 62
+
+keeps : (header : Header) (before : ℕ) (v : Var) → keeps_bound header before v ≡ true → Keeps header before v
+keeps header before v h =
+    let first = and_left _ _ h in
+    record {
+      size = ltb-true _ _ (and_left _ _ first);
+      end = ltb-true _ _ (and_right _ _ first);
+      records = λ e. (of_record (is_record header v) e (and_right _ _ h)).0;
+      last = λ e. (of_record (is_record header v) e (and_right _ _ h)).1;
+    }
+  where
+    last_one : (t : Bool) → (t ≡ true → header.records ≡ 0) → (t || nat_lt (v.begin + (header.records - 1) * recsize header + last_share header v) file_limit) ≡ true
+        → 0 < header.records → v.begin + (header.records - 1) * recsize header + last_share header v < 2 ^ 62
+    last_one true z k l = let none = z refl in absurd (omega arith)
+    last_one false z k l = ltb-true _ _ k
+
+    is_zero : (n : ℕ) → (n == 0) ≡ true → n ≡ 0
+    is_zero n e = grind (arith, nat_tests)
+
+    of_record : (t : Bool) → t ≡ true → (not t || (nat_lt (before + vsize header v) file_limit
+        && (header.records == 0 || nat_lt (v.begin + (header.records - 1) * recsize header + last_share header v) file_limit))) ≡ true
+        → (before + vsize header v < 2 ^ 62) × (0 < header.records → v.begin + (header.records - 1) * recsize header + last_share header v < 2 ^ 62)
+    of_record true e k = (ltb-true _ _ (and_left _ _ k), last_one (header.records == 0) (is_zero header.records) (and_right _ _ k))
+    of_record false e k = cc
+
+kept : (header : Header) (before n : ℕ) (vs : List Var) (k : ℕ) (v : Var) → past_bound header before n vs ≡ None → slice_get vs k ≡ Some v → (seen : ℕ) × Keeps header seen v
+kept header before n [] k v h g = cc
+kept header before n (w ∷ vs) zero v h g =
+    let same : w ≡ v = cc in
+    let here = (kept_or (keeps_bound header before w) _ _ h).0 in
+    (before, keeps header before v (sym (ap (λ (x : Var). keeps_bound header before x) same) ∙ here))
+kept header before n (w ∷ vs) (suc k) v h g = kept header (before + record_share header w) (suc n) vs k v (kept_or (keeps_bound header before w) _ _ h).1 g
+
+pub var_kept : (header : Header) (k : ℕ) (v : Var) → is_sound header ≡ true → slice_get header.vars k ≡ Some v → (seen : ℕ) × Keeps header seen v
+var_kept header k v h g = kept header 0 0 header.vars k v (measured header h) g
+
+pub slab_below : (header : Header) (v : Var) → slab header v ≤ vsize header v
+slab_below header v = omega arith
+
+pub vsize_small : (header : Header) (k : ℕ) (v : Var) → is_sound header ≡ true → slice_get header.vars k ≡ Some v → vsize header v < 2 ^ 62
+vsize_small header k v h g = (var_kept header k v h g).1.size
+
+pub slab_small : (header : Header) (k : ℕ) (v : Var) → is_sound header ≡ true → slice_get header.vars k ≡ Some v → slab header v < 2 ^ 62
+slab_small header k v h g = let l = vsize_small header k v h g in let m = slab_below header v in omega arith
+
+-- ---- one variable on, as the loop goes
+
+one_on : (header : Header) (vars : List Var) (k : ℕ) (v : Var) → k < length vars → v ≡ get_or vars k v
+    → past_bound header (sum_by (λ w. record_share header w) (take k vars)) k (drop k vars)
+    ≡ cond (keeps_bound header (sum_by (λ w. record_share header w) (take k vars)) v)
+    (past_bound header (sum_by (λ w. record_share header w) (take (k + 1) vars)) (k + 1) (drop (k + 1) vars)) (Some k)
+one_on header vars k v h e =
+    let before : ℕ = sum_by (λ w. record_share header w) (take k vars) in
+    let rest : List Var = drop (k + 1) vars in
+    ap (λ ws. past_bound header before k ws) (drop_more vars k v h)
+    ∙ ap (λ (n : ℕ). cond (keeps_bound header before (get_or vars k v)) (past_bound header n (suc k) rest) (Some k)) (sym (sum_by_more (λ w. record_share header w) vars k v h))
+    ∙ ap (λ (n : ℕ). cond (keeps_bound header before (get_or vars k v)) (past_bound header (sum_by (λ w. record_share header w) (take (k + 1) vars)) n rest) (Some k)) (suc_is k)
+    ∙ ap (λ (w : Var). cond (keeps_bound header before w) (past_bound header (sum_by (λ w'. record_share header w') (take (k + 1) vars)) (k + 1) rest) (Some k)) (sym e)
+  where
+    suc_is : (n : ℕ) → suc n ≡ n + 1
+    suc_is n = omega arith
+
+pub stops_at : (header : Header) (vars : List Var) (k : ℕ) (v : Var) → k < length vars → v ≡ get_or vars k v
+    → keeps_bound header (sum_by (λ w. record_share header w) (take k vars)) v ≡ false
+    → past_bound header (sum_by (λ w. record_share header w) (take k vars)) k (drop k vars) ≡ Some k
+stops_at header vars k v h e f =
+    one_on header vars k v h e
+    ∙ ap (λ (b : Bool). cond b (past_bound header (sum_by (λ w. record_share header w) (take (k + 1) vars)) (k + 1) (drop (k + 1) vars)) (Some k)) f
+
+pub goes_on_at : (header : Header) (vars : List Var) (k : ℕ) (v : Var) → k < length vars → v ≡ get_or vars k v
+    → keeps_bound header (sum_by (λ w. record_share header w) (take k vars)) v ≡ true
+    → past_bound header (sum_by (λ w. record_share header w) (take k vars)) k (drop k vars)
+    ≡ past_bound header (sum_by (λ w. record_share header w) (take (k + 1) vars)) (k + 1) (drop (k + 1) vars)
+goes_on_at header vars k v h e f =
+    one_on header vars k v h e
+    ∙ ap (λ (b : Bool). cond b (past_bound header (sum_by (λ w. record_share header w) (take (k + 1) vars)) (k + 1) (drop (k + 1) vars)) (Some k)) f
+
+-- ---- a record
+
+shares_small : (header : Header) (before n : ℕ) (vs : List Var) → past_bound header before n vs ≡ None → before < 2 ^ 62
+    → before + sum_by (λ v. record_share header v) vs < 2 ^ 62
+shares_small header before n [] h l = omega arith
+shares_small header before n (v ∷ vs) h l =
+    let both = kept_or (keeps_bound header before v) _ _ h in
+    let here = next (is_record header v) refl (keeps header before v both.0) in
+    let rest = shares_small header (before + record_share header v) (suc n) vs both.1 here in
+    let e = sum_by-cons (λ w. record_share header w) v vs in
+    omega arith
+  where
+    next : (t : Bool) → is_record header v ≡ t → Keeps header before v → before + record_share header v < 2 ^ 62
+    next true e k = let s = ap (λ (b : Bool). cond b (vsize header v) 0) e in let m = k.records e in omega arith
+    next false e k = let s = ap (λ (b : Bool). cond b (vsize header v) 0) e in omega arith
+
+pub records_small : (header : Header) → is_sound header ≡ true → sum_by (λ v. record_share header v) header.vars < 2 ^ 62
+records_small header h = let l = shares_small header 0 0 header.vars (measured header h) (omega arith) in omega arith
+
+-- the shares of all variables are the vsizes of the record variables
+pub shares_are : (header : Header) (vs : List Var) → sum_by (λ v. record_share header v) vs ≡ sum_by (λ v. vsize header v) (record_variables header vs)
+shares_are header [] = refl
+shares_are header (v ∷ vs) =
+    sum_by-cons (λ w. record_share header w) v vs
+    ∙ ap (λ (n : ℕ). record_share header v + n) (shares_are header vs)
+    ∙ by_test (is_record header v)
+  where
+    by_test : (t : Bool) → cond t (vsize header v) 0 + sum_by (λ w. vsize header w) (record_variables header vs)
+        ≡ sum_by (λ w. vsize header w) (cond t (v ∷ record_variables header vs) (record_variables header vs))
+    by_test true = sym (sum_by-cons (λ w. vsize header w) v (record_variables header vs))
+    by_test false = omega arith
+
+padded_slabs : (header : Header) (vs : List Var) → sum_by (λ s. round_up 4 s) (map (λ v. slab header v) vs) ≡ sum_by (λ v. vsize header v) vs
+padded_slabs header [] = refl
+padded_slabs header (v ∷ vs) =
+    sum_by-cons (λ s. round_up 4 s) (slab header v) (map (λ w. slab header w) vs)
+    ∙ ap (λ (n : ℕ). vsize header v + n) (padded_slabs header vs)
+    ∙ sym (sum_by-cons (λ w. vsize header w) v vs)
+
+-- A record is no larger than its variables with their padding.
+size_below : (header : Header) (vs : List Var) → record_size (map (λ v. slab header v) vs) ≤ sum_by (λ v. vsize header v) vs
+size_below header [] = omega arith
+size_below header (v ∷ []) = let l = slab_below header v in omega arith
+size_below header (v ∷ w ∷ vs) = let e = padded_slabs header (v ∷ w ∷ vs) in omega arith
+
+pub recsize_below : (header : Header) → recsize header ≤ sum_by (λ v. record_share header v) header.vars
+recsize_below header =
+    let all = size_below header (record_variables header header.vars) in
+    let same = shares_are header header.vars in
+    omega arith
+
+pub recsize_small : (header : Header) → is_sound header ≡ true → recsize header < 2 ^ 62
+recsize_small header h = let l = records_small header h in let m = recsize_below header in omega arith
+
+not_one : (n : ℕ) → (suc (suc n) == 1) ≡ false
+not_one n = grind (arith, nat_tests)
+
+-- the size of a record is the sum of the shares
+sizes_shared : (header : Header) (vs : List Var)
+    → record_size (map (λ v. slab header v) vs) ≡ sum_by (λ v. cond (length (map (λ w. slab header w) vs) == 1) (slab header v) (vsize header v)) vs
+sizes_shared header [] = refl
+sizes_shared header (v ∷ []) = omega arith
+sizes_shared header (v ∷ w ∷ vs) =
+    padded_slabs header (v ∷ w ∷ vs)
+    ∙ sym (ap (λ (t : Bool). sum_by (λ x. cond t (slab header x) (vsize header x)) (v ∷ w ∷ vs)) (not_one (length (map (λ x. slab header x) vs))))
+
+pub recsize_shared : (header : Header) → recsize header ≡ sum_by (λ v. last_share header v) (record_variables header header.vars)
+recsize_shared header = sizes_shared header (record_variables header header.vars)
+
+-- all of them, at the end of a loop
+pub recsize_whole : (header : Header) (n : ℕ) → length header.vars ≤ n
+    → capped (sum_by (λ v. last_share header v) (record_variables header (take n header.vars))) ≡ capped (recsize header)
+recsize_whole header n h =
+    ap (λ vs. capped (sum_by (λ v. last_share header v) (record_variables header vs))) (take_all n header.vars h)
+    ∙ ap (λ (m : ℕ). capped m) (sym (recsize_shared header))
+
+pub slab_count : (header : Header) → length (record_slabs header) ≡ count_by (λ v. is_record header v) header.vars
+slab_count header =
+    length-map (record_variables header header.vars) (λ v. slab header v)
+    ∙ length-filter (λ v. is_record header v) header.vars
+
+-- ---- a variable by its number
+
+pub if_there : {A : Type 0} (o : Option A) (x : A) (P : A → Type 0) → o ≡ Some x → P x → IfSome o P
+if_there {A} o x P e p = subst (λ (q : Option A). IfSome q P) (sym e) p

@@ -1,0 +1,27 @@
+use Rattle.std.proofs.Common.{◌≡◌, ◌+◌, ◌≤◌, ℕ, arith}
+use Rattle.serial_spec.specs.ExternalForm.{size_of}
+use Rattle.serial_spec.specs.HeaderGrammar.{header_len}
+use Rattle.serial_spec.specs.Layout.{end_of}
+use Rattle.serial_spec.specs.Place as spec
+use Rattle.serial_spec.proofs.ApartLaws.{elements_past_header}
+use Rattle.var_layout.specs.Reached.{records_for}
+use Rattle.var_layout.proofs.ElementPlaces.{before_end}
+use Rattle.var_layout.proofs.Soundness.{if_there}
+use Rattle.var_layout.proofs.elements.place.Goals as goal
+
+pub returns-clause-value : goal.returns-clause-value
+returns-clause-value c = if_there _ _ (λ v. c.place_of.result ≡ spec.place c.args.header.now v c.args.index.now) c.variable.ensures c.place_of.ensures
+
+pub returns-clause-past_header : goal.returns-clause-past_header
+returns-clause-past_header c =
+    let v = c.variable.result.now in
+    let past = elements_past_header c.args.header.now c.args.var v c.args.index.now c.requires.sound c.variable.ensures (c.requires.valid v c.variable.ensures) in
+    omega (arith, c.place_of.ensures)
+
+pub returns-clause-before_end : goal.returns-clause-before_end
+returns-clause-before_end c =
+    let header = c.args.header.now in
+    let v = c.variable.result.now in
+    if_there _ _
+    (λ w. (n : ℕ) → records_for header w c.args.index.now ≤ n → c.place_of.result + size_of w.kind ≤ end_of header (header_len header) n) c.variable.ensures
+    (λ n l. let end = before_end header (header_len header) c.args.var v c.args.index.now n c.variable.ensures (c.requires.valid v c.variable.ensures) l in omega (arith, c.place_of.ensures))

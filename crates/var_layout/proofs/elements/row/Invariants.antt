@@ -1,0 +1,8 @@
+use Rattle.std.proofs.Common.{map}
+use Rattle.std.specs.Prelude.{slice_get}
+use Rattle.serial_spec.specs.Layout.{length_of}
+use Rattle.var_layout.proofs.ElementPlaces.{RowSoFar}
+use Rattle.var_layout.proofs.elements.row.Given as goal
+
+abbrev pub invariant-loop-k : goal.invariant-loop-k
+invariant-loop-k l = RowSoFar (map (λ id. length_of (slice_get l.header.dims id)) l.ids) l.index l.k l.row

@@ -1,0 +1,27 @@
+use Rattle.std.proofs.Common.{◌≡◌, List, length, get_or, map, max, ap, ◌∙◌, arith}
+use Rattle.std.proofs.lemmas.List.{take_all}
+use Rattle.nc_base.specs.declared.header.Var.{Var}
+use Rattle.serial_spec.specs.HeaderGrammar.{header_len}
+use Rattle.serial_spec.specs.Layout.{greatest, end_of_var}
+use Rattle.var_layout.specs.Capped.{capped}
+use Rattle.var_layout.proofs.Capping.{capped_greatest_more}
+use Rattle.var_layout.proofs.end.file_end.Goals as goal
+
+pub loop-var-preserved : goal.loop-var-preserved
+loop-var-preserved c =
+    let header = c.args.header.now in
+    let item = c.var-item.result in
+    let same = ap (λ (vs : List Var). length vs) c.as_slice-var-items.ensures in
+    let there = c.var-item.is ∙ ap (λ (vs : List Var). get_or vs c.loop-var.var-index item) c.as_slice-var-items.ensures in
+    c.max-end.ensures
+    ∙ capped_greatest_more (λ v. end_of_var header c.args.records v) header.vars c.loop-var.var-index item (header_len header) c.loop-var.end c.end_of_var.result
+    (omega arith) c.loop-var.invariant (c.end_of_var.ensures ∙ ap (λ (v : Var). capped (end_of_var header c.args.records v)) there)
+
+pub returns : goal.returns
+returns c =
+    let header = c.args.header.now in
+    let same = ap (λ (vs : List Var). length vs) c.as_slice-var-items.ensures in
+    let whole : c.loop-var.end ≡ capped (max (header_len header) (greatest (map (λ v. end_of_var header c.args.records v) header.vars))) =
+    c.loop-var.invariant ∙ ap (λ (vs : List Var). capped (max (header_len header) (greatest (map (λ v. end_of_var header c.args.records v) vs))))
+    (take_all c.loop-var.var-index header.vars (omega arith)) in
+    whole

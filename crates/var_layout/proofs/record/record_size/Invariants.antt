@@ -1,0 +1,8 @@
+use Rattle.std.proofs.Common.{◌≡◌, take}
+use Rattle.std.specs.Prelude.{sum_by}
+use Rattle.serial_spec.specs.Layout.{last_share, record_variables}
+use Rattle.var_layout.specs.Capped.{capped}
+use Rattle.var_layout.proofs.record.record_size.Given as goal
+
+abbrev pub invariant-loop-var : goal.invariant-loop-var
+invariant-loop-var l = l.size ≡ capped (sum_by (λ v. last_share l.header v) (record_variables l.header (take l.var-index l.header.vars)))

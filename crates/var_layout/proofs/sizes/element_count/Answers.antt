@@ -1,0 +1,12 @@
+use Rattle.std.proofs.Common.{ℕ, ◌*◌, ap, ◌∙◌, arith}
+use Rattle.std.specs.Prelude.{slice_get}
+use Rattle.serial_spec.specs.Layout.{length_of}
+use Rattle.var_layout.specs.Capped.{capped}
+use Rattle.var_layout.proofs.Capping.{capped_product_more}
+use Rattle.var_layout.proofs.sizes.element_count.Goals as goal
+
+pub loop-id-preserved : goal.loop-id-preserved
+loop-id-preserved c =
+    c.product-elements.ensures
+    ∙ ap (λ (n : ℕ). capped (c.loop-id.elements * n)) c.length_of.ensures
+    ∙ capped_product_more (λ id. length_of (slice_get c.args.header.now.dims id)) c.args.ids.now c.loop-id.id-index 0 c.loop-id.elements (omega arith) c.loop-id.invariant

@@ -1,0 +1,4 @@
+pub mod Begins
+pub mod Capped
+pub mod Reached
+pub mod Unplaced

@@ -1,0 +1,29 @@
+//! Where the header, the variables and the elements of a file lie (netCDF classic format specification,
+//! "Computing file offsets").
+//!
+//! No call here takes memory. A variable is named by its place in the header's list, from 0. All sizes and places
+//! are in bytes. What a call reads bounds what it costs: the whole header for `header_len`, `file_end` and `end_of`, all
+//! variables for `measure`, `lay_out`, `recsize` and `place`, one variable for `slab` and `vsize`.
+#![tactic(auto)]
+
+mod bounds;
+mod capped;
+mod elements;
+mod end;
+mod names;
+mod placing;
+mod record;
+mod sizes;
+mod written;
+
+pub use bounds::measure;
+pub use elements::{elements_lie_apart, place};
+pub use end::{end_of, file_end, sound_files_end};
+pub use names::{find_dim, find_var};
+pub use placing::lay_out;
+pub use record::{recsize, recsize_of};
+pub use sizes::{is_record, length_of, slab, slab_of, vsize, vsize_of};
+pub use written::header_len;
+
+#[cfg(test)]
+mod tests;

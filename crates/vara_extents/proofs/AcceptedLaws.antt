@@ -1,0 +1,79 @@
+-- What is known of a region that a check accepts.
+use Rattle.std.proofs.Common.{◌≡◌, ℕ, ◌^◌, ◌<◌, ◌≤◌, ◌∙◌, ap, sym, refl, inl, inr, ◌⊎◌, List, [], ◌∷◌, length, Bool, true, false, not, cond, ltb, leb, eqb, ◌||◌, ◌&&◌, Option, Some, arith}
+use Rattle.std.specs.Prelude.{slice_get}
+use Rattle.std.specs.List.{list_any}
+use Rattle.std.proofs.lemmas.Bool.{or_parts, leb-false}
+use Rattle.nc_base.specs.declared.header.Header.{Header}
+use Rattle.nc_base.specs.declared.header.Var.{Var}
+use Rattle.nc_base.specs.declared.request.Region.{Region}
+use Rattle.nc_base.specs.declared.request.Direction.{Direction}
+use Rattle.nc_base.specs.declared.answer.Code.{Code}
+use Rattle.nc_base.specs.declared.answer.Code.TheVariants as code
+use Rattle.serial_spec.specs.HeaderGrammar.{header_len}
+use Rattle.serial_spec.specs.Layout.{product, end_of}
+use Rattle.serial_spec.specs.Limits.{most_elements, record_limit, file_limit}
+use Rattle.serial_spec.specs.Records.{records_of}
+use Rattle.serial_spec.specs.RegionCheck.{check_some, check_var, bounds, other_shape, some_start, some_edge, is_too_large, last_position}
+use Rattle.vara_extents.specs.Accepted.{IsAccepted}
+
+pub no_starts : (ends : List (Option ℕ)) (starts counts : List ℕ) → length starts ≡ 0 → some_start ends starts counts ≡ false
+no_starts [] starts counts h = refl
+no_starts (b ∷ ends) [] counts h = refl
+no_starts (b ∷ ends) (s ∷ starts) counts h = absurd (omega (arith, h))
+
+pub no_counts : (ends : List (Option ℕ)) (starts counts : List ℕ) → length counts ≡ 0 → some_start ends starts counts ≡ false
+no_counts [] starts counts h = refl
+no_counts (b ∷ ends) [] counts h = refl
+no_counts (b ∷ ends) (s ∷ starts) [] h = refl
+no_counts (b ∷ ends) (s ∷ starts) (n ∷ counts) h = absurd (omega (arith, h))
+
+pub no_edges : (ends : List (Option ℕ)) (starts counts strides : List ℕ) → (length starts ≡ 0) ⊎ ((length counts ≡ 0) ⊎ (length strides ≡ 0)) → some_edge ends starts counts strides ≡ false
+no_edges [] starts counts strides h = refl
+no_edges (b ∷ ends) [] counts strides h = refl
+no_edges (b ∷ ends) (s ∷ starts) [] strides h = refl
+no_edges (b ∷ ends) (s ∷ starts) (n ∷ counts) [] h = refl
+no_edges (b ∷ ends) (s ∷ starts) (n ∷ counts) (t ∷ strides) (inl h) = absurd (omega (arith, h))
+no_edges (b ∷ ends) (s ∷ starts) (n ∷ counts) (t ∷ strides) (inr (inl h)) = absurd (omega (arith, h))
+no_edges (b ∷ ends) (s ∷ starts) (n ∷ counts) (t ∷ strides) (inr (inr h)) = absurd (omega (arith, h))
+
+passes : (b : Bool) (c rest : Code) → (c ≡ code.Ok → ⊥) → cond b c rest ≡ code.Ok → (b ≡ false) × (rest ≡ code.Ok)
+passes true c rest n h = absurd (n h)
+passes false c rest n h = (refl, h)
+
+-- none of the causes holds
+pub record Passes (header : Header) (var : Var) (g : Region) (known : ℕ) (direction : Direction) : Type 0 where
+  pub shape : other_shape (length var.dims) g ≡ false
+  pub stride : list_any (λ d. eqb d 0) g.stride ≡ false
+  pub start : some_start (bounds header var known direction) g.start g.count ≡ false
+  pub edge : some_edge (bounds header var known direction) g.start g.count g.stride ≡ false
+  pub large : is_too_large header var g ≡ false
+
+pub passed : (header : Header) (var : Var) (g : Region) (known : ℕ) (direction : Direction) → check_var header var g known direction ≡ code.Ok → Passes header var g known direction
+passed header var g known direction h =
+    let one = passes (other_shape (length var.dims) g) code.EInvalCoords _ (λ e. cc) h in
+    let two = passes (list_any (λ d. eqb d 0) g.stride) code.EStride _ (λ e. cc) one.1 in
+    let three = passes (some_start (bounds header var known direction) g.start g.count) code.EInvalCoords _ (λ e. cc) two.1 in
+    let four = passes (some_edge (bounds header var known direction) g.start g.count g.stride) code.EEdge _ (λ e. cc) three.1 in
+    let five = passes (is_too_large header var g) code.ETooLarge code.Ok (λ e. cc) four.1 in
+    record { shape = one.0; stride = two.0; start = three.0; edge = four.0; large = five.0 }
+
+limit_small : (version : ℕ) → record_limit version ≤ 2 ^ 62
+limit_small version = by_test (eqb version 5)
+  where
+    by_test : (b : Bool) → cond b (2 ^ 62) (2 ^ 31) ≤ 2 ^ 62
+    by_test true = omega arith
+    by_test false = omega arith
+
+pub records_below : (header : Header) (var : Var) (g : Region) → is_too_large header var g ≡ false → records_of header var g < record_limit header.version
+records_below header var g h =
+    let a = or_parts (ltb most_elements (product g.count) || (not g.packed && ltb 0 (product g.count) && leb most_elements (last_position g.count g.imap)) || leb (record_limit header.version) (records_of header var g))
+    (leb file_limit (end_of header (header_len header) (records_of header var g))) h in
+    let b = or_parts (ltb most_elements (product g.count) || (not g.packed && ltb 0 (product g.count) && leb most_elements (last_position g.count g.imap)))
+    (leb (record_limit header.version) (records_of header var g)) a.0 in
+    leb-false (record_limit header.version) (records_of header var g) b.1
+
+pub records_fit : (header : Header) (k : ℕ) (var : Var) (g : Region) → slice_get header.vars k ≡ Some var → IsAccepted header k g → records_of header var g < 2 ^ 62
+records_fit header k var g is accepted =
+    let ok = ap (λ (o : Option Var). check_some header o g accepted.0 accepted.1) (sym is) ∙ accepted.2 in
+    let all = passed header var g accepted.0 accepted.1 ok in
+    omega (arith, records_below header var g all.large, limit_small header.version)

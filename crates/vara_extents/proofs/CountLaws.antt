@@ -1,0 +1,28 @@
+-- Counts and positions, one dimension more.
+use Rattle.std.proofs.Common.{◌≡◌, ℕ, ◌+◌, ◌-◌, ◌*◌, ◌<◌, ◌∙◌, ap, sym, List, [], ◌∷◌, length, take, get_or, zip, arith}
+use Rattle.std.specs.Prelude.{sum_by}
+use Rattle.std.proofs.lemmas.List.{take_more}
+use Rattle.std.proofs.lemmas.List.Sums.{sum_by_more}
+use Rattle.std.proofs.lemmas.Slice.Zip.{length-zip, get_or-zip}
+use Rattle.std.proofs.Math.Nat.{mul-one}
+use Rattle.serial_spec.specs.Layout.{product}
+use Rattle.var_layout.specs.Capped.{capped}
+use Rattle.var_layout.proofs.Capping.{capped_product, product-append}
+
+product_more : (xs : List ℕ) (i d : ℕ) → i < length xs → product (take (i + 1) xs) ≡ product (take i xs) * get_or xs i d
+product_more xs i d h =
+    ap product (take_more xs i d h) ∙ product-append (take i xs) (get_or xs i d ∷ []) ∙ ap (λ (n : ℕ). product (take i xs) * n) (mul-one (get_or xs i d))
+
+pub one_more : (xs : List ℕ) (i d n : ℕ) → i < length xs → n ≡ capped (product (take i xs)) → capped (n * get_or xs i d) ≡ capped (product (take (i + 1) xs))
+one_more xs i d n h e =
+    ap (λ (m : ℕ). capped (m * get_or xs i d)) e ∙ capped_product (product (take i xs)) (get_or xs i d) ∙ ap capped (sym (product_more xs i d h))
+
+pub one_farther : (counts imap : List ℕ) (i s n : ℕ) → i < length counts → length imap ≡ length counts
+    → s ≡ capped (sum_by (λ (p : ℕ × ℕ). (p.0 - 1) * p.1) (take i (zip counts imap))) → n ≡ capped ((get_or counts i 0 - 1) * get_or imap i 0)
+    → capped (s + n) ≡ capped (sum_by (λ (p : ℕ × ℕ). (p.0 - 1) * p.1) (take (i + 1) (zip counts imap)))
+one_farther counts imap i s n h same e f =
+    let long = length-zip counts imap in
+    let pair = get_or-zip counts imap i (0, 0) h (omega arith) in
+    let term = ap (λ (p : ℕ × ℕ). (p.0 - 1) * p.1) pair in
+    let more = sum_by_more (λ (p : ℕ × ℕ). (p.0 - 1) * p.1) (zip counts imap) i (0, 0) (omega arith) in
+    omega (arith, e, f, term, more)

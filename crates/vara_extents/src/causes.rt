@@ -1,0 +1,166 @@
+// When a region is refused.
+ghost use Rattle.std.specs.Prelude.{◌≡◌, ◌==◌, ◌+◌, ◌-◌, ◌*◌, ◌<◌, ◌≤◌, length, slice_get, map, zip, Ok, Err, OnOk, IfErr};
+ghost use Rattle.std.specs.List.{list_any};
+ghost use Rattle.nc_base.specs.declared.answer.Code.TheVariants as code;
+ghost use Rattle.serial_spec.specs.Layout as layout;
+ghost use Rattle.serial_spec.specs.RegionCheck as spec;
+ghost use Rattle.vara_extents.specs.Bounds.{bounds_of};
+
+use crate::needs::{is_too_large, variable};
+use nc_base::{Code, Direction, Header, Region, Var};
+use var_layout::length_of;
+
+/// Whether a call on a region is refused. The first of these causes answers, an order that is this project's:
+/// `ENotVar` for a variable that the header has not; `EInvalCoords` for lists of another length than the variable's
+/// number of dimensions (that of the index map matters where the memory is not packed); `EStride` for a stride of 0;
+/// `EInvalCoords` for a start above the length of its dimension, or at it with a count above 0; `EEdge` for a last
+/// element that is not below the length; `ETooLarge` for more than 2^20 elements, or a place of memory from 2^20 on,
+/// or a record count or a file's end past its limit. The record dimension has the `known` length for a get, and no
+/// bound for a put.
+pub fn check(
+    header: &Header,
+    var: usize,
+    region: &Region,
+    known: u64,
+    direction: Direction,
+) -> Result<(), Code>
+    ensures ok { OnOk result (spec.check header.now var region.now known direction ≡ code.Ok) }
+    ensures refused { IfErr result (λ refusal. (refusal ≡ spec.check header.now var region.now known direction) × (refusal ≡ code.Ok → ⊥)) }
+{
+    match variable(header, var) {
+        None => Err(Code::ENotVar),
+        Some(var) => check_var(header, var, region, known, direction),
+    }
+}
+
+pub(crate) fn check_var(
+    header: &Header,
+    var: &Var,
+    region: &Region,
+    known: u64,
+    direction: Direction,
+) -> Result<(), Code>
+    ensures ok { OnOk result (spec.check_var header.now var.now region.now known direction ≡ code.Ok) }
+    ensures refused { IfErr result (λ refusal. (refusal ≡ spec.check_var header.now var.now region.now known direction) × (refusal ≡ code.Ok → ⊥)) }
+{
+    if other_shape(var.dims.len(), region) {
+        return Err(Code::EInvalCoords);
+    }
+    if has_zero(region.stride.as_slice()) {
+        return Err(Code::EStride);
+    }
+    let ends = Ends { direction, known };
+    let ids = var.dims.as_slice();
+    let starts = region.start.as_slice();
+    let counts = region.count.as_slice();
+    if some_start(header, ends, ids, starts, counts) {
+        return Err(Code::EInvalCoords);
+    }
+    if some_edge(header, ends, ids, starts, counts, region.stride.as_slice()) {
+        return Err(Code::EEdge);
+    }
+    if is_too_large(header, var, region) {
+        return Err(Code::ETooLarge);
+    }
+    Ok(())
+}
+
+fn other_shape(dims: usize, region: &Region) -> bool
+    ensures { result ≡ spec.other_shape dims region.now }
+{
+    !(region.start.len() == dims
+        && region.count.len() == dims
+        && region.stride.len() == dims
+        && (region.packed || region.imap.len() == dims))
+}
+
+fn has_zero(strides: &[u64]) -> bool
+    ensures { result ≡ list_any (λ d. d == 0) strides.now }
+{
+    strides.iter().any(|stride| *stride == 0)
+}
+
+/// How far the record dimension goes.
+#[derive(Clone, Copy)]
+struct Ends {
+    direction: Direction,
+    known: u64,
+}
+
+impl Ends {
+    /// How far a dimension of this length goes.
+    fn bound(self, length: u64) -> Option<u64>
+        ensures { result ≡ spec.bound self.direction self.known length }
+    {
+        match (self.direction, length) {
+            (Direction::Put, 0) => None,
+            (Direction::Get, 0) => Some(self.known),
+            _ => Some(length),
+        }
+    }
+}
+
+fn bad_start(bound: Option<u64>, start: u64, count: u64) -> bool
+    ensures { result ≡ spec.bad_start bound start count }
+{
+    match bound {
+        None => false,
+        Some(length) => length < start || (start == length && 0 < count),
+    }
+}
+
+fn bad_edge(bound: Option<u64>, start: u64, count: u64, stride: u64) -> bool
+    ensures { result ≡ spec.bad_edge bound start count stride }
+{
+    match bound {
+        None => false,
+        Some(length) => 0 < count && u128::from(length) <= last_of(start, count, stride),
+    }
+}
+
+/// The last index of a dimension with a count above 0.
+pub(crate) fn last_of(start: u64, count: u64, stride: u64) -> u128
+    ensures { result ≡ start + (count - 1) * stride }
+{
+    u128::from(start) + u128::from(count.saturating_sub(1)) * u128::from(stride)
+}
+
+/// Whether some start is refused.
+fn some_start(header: &Header, ends: Ends, ids: &[u32], starts: &[u64], counts: &[u64]) -> bool
+    ensures { result ≡ spec.some_start (bounds_of header.now ends ids.now) starts.now counts.now }
+{
+    let [id, ids @ ..] = ids else { return false };
+    let [start, starts @ ..] = starts else {
+        return false
+    };
+    let [count, counts @ ..] = counts else {
+        return false
+    };
+    bad_start(ends.bound(length_of(header, *id)), *start, *count)
+        || some_start(header, ends, ids, starts, counts)
+}
+
+/// Whether some last element is refused.
+fn some_edge(
+    header: &Header,
+    ends: Ends,
+    ids: &[u32],
+    starts: &[u64],
+    counts: &[u64],
+    strides: &[u64],
+) -> bool
+    ensures { result ≡ spec.some_edge (bounds_of header.now ends ids.now) starts.now counts.now strides.now }
+{
+    let [id, ids @ ..] = ids else { return false };
+    let [start, starts @ ..] = starts else {
+        return false
+    };
+    let [count, counts @ ..] = counts else {
+        return false
+    };
+    let [stride, strides @ ..] = strides else {
+        return false
+    };
+    bad_edge(ends.bound(length_of(header, *id)), *start, *count, *stride)
+        || some_edge(header, ends, ids, starts, counts, strides)
+}
