@@ -13,3 +13,4 @@ pub mod MismatchLaws
 pub mod ListLaws
 pub mod CallWordLaws
 pub mod LineOfCall
+pub mod DraftWordLaws

@@ -5,3 +5,4 @@ pub mod HintPlaces
 pub mod Numbers
 pub mod Posts
 pub mod CallWords
+pub mod DraftWords

@@ -1,6 +1,7 @@
 // What is known before `data`.
-ghost use Rattle.std.specs.Prelude.{◌≡◌, ◌≤◌, ◌^◌, IfOk, IfSome};
+ghost use Rattle.std.specs.Prelude.{◌≡◌, ◌≤◌, ◌^◌, ◌+◌, IfOk, IfSome};
 ghost use Rattle.script_spec.specs.ScriptGrammar.{Known, nothing_known, ranks_line, definition_or_addition, known_after};
+ghost use Rattle.ncmpi_script.specs.DraftWords.{addition_by, definition_by, known_added, known_defined, known_by};
 ghost use Rattle.ncmpi_script.specs.Reading.{Gives};
 
 use crate::added::Additions;
@@ -75,17 +76,40 @@ impl<'a> Draft<'a> {
         Ok(ranks)
     }
 
-    /// Reads a line of the definitions of a new dataset, or of the additions to an existing one, whose version is 0.
-    fn define(&mut self, version: u8, first: &'a [u8], words: &mut Words<'a>) -> Result<(), ReadErr>
-        ensures { Gives (λ _. self.new) result (definition_or_addition version self.old first.now words.old) }
+    #[tactic(auto, unfolding(crate::specs::DraftWords::known_added))]
+    fn add(&mut self, first: &'a [u8], words: &mut Words<'a>) -> Result<(), ReadErr>
+        ensures { Gives (λ _. self.new) result (known_added self.old first.now words.old) }
     {
-        let count = if version == 0 {
-            self.added.read(self.values, first, words)?
-        } else {
-            self.defined.read(version, self.values, first, words)?
-        };
+        let count = read_addition(&mut self.added, self.values, first, words)?;
         self.values += count;
         Ok(())
+    }
+
+    #[tactic(auto, unfolding(crate::specs::DraftWords::known_defined))]
+    fn define(&mut self, version: u8, first: &'a [u8], words: &mut Words<'a>) -> Result<(), ReadErr>
+        ensures { Gives (λ _. self.new) result (known_defined version self.old first.now words.old) }
+    {
+        let count = read_definition(&mut self.defined, version, self.values, first, words)?;
+        self.values += count;
+        Ok(())
+    }
+
+    /// Reads a line of the definitions of a new dataset, or of the additions to an existing one, whose version is 0.
+    #[tactic(auto, unfolding(crate::specs::DraftWords::known_by))]
+    fn define_or_add(&mut self, version: u8, first: &'a [u8], words: &mut Words<'a>) -> Result<(), ReadErr>
+        ensures { Gives (λ _. self.new) result (known_by version self.old first.now words.old) }
+    {
+        if version == 0 {
+            return self.add(first, words);
+        }
+        self.define(version, first, words)
+    }
+
+    #[tactic(auto, using(crate::proofs::DraftWordLaws::same_known))]
+    fn read_definition_line(&mut self, version: u8, first: &'a [u8], words: &mut Words<'a>) -> Result<(), ReadErr>
+        ensures { Gives (λ _. self.new) result (definition_or_addition version self.old first.now words.old) }
+    {
+        self.define_or_add(version, first, words)
     }
 
     /// Reads a line.
@@ -102,6 +126,35 @@ impl<'a> Draft<'a> {
             self.hints.set(name, value);
             return Ok(());
         }
-        self.define(version, first, words)
+        self.read_definition_line(version, first, words)
     }
+}
+
+#[tactic(auto, unfolding(crate::specs::DraftWords::addition_by))]
+fn read_addition<'a>(
+    added: &mut Additions<'a>,
+    before: u64,
+    first: &'a [u8],
+    words: &mut Words<'a>,
+) -> Result<u64, ReadErr>
+    requires { before ≤ 2 ^ 24 }
+    ensures read { Gives (λ n. (n, added.new)) result (addition_by before added.old first.now words.old) }
+    ensures bound { IfOk result (λ n. before + n ≤ 2 ^ 24) }
+{
+    added.read(before, first, words)
+}
+
+#[tactic(auto, unfolding(crate::specs::DraftWords::definition_by))]
+fn read_definition<'a>(
+    defined: &mut Definitions<'a>,
+    version: u8,
+    before: u64,
+    first: &'a [u8],
+    words: &mut Words<'a>,
+) -> Result<u64, ReadErr>
+    requires { before ≤ 2 ^ 24 }
+    ensures read { Gives (λ n. (n, defined.new)) result (definition_by version before defined.old first.now words.old) }
+    ensures bound { IfOk result (λ n. before + n ≤ 2 ^ 24) }
+{
+    defined.read(version, before, first, words)
 }
