@@ -14,3 +14,4 @@ pub mod ListLaws
 pub mod CallWordLaws
 pub mod LineOfCall
 pub mod DraftWordLaws
+pub mod TopLaws

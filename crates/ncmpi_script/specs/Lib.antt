@@ -6,3 +6,4 @@ pub mod Numbers
 pub mod Posts
 pub mod CallWords
 pub mod DraftWords
+pub mod TopWords

@@ -1,14 +1,16 @@
 // A whole text.
-ghost use Rattle.std.specs.Prelude.{◌≡◌, ◌≢◌, ◌≤◌, ◌<◌, ◌^◌, ◌+◌, IfOk, IfErr, length, filter};
+ghost use Rattle.std.specs.Prelude.{◌≡◌, ◌≢◌, ◌≤◌, ◌<◌, ◌^◌, ◌+◌, IfOk, IfErr, length, filter, Ok};
 ghost use Rattle.script_spec.specs.ScriptWords.{text_lines, significant_of, is_newline};
-ghost use Rattle.script_spec.specs.ScriptGrammar.{finish, script_of_lines, script_of_utf8, script_of, script_of_text, is_mismatch, newlines, Reads, script_fault};
+ghost use Rattle.script_spec.specs.ScriptGrammar.{finish, is_mismatch, newlines, Reads, script_fault};
+ghost use Rattle.ncmpi_script.specs.TopWords.{head_by, definitions_by, data_part_by, finish_by, made_by, end_by, calls_by, rest_by, lines_by, utf8_by, text_by};
+ghost use Rattle.ncmpi_script.specs.Seen.{line_seen};
 ghost use Rattle.nc_base.specs.declared.errors.ScriptKind.TheVariants as kind;
 ghost use Rattle.ncmpi_script.specs.Reading.{GivesAt};
 
 use crate::call_table::RankTable;
 use crate::draft::Draft;
 use crate::fault::LineErr;
-use crate::lines::{TextLines, significant_line};
+use crate::lines::{Line, TextLines, significant_line};
 use crate::mismatch::mismatch;
 use crate::parts::{data_part, definitions, head_line};
 use nc_base::{CallTable, LimitName, MAX_SCRIPT_BYTES, MAX_SCRIPT_LINES, Script, ScriptErr, ScriptKind};
@@ -66,9 +68,17 @@ fn finish<'a>(alloc: Global, number: u32, table: &RankTable, lines: &mut TextLin
     }
 }
 
+#[tactic(auto, unfolding(crate::specs::TopWords::finish_by))]
+fn read_end(alloc: Global, number: u32, table: &RankTable, lines: &mut TextLines<'_>) -> Result<(), LineErr>
+    ensures { GivesAt (λ _. tt) result (finish_by number table.now.calls (significant_of lines.old)) }
+{
+    finish(alloc, number, table, lines)
+}
+
 /// The script that a draft and the calls make.
+#[tactic(auto, unfolding(crate::specs::TopWords::made_by))]
 fn script_of(version: u8, ranks: u32, draft: Draft<'_>, calls: CallTable) -> Script
-    ensures { result ≡ script_of version ranks draft.entry calls }
+    ensures { result ≡ made_by version ranks draft.entry calls }
 {
     let Draft {
         hints,
@@ -87,9 +97,96 @@ fn script_of(version: u8, ranks: u32, draft: Draft<'_>, calls: CallTable) -> Scr
     }
 }
 
+#[tactic(auto, unfolding(crate::specs::TopWords::head_by))]
+fn read_head(line: Line<'_>) -> Result<u8, LineErr>
+    ensures { GivesAt (λ version. version) result (head_by (line_seen line.entry)) }
+{
+    head_line(line)
+}
+
+/// Reads the definitions into a new draft: the number of ranks, and the draft.
+#[tactic(auto, unfolding(crate::specs::TopWords::definitions_by))]
+fn read_definitions<'a>(alloc: Global, past: u32, version: u8, lines: &mut TextLines<'a>) -> Result<(u32, Draft<'a>), LineErr>
+    ensures read { GivesAt (λ d. (d.0, (d.1, significant_of lines.new))) result (definitions_by past version (significant_of lines.old)) }
+    ensures bound { IfOk result (λ d. d.0 ≤ 64) }
+{
+    let mut draft = Draft::new(alloc)?;
+    match definitions(alloc, past, version, &mut draft, lines) {
+        Ok(ranks) => Ok((ranks, draft)),
+        Err(fault) => Err(fault),
+    }
+}
+
+/// Reads the calls into a new table: the line of `end`, and the table.
+#[tactic(auto, unfolding(crate::specs::TopWords::data_part_by))]
+fn read_calls(alloc: Global, past: u32, ranks: u32, draft: &Draft<'_>, lines: &mut TextLines<'_>) -> Result<(u32, RankTable), LineErr>
+    requires { ranks ≤ 64 }
+    ensures { GivesAt (λ c. (c.0, (c.1, significant_of lines.new))) result (data_part_by past ranks draft.now (significant_of lines.old)) }
+{
+    let mut table = RankTable::new(alloc, ranks, draft.values())?;
+    let number = data_part(alloc, past, &mut table, lines)?;
+    Ok((number, table))
+}
+
+/// The script that a draft and a table of calls make.
+fn made(alloc: Global, version: u8, ranks: u32, draft: Draft<'_>, table: RankTable) -> Result<Script, LineErr>
+    ensures { GivesAt (λ script. script) result (Ok (made_by version ranks draft.entry table.calls)) }
+{
+    match table.into_calls(alloc) {
+        Ok(calls) => Ok(script_of(version, ranks, draft, calls)),
+        Err(_) => Err(LineErr::Memory),
+    }
+}
+
+/// Reads what follows `end`, which stands on this line, and makes the script.
+#[tactic(auto, unfolding(crate::specs::TopWords::end_by))]
+fn read_after_end(
+    alloc: Global,
+    version: u8,
+    ranks: u32,
+    draft: Draft<'_>,
+    number: u32,
+    table: RankTable,
+    lines: &mut TextLines<'_>,
+) -> Result<Script, LineErr>
+    ensures { GivesAt (λ script. script) result (end_by version ranks draft.entry number table.calls (significant_of lines.old)) }
+{
+    match read_end(alloc, number, &table, lines) {
+        Ok(()) => made(alloc, version, ranks, draft, table),
+        Err(fault) => Err(fault),
+    }
+}
+
+/// Reads what follows `data`.
+#[tactic(auto, unfolding(crate::specs::TopWords::calls_by))]
+fn read_after_data(
+    alloc: Global,
+    past: u32,
+    version: u8,
+    ranks: u32,
+    draft: Draft<'_>,
+    lines: &mut TextLines<'_>,
+) -> Result<Script, LineErr>
+    requires { ranks ≤ 64 }
+    ensures { GivesAt (λ script. script) result (calls_by past version ranks draft.entry (significant_of lines.old)) }
+{
+    let (number, table) = read_calls(alloc, past, ranks, &draft, lines)?;
+    read_after_end(alloc, version, ranks, draft, number, table, lines)
+}
+
+/// Reads what follows the head.
+#[tactic(auto, unfolding(crate::specs::TopWords::rest_by))]
+fn read_rest(alloc: Global, past: u32, version: u8, lines: &mut TextLines<'_>) -> Result<Script, LineErr>
+    ensures { GivesAt (λ script. script) result (rest_by past version (significant_of lines.old)) }
+{
+    let (ranks, draft) = read_definitions(alloc, past, version, lines)?;
+    read_after_data(alloc, past, version, ranks, draft, lines)
+}
+
 /// Reads the script of the lines of a text; `past` is the number past the last.
+#[tactic(auto, using(crate::proofs::TopLaws::lines_none, crate::proofs::TopLaws::lines_some))]
 fn script_of_lines<'a>(alloc: Global, past: u32, lines: &mut TextLines<'a>) -> Result<Script, LineErr>
-    ensures { GivesAt (λ script. script) result (script_of_lines past (significant_of lines.old)) }
+    ensures { GivesAt (λ script. script) result (lines_by past (significant_of lines.old)) }
 {
     let line = match significant_line(alloc, lines) {
         Ok(Some(line)) => line,
@@ -101,14 +198,8 @@ fn script_of_lines<'a>(alloc: Global, past: u32, lines: &mut TextLines<'a>) -> R
         }
         Err(_) => return Err(LineErr::Memory),
     };
-    let version = head_line(line)?;
-    let mut draft = Draft::new(alloc)?;
-    let ranks = definitions(alloc, past, version, &mut draft, lines)?;
-    let mut table = RankTable::new(alloc, ranks, draft.values())?;
-    let number = data_part(alloc, past, &mut table, lines)?;
-    finish(alloc, number, &table, lines)?;
-    let calls = table.into_calls(alloc)?;
-    Ok(script_of(version, ranks, draft, calls))
+    let version = read_head(line)?;
+    read_rest(alloc, past, version, lines)
 }
 
 fn is_mismatch(kind: ScriptKind) -> bool
@@ -118,9 +209,10 @@ fn is_mismatch(kind: ScriptKind) -> bool
 }
 
 /// Reads a text that is UTF-8 and not too long.
+#[tactic(auto, unfolding(crate::specs::TopWords::utf8_by))]
 fn script_of_utf8(alloc: Global, text: &[u8]) -> Result<Script, LineErr>
     requires { length text.now ≤ 2 ^ 26 }
-    ensures { GivesAt (λ script. script) result (script_of_utf8 text.now) }
+    ensures { GivesAt (λ script. script) result (utf8_by text.now) }
 {
     let count = count_lines(text);
     let read = script_of_lines(alloc, count + 1, &mut TextLines::new(text));
@@ -140,8 +232,9 @@ fn script_of_utf8(alloc: Global, text: &[u8]) -> Result<Script, LineErr>
 }
 
 /// Reads a text.
+#[tactic(auto, unfolding(crate::specs::TopWords::text_by))]
 fn script_of_text(alloc: Global, text: &[u8]) -> Result<Script, LineErr>
-    ensures { GivesAt (λ script. script) result (script_of_text text.now) }
+    ensures { GivesAt (λ script. script) result (text_by text.now) }
 {
     if text.len() > MAX_SCRIPT_BYTES {
         return Err(LineErr::Fault(ScriptErr {
@@ -162,6 +255,7 @@ fn script_of_text(alloc: Global, text: &[u8]) -> Result<Script, LineErr>
 ///
 /// Lines are counted from 1. The fault is of the kind `Memory` where memory ran out; its line then tells nothing.
 /// The text is read once from front to back; time and memory grow with its length.
+#[tactic(auto, using(crate::proofs::TopLaws::same_text))]
 pub fn read_script(alloc: Global, bytes: &[u8]) -> Result<Script, ScriptErr>
     ensures read { IfOk result (λ script. Reads bytes.now script) }
     ensures fault { IfErr result (λ e. e.kind ≢ kind.Memory → script_fault bytes.now ≡ Some e) }
