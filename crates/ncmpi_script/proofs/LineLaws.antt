@@ -2,8 +2,9 @@
 use Rattle.std.proofs.Common.{◌≡◌, ◌≢◌, ℕ, zero, suc, ◌+◌, ◌<◌, ◌≤◌, List, [], ◌∷◌, ◌++◌, length, take, drop, Bool, true, false, not, Option, Some, None, refl, sym, ap, ◌∙◌, arith, position, cond, ◌==◌}
 use Rattle.std.proofs.lemmas.Grind.{common_steps}
 use Rattle.std.proofs.lemmas.List.Splits.{slice_split_first, length-slice_split}
-use Rattle.std.proofs.lemmas.List.Sums.{prefix_len-le-length}
-use Rattle.std.specs.List.{position_or_len, prefix_len, slice_split, onto_first, before_first, after_first}
+use Rattle.std.proofs.lemmas.List.Sums.{prefix_len-le-length, count_by-le-length}
+use Rattle.std.proofs.lemmas.List.FromFn.{length-enumerate_from}
+use Rattle.std.specs.List.{position_or_len, prefix_len, slice_split, onto_first, before_first, after_first, enumerate_from}
 use Rattle.script_spec.specs.ScriptWords.{text_lines, is_newline, without_empty_end, is_comma}
 
 -- what `position` found
@@ -53,3 +54,17 @@ parts_cut text n h =
 
 pub parts_last : (text : List ℕ) → position is_comma text ≡ None → slice_split is_comma text ≡ text ∷ []
 parts_last text h = whole_part is_comma text (not_found is_comma text h)
+
+-- ---- how many lines a text has
+
+fewer : (parts : List (List ℕ)) → length (without_empty_end parts) ≤ length parts
+fewer [] = omega arith
+fewer ([] ∷ []) = omega arith
+fewer ((c ∷ cs) ∷ []) = omega arith
+fewer (x ∷ y ∷ more) = omega (arith, fewer (y ∷ more))
+
+pub few_lines : (text : List ℕ) → length (text_lines text) ≤ length text + 1
+few_lines text = omega (arith, fewer (slice_split is_newline text), length-slice_split is_newline text, count_by-le-length is_newline text)
+
+pub numbered : {A : Type 0} (n : ℕ) (xs : List A) → length (enumerate_from n xs) ≡ length xs
+numbered n xs = length-enumerate_from n xs

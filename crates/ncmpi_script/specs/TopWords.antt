@@ -36,6 +36,10 @@ calls_by past version ranks known lines = data_part_by past ranks known lines >>
 unfoldable pub rest_by : ℕ → ℕ → List Line → Result Script ScriptErr
 rest_by past version lines = definitions_by past version lines >>= λ d. calls_by past version d.0 d.1.0 d.1.1
 
+-- the line of the head, and what follows it
+unfoldable pub headed_by : ℕ → Line → List Line → Result Script ScriptErr
+headed_by past l lines = head_by l >>= λ version. rest_by past version lines
+
 unfoldable pub lines_by : ℕ → List Line → Result Script ScriptErr
 lines_by past lines = script_of_lines past lines
 

@@ -30,3 +30,6 @@ mod vars;
 mod words;
 
 pub use top::read_script;
+
+#[cfg(test)]
+mod tests;

@@ -2,7 +2,7 @@
 ghost use Rattle.std.specs.Prelude.{◌≡◌, ◌≢◌, ◌≤◌, ◌<◌, ◌^◌, ◌+◌, IfOk, IfErr, length, filter, Ok};
 ghost use Rattle.script_spec.specs.ScriptWords.{text_lines, significant_of, is_newline};
 ghost use Rattle.script_spec.specs.ScriptGrammar.{finish, is_mismatch, newlines, Reads, script_fault};
-ghost use Rattle.ncmpi_script.specs.TopWords.{head_by, definitions_by, data_part_by, finish_by, made_by, end_by, calls_by, rest_by, lines_by, utf8_by, text_by};
+ghost use Rattle.ncmpi_script.specs.TopWords.{head_by, definitions_by, data_part_by, finish_by, made_by, end_by, calls_by, rest_by, headed_by, lines_by, utf8_by, text_by};
 ghost use Rattle.ncmpi_script.specs.Seen.{line_seen};
 ghost use Rattle.nc_base.specs.declared.errors.ScriptKind.TheVariants as kind;
 ghost use Rattle.ncmpi_script.specs.Reading.{GivesAt};
@@ -17,6 +17,7 @@ use nc_base::{CallTable, LimitName, MAX_SCRIPT_BYTES, MAX_SCRIPT_LINES, Script, 
 use std::alloc::Global;
 
 /// How many lines a text has.
+#[tactic(auto, using(crate::proofs::LineLaws::few_lines, crate::proofs::LineLaws::numbered))]
 fn count_lines(text: &[u8]) -> u32
     requires { length text.now ≤ 2 ^ 26 }
     ensures value { result ≡ length (text_lines text.now) }
@@ -170,8 +171,10 @@ fn read_after_data(
     requires { ranks ≤ 64 }
     ensures { GivesAt (λ script. script) result (calls_by past version ranks draft.entry (significant_of lines.old)) }
 {
-    let (number, table) = read_calls(alloc, past, ranks, &draft, lines)?;
-    read_after_end(alloc, version, ranks, draft, number, table, lines)
+    match read_calls(alloc, past, ranks, &draft, lines) {
+        Ok((number, table)) => read_after_end(alloc, version, ranks, draft, number, table, lines),
+        Err(fault) => Err(fault),
+    }
 }
 
 /// Reads what follows the head.
@@ -179,8 +182,21 @@ fn read_after_data(
 fn read_rest(alloc: Global, past: u32, version: u8, lines: &mut TextLines<'_>) -> Result<Script, LineErr>
     ensures { GivesAt (λ script. script) result (rest_by past version (significant_of lines.old)) }
 {
-    let (ranks, draft) = read_definitions(alloc, past, version, lines)?;
-    read_after_data(alloc, past, version, ranks, draft, lines)
+    match read_definitions(alloc, past, version, lines) {
+        Ok((ranks, draft)) => read_after_data(alloc, past, version, ranks, draft, lines),
+        Err(fault) => Err(fault),
+    }
+}
+
+/// Reads a script whose head stands on this line.
+#[tactic(auto, unfolding(crate::specs::TopWords::headed_by))]
+fn read_from_head<'a>(alloc: Global, past: u32, line: Line<'a>, lines: &mut TextLines<'a>) -> Result<Script, LineErr>
+    ensures { GivesAt (λ script. script) result (headed_by past (line_seen line.entry) (significant_of lines.old)) }
+{
+    match read_head(line) {
+        Ok(version) => read_rest(alloc, past, version, lines),
+        Err(fault) => Err(fault),
+    }
 }
 
 /// Reads the script of the lines of a text; `past` is the number past the last.
@@ -188,18 +204,14 @@ fn read_rest(alloc: Global, past: u32, version: u8, lines: &mut TextLines<'_>) -
 fn script_of_lines<'a>(alloc: Global, past: u32, lines: &mut TextLines<'a>) -> Result<Script, LineErr>
     ensures { GivesAt (λ script. script) result (lines_by past (significant_of lines.old)) }
 {
-    let line = match significant_line(alloc, lines) {
-        Ok(Some(line)) => line,
-        Ok(None) => {
-            return Err(LineErr::Fault(ScriptErr {
-                line: 1,
-                kind: ScriptKind::NoHead,
-            }));
-        }
-        Err(_) => return Err(LineErr::Memory),
-    };
-    let version = read_head(line)?;
-    read_rest(alloc, past, version, lines)
+    match significant_line(alloc, lines) {
+        Ok(Some(line)) => read_from_head(alloc, past, line, lines),
+        Ok(None) => Err(LineErr::Fault(ScriptErr {
+            line: 1,
+            kind: ScriptKind::NoHead,
+        })),
+        Err(_) => Err(LineErr::Memory),
+    }
 }
 
 fn is_mismatch(kind: ScriptKind) -> bool
