@@ -1,0 +1,46 @@
+-- A call more of a rank.
+use Rattle.std.proofs.Common.{◌≡◌, ◌∙◌, ◌<◌, ℕ, ◌+◌, List, [], ◌∷◌, ◌++◌, Bool, false, ◌==◌, cond, length, take, get_or, Option, Some, None, append-nil, ap, sym, refl, zero, suc, arith}
+use Rattle.std.proofs.lemmas.List.{take_more}
+use Rattle.std.specs.List.{list_any}
+use Rattle.nc_base.specs.declared.step.MeetKind.{MeetKind}
+use Rattle.serial_spec.specs.History.{kinds, kind_of_call}
+use Rattle.std.proofs.lemmas.List.Elements.{filter_map-append}
+use Rattle.nc_base.specs.declared.request.Call.{Call}
+use Rattle.script_spec.specs.ScriptGrammar.{posted, id_of_post, is_posted, calls_of}
+
+one_more : (c : Call) (id : ℕ) → id_of_post c ≡ Some id → posted (c ∷ []) ≡ id ∷ []
+one_more c id h = rw h refl
+
+none_more : (c : Call) → id_of_post c ≡ None → posted (c ∷ []) ≡ []
+none_more c h = rw h refl
+
+pub posted_more : (own : List Call) (c : Call) (id : ℕ) → id_of_post c ≡ Some id → posted (own ++ c ∷ []) ≡ posted own ++ id ∷ []
+posted_more own c id h = filter_map-append id_of_post own (c ∷ []) ∙ ap (λ (more : List ℕ). posted own ++ more) (one_more c id h)
+
+pub posted_same : (own : List Call) (c : Call) → id_of_post c ≡ None → posted (own ++ c ∷ []) ≡ posted own
+posted_same own c h = filter_map-append id_of_post own (c ∷ []) ∙ (ap (λ (more : List ℕ). posted own ++ more) (none_more c h) ∙ append-nil (posted own))
+
+pub posted_grown : (own : List Call) (c : Call) (id : ℕ) (keys new : List ℕ) → keys ≡ posted own → new ≡ cond (list_any (λ other. id == other) keys) keys (keys ++ id ∷ [])
+    → is_posted id (posted own) ≡ false → id_of_post c ≡ Some id → new ≡ posted (own ++ c ∷ [])
+posted_grown own c id keys new same grown fresh h =
+    let absent : list_any (λ other. id == other) keys ≡ false = ap (is_posted id) same ∙ fresh in
+    let last : new ≡ keys ++ id ∷ [] = rw absent at grown in
+    last ∙ (ap (λ (ks : List ℕ). ks ++ id ∷ []) same ∙ sym (posted_more own c id h))
+
+-- ---- the kinds of collective calls
+
+pub one_kind : (c : Call) (k : MeetKind) → kind_of_call c ≡ Some k → kinds (c ∷ []) ≡ k ∷ []
+one_kind c k h = rw h refl
+
+pub no_kind : (c : Call) → kind_of_call c ≡ None → kinds (c ∷ []) ≡ []
+no_kind c h = rw h refl
+
+pub kinds_more : (calls : List Call) (i : ℕ) (d : Call) → i < length calls → kinds (take (i + 1) calls) ≡ kinds (take i calls) ++ kinds (get_or calls i d ∷ [])
+kinds_more calls i d h = ap kinds (take_more calls i d h) ∙ filter_map-append kind_of_call (take i calls) (get_or calls i d ∷ [])
+
+-- ---- the calls of one rank among those of all
+
+pub found_own : (calls : List (List Call)) (r : ℕ) (own : List Call) → own ≡ get_or calls r own → r < length calls → calls_of r calls ≡ own
+found_own [] r own at h = absurd (omega arith)
+found_own (x ∷ calls) zero own at h = sym at
+found_own (x ∷ calls) (suc r) own at h = found_own calls r own at (omega arith)

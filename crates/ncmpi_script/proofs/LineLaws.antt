@@ -1,0 +1,70 @@
+-- The first line of a text.
+use Rattle.std.proofs.Common.{◌≡◌, ◌≢◌, ℕ, zero, suc, ◌+◌, ◌<◌, ◌≤◌, List, [], ◌∷◌, ◌++◌, length, take, drop, Bool, true, false, not, Option, Some, None, refl, sym, ap, ◌∙◌, arith, position, cond, ◌==◌}
+use Rattle.std.proofs.lemmas.Grind.{common_steps}
+use Rattle.std.proofs.lemmas.List.Splits.{slice_split_first, length-slice_split}
+use Rattle.std.proofs.lemmas.List.Sums.{prefix_len-le-length, count_by-le-length}
+use Rattle.std.proofs.lemmas.List.FromFn.{length-enumerate_from}
+use Rattle.std.specs.List.{position_or_len, prefix_len, slice_split, onto_first, before_first, after_first, enumerate_from}
+use Rattle.script_spec.specs.ScriptWords.{text_lines, is_newline, without_empty_end, is_comma}
+
+-- what `position` found
+pub found_at : {X : Type 0} (p : X → Bool) (xs : List X) (n : ℕ) → position p xs ≡ Some n → (position_or_len p xs ≡ n) × (n < length xs)
+found_at p xs n h = grind (arith, prefix_len-le-length (λ x. not (p x)) xs)
+
+kept : (x : List ℕ) (zs : List (List ℕ)) → 0 < length zs → without_empty_end (x ∷ zs) ≡ x ∷ without_empty_end zs
+kept x [] h = absurd (omega arith)
+kept x (z ∷ zs) h = refl
+
+pub lines_cut : (text : List ℕ) (n : ℕ) → position is_newline text ≡ Some n → text_lines text ≡ take n text ∷ text_lines (drop (n + 1) text)
+lines_cut text n h =
+    let at = found_at is_newline text n h in
+    let parts : slice_split is_newline text ≡ before_first is_newline text ∷ slice_split is_newline (after_first is_newline text) =
+        slice_split_first is_newline text 0 (omega arith) in
+    let more : 0 < length (slice_split is_newline (after_first is_newline text)) = omega (arith, length-slice_split is_newline (after_first is_newline text)) in
+    let first = ap without_empty_end parts ∙ kept (before_first is_newline text) (slice_split is_newline (after_first is_newline text)) more in
+    first ∙ ap (λ (k : ℕ). take k text ∷ text_lines (drop (k + 1) text)) at.0
+
+longer_part : {X : Type 0} (x : X) (xs : List X) (n : ℕ) (parts : List (List X)) (b : Bool) → cond (not b) (1 + n) 0 ≡ suc (length xs) → (n ≡ length xs → parts ≡ xs ∷ [])
+    → cond b ([] ∷ parts) (onto_first x parts) ≡ (x ∷ xs) ∷ []
+longer_part x xs n parts true e rest = absurd (omega arith)
+longer_part x xs n parts false e rest = ap (onto_first x) (rest (omega arith))
+
+-- where nothing passes, the list is the one part
+whole_part : {X : Type 0} (p : X → Bool) (xs : List X) → position_or_len p xs ≡ length xs → slice_split p xs ≡ xs ∷ []
+whole_part p [] h = refl
+whole_part p (x ∷ xs) h = longer_part x xs (position_or_len p xs) (slice_split p xs) (p x) h (whole_part p xs)
+
+pub not_found : {X : Type 0} (p : X → Bool) (xs : List X) → position p xs ≡ None → position_or_len p xs ≡ length xs
+not_found p xs h = grind (arith, prefix_len-le-length (λ x. not (p x)) xs)
+
+alone : (text : List ℕ) → text ≢ [] → without_empty_end (text ∷ []) ≡ text ∷ []
+alone [] some = absurd (some refl)
+alone (c ∷ cs) some = refl
+
+pub lines_last : (text : List ℕ) → position is_newline text ≡ None → text ≢ [] → text_lines text ≡ text ∷ []
+lines_last text h some = ap without_empty_end (whole_part is_newline text (not_found is_newline text h)) ∙ alone text some
+
+-- ---- the same of the parts of a list
+
+pub parts_cut : (text : List ℕ) (n : ℕ) → position is_comma text ≡ Some n → slice_split is_comma text ≡ take n text ∷ slice_split is_comma (drop (n + 1) text)
+parts_cut text n h =
+    let at = found_at is_comma text n h in
+    let cut : slice_split is_comma text ≡ before_first is_comma text ∷ slice_split is_comma (after_first is_comma text) = slice_split_first is_comma text 0 (omega arith) in
+    cut ∙ ap (λ (k : ℕ). take k text ∷ slice_split is_comma (drop (k + 1) text)) at.0
+
+pub parts_last : (text : List ℕ) → position is_comma text ≡ None → slice_split is_comma text ≡ text ∷ []
+parts_last text h = whole_part is_comma text (not_found is_comma text h)
+
+-- ---- how many lines a text has
+
+fewer : (parts : List (List ℕ)) → length (without_empty_end parts) ≤ length parts
+fewer [] = omega arith
+fewer ([] ∷ []) = omega arith
+fewer ((c ∷ cs) ∷ []) = omega arith
+fewer (x ∷ y ∷ more) = omega (arith, fewer (y ∷ more))
+
+pub few_lines : (text : List ℕ) → length (text_lines text) ≤ length text + 1
+few_lines text = omega (arith, fewer (slice_split is_newline text), length-slice_split is_newline text, count_by-le-length is_newline text)
+
+pub numbered : {A : Type 0} (n : ℕ) (xs : List A) → length (enumerate_from n xs) ≡ length xs
+numbered n xs = length-enumerate_from n xs

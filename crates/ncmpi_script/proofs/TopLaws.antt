@@ -1,0 +1,48 @@
+-- A whole script is what the definitions say.
+use Rattle.std.proofs.Common.{◌≡◌, ◌∙◌, ℕ, List, [], ◌∷◌, Result, Err, Bool, true, false, nat_lt, ◌==◌, ◌+◌, length, take, refl, ap}
+use Rattle.std.specs.Str.Lossy.{utf8_valid_len}
+use Rattle.nc_base.specs.declared.errors.ScriptErr.{ScriptErr}
+use Rattle.nc_base.specs.declared.errors.LimitName.TheVariants as limit
+use Rattle.nc_base.specs.declared.script.Script.{Script}
+use Rattle.nc_base.specs.declared.errors.ScriptKind.TheVariants as kind
+use Rattle.script_spec.specs.ScriptWords.{Line}
+use Rattle.script_spec.specs.ScriptGrammar.{script_of_lines, script_of_text, most_bytes, newlines}
+use Rattle.ncmpi_script.specs.TopWords.{head_by, definitions_by, data_part_by, finish_by, made_by, end_by, calls_by, rest_by, headed_by, lines_by, utf8_by, text_by}
+
+no_line : (past : ℕ) → script_of_lines past [] ≡ Err (record { line = 1; kind = kind.NoHead })
+no_line past = refl
+
+a_line : (past : ℕ) (l : Line) (lines : List Line) → script_of_lines past (l ∷ lines) ≡ headed_by past l lines
+unfolding head_by definitions_by data_part_by finish_by made_by end_by calls_by rest_by headed_by
+a_line past l lines = refl
+
+pub lines_none : (past : ℕ) (lines : List Line) → lines ≡ [] → lines_by past lines ≡ Err (record { line = 1; kind = kind.NoHead })
+unfolding lines_by
+lines_none past lines e = ap (script_of_lines past) e ∙ no_line past
+
+pub lines_some : (past : ℕ) (lines rest : List Line) (l : Line) → lines ≡ l ∷ rest → lines_by past lines ≡ headed_by past l rest
+unfolding lines_by
+lines_some past lines rest l e = ap (script_of_lines past) e ∙ a_line past l rest
+
+pub same_text : (text : List ℕ) → text_by text ≡ script_of_text text
+unfolding lines_by utf8_by text_by
+same_text text = refl
+
+-- what two tests choose
+abbrev pick : {A : Type 0} → Bool → Bool → A → A → A → A
+pick true b x y z = x
+pick false false x y z = y
+pick false true x y z = z
+
+is_pick : {A : Type 0} (a b : Bool) (x y z : A) → elim a as (λ t. A) [ true ↦ x | false ↦ elim b as (λ t. A) [ false ↦ y | true ↦ z ] ] ≡ pick a b x y z
+is_pick true b x y z = refl
+is_pick false false x y z = refl
+is_pick false true x y z = refl
+
+pub text_is : (text : List ℕ) → nat_lt most_bytes (length text) ≡ false → (utf8_valid_len text == length text) ≡ true → text_by text ≡ utf8_by text
+unfolding text_by
+text_is text short valid =
+    let bad : Result Script ScriptErr = Err (record { line = newlines (take (utf8_valid_len text) text) + 1; kind = kind.NotUtf8 }) in
+    let long : Result Script ScriptErr = Err (record { line = 1; kind = kind.Limit limit.Script }) in
+    is_pick (nat_lt most_bytes (length text)) (utf8_valid_len text == length text) long bad (utf8_by text)
+    ∙ (ap (λ (a : Bool). pick a (utf8_valid_len text == length text) long bad (utf8_by text)) short ∙ ap (λ (b : Bool). pick false b long bad (utf8_by text)) valid)

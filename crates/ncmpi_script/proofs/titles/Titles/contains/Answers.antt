@@ -1,0 +1,11 @@
+use Rattle.std.proofs.Common.{◌≡◌, ◌∙◌, sym, ap}
+use Rattle.std.specs.List.{list_any}
+use Rattle.script_spec.specs.ScriptGrammar.{same_title}
+use Rattle.ncmpi_script.proofs.NameLaws.{any_map}
+use Rattle.ncmpi_script.proofs.titles.Titles.contains.Goals as goal
+
+pub returns : goal.returns
+returns c =
+    c.contains.ensures
+    ∙ (sym (any_map (same_title (c.args.owner.now, c.args.name.now)) (λ k. (k.0.now, k.1.now)) c.self.inside.set.keys)
+    ∙ ap (list_any (same_title (c.args.owner.now, c.args.name.now))) c.self.view_is)

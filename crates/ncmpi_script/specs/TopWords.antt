@@ -1,0 +1,57 @@
+-- Whole scripts, with names for their parts that proofs keep shut.
+use Rattle.std.specs.Prelude.{ℕ, ◌+◌, List, length, Bool, true, false, Result, Ok, Err, nat_lt, nat_le, take, not, ◌&&◌, ◌==◌}
+use Rattle.std.specs.Str.Lossy.{utf8_valid_len}
+use Rattle.nc_base.specs.declared.errors.ScriptErr.{ScriptErr}
+use Rattle.nc_base.specs.declared.errors.ScriptKind.TheVariants as kind
+use Rattle.nc_base.specs.declared.errors.LimitName.TheVariants as limit
+use Rattle.nc_base.specs.declared.request.Call.{Call}
+use Rattle.nc_base.specs.declared.script.Script.{Script}
+use Rattle.script_spec.specs.ScriptWords.{Line, text_lines, significant}
+use Rattle.script_spec.specs.ScriptGrammar.{◌>>=◌, Known, Called, nothing_known, no_calls, at_line, head, definitions, data_part, finish, script_of, script_of_lines, within_lines, most_bytes, newlines}
+
+unfoldable pub head_by : Line → Result ℕ ScriptErr
+head_by l = at_line l.number (head l.first l.rest)
+
+unfoldable pub definitions_by : ℕ → ℕ → List Line → Result (ℕ × (Known × List Line)) ScriptErr
+definitions_by past version lines = definitions past version nothing_known lines
+
+unfoldable pub data_part_by : ℕ → ℕ → Known → List Line → Result (ℕ × (Called × List Line)) ScriptErr
+data_part_by past ranks known lines = data_part past (no_calls ranks known) lines
+
+unfoldable pub finish_by : ℕ → List (List Call) → List Line → Result (Unit {0}) ScriptErr
+finish_by n calls lines = finish n calls lines
+
+unfoldable pub made_by : ℕ → ℕ → Known → List (List Call) → Script
+made_by version ranks known calls = script_of version ranks known calls
+
+-- from line n of `end` on
+unfoldable pub end_by : ℕ → ℕ → Known → ℕ → List (List Call) → List Line → Result Script ScriptErr
+end_by version ranks known n calls lines = finish_by n calls lines >>= λ u. Ok (made_by version ranks known calls)
+
+-- from `data` on
+unfoldable pub calls_by : ℕ → ℕ → ℕ → Known → List Line → Result Script ScriptErr
+calls_by past version ranks known lines = data_part_by past ranks known lines >>= λ c. end_by version ranks known c.0 c.1.0.calls c.1.1
+
+-- what follows the head
+unfoldable pub rest_by : ℕ → ℕ → List Line → Result Script ScriptErr
+rest_by past version lines = definitions_by past version lines >>= λ d. calls_by past version d.0 d.1.0 d.1.1
+
+-- the line of the head, and what follows it
+unfoldable pub headed_by : ℕ → Line → List Line → Result Script ScriptErr
+headed_by past l lines = head_by l >>= λ version. rest_by past version lines
+
+unfoldable pub lines_by : ℕ → List Line → Result Script ScriptErr
+lines_by past lines = script_of_lines past lines
+
+unfoldable pub utf8_by : List ℕ → Result Script ScriptErr
+utf8_by text = within_lines (length (text_lines text)) (lines_by (length (text_lines text) + 1) (significant text))
+
+unfoldable pub text_by : List ℕ → Result Script ScriptErr
+text_by text =
+    elim (nat_lt most_bytes (length text)) [
+      | true ↦ Err (record { line = 1; kind = kind.Limit limit.Script })
+      | false ↦ elim (utf8_valid_len text == length text) [
+        | false ↦ Err (record { line = newlines (take (utf8_valid_len text) text) + 1; kind = kind.NotUtf8 })
+        | true ↦ utf8_by text
+      ]
+    ]

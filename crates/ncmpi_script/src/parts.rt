@@ -1,0 +1,190 @@
+// The parts of a script, one after the other.
+ghost use Rattle.std.specs.Prelude.{◌≡◌, ◌≤◌, IfOk, IfSome};
+ghost use Rattle.script_spec.specs.ScriptWords.{significant_of};
+ghost use Rattle.script_spec.specs.ScriptGrammar.{head, data_line, definition_step, definitions, call_step, data_part, at_line};
+ghost use Rattle.ncmpi_script.specs.Reading.{Gives, GivesAt, word_of};
+
+use crate::call_table::RankTable;
+use crate::draft::Draft;
+use crate::fault::{LineErr, ReadErr};
+use crate::lines::{Line, TextLines, significant_line};
+use crate::reading::{bare, ended, version};
+use crate::words::{Token, Words};
+use nc_base::{ScriptErr, ScriptKind};
+use std::alloc::Global;
+
+/// Reads the head: the version of a new dataset, or 0 for an existing one.
+fn head(first: &Token<'_>, words: &mut Words<'_>) -> Result<u8, ReadErr>
+    ensures { Gives (λ version. version) result (head (word_of first.now) words.old) }
+{
+    let Token::Plain(first) = first else {
+        return Err(ReadErr::Fault(ScriptKind::NoHead));
+    };
+    if *first == b"create".as_slice() {
+        let version = version(words)?;
+        ended(words)?;
+        return Ok(version);
+    }
+    if *first == b"open".as_slice() {
+        ended(words)?;
+        return Ok(0);
+    }
+    Err(ReadErr::Fault(ScriptKind::NoHead))
+}
+
+/// Reads the first significant line.
+pub fn head_line(line: Line<'_>) -> Result<u8, LineErr>
+    ensures { GivesAt (λ version. version) result (at_line line.entry.number (head (word_of line.entry.first) line.entry.rest)) }
+{
+    let Line {
+        number,
+        first,
+        mut rest,
+    } = line;
+    match head(&first, &mut rest) {
+        Ok(version) => Ok(version),
+        Err(ReadErr::Memory) => Err(LineErr::Memory),
+        Err(ReadErr::Fault(kind)) => Err(LineErr::Fault(ScriptErr { line: number, kind })),
+    }
+}
+
+/// Reads the rest of the line `data`: the number of ranks.
+fn data_line(draft: &Draft<'_>, words: &mut Words<'_>) -> Result<u32, ReadErr>
+    ensures read { Gives (λ n. n) result (data_line draft.now words.old) }
+    ensures bound { IfOk result (λ n. n ≤ 64) }
+{
+    let Some(ranks) = draft.ranks() else {
+        return Err(ReadErr::Fault(ScriptKind::MissingWord));
+    };
+    ended(words)?;
+    Ok(ranks)
+}
+
+/// Reads a line of the definitions: the number of ranks at `data`.
+fn definition_step<'a>(
+    version: u8,
+    draft: &mut Draft<'a>,
+    first: Token<'a>,
+    words: &mut Words<'a>,
+) -> Result<Option<u32>, ReadErr>
+    ensures read { Gives (λ ranks. (ranks, draft.new)) result (definition_step version draft.old (word_of first.entry) words.old) }
+    ensures bound { IfOk result (λ ranks. IfSome ranks (λ n. n ≤ 64)) }
+{
+    let first = bare(first)?;
+    if first == b"data".as_slice() {
+        let ranks = data_line(draft, words)?;
+        return Ok(Some(ranks));
+    }
+    draft.read(version, first, words)?;
+    Ok(None)
+}
+
+/// The same with the line's number at a fault.
+fn definition_line<'a>(version: u8, draft: &mut Draft<'a>, line: Line<'a>) -> Result<Option<u32>, LineErr>
+    ensures read { GivesAt (λ ranks. (ranks, draft.new)) result
+        (at_line line.entry.number (definition_step version draft.old (word_of line.entry.first) line.entry.rest)) }
+    ensures bound { IfOk result (λ ranks. IfSome ranks (λ n. n ≤ 64)) }
+{
+    let Line {
+        number,
+        first,
+        mut rest,
+    } = line;
+    match definition_step(version, draft, first, &mut rest) {
+        Ok(ranks) => Ok(ranks),
+        Err(ReadErr::Memory) => Err(LineErr::Memory),
+        Err(ReadErr::Fault(kind)) => Err(LineErr::Fault(ScriptErr { line: number, kind })),
+    }
+}
+
+/// Reads the definitions, up to `data`: the number of ranks.
+pub fn definitions<'a>(
+    alloc: Global,
+    past: u32,
+    version: u8,
+    draft: &mut Draft<'a>,
+    lines: &mut TextLines<'a>,
+) -> Result<u32, LineErr>
+    ensures read { GivesAt (λ ranks. (ranks, (draft.new, significant_of lines.new))) result
+        (definitions past version draft.old (significant_of lines.old)) }
+    ensures bound { IfOk result (λ n. n ≤ 64) }
+{
+    loop {
+        let line = match significant_line(alloc, lines) {
+            Ok(Some(line)) => line,
+            Ok(None) => {
+                return Err(LineErr::Fault(ScriptErr {
+                    line: past,
+                    kind: ScriptKind::NoEnd,
+                }));
+            }
+            Err(_) => return Err(LineErr::Memory),
+        };
+        if let Some(ranks) = definition_line(version, draft, line)? {
+            return Ok(ranks);
+        }
+    }
+}
+
+/// Reads a line of the calls: whether it is `end`.
+fn call_step<'a>(
+    alloc: Global,
+    table: &mut RankTable,
+    first: Token<'a>,
+    words: &mut Words<'a>,
+) -> Result<bool, ReadErr>
+    ensures { Gives (λ ends. (ends, table.new)) result (call_step table.old (word_of first.entry) words.old) }
+{
+    let first = bare(first)?;
+    if first == b"end".as_slice() {
+        ended(words)?;
+        return Ok(true);
+    }
+    table.read(alloc, first, words)?;
+    Ok(false)
+}
+
+/// The same with the line's number at a fault.
+fn call_line<'a>(alloc: Global, table: &mut RankTable, line: Line<'a>) -> Result<bool, LineErr>
+    ensures { GivesAt (λ ends. (ends, table.new)) result
+        (at_line line.entry.number (call_step table.old (word_of line.entry.first) line.entry.rest)) }
+{
+    let Line {
+        number,
+        first,
+        mut rest,
+    } = line;
+    match call_step(alloc, table, first, &mut rest) {
+        Ok(ends) => Ok(ends),
+        Err(ReadErr::Memory) => Err(LineErr::Memory),
+        Err(ReadErr::Fault(kind)) => Err(LineErr::Fault(ScriptErr { line: number, kind })),
+    }
+}
+
+/// Reads the calls, up to `end`: its line.
+pub fn data_part<'a>(
+    alloc: Global,
+    past: u32,
+    table: &mut RankTable,
+    lines: &mut TextLines<'a>,
+) -> Result<u32, LineErr>
+    ensures { GivesAt (λ number. (number, (table.new, significant_of lines.new))) result
+        (data_part past table.old (significant_of lines.old)) }
+{
+    loop {
+        let line = match significant_line(alloc, lines) {
+            Ok(Some(line)) => line,
+            Ok(None) => {
+                return Err(LineErr::Fault(ScriptErr {
+                    line: past,
+                    kind: ScriptKind::NoEnd,
+                }));
+            }
+            Err(_) => return Err(LineErr::Memory),
+        };
+        let number = line.number;
+        if call_line(alloc, table, line)? {
+            return Ok(number);
+        }
+    }
+}
