@@ -1,2 +1,4 @@
 pub mod AcceptedLaws
+pub mod BoxLaws
 pub mod CountLaws
+pub mod PartLaws

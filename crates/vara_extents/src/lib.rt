@@ -7,10 +7,12 @@
 mod causes;
 mod forms;
 mod needs;
+mod parts;
 
 pub use causes::check;
 pub use forms::widen;
 pub use needs::records_needed;
+pub use parts::check_parts;
 
 #[cfg(test)]
 mod tests;

@@ -21,7 +21,7 @@ fn cap(n: u128) -> u64
     n.min(u128::from(FILE_LIMIT)) as u64
 }
 
-fn sum(a: u64, b: u64) -> u64
+pub(crate) fn sum(a: u64, b: u64) -> u64
     ensures { result ≡ capped (a + b) }
 {
     cap(u128::from(a) + u128::from(b))
@@ -34,7 +34,7 @@ fn product(a: u64, b: u64) -> u64
 }
 
 /// How many elements a region has, or 2^62 where it has more.
-fn element_count(counts: &[u64]) -> u64
+pub(crate) fn element_count(counts: &[u64]) -> u64
     ensures { result ≡ capped (layout.product counts.now) }
 {
     let mut elements = 1;

@@ -1,0 +1,227 @@
+-- Two boxes share an element exactly where their ranges meet in each dimension.
+use Rattle.std.proofs.Common.{◌≡◌, ℕ, zero, suc, ◌+◌, ◌*◌, ◌<◌, ◌≤◌, ◌∙◌, ap, sym, refl, inl, inr, ◌⊎◌, List, [], ◌∷◌, ◌++◌, length, map, Bool, true, false, ltb, leb, eqb, ◌||◌, ◌&&◌, max, min, replicate, arith}
+use Rattle.std.specs.Prelude.{flat_map, bytes_eq}
+use Rattle.std.specs.List.{list_any, range_with_len}
+use Rattle.std.proofs.lemmas.Bool.{ltb-true, lt-ltb, leb-true, le-leb, eqb-true, eq-eqb, and_parts, and_from, or_cases, or_left, or_right, cases_lt, cases_eq}
+use Rattle.std.proofs.lemmas.List.Folds.{list_any-append}
+use Rattle.std.proofs.lemmas.List.{map-append}
+use Rattle.serial_spec.specs.Request.{coordinates, index_at}
+use Rattle.serial_spec.specs.RegionCheck.{has_index}
+use Rattle.vara_extents.specs.Boxes.{boxes_meet}
+
+same_bool : (a b : Bool) → (a ≡ true → b ≡ true) → (b ≡ true → a ≡ true) → a ≡ b
+same_bool true true f g = refl
+same_bool true false f g = sym (f refl)
+same_bool false true f g = g refl
+same_bool false false f g = refl
+
+both_or : (a b x : Bool) → ((a && x) || (b && x)) ≡ ((a || b) && x)
+both_or true true true = refl
+both_or true true false = refl
+both_or true false true = refl
+both_or true false false = refl
+both_or false true true = refl
+both_or false true false = refl
+both_or false false true = refl
+both_or false false false = refl
+
+neither : (x : Bool) → false ≡ (false && x)
+neither true = refl
+neither false = refl
+
+-- a box's indices
+abbrev pub box : List ℕ → List ℕ → List (List ℕ)
+box starts counts = map (λ c. index_at starts (replicate (length counts) 1) c) (coordinates counts)
+
+any_and : {A : Type 0} (b : Bool) (q : A → Bool) (xs : List A) → list_any (λ c. b && q c) xs ≡ (b && list_any q xs)
+any_and true q [] = refl
+any_and true q (x ∷ xs) = ap (λ r. q x || r) (any_and true q xs)
+any_and false q [] = refl
+any_and false q (x ∷ xs) = any_and false q xs
+
+any_map : {A B : Type 0} (f : A → B) (q : B → Bool) (xs : List A) → list_any q (map f xs) ≡ list_any (λ x. q (f x)) xs
+any_map f q [] = refl
+any_map f q (x ∷ xs) = ap (λ r. q (f x) || r) (any_map f q xs)
+
+-- a test of an index that tests the first number and the rest
+split_any : (p : ℕ → Bool) (q all : List ℕ → Bool) → ((x : ℕ) (xs : List ℕ) → all (x ∷ xs) ≡ (p x && q xs))
+    → (s : ℕ) (starts ones : List ℕ) (inner : List (List ℕ)) (is : List ℕ)
+    → list_any all (map (λ c. index_at (s ∷ starts) (1 ∷ ones) c) (flat_map (λ i. map (λ c. i ∷ c) inner) is))
+    ≡ (list_any (λ i. p (s + i * 1)) is && list_any q (map (λ c. index_at starts ones c) inner))
+split_any p q all h s starts ones inner [] = neither (list_any q (map (λ c. index_at starts ones c) inner))
+split_any p q all h s starts ones inner (i ∷ is) =
+    ap (list_any all) (map-append (λ c. index_at (s ∷ starts) (1 ∷ ones) c) (map (λ c. i ∷ c) inner) (flat_map (λ i. map (λ c. i ∷ c) inner) is))
+    ∙ list_any-append all (map (λ c. index_at (s ∷ starts) (1 ∷ ones) c) (map (λ c. i ∷ c) inner)) (map (λ c. index_at (s ∷ starts) (1 ∷ ones) c) (flat_map (λ i. map (λ c. i ∷ c) inner) is))
+    ∙ (λ j. first j || split_any p q all h s starts ones inner is j)
+    ∙ both_or (p (s + i * 1)) (list_any (λ i. p (s + i * 1)) is) (list_any q (map (λ c. index_at starts ones c) inner))
+  where
+    first : list_any all (map (λ c. index_at (s ∷ starts) (1 ∷ ones) c) (map (λ c. i ∷ c) inner)) ≡ (p (s + i * 1) && list_any q (map (λ c. index_at starts ones c) inner))
+    first =
+        any_map (λ c. index_at (s ∷ starts) (1 ∷ ones) c) all (map (λ c. i ∷ c) inner)
+        ∙ any_map (λ c. i ∷ c) (λ c. all (index_at (s ∷ starts) (1 ∷ ones) c)) inner
+        ∙ (λ j. list_any (λ c. h (s + i * 1) (index_at starts ones c) j) inner)
+        ∙ any_and (p (s + i * 1)) (λ c. q (index_at starts ones c)) inner
+        ∙ ap (λ r. p (s + i * 1) && r) (sym (any_map (λ c. index_at starts ones c) q inner))
+
+-- ---- one dimension
+
+in_range : (s x a n : ℕ) → list_any (λ i. eqb (s + i * 1) x) (range_with_len a n) ≡ (leb (s + a) x && ltb x (s + a + n))
+in_range s x a zero =
+    same_bool false (leb (s + a) x && ltb x (s + a + 0)) (λ e. cc)
+    (λ e. let p = and_parts (leb (s + a) x) (ltb x (s + a + 0)) e in let l = leb-true (s + a) x p.0 in let r = ltb-true x (s + a + 0) p.1 in absurd (omega arith))
+in_range s x a (suc n) =
+    ap (λ r. eqb (s + a * 1) x || r) (in_range s x (a + 1) n)
+    ∙ same_bool (eqb (s + a * 1) x || (leb (s + (a + 1)) x && ltb x (s + (a + 1) + n))) (leb (s + a) x && ltb x (s + a + suc n)) forth back
+  where
+    forth : (eqb (s + a * 1) x || (leb (s + (a + 1)) x && ltb x (s + (a + 1) + n))) ≡ true → (leb (s + a) x && ltb x (s + a + suc n)) ≡ true
+    forth e = by_case (or_cases (eqb (s + a * 1) x) (leb (s + (a + 1)) x && ltb x (s + (a + 1) + n)) e)
+      where
+        by_case : (eqb (s + a * 1) x ≡ true) ⊎ ((leb (s + (a + 1)) x && ltb x (s + (a + 1) + n)) ≡ true) → (leb (s + a) x && ltb x (s + a + suc n)) ≡ true
+        by_case (inl t) = let same = eqb-true (s + a * 1) x t in and_from _ _ (le-leb (s + a) x (omega arith)) (lt-ltb x (s + a + suc n) (omega arith))
+        by_case (inr t) =
+            let p = and_parts (leb (s + (a + 1)) x) (ltb x (s + (a + 1) + n)) t in let l = leb-true (s + (a + 1)) x p.0 in let r = ltb-true x (s + (a + 1) + n) p.1 in
+            and_from _ _ (le-leb (s + a) x (omega arith)) (lt-ltb x (s + a + suc n) (omega arith))
+
+    back : (leb (s + a) x && ltb x (s + a + suc n)) ≡ true → (eqb (s + a * 1) x || (leb (s + (a + 1)) x && ltb x (s + (a + 1) + n))) ≡ true
+    back e =
+        let p = and_parts (leb (s + a) x) (ltb x (s + a + suc n)) e in let l = leb-true (s + a) x p.0 in let r = ltb-true x (s + a + suc n) p.1 in
+        by_case (cases_eq (s + a) x)
+      where
+        by_case : (s + a ≡ x) ⊎ (s + a ≡ x → ⊥) → (eqb (s + a * 1) x || (leb (s + (a + 1)) x && ltb x (s + (a + 1) + n))) ≡ true
+        by_case (inl same) = or_left (eqb (s + a * 1) x) _ (eq-eqb (s + a * 1) x (omega arith))
+        by_case (inr other) =
+            let p = and_parts (leb (s + a) x) (ltb x (s + a + suc n)) e in let l = leb-true (s + a) x p.0 in let r = ltb-true x (s + a + suc n) p.1 in
+            or_right (eqb (s + a * 1) x) _ (and_from _ _ (le-leb (s + (a + 1)) x (omega (arith, other))) (lt-ltb x (s + (a + 1) + n) (omega arith)))
+
+abbrev within : ℕ → ℕ → ℕ → Bool
+within t m x = leb t x && ltb x (t + m)
+
+within_from : (t m x : ℕ) → t ≤ x → x < t + m → within t m x ≡ true
+within_from t m x l r = and_from (leb t x) (ltb x (t + m)) (le-leb t x l) (lt-ltb x (t + m) r)
+
+ranges_meet : (s t m a n : ℕ) → list_any (λ i. within t m (s + i * 1)) (range_with_len a n) ≡ ltb (max (s + a) t) (min (s + a + n) (t + m))
+ranges_meet s t m a zero = same_bool false (ltb (max (s + a) t) (min (s + a + 0) (t + m))) (λ e. cc)
+    (λ e. let l = ltb-true (max (s + a) t) (min (s + a + 0) (t + m)) e in absurd (omega arith))
+ranges_meet s t m a (suc n) =
+    ap (λ r. within t m (s + a * 1) || r) (ranges_meet s t m (a + 1) n)
+    ∙ same_bool (within t m (s + a * 1) || ltb (max (s + (a + 1)) t) (min (s + (a + 1) + n) (t + m))) (ltb (max (s + a) t) (min (s + a + suc n) (t + m))) forth back
+  where
+    forth : (within t m (s + a * 1) || ltb (max (s + (a + 1)) t) (min (s + (a + 1) + n) (t + m))) ≡ true → ltb (max (s + a) t) (min (s + a + suc n) (t + m)) ≡ true
+    forth e = by_case (or_cases (within t m (s + a * 1)) (ltb (max (s + (a + 1)) t) (min (s + (a + 1) + n) (t + m))) e)
+      where
+        by_case : (within t m (s + a * 1) ≡ true) ⊎ (ltb (max (s + (a + 1)) t) (min (s + (a + 1) + n) (t + m)) ≡ true) → ltb (max (s + a) t) (min (s + a + suc n) (t + m)) ≡ true
+        by_case (inl w) =
+            let p = and_parts (leb t (s + a * 1)) (ltb (s + a * 1) (t + m)) w in let l = leb-true t (s + a * 1) p.0 in let r = ltb-true (s + a * 1) (t + m) p.1 in
+            lt-ltb (max (s + a) t) (min (s + a + suc n) (t + m)) (omega arith)
+        by_case (inr w) = let l = ltb-true (max (s + (a + 1)) t) (min (s + (a + 1) + n) (t + m)) w in lt-ltb (max (s + a) t) (min (s + a + suc n) (t + m)) (omega arith)
+
+    back : ltb (max (s + a) t) (min (s + a + suc n) (t + m)) ≡ true → (within t m (s + a * 1) || ltb (max (s + (a + 1)) t) (min (s + (a + 1) + n) (t + m))) ≡ true
+    back e = by_case (cases_lt (s + a) t)
+      where
+        by_case : (s + a < t) ⊎ (t ≤ s + a) → (within t m (s + a * 1) || ltb (max (s + (a + 1)) t) (min (s + (a + 1) + n) (t + m))) ≡ true
+        by_case (inl low) = let l = ltb-true (max (s + a) t) (min (s + a + suc n) (t + m)) e in
+            or_right (within t m (s + a * 1)) _ (lt-ltb (max (s + (a + 1)) t) (min (s + (a + 1) + n) (t + m)) (omega arith))
+        by_case (inr high) = let l = ltb-true (max (s + a) t) (min (s + a + suc n) (t + m)) e in
+            or_left (within t m (s + a * 1)) _ (within_from t m (s + a * 1) (omega arith) (omega arith))
+
+-- ---- boxes
+
+-- the index lies in the box
+abbrev in_box : List ℕ → List ℕ → List ℕ → Bool
+in_box [] [] [] = true
+in_box (t ∷ starts) (m ∷ counts) (x ∷ index) = within t m x && in_box starts counts index
+in_box _ _ _ = false
+
+has_is : (starts counts index : List ℕ) → length starts ≡ length counts → length index ≡ length counts → has_index (box starts counts) index ≡ in_box starts counts index
+has_is [] [] [] h k = refl
+has_is (t ∷ starts) (m ∷ counts) (x ∷ index) h k =
+    split_any (λ y. eqb y x) (λ i. bytes_eq i index) (λ i. bytes_eq i (x ∷ index)) (λ y ys. refl) t starts (replicate (length counts) 1) (coordinates counts) (range_with_len 0 m)
+    ∙ (λ j. in_range t x 0 m j && has_is starts counts index (omega arith) (omega arith) j)
+    ∙ ap (λ (n : ℕ). (leb n x && ltb x (n + m)) && in_box starts counts index) plain
+  where
+    plain : t + 0 ≡ t
+    plain = omega arith
+has_is [] (m ∷ counts) index h k = absurd (omega (arith, h))
+has_is (t ∷ starts) [] index h k = absurd (omega (arith, h))
+has_is [] [] (x ∷ index) h k = absurd (omega (arith, k))
+has_is (t ∷ starts) (m ∷ counts) [] h k = absurd (omega (arith, k))
+
+boxes_is : (starts counts others lengths : List ℕ) → length starts ≡ length counts → length others ≡ length counts → length lengths ≡ length counts
+    → list_any (in_box others lengths) (box starts counts) ≡ boxes_meet starts counts others lengths
+boxes_is [] [] [] [] h k l = refl
+boxes_is (s ∷ starts) (n ∷ counts) (t ∷ others) (m ∷ lengths) h k l =
+    split_any (within t m) (in_box others lengths) (in_box (t ∷ others) (m ∷ lengths)) (λ y ys. refl) s starts (replicate (length counts) 1) (coordinates counts) (range_with_len 0 n)
+    ∙ (λ j. ranges_meet s t m 0 n j && boxes_is starts counts others lengths (omega arith) (omega arith) (omega arith) j)
+    ∙ ap (λ (x : ℕ). ltb (max x t) (min (x + n) (t + m)) && boxes_meet starts counts others lengths) plain
+  where
+    plain : s + 0 ≡ s
+    plain = omega arith
+boxes_is [] (n ∷ counts) others lengths h k l = absurd (omega (arith, h))
+boxes_is (s ∷ starts) [] others lengths h k l = absurd (omega (arith, h))
+boxes_is [] [] (t ∷ others) lengths h k l = absurd (omega (arith, k))
+boxes_is [] [] [] (m ∷ lengths) h k l = absurd (omega (arith, l))
+boxes_is (s ∷ starts) (n ∷ counts) [] lengths h k l = absurd (omega (arith, k))
+boxes_is (s ∷ starts) (n ∷ counts) (t ∷ others) [] h k l = absurd (omega (arith, l))
+
+-- every index of a box has as many numbers as the box
+parted : (h : List ℕ → Bool) (s i : ℕ) (starts ones : List ℕ) (inner : List (List ℕ)) (is : List ℕ)
+    → list_any h (map (λ c. index_at (s ∷ starts) (1 ∷ ones) c) (flat_map (λ i. map (λ c. i ∷ c) inner) (i ∷ is)))
+    ≡ (list_any (λ y. h ((s + i * 1) ∷ y)) (map (λ c. index_at starts ones c) inner)
+    || list_any h (map (λ c. index_at (s ∷ starts) (1 ∷ ones) c) (flat_map (λ i. map (λ c. i ∷ c) inner) is)))
+parted h s i starts ones inner is =
+    ap (list_any h) (map-append (λ c. index_at (s ∷ starts) (1 ∷ ones) c) (map (λ c. i ∷ c) inner) (flat_map (λ i. map (λ c. i ∷ c) inner) is))
+    ∙ list_any-append h (map (λ c. index_at (s ∷ starts) (1 ∷ ones) c) (map (λ c. i ∷ c) inner)) (map (λ c. index_at (s ∷ starts) (1 ∷ ones) c) (flat_map (λ i. map (λ c. i ∷ c) inner) is))
+    ∙ ap (λ r. r || list_any h (map (λ c. index_at (s ∷ starts) (1 ∷ ones) c) (flat_map (λ i. map (λ c. i ∷ c) inner) is))) first
+  where
+    first : list_any h (map (λ c. index_at (s ∷ starts) (1 ∷ ones) c) (map (λ c. i ∷ c) inner)) ≡ list_any (λ y. h ((s + i * 1) ∷ y)) (map (λ c. index_at starts ones c) inner)
+    first =
+        any_map (λ c. index_at (s ∷ starts) (1 ∷ ones) c) h (map (λ c. i ∷ c) inner)
+        ∙ any_map (λ c. i ∷ c) (λ c. h (index_at (s ∷ starts) (1 ∷ ones) c)) inner
+        ∙ sym (any_map (λ c. index_at starts ones c) (λ y. h ((s + i * 1) ∷ y)) inner)
+
+long_each : (f g : List ℕ → Bool) (s : ℕ) (starts ones : List ℕ) (inner : List (List ℕ))
+    → ((x : ℕ) → list_any (λ y. f (x ∷ y)) (map (λ c. index_at starts ones c) inner) ≡ list_any (λ y. g (x ∷ y)) (map (λ c. index_at starts ones c) inner))
+    → (is : List ℕ) → list_any f (map (λ c. index_at (s ∷ starts) (1 ∷ ones) c) (flat_map (λ i. map (λ c. i ∷ c) inner) is))
+    ≡ list_any g (map (λ c. index_at (s ∷ starts) (1 ∷ ones) c) (flat_map (λ i. map (λ c. i ∷ c) inner) is))
+long_each f g s starts ones inner same [] = refl
+long_each f g s starts ones inner same (i ∷ is) =
+    parted f s i starts ones inner is ∙ (λ j. same (s + i * 1) j || long_each f g s starts ones inner same is j) ∙ sym (parted g s i starts ones inner is)
+
+long_all : (starts counts : List ℕ) (f g : List ℕ → Bool) → length starts ≡ length counts → ((x : List ℕ) → length x ≡ length counts → f x ≡ g x)
+    → list_any f (box starts counts) ≡ list_any g (box starts counts)
+long_all [] [] f g h same = ap (λ b. b || false) (same [] refl)
+long_all [] (n ∷ counts) f g h same = absurd (omega (arith, h))
+long_all (s ∷ starts) [] f g h same = absurd (omega (arith, h))
+long_all (s ∷ starts) (n ∷ counts) f g h same =
+    long_each f g s starts (replicate (length counts) 1) (coordinates counts)
+    (λ x. long_all starts counts (λ y. f (x ∷ y)) (λ y. g (x ∷ y)) (omega arith) (λ y e. same (x ∷ y) (ap suc e))) (range_with_len 0 n)
+
+-- two boxes share an index exactly where their ranges meet
+pub boxes_share : (starts counts others lengths : List ℕ) → length starts ≡ length counts → length others ≡ length lengths → length lengths ≡ length counts
+    → list_any (has_index (box others lengths)) (box starts counts) ≡ boxes_meet starts counts others lengths
+boxes_share starts counts others lengths h k l =
+    long_all starts counts (has_index (box others lengths)) (in_box others lengths) h (λ x e. has_is others lengths x k (omega (arith, e, l)))
+    ∙ boxes_is starts counts others lengths h (omega arith) l
+
+any_or : {A : Type 0} (p q : A → Bool) (xs : List A) → list_any (λ x. p x || q x) xs ≡ (list_any p xs || list_any q xs)
+any_or p q [] = refl
+any_or p q (x ∷ xs) = ap (λ r. (p x || q x) || r) (any_or p q xs) ∙ four (p x) (q x) (list_any p xs) (list_any q xs)
+  where
+    four : (a b c d : Bool) → ((a || b) || (c || d)) ≡ ((a || c) || (b || d))
+    four true b c d = refl
+    four false true true d = refl
+    four false true false d = refl
+    four false false c d = refl
+
+any_none : {A : Type 0} (xs : List A) → list_any (λ x. false) xs ≡ false
+any_none [] = refl
+any_none (x ∷ xs) = any_none xs
+
+-- an index of one list is in one of several lists
+pub any_of : {A : Type 0} (f : A → List (List ℕ)) (regions : List A) (xs : List (List ℕ))
+    → list_any (has_index (flat_map f regions)) xs ≡ list_any (λ r. list_any (has_index (f r)) xs) regions
+any_of f [] xs = any_none xs
+any_of f (r ∷ regions) xs =
+    (λ j. list_any (λ x. list_any-append (λ i. bytes_eq i x) (f r) (flat_map f regions) j) xs)
+    ∙ any_or (has_index (f r)) (has_index (flat_map f regions)) xs
+    ∙ ap (λ b. list_any (has_index (f r)) xs || b) (any_of f regions xs)

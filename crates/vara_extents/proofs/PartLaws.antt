@@ -1,0 +1,179 @@
+-- Parts of one call: the first refusal, the elements that two of them share, and the code of all.
+use Rattle.std.proofs.Common.{◌≡◌, ℕ, ◌+◌, ◌<◌, ◌≤◌, ◌∙◌, ap, sym, refl, inl, inr, ◌⊎◌, List, [], ◌∷◌, length, map, take, get_or, Bool, true, false, cond, ltb, leb, eqb, ◌||◌, ◌&&◌, replicate, arith}
+use Rattle.std.specs.Prelude.{flat_map, sum_by, All}
+use Rattle.std.specs.List.{list_any}
+use Rattle.std.proofs.lemmas.Bool.{both_ways, and_parts, not-false, eqb-true, lt-ltb, le-ltb, lt-leb, le-leb, cases_lt}
+use Rattle.std.proofs.lemmas.List.Elements.{All-nil, All-cons, All-head, All-tail, All-map}
+use Rattle.std.proofs.lemmas.List.Sums.{sum_by_more}
+use Rattle.nc_base.specs.declared.header.Header.{Header}
+use Rattle.nc_base.specs.declared.header.Var.{Var}
+use Rattle.nc_base.specs.declared.request.Part.{Part}
+use Rattle.nc_base.specs.declared.request.Region.{Region}
+use Rattle.nc_base.specs.declared.request.Direction.{Direction}
+use Rattle.nc_base.specs.declared.answer.Code.{Code}
+use Rattle.nc_base.specs.declared.answer.Code.TheVariants as code
+use Rattle.serial_spec.specs.Layout.{product}
+use Rattle.serial_spec.specs.Limits.{most_elements}
+use Rattle.serial_spec.specs.Request.{elements, coordinates, index_at}
+use Rattle.serial_spec.specs.RegionCheck.{check_var, check_parts, first_refusal, is_ok_code, is_put, has_index, part_region, share_element, elements_of_all}
+use Rattle.var_layout.specs.Capped.{capped}
+use Rattle.vara_extents.specs.Boxes.{boxes_meet, meets_any, some_meet, IsBox}
+use Rattle.vara_extents.specs.Parts.{code_by_boxes, refusal_of, together_code}
+use Rattle.vara_extents.proofs.AcceptedLaws.{passed}
+use Rattle.vara_extents.proofs.BoxLaws.{box, boxes_share, any_of}
+
+-- ---- the first refusal
+
+ok_both : (c rest : Code) → cond (is_ok_code c) rest c ≡ code.Ok → (c ≡ code.Ok) × (rest ≡ code.Ok)
+ok_both code.Ok rest h = (refl, h)
+ok_both _ rest h = absurd cc
+
+pub refusal_is : (c rest : Code) → (c ≡ code.Ok → ⊥) → cond (is_ok_code c) rest c ≡ c
+refusal_is code.Ok rest n = absurd (n refl)
+refusal_is _ rest n = refl
+
+pub each_ok : {A : Type 0} (f : A → Code) (xs : List A) → first_refusal (map f xs) ≡ code.Ok → All (λ x. f x ≡ code.Ok) xs
+each_ok f [] h = All-nil (λ x. f x ≡ code.Ok)
+each_ok f (x ∷ xs) h = let both = ok_both (f x) (first_refusal (map f xs)) h in All-cons (λ x. f x ≡ code.Ok) x xs both.0 (each_ok f xs both.1)
+
+pub ok_is : (c : Code) → is_ok_code c ≡ true → c ≡ code.Ok
+ok_is code.Ok h = refl
+ok_is _ h = absurd cc
+
+pub ok_is_not : (c : Code) → is_ok_code c ≡ false → c ≡ code.Ok → ⊥
+ok_is_not c h e = absurd (both_ways (is_ok_code c) h (ap is_ok_code e))
+
+-- ---- the code by the answers of the tests
+
+abbrev pick : Bool → Bool → Bool → Bool → Bool → Code → Code
+pick ok small put share large refused =
+    elim (ok && small && put) [
+      | true ↦ cond share code.ESelf code.Ok
+      | false ↦ cond (ok && large) code.ETooLarge refused
+    ]
+
+last_pick : (put share : Bool) → pick true true put share false code.Ok ≡ cond (put && share) code.ESelf code.Ok
+last_pick true true = refl
+last_pick true false = refl
+last_pick false share = refl
+
+not_picked : (small put share large : Bool) (c : Code) → (c ≡ code.Ok → ⊥) → pick (is_ok_code c) small put share large c ≡ c
+not_picked small put share large code.Ok n = absurd (n refl)
+not_picked small put share large _ n = refl
+
+picked : (header : Header) (var : Var) (parts : List Region) (known : ℕ) (direction : Direction)
+    → check_parts header var parts known direction
+    ≡ pick (is_ok_code (refusal_of header var parts known direction)) (leb (elements_of_all parts) most_elements) (is_put direction) (share_element parts)
+    (ltb most_elements (elements_of_all parts)) (refusal_of header var parts known direction)
+picked header var parts known direction = refl
+
+pub refused_first : (header : Header) (var : Var) (parts : List Region) (known : ℕ) (direction : Direction) (c : Code)
+    → c ≡ refusal_of header var parts known direction → (c ≡ code.Ok → ⊥) → c ≡ check_parts header var parts known direction
+refused_first header var parts known direction c h n =
+    h ∙ sym (not_picked (leb (elements_of_all parts) most_elements) (is_put direction) (share_element parts) (ltb most_elements (elements_of_all parts))
+    (refusal_of header var parts known direction) (λ e. n (h ∙ e)))
+
+pub too_many : (header : Header) (var : Var) (parts : List Region) (known : ℕ) (direction : Direction)
+    → refusal_of header var parts known direction ≡ code.Ok → most_elements < elements_of_all parts → code.ETooLarge ≡ check_parts header var parts known direction
+too_many header var parts known direction h more =
+    sym (λ j. pick (is_ok_code (h j)) (lt-leb (elements_of_all parts) most_elements more j) (is_put direction) (share_element parts) (lt-ltb most_elements (elements_of_all parts) more j) (h j))
+
+pub by_share : (header : Header) (var : Var) (parts : List Region) (known : ℕ) (direction : Direction) (b : Bool)
+    → refusal_of header var parts known direction ≡ code.Ok → elements_of_all parts ≤ most_elements → b ≡ (is_put direction && share_element parts)
+    → check_parts header var parts known direction ≡ cond b code.ESelf code.Ok
+by_share header var parts known direction b h few e =
+    (λ j. pick (is_ok_code (h j)) (le-leb (elements_of_all parts) most_elements few j) (is_put direction) (share_element parts) (le-ltb most_elements (elements_of_all parts) few j) (h j))
+    ∙ last_pick (is_put direction) (share_element parts)
+    ∙ ap (λ (x : Bool). cond x code.ESelf code.Ok) (sym e)
+
+-- ---- parts that are accepted are boxes
+
+box_of : (header : Header) (var : Var) (known : ℕ) (direction : Direction) (g : Region)
+    → check_var header var g known direction ≡ code.Ok → g.stride ≡ replicate (length var.dims) 1 → IsBox (length var.dims) g
+box_of header var known direction g h s =
+    let all = passed header var g known direction h in
+    let shape = not-false _ all.shape in
+    let three = and_parts (eqb (length g.start) (length var.dims) && eqb (length g.count) (length var.dims) && eqb (length g.stride) (length var.dims)) (g.packed || eqb (length g.imap) (length var.dims)) shape in
+    let two = and_parts (eqb (length g.start) (length var.dims) && eqb (length g.count) (length var.dims)) (eqb (length g.stride) (length var.dims)) three.0 in
+    let one = and_parts (eqb (length g.start) (length var.dims)) (eqb (length g.count) (length var.dims)) two.0 in
+    (eqb-true (length g.start) (length var.dims) one.0, eqb-true (length g.count) (length var.dims) one.1, s)
+
+abbrev HasStrides : Var → Region → Type 0
+HasStrides var g = g.stride ≡ replicate (length var.dims) 1
+
+abbrev Passed : Header → Var → ℕ → Direction → Region → Type 0
+Passed header var known direction g = check_var header var g known direction ≡ code.Ok
+
+boxes_of : (header : Header) (var : Var) (known : ℕ) (direction : Direction) (parts : List Region)
+    → All (Passed header var known direction) parts → All (HasStrides var) parts → All (IsBox (length var.dims)) parts
+boxes_of header var known direction [] h s = All-nil (IsBox (length var.dims))
+boxes_of header var known direction (g ∷ parts) h s =
+    All-cons (IsBox (length var.dims)) g parts
+    (box_of header var known direction g (All-head (Passed header var known direction) g parts h) (All-head (HasStrides var) g parts s))
+    (boxes_of header var known direction parts (All-tail (Passed header var known direction) g parts h) (All-tail (HasStrides var) g parts s))
+
+strides_of : (var : Var) (parts : List Part) → All (HasStrides var) (map (part_region var) parts)
+strides_of var parts = All-map (HasStrides var) (part_region var) parts (λ k d l. refl)
+
+-- ---- the elements that they share
+
+elements_box : (dims : ℕ) (g : Region) → IsBox dims g → elements g ≡ box g.start g.count
+elements_box dims g h = ap (λ (s : List ℕ). map (λ c. index_at g.start s c) (coordinates g.count)) (h.2 ∙ sym (ap (λ (n : ℕ). replicate n 1) h.1))
+
+meets_one : (dims : ℕ) (g other : Region) → IsBox dims g → IsBox dims other
+    → list_any (has_index (elements other)) (elements g) ≡ boxes_meet g.start g.count other.start other.count
+meets_one dims g other h k =
+    (λ j. list_any (has_index (elements_box dims other k j)) (elements_box dims g h j))
+    ∙ boxes_share g.start g.count other.start other.count (h.0 ∙ sym h.1) (k.0 ∙ sym k.1) (k.1 ∙ sym h.1)
+
+meets_each : (dims : ℕ) (g : Region) (others : List Region) → IsBox dims g → All (IsBox dims) others
+    → meets_any g others ≡ list_any (λ other. list_any (has_index (elements other)) (elements g)) others
+meets_each dims g [] h k = refl
+meets_each dims g (other ∷ others) h k =
+    λ j. sym (meets_one dims g other h (All-head (IsBox dims) other others k)) j || meets_each dims g others h (All-tail (IsBox dims) other others k) j
+
+meets : (dims : ℕ) (g : Region) (others : List Region) → IsBox dims g → All (IsBox dims) others
+    → meets_any g others ≡ list_any (has_index (flat_map elements others)) (elements g)
+meets dims g others h k = meets_each dims g others h k ∙ sym (any_of elements others (elements g))
+
+share_is : (dims : ℕ) (parts : List Region) → All (IsBox dims) parts → some_meet parts ≡ share_element parts
+share_is dims [] h = refl
+share_is dims (g ∷ parts) h =
+    λ j. meets dims g parts (All-head (IsBox dims) g parts h) (All-tail (IsBox dims) g parts h) j || share_is dims parts (All-tail (IsBox dims) g parts h) j
+
+-- ---- the whole code
+
+together_is : (header : Header) (var : Var) (parts : List Region) (known : ℕ) (direction : Direction)
+    → refusal_of header var parts known direction ≡ code.Ok → All (IsBox (length var.dims)) parts → together_code parts direction ≡ check_parts header var parts known direction
+together_is header var parts known direction h boxes = by_size (cases_lt most_elements (elements_of_all parts))
+  where
+    by_size : (most_elements < elements_of_all parts) ⊎ (elements_of_all parts ≤ most_elements) → together_code parts direction ≡ check_parts header var parts known direction
+    by_size (inl more) =
+        ap (λ (b : Bool). cond b code.ETooLarge (cond (is_put direction && some_meet parts) code.ESelf code.Ok)) (lt-ltb most_elements (elements_of_all parts) more)
+        ∙ too_many header var parts known direction h more
+    by_size (inr few) =
+        ap (λ (b : Bool). cond b code.ETooLarge (cond (is_put direction && some_meet parts) code.ESelf code.Ok)) (le-ltb most_elements (elements_of_all parts) few)
+        ∙ sym (by_share header var parts known direction (is_put direction && some_meet parts) h few (ap (λ (b : Bool). is_put direction && b) (share_is (length var.dims) parts boxes)))
+
+by_code : (header : Header) (var : Var) (parts : List Region) (known : ℕ) (direction : Direction) (c : Code)
+    → c ≡ refusal_of header var parts known direction → All (HasStrides var) parts
+    → cond (is_ok_code c) (together_code parts direction) c ≡ check_parts header var parts known direction
+by_code header var parts known direction code.Ok h s =
+    together_is header var parts known direction (sym h)
+    (boxes_of header var known direction parts (each_ok (λ g. check_var header var g known direction) parts (sym h)) s)
+by_code header var parts known direction c h s = refusal_is c (together_code parts direction) (λ e. cc) ∙ refused_first header var parts known direction c h (λ e. cc)
+
+pub code_is : (header : Header) (var : Var) (parts : List Part) (known : ℕ) (direction : Direction)
+    → code_by_boxes header var (map (part_region var) parts) known direction ≡ check_parts header var (map (part_region var) parts) known direction
+unfolding code_by_boxes
+code_is header var parts known direction =
+    by_code header var (map (part_region var) parts) known direction (refusal_of header var (map (part_region var) parts) known direction) refl (strides_of var parts)
+
+-- ---- the sum of the elements, one part more
+
+pub one_part_more : (parts : List Region) (k : ℕ) (d : Region) (s n : ℕ) → k < length parts
+    → s ≡ capped (sum_by (λ (g : Region). product g.count) (take k parts)) → n ≡ capped (product (get_or parts k d).count)
+    → capped (s + n) ≡ capped (sum_by (λ (g : Region). product g.count) (take (k + 1) parts))
+one_part_more parts k d s n h e f =
+    let more = sum_by_more (λ (g : Region). product g.count) parts k d h in
+    omega (arith, e, f, more)

@@ -1,0 +1,262 @@
+// Many boxes of one call.
+ghost use Rattle.std.specs.Prelude.{◌≡◌, ◌+◌, map, min, max, slice_get, IfOk, IfErr, OnOk};
+ghost use Rattle.nc_base.specs.declared.answer.Code.TheVariants as code;
+ghost use Rattle.serial_spec.specs.Layout.{product};
+ghost use Rattle.serial_spec.specs.RegionCheck as spec;
+ghost use Rattle.var_layout.specs.Capped.{capped};
+ghost use Rattle.vara_extents.specs.Boxes.{boxes_meet, meets_any, some_meet};
+ghost use Rattle.vara_extents.specs.Parts.{code_by_boxes, parts_code, without_variable, IsRefusal};
+
+use crate::causes::check_var;
+use crate::forms::repeated;
+use crate::needs::{element_count, sum, variable};
+use nc_base::{
+    CallErr, Code, Direction, Given, Header, MAX_ELEMENTS, Memory, Part, Region, SizeList, Var,
+};
+use std::alloc::Global;
+
+/// Whether a call of form `varn` is refused. The first of these causes answers, an order that is this project's: that of
+/// the first part that `check` refuses, as a region of its own with strides of 1; `ETooLarge` for parts that together have
+/// more than 2^20 elements; for a put, `ESelf` for two parts that share an element. Pairs of parts are compared, not
+/// elements. A copy of the parts is made meanwhile, for want of which `Memory` answers.
+pub fn check_parts(
+    alloc: Global,
+    header: &Header,
+    var: usize,
+    given: &Given,
+    known: u64,
+    direction: Direction,
+) -> Result<(), CallErr>
+    ensures ok { OnOk result (parts_code header.now var given.now known direction ≡ code.Ok) }
+    ensures refused { IfErr result (IsRefusal (parts_code header.now var given.now known direction)) }
+{
+    match parts_code(alloc, header, var, given, known, direction) {
+        Ok(code) => as_result(code),
+        Err(_) => Err(CallErr::Memory),
+    }
+}
+
+#[tactic(auto, using(crate::proofs::PartLaws::ok_is, crate::proofs::PartLaws::ok_is_not))]
+fn as_result(answer: Code) -> Result<(), CallErr>
+    ensures ok { OnOk result (answer ≡ code.Ok) }
+    ensures refused { IfErr result (IsRefusal answer) }
+{
+    if is_ok(answer) {
+        Ok(())
+    } else {
+        Err(CallErr::Code(answer))
+    }
+}
+
+/// The code of the first cause, or `Ok`.
+fn parts_code(
+    alloc: Global,
+    header: &Header,
+    var: usize,
+    given: &Given,
+    known: u64,
+    direction: Direction,
+) -> Result<Code, Memory>
+    ensures { IfOk result (λ c. c ≡ parts_code header.now var given.now known direction) }
+{
+    match variable(header, var) {
+        None => Ok(without_variable(given.parts.as_slice())),
+        Some(var) => code_of(alloc, header, var, given.parts.as_slice(), known, direction),
+    }
+}
+
+fn without_variable(parts: &[Part]) -> Code
+    ensures { result ≡ without_variable parts.now }
+{
+    match parts {
+        [] => Code::Ok,
+        [_, ..] => Code::ENotVar,
+    }
+}
+
+#[tactic(auto, using(crate::proofs::PartLaws::code_is))]
+fn code_of(
+    alloc: Global,
+    header: &Header,
+    var: &Var,
+    parts: &[Part],
+    known: u64,
+    direction: Direction,
+) -> Result<Code, Memory>
+    ensures { IfOk result (λ c. c ≡ spec.check_parts header.now var.now (map (spec.part_region var.now) parts.now) known direction) }
+{
+    let regions = part_regions(alloc, var, parts)?;
+    Ok(code_by_boxes(header, var, regions.as_slice(), known, direction))
+}
+
+/// The parts as regions of their own.
+fn part_regions(alloc: Global, var: &Var, parts: &[Part]) -> Result<Vec<Region>, Memory>
+    ensures { IfOk result (λ regions. regions.items ≡ map (spec.part_region var.now) parts.now) }
+{
+    let mut regions = Vec::with_capacity(alloc, parts.len())?;
+    for part in parts {
+        regions.push(part_region(alloc, var, part)?)?;
+    }
+    Ok(regions)
+}
+
+fn part_region(alloc: Global, var: &Var, part: &Part) -> Result<Region, Memory>
+    ensures { IfOk result (λ region. region ≡ spec.part_region var.now part.now) }
+{
+    Ok(Region {
+        start: part.start.clone(alloc)?,
+        count: part.count.clone(alloc)?,
+        stride: repeated(alloc, 1, var.dims.len())?,
+        imap: SizeList::new(alloc),
+        packed: true,
+    })
+}
+
+#[tactic(auto, unfolding(crate::specs::Parts::code_by_boxes))]
+fn code_by_boxes(
+    header: &Header,
+    var: &Var,
+    regions: &[Region],
+    known: u64,
+    direction: Direction,
+) -> Code
+    ensures { result ≡ code_by_boxes header.now var.now regions.now known direction }
+{
+    let refusal = first_refusal(header, var, regions, known, direction);
+    if !is_ok(refusal) {
+        return refusal;
+    }
+    if elements_of_all(regions) > MAX_ELEMENTS {
+        return Code::ETooLarge;
+    }
+    if is_put(direction) && some_meet(regions) {
+        return Code::ESelf;
+    }
+    Code::Ok
+}
+
+/// The code of the first part that is refused, or `Ok`.
+fn first_refusal(
+    header: &Header,
+    var: &Var,
+    regions: &[Region],
+    known: u64,
+    direction: Direction,
+) -> Code
+    ensures { result ≡ spec.first_refusal (map (λ g. spec.check_var header.now var.now g known direction) regions.now) }
+{
+    for region in regions {
+        let code = region_code(header, var, region, known, direction);
+        if !is_ok(code) {
+            return code;
+        }
+    }
+    Code::Ok
+}
+
+fn region_code(
+    header: &Header,
+    var: &Var,
+    region: &Region,
+    known: u64,
+    direction: Direction,
+) -> Code
+    ensures { result ≡ spec.check_var header.now var.now region.now known direction }
+{
+    match check_var(header, var, region, known, direction) {
+        Ok(()) => Code::Ok,
+        Err(code) => code,
+    }
+}
+
+fn is_ok(code: Code) -> bool
+    ensures { result ≡ spec.is_ok_code code }
+{
+    matches!(code, Code::Ok)
+}
+
+fn is_put(direction: Direction) -> bool
+    ensures { result ≡ spec.is_put direction }
+{
+    matches!(direction, Direction::Put)
+}
+
+/// How many elements the parts have together, or 2^62 where they have more.
+fn elements_of_all(regions: &[Region]) -> u64
+    ensures { result ≡ capped (spec.elements_of_all regions.now) }
+{
+    let mut elements = 0;
+    for region in regions {
+        elements = sum(elements, elements_of(region));
+    }
+    elements
+}
+
+fn elements_of(region: &Region) -> u64
+    ensures { result ≡ capped (product region.now.count) }
+{
+    element_count(region.count.as_slice())
+}
+
+/// Whether two parts share an element.
+fn some_meet(regions: &[Region]) -> bool
+    ensures { result ≡ some_meet regions.now }
+{
+    for (k, region) in regions.iter().enumerate() {
+        let (_, later) = regions.split_at(k + 1);
+        if meets_any(region, later) {
+            return true;
+        }
+    }
+    false
+}
+
+/// Whether a part shares an element with one of others.
+fn meets_any(region: &Region, others: &[Region]) -> bool
+    ensures { result ≡ meets_any region.now others.now }
+{
+    for other in others {
+        if regions_meet(region, other) {
+            return true;
+        }
+    }
+    false
+}
+
+fn regions_meet(region: &Region, other: &Region) -> bool
+    ensures { result ≡ boxes_meet region.now.start region.now.count other.now.start other.now.count }
+{
+    meet(
+        region.start.as_slice(),
+        region.count.as_slice(),
+        other.start.as_slice(),
+        other.count.as_slice(),
+    )
+}
+
+/// Whether two boxes share an index.
+fn meet(starts: &[u64], counts: &[u64], others: &[u64], lengths: &[u64]) -> bool
+    ensures { result ≡ boxes_meet starts.now counts.now others.now lengths.now }
+{
+    let [start, starts @ ..] = starts else {
+        return counts.is_empty() && others.is_empty() && lengths.is_empty();
+    };
+    let [count, counts @ ..] = counts else {
+        return false
+    };
+    let [other, others @ ..] = others else {
+        return false
+    };
+    let [length, lengths @ ..] = lengths else {
+        return false
+    };
+    let end = last(*start, *count).min(last(*other, *length));
+    u128::from(*start.max(other)) < end && meet(starts, counts, others, lengths)
+}
+
+/// Where a range ends.
+fn last(start: u64, count: u64) -> u128
+    ensures { result ≡ start + count }
+{
+    u128::from(start) + u128::from(count)
+}
