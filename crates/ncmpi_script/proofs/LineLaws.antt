@@ -19,7 +19,7 @@ pub lines_cut : (text : List ℕ) (n : ℕ) → position is_newline text ≡ Som
 lines_cut text n h =
     let at = found_at is_newline text n h in
     let parts : slice_split is_newline text ≡ before_first is_newline text ∷ slice_split is_newline (after_first is_newline text) =
-        slice_split_first is_newline text 0 (omega arith) in
+    slice_split_first is_newline text 0 (omega arith) in
     let more : 0 < length (slice_split is_newline (after_first is_newline text)) = omega (arith, length-slice_split is_newline (after_first is_newline text)) in
     let first = ap without_empty_end parts ∙ kept (before_first is_newline text) (slice_split is_newline (after_first is_newline text)) more in
     first ∙ ap (λ (k : ℕ). take k text ∷ text_lines (drop (k + 1) text)) at.0

@@ -44,7 +44,7 @@ pub no_difference : (ranks : List (List MeetKind)) (first : List MeetKind) (k : 
 no_difference ranks first k here last so_far =
     let at : is_difference ranks first k ≡ false = ap is_some here in
     let end : left (is_difference ranks first) k (length first) ≡ None =
-        subst (λ (n : ℕ). left (is_difference ranks first) k n ≡ None) last (left_last (is_difference ranks first) k at) in
+    subst (λ (n : ℕ). left (is_difference ranks first) k n ≡ None) last (left_last (is_difference ranks first) k at) in
     let found : find (is_difference ranks first) (range_with_len 0 (length first + 1)) ≡ None = all_left (is_difference ranks first) (length first) ∙ (sym so_far ∙ end) in
     rw (found, first_difference) refl
 

@@ -178,7 +178,12 @@ impl<'a> Additions<'a> {
     }
 
     /// Reads a line: how many values it has.
-    pub fn read(&mut self, before: u64, first: &'a [u8], words: &mut Words<'a>) -> Result<u64, ReadErr>
+    pub fn read(
+        &mut self,
+        before: u64,
+        first: &'a [u8],
+        words: &mut Words<'a>,
+    ) -> Result<u64, ReadErr>
         requires { before ≤ 2 ^ 24 }
         ensures read { Gives (λ n. (n, self.new)) result (addition before self.old first.now words.old) }
         ensures bound { IfOk result (λ n. before + n ≤ 2 ^ 24) }

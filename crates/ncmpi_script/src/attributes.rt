@@ -120,7 +120,11 @@ fn attr_of(alloc: Global, name: &[u8], kind: NcType, values: &Values) -> Result<
 }
 
 /// Reads the name of an attribute of this owner, whose title is none of these.
-fn new_name<'a>(titles: &Titles<'a>, owner: &'a [u8], words: &mut Words<'a>) -> Result<&'a [u8], ReadErr>
+fn new_name<'a>(
+    titles: &Titles<'a>,
+    owner: &'a [u8],
+    words: &mut Words<'a>,
+) -> Result<&'a [u8], ReadErr>
     ensures read { Gives (λ n. (n.now, words.new)) result (attribute_name titles.now owner.now words.old) }
     ensures new { IfOk result (λ n. list_any (same_title (owner.now, n.now)) titles.now ≡ false) }
 {

@@ -97,7 +97,15 @@ impl RankTable {
     {
         let word = next(words)?;
         let own = &self.ranks[rank as usize];
-        call_of(alloc, self.ranks.len() as u32, rank, own, self.values, word, words)
+        call_of(
+            alloc,
+            self.ranks.len() as u32,
+            rank,
+            own,
+            self.values,
+            word,
+            words,
+        )
     }
 
     #[tactic(auto, using(crate::proofs::CallLaws::found_own))]
@@ -114,7 +122,12 @@ impl RankTable {
     }
 
     /// Reads a line of calls, whose first word this is.
-    pub fn read(&mut self, alloc: Global, first: &[u8], words: &mut Words<'_>) -> Result<(), ReadErr>
+    pub fn read(
+        &mut self,
+        alloc: Global,
+        first: &[u8],
+        words: &mut Words<'_>,
+    ) -> Result<(), ReadErr>
         ensures { Gives (λ _. self.new) result (called_after self.old first.now words.old) }
     {
         let rank = rank_of_text(self.ranks.len() as u32, first)?;

@@ -62,7 +62,13 @@ fn call_values(alloc: Global, before: u64, words: &mut Words<'_>) -> Result<Valu
 }
 
 #[tactic(auto, unfolding(crate::specs::CallWords::put_by))]
-fn put_call(alloc: Global, all: bool, form: Form, before: u64, words: &mut Words<'_>) -> Result<Call, ReadErr>
+fn put_call(
+    alloc: Global,
+    all: bool,
+    form: Form,
+    before: u64,
+    words: &mut Words<'_>,
+) -> Result<Call, ReadErr>
     requires { before ≤ 2 ^ 24 }
     ensures read { Gives (λ c. c) result (put_by all form before words.old) }
     ensures bound { IfOk result (λ c. before + values_in_call c ≤ 2 ^ 24) }
@@ -95,7 +101,12 @@ fn get_call(alloc: Global, all: bool, form: Form, words: &mut Words<'_>) -> Resu
 }
 
 /// Reads the values of a post; a get has none.
-fn post_values(alloc: Global, kind: PostKind, before: u64, words: &mut Words<'_>) -> Result<Values, ReadErr>
+fn post_values(
+    alloc: Global,
+    kind: PostKind,
+    before: u64,
+    words: &mut Words<'_>,
+) -> Result<Values, ReadErr>
     requires { before ≤ 2 ^ 24 }
     ensures read { Gives (λ vs. vs) result (post_values kind before words.old) }
     ensures bound { IfOk result (λ vs. before + count_of vs ≤ 2 ^ 24) }
@@ -123,7 +134,12 @@ fn new_id(own: &RankCalls, words: &mut Words<'_>) -> Result<u32, ReadErr>
 
 /// The same under a name that proofs keep shut.
 #[tactic(auto, unfolding(crate::specs::CallWords::post_values_by))]
-fn values_of_post(alloc: Global, kind: PostKind, before: u64, words: &mut Words<'_>) -> Result<Values, ReadErr>
+fn values_of_post(
+    alloc: Global,
+    kind: PostKind,
+    before: u64,
+    words: &mut Words<'_>,
+) -> Result<Values, ReadErr>
     requires { before ≤ 2 ^ 24 }
     ensures read { Gives (λ vs. vs) result (post_values_by kind before words.old) }
     ensures bound { IfOk result (λ vs. before + count_of vs ≤ 2 ^ 24) }
@@ -267,7 +283,13 @@ fn lone_call(word: &[u8], words: &mut Words<'_>) -> Result<Call, ReadErr>
     Err(ReadErr::Fault(ScriptKind::UnknownWord))
 }
 
-fn other_call(alloc: Global, ranks: u32, rank: u32, word: &[u8], words: &mut Words<'_>) -> Result<Call, ReadErr>
+fn other_call(
+    alloc: Global,
+    ranks: u32,
+    rank: u32,
+    word: &[u8],
+    words: &mut Words<'_>,
+) -> Result<Call, ReadErr>
     ensures read { Gives (λ c. c) result (other_call ranks rank word.now words.old) }
     ensures none { IfOk result (λ c. (values_in_call c ≡ 0) × (id_of_post c ≡ None)) }
 {
@@ -283,7 +305,13 @@ fn other_call(alloc: Global, ranks: u32, rank: u32, word: &[u8], words: &mut Wor
     lone_call(word, words)
 }
 
-fn plain_call(alloc: Global, ranks: u32, rank: u32, word: &[u8], words: &mut Words<'_>) -> Result<Call, ReadErr>
+fn plain_call(
+    alloc: Global,
+    ranks: u32,
+    rank: u32,
+    word: &[u8],
+    words: &mut Words<'_>,
+) -> Result<Call, ReadErr>
     ensures read { Gives (λ c. c) result (plain_call ranks rank word.now words.old) }
     ensures none { IfOk result (λ c. (values_in_call c ≡ 0) × (id_of_post c ≡ None)) }
 {
@@ -317,7 +345,13 @@ fn post_of_text(word: &[u8]) -> Option<(PostKind, &[u8])>
 }
 
 #[tactic(auto, unfolding(crate::specs::CallWords::plain_by))]
-fn call_without_form(alloc: Global, ranks: u32, rank: u32, word: &[u8], words: &mut Words<'_>) -> Result<Call, ReadErr>
+fn call_without_form(
+    alloc: Global,
+    ranks: u32,
+    rank: u32,
+    word: &[u8],
+    words: &mut Words<'_>,
+) -> Result<Call, ReadErr>
     ensures read { Gives (λ c. c) result (plain_by ranks rank word.now words.old) }
     ensures none { IfOk result (λ c. (values_in_call c ≡ 0) × (id_of_post c ≡ None)) }
 {

@@ -57,7 +57,10 @@ impl<'a> Definitions<'a> {
         ensures { result ≡ header_of version self.entry }
     {
         let Definitions {
-            dims, vars, attrs, ..
+            dims,
+            vars,
+            attrs,
+            ..
         } = self;
         Header {
             version,

@@ -96,7 +96,12 @@ impl<'a> Draft<'a> {
 
     /// Reads a line of the definitions of a new dataset, or of the additions to an existing one, whose version is 0.
     #[tactic(auto, unfolding(crate::specs::DraftWords::known_by))]
-    fn define_or_add(&mut self, version: u8, first: &'a [u8], words: &mut Words<'a>) -> Result<(), ReadErr>
+    fn define_or_add(
+        &mut self,
+        version: u8,
+        first: &'a [u8],
+        words: &mut Words<'a>,
+    ) -> Result<(), ReadErr>
         ensures { Gives (λ _. self.new) result (known_by version self.old first.now words.old) }
     {
         if version == 0 {
@@ -106,14 +111,24 @@ impl<'a> Draft<'a> {
     }
 
     #[tactic(auto, using(crate::proofs::DraftWordLaws::same_known))]
-    fn read_definition_line(&mut self, version: u8, first: &'a [u8], words: &mut Words<'a>) -> Result<(), ReadErr>
+    fn read_definition_line(
+        &mut self,
+        version: u8,
+        first: &'a [u8],
+        words: &mut Words<'a>,
+    ) -> Result<(), ReadErr>
         ensures { Gives (λ _. self.new) result (definition_or_addition version self.old first.now words.old) }
     {
         self.define_or_add(version, first, words)
     }
 
     /// Reads a line.
-    pub fn read(&mut self, version: u8, first: &'a [u8], words: &mut Words<'a>) -> Result<(), ReadErr>
+    pub fn read(
+        &mut self,
+        version: u8,
+        first: &'a [u8],
+        words: &mut Words<'a>,
+    ) -> Result<(), ReadErr>
         ensures { Gives (λ _. self.new) result (known_after version self.old first.now words.old) }
     {
         if first == b"ranks".as_slice() {

@@ -95,14 +95,21 @@ fn is_comment(word: &Token<'_>) -> bool
 }
 
 /// The next significant line.
-pub fn significant_line<'a>(alloc: Global, lines: &mut TextLines<'a>) -> Result<Option<Line<'a>>, AllocError>
+pub fn significant_line<'a>(
+    alloc: Global,
+    lines: &mut TextLines<'a>,
+) -> Result<Option<Line<'a>>, AllocError>
     ensures { IfOk result (λ l. TakesFirst line_seen l (significant_of lines.old) (significant_of lines.new)) }
 {
     while let Some((number, line)) = lines.take() {
         let mut rest = Words::new(alloc, line);
         if let Some(first) = rest.take()? {
             if !is_comment(&first) {
-                return Ok(Some(Line { number, first, rest }));
+                return Ok(Some(Line {
+                    number,
+                    first,
+                    rest,
+                }));
             }
         }
     }

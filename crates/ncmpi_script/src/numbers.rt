@@ -57,7 +57,9 @@ fn natural_of(word: &[u8]) -> Option<u128>
 pub fn size_of_text(word: &[u8]) -> Option<u64>
     ensures value { result ≡ size_of_text word.now }
 {
-    u64::try_from(natural_of(word)?).ok().filter(|n| *n < 1 << 63)
+    u64::try_from(natural_of(word)?)
+        .ok()
+        .filter(|n| *n < 1 << 63)
 }
 
 /// A whole number of at most 20 digits.
@@ -103,11 +105,7 @@ pub fn id_of_text(word: &[u8]) -> Option<u32>
     ensures { result ≡ id_of_text word.now }
 {
     let n = size_of_text(word)?;
-    if n < 1 << 32 {
-        Some(n as u32)
-    } else {
-        None
-    }
+    if n < 1 << 32 { Some(n as u32) } else { None }
 }
 
 /// A size from `low` to `high` that is a multiple of `unit`.
@@ -141,11 +139,7 @@ pub fn digits_below(limit: u32, digits: &[u8]) -> Option<u32>
     for d in digits {
         n = (10 * n + u32::from(*d - b'0')).min(limit);
     }
-    if n < limit {
-        Some(n)
-    } else {
-        None
-    }
+    if n < limit { Some(n) } else { None }
 }
 
 /// What stands between brackets.

@@ -80,7 +80,11 @@ fn definition_step<'a>(
 }
 
 /// The same with the line's number at a fault.
-fn definition_line<'a>(version: u8, draft: &mut Draft<'a>, line: Line<'a>) -> Result<Option<u32>, LineErr>
+fn definition_line<'a>(
+    version: u8,
+    draft: &mut Draft<'a>,
+    line: Line<'a>,
+) -> Result<Option<u32>, LineErr>
     ensures read { GivesAt (λ ranks. (ranks, draft.new)) result
         (at_line line.entry.number (definition_step version draft.old (word_of line.entry.first) line.entry.rest)) }
     ensures bound { IfOk result (λ ranks. IfSome ranks (λ n. n ≤ 64)) }

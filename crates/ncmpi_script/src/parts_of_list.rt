@@ -27,7 +27,11 @@ impl<'a> ListParts<'a> {
     pub fn new(inside: &'a [u8]) -> Self
         ensures { result ≡ parts inside.now }
     {
-        let rest = if inside.is_empty() { None } else { Some(inside) };
+        let rest = if inside.is_empty() {
+            None
+        } else {
+            Some(inside)
+        };
         ListParts { rest }
     }
 

@@ -36,11 +36,7 @@ pub fn next<'a>(words: &mut Words<'a>) -> Result<&'a [u8], ReadErr>
 pub fn name_of_text(word: &[u8]) -> Option<&[u8]>
     ensures { option_map (λ x. x.now) result ≡ name_of_text word.now }
 {
-    if is_name(word) {
-        Some(word)
-    } else {
-        None
-    }
+    if is_name(word) { Some(word) } else { None }
 }
 
 pub fn name<'a>(words: &mut Words<'a>) -> Result<&'a [u8], ReadErr>

@@ -13,7 +13,9 @@ use crate::fault::LineErr;
 use crate::lines::{Line, TextLines, significant_line};
 use crate::mismatch::mismatch;
 use crate::parts::{data_part, definitions, head_line};
-use nc_base::{CallTable, LimitName, MAX_SCRIPT_BYTES, MAX_SCRIPT_LINES, Script, ScriptErr, ScriptKind};
+use nc_base::{
+    CallTable, LimitName, MAX_SCRIPT_BYTES, MAX_SCRIPT_LINES, Script, ScriptErr, ScriptKind,
+};
 use std::alloc::Global;
 
 /// How many lines a text has.
@@ -47,7 +49,12 @@ fn newlines(text: &[u8]) -> u32
 }
 
 /// What follows `end`, which stands on this line: nothing, and the ranks agree.
-fn finish<'a>(alloc: Global, number: u32, table: &RankTable, lines: &mut TextLines<'a>) -> Result<(), LineErr>
+fn finish<'a>(
+    alloc: Global,
+    number: u32,
+    table: &RankTable,
+    lines: &mut TextLines<'a>,
+) -> Result<(), LineErr>
     ensures { GivesAt (λ _. tt) result (finish number table.now.calls (significant_of lines.old)) }
 {
     match significant_line(alloc, lines) {
@@ -70,7 +77,12 @@ fn finish<'a>(alloc: Global, number: u32, table: &RankTable, lines: &mut TextLin
 }
 
 #[tactic(auto, unfolding(crate::specs::TopWords::finish_by))]
-fn read_end(alloc: Global, number: u32, table: &RankTable, lines: &mut TextLines<'_>) -> Result<(), LineErr>
+fn read_end(
+    alloc: Global,
+    number: u32,
+    table: &RankTable,
+    lines: &mut TextLines<'_>,
+) -> Result<(), LineErr>
     ensures { GivesAt (λ _. tt) result (finish_by number table.now.calls (significant_of lines.old)) }
 {
     finish(alloc, number, table, lines)
@@ -107,7 +119,12 @@ fn read_head(line: Line<'_>) -> Result<u8, LineErr>
 
 /// Reads the definitions into a new draft: the number of ranks, and the draft.
 #[tactic(auto, unfolding(crate::specs::TopWords::definitions_by))]
-fn read_definitions<'a>(alloc: Global, past: u32, version: u8, lines: &mut TextLines<'a>) -> Result<(u32, Draft<'a>), LineErr>
+fn read_definitions<'a>(
+    alloc: Global,
+    past: u32,
+    version: u8,
+    lines: &mut TextLines<'a>,
+) -> Result<(u32, Draft<'a>), LineErr>
     ensures read { GivesAt (λ d. (d.0, (d.1, significant_of lines.new))) result (definitions_by past version (significant_of lines.old)) }
     ensures bound { IfOk result (λ d. d.0 ≤ 64) }
 {
@@ -120,7 +137,13 @@ fn read_definitions<'a>(alloc: Global, past: u32, version: u8, lines: &mut TextL
 
 /// Reads the calls into a new table: the line of `end`, and the table.
 #[tactic(auto, unfolding(crate::specs::TopWords::data_part_by))]
-fn read_calls(alloc: Global, past: u32, ranks: u32, draft: &Draft<'_>, lines: &mut TextLines<'_>) -> Result<(u32, RankTable), LineErr>
+fn read_calls(
+    alloc: Global,
+    past: u32,
+    ranks: u32,
+    draft: &Draft<'_>,
+    lines: &mut TextLines<'_>,
+) -> Result<(u32, RankTable), LineErr>
     requires { ranks ≤ 64 }
     ensures { GivesAt (λ c. (c.0, (c.1, significant_of lines.new))) result (data_part_by past ranks draft.now (significant_of lines.old)) }
 {
@@ -130,7 +153,13 @@ fn read_calls(alloc: Global, past: u32, ranks: u32, draft: &Draft<'_>, lines: &m
 }
 
 /// The script that a draft and a table of calls make.
-fn made(alloc: Global, version: u8, ranks: u32, draft: Draft<'_>, table: RankTable) -> Result<Script, LineErr>
+fn made(
+    alloc: Global,
+    version: u8,
+    ranks: u32,
+    draft: Draft<'_>,
+    table: RankTable,
+) -> Result<Script, LineErr>
     ensures { GivesAt (λ script. script) result (Ok (made_by version ranks draft.entry table.calls)) }
 {
     match table.into_calls(alloc) {
@@ -179,7 +208,12 @@ fn read_after_data(
 
 /// Reads what follows the head.
 #[tactic(auto, unfolding(crate::specs::TopWords::rest_by))]
-fn read_rest(alloc: Global, past: u32, version: u8, lines: &mut TextLines<'_>) -> Result<Script, LineErr>
+fn read_rest(
+    alloc: Global,
+    past: u32,
+    version: u8,
+    lines: &mut TextLines<'_>,
+) -> Result<Script, LineErr>
     ensures { GivesAt (λ script. script) result (rest_by past version (significant_of lines.old)) }
 {
     match read_definitions(alloc, past, version, lines) {
@@ -190,7 +224,12 @@ fn read_rest(alloc: Global, past: u32, version: u8, lines: &mut TextLines<'_>) -
 
 /// Reads a script whose head stands on this line.
 #[tactic(auto, unfolding(crate::specs::TopWords::headed_by))]
-fn read_from_head<'a>(alloc: Global, past: u32, line: Line<'a>, lines: &mut TextLines<'a>) -> Result<Script, LineErr>
+fn read_from_head<'a>(
+    alloc: Global,
+    past: u32,
+    line: Line<'a>,
+    lines: &mut TextLines<'a>,
+) -> Result<Script, LineErr>
     ensures { GivesAt (λ script. script) result (headed_by past (line_seen line.entry) (significant_of lines.old)) }
 {
     match read_head(line) {
@@ -201,7 +240,11 @@ fn read_from_head<'a>(alloc: Global, past: u32, line: Line<'a>, lines: &mut Text
 
 /// Reads the script of the lines of a text; `past` is the number past the last.
 #[tactic(auto, using(crate::proofs::TopLaws::lines_none, crate::proofs::TopLaws::lines_some))]
-fn script_of_lines<'a>(alloc: Global, past: u32, lines: &mut TextLines<'a>) -> Result<Script, LineErr>
+fn script_of_lines<'a>(
+    alloc: Global,
+    past: u32,
+    lines: &mut TextLines<'a>,
+) -> Result<Script, LineErr>
     ensures { GivesAt (λ script. script) result (lines_by past (significant_of lines.old)) }
 {
     match significant_line(alloc, lines) {
@@ -233,9 +276,8 @@ fn script_of_utf8(alloc: Global, text: &[u8]) -> Result<Script, LineErr>
     }
     match read {
         Err(LineErr::Memory) => Err(LineErr::Memory),
-        Err(LineErr::Fault(fault)) if fault.line <= MAX_SCRIPT_LINES && !is_mismatch(fault.kind) => {
-            Err(LineErr::Fault(fault))
-        }
+        Err(LineErr::Fault(fault)) if fault.line <= MAX_SCRIPT_LINES && !is_mismatch(fault.kind) =>
+            { Err(LineErr::Fault(fault)) }
         _ => Err(LineErr::Fault(ScriptErr {
             line: MAX_SCRIPT_LINES + 1,
             kind: ScriptKind::Limit(LimitName::Lines),

@@ -11,7 +11,10 @@ use crate::fits::{may_have_bits, may_have_number};
 use crate::numbers::{bits_of_text, number_of_text};
 use crate::reading::{bare, bits, ended, number, size};
 use crate::words::{Token, Words};
-use nc_base::{BitList, Blob, LimitName, MAX_ELEMENTS, MAX_SCRIPT_VALUES, NcType, NumberList, ScriptKind, Values};
+use nc_base::{
+    BitList, Blob, LimitName, MAX_ELEMENTS, MAX_SCRIPT_VALUES, NcType, NumberList, ScriptKind,
+    Values,
+};
 use std::alloc::Global;
 
 /// The limits on `n` values of one line, `before` having come in the lines before.
@@ -102,7 +105,12 @@ fn one_pattern(kind: Option<NcType>, before: u64, n: u64, word: Token<'_>) -> Re
 }
 
 /// Reads numbers to the line's end.
-fn numbers(alloc: Global, kind: Option<NcType>, before: u64, words: &mut Words<'_>) -> Result<NumberList, ReadErr>
+fn numbers(
+    alloc: Global,
+    kind: Option<NcType>,
+    before: u64,
+    words: &mut Words<'_>,
+) -> Result<NumberList, ReadErr>
     requires { before ≤ 2 ^ 24 }
     ensures read { Gives (λ zs. zs) result (each_value (number_for kind) kind before [] words.old) }
     ensures bound { IfOk result (λ zs. before + length zs ≤ 2 ^ 24) }
@@ -116,7 +124,12 @@ fn numbers(alloc: Global, kind: Option<NcType>, before: u64, words: &mut Words<'
 }
 
 /// Reads patterns of bits to the line's end.
-fn patterns(alloc: Global, kind: Option<NcType>, before: u64, words: &mut Words<'_>) -> Result<BitList, ReadErr>
+fn patterns(
+    alloc: Global,
+    kind: Option<NcType>,
+    before: u64,
+    words: &mut Words<'_>,
+) -> Result<BitList, ReadErr>
     requires { before ≤ 2 ^ 24 }
     ensures read { Gives (λ ns. ns) result (each_value (pattern_for kind) kind before [] words.old) }
     ensures bound { IfOk result (λ ns. before + length ns ≤ 2 ^ 24) }
@@ -130,7 +143,12 @@ fn patterns(alloc: Global, kind: Option<NcType>, before: u64, words: &mut Words<
 }
 
 /// Reads how many values a sequence has, which suit or not.
-fn sequence_count(suits: bool, kind: Option<NcType>, before: u64, words: &mut Words<'_>) -> Result<u64, ReadErr>
+fn sequence_count(
+    suits: bool,
+    kind: Option<NcType>,
+    before: u64,
+    words: &mut Words<'_>,
+) -> Result<u64, ReadErr>
     ensures read { Gives (λ n. (n, words.new)) result (sequence_count suits kind before words.old) }
     ensures bound { IfOk result (λ n. before + n ≤ 2 ^ 24) }
 {
@@ -197,7 +215,12 @@ fn is_last_term(kind: Option<NcType>, n: u64, first: i128, step: i128) -> bool
 }
 
 /// Reads the first number and the step of a sequence of `n` numbers.
-fn numbers_between(alloc: Global, kind: Option<NcType>, n: u64, words: &mut Words<'_>) -> Result<NumberList, ReadErr>
+fn numbers_between(
+    alloc: Global,
+    kind: Option<NcType>,
+    n: u64,
+    words: &mut Words<'_>,
+) -> Result<NumberList, ReadErr>
     requires { n ≤ 2 ^ 24 }
     ensures read { Gives (λ zs. zs) result (numbers_between kind n words.old) }
     ensures count { IfOk result (λ zs. length zs ≡ n) }
@@ -250,7 +273,12 @@ fn pattern_sequence(alloc: Global, first: u64, step: u64, n: u64) -> Result<BitL
 }
 
 /// Reads the first pattern and the step of a sequence of `n` patterns.
-fn patterns_between(alloc: Global, kind: Option<NcType>, n: u64, words: &mut Words<'_>) -> Result<BitList, ReadErr>
+fn patterns_between(
+    alloc: Global,
+    kind: Option<NcType>,
+    n: u64,
+    words: &mut Words<'_>,
+) -> Result<BitList, ReadErr>
     ensures read { Gives (λ ns. ns) result (patterns_between kind n words.old) }
     ensures count { IfOk result (λ ns. length ns ≡ n) }
 {
@@ -263,7 +291,12 @@ fn patterns_between(alloc: Global, kind: Option<NcType>, n: u64, words: &mut Wor
     pattern_sequence(alloc, first, step, n)
 }
 
-fn seq_values(alloc: Global, kind: Option<NcType>, before: u64, words: &mut Words<'_>) -> Result<Values, ReadErr>
+fn seq_values(
+    alloc: Global,
+    kind: Option<NcType>,
+    before: u64,
+    words: &mut Words<'_>,
+) -> Result<Values, ReadErr>
     requires { before ≤ 2 ^ 24 }
     ensures read { Gives (λ vs. vs) result (seq_values kind before words.old) }
     ensures bound { IfOk result (λ vs. before + count_of vs ≤ 2 ^ 24) }
@@ -285,7 +318,12 @@ fn pattern_values(alloc: Global, patterns: BitList) -> Values
     }
 }
 
-fn seqx_values(alloc: Global, kind: Option<NcType>, before: u64, words: &mut Words<'_>) -> Result<Values, ReadErr>
+fn seqx_values(
+    alloc: Global,
+    kind: Option<NcType>,
+    before: u64,
+    words: &mut Words<'_>,
+) -> Result<Values, ReadErr>
     requires { before ≤ 2 ^ 24 }
     ensures read { Gives (λ vs. vs) result (seqx_values kind before words.old) }
     ensures bound { IfOk result (λ vs. before + count_of vs ≤ 2 ^ 24) }
@@ -295,7 +333,12 @@ fn seqx_values(alloc: Global, kind: Option<NcType>, before: u64, words: &mut Wor
     Ok(pattern_values(alloc, patterns))
 }
 
-fn text_values(kind: Option<NcType>, before: u64, text: Vec<u8>, words: &mut Words<'_>) -> Result<Values, ReadErr>
+fn text_values(
+    kind: Option<NcType>,
+    before: u64,
+    text: Vec<u8>,
+    words: &mut Words<'_>,
+) -> Result<Values, ReadErr>
     ensures read { Gives (λ vs. vs) result (text_values kind before text.items words.old) }
     ensures bound { IfOk result (λ vs. before + count_of vs ≤ 2 ^ 24) }
 {
@@ -307,7 +350,12 @@ fn text_values(kind: Option<NcType>, before: u64, text: Vec<u8>, words: &mut Wor
     Ok(Values::Text(Blob::from_vec(text)))
 }
 
-fn number_values(alloc: Global, kind: Option<NcType>, before: u64, words: &mut Words<'_>) -> Result<Values, ReadErr>
+fn number_values(
+    alloc: Global,
+    kind: Option<NcType>,
+    before: u64,
+    words: &mut Words<'_>,
+) -> Result<Values, ReadErr>
     requires { before ≤ 2 ^ 24 }
     ensures read { Gives (λ vs. vs) result (number_values kind before words.old) }
     ensures bound { IfOk result (λ vs. before + count_of vs ≤ 2 ^ 24) }
@@ -315,7 +363,12 @@ fn number_values(alloc: Global, kind: Option<NcType>, before: u64, words: &mut W
     Ok(Values::Numbers(numbers(alloc, kind, before, words)?))
 }
 
-fn bits_values(alloc: Global, kind: Option<NcType>, before: u64, words: &mut Words<'_>) -> Result<Values, ReadErr>
+fn bits_values(
+    alloc: Global,
+    kind: Option<NcType>,
+    before: u64,
+    words: &mut Words<'_>,
+) -> Result<Values, ReadErr>
     requires { before ≤ 2 ^ 24 }
     ensures read { Gives (λ vs. vs) result (bits_values kind before words.old) }
     ensures bound { IfOk result (λ vs. before + count_of vs ≤ 2 ^ 24) }
@@ -333,7 +386,13 @@ fn begins_x(word: &[u8]) -> bool
 }
 
 /// Reads values that are written out, of which `word` is the first.
-fn listed_values(alloc: Global, kind: Option<NcType>, before: u64, word: &[u8], words: &mut Words<'_>) -> Result<Values, ReadErr>
+fn listed_values(
+    alloc: Global,
+    kind: Option<NcType>,
+    before: u64,
+    word: &[u8],
+    words: &mut Words<'_>,
+) -> Result<Values, ReadErr>
     requires { before ≤ 2 ^ 24 }
     ensures read { Gives (λ vs. vs) result (listed_values (listed_kind kind word.now) kind before words.old) }
     ensures bound { IfOk result (λ vs. before + count_of vs ≤ 2 ^ 24) }
@@ -347,7 +406,14 @@ fn listed_values(alloc: Global, kind: Option<NcType>, before: u64, word: &[u8], 
 }
 
 /// Reads values whose first word is no text; `after` are the words behind it.
-fn plain_values(alloc: Global, kind: Option<NcType>, before: u64, word: &[u8], words: &mut Words<'_>, after: &mut Words<'_>) -> Result<Values, ReadErr>
+fn plain_values(
+    alloc: Global,
+    kind: Option<NcType>,
+    before: u64,
+    word: &[u8],
+    words: &mut Words<'_>,
+    after: &mut Words<'_>,
+) -> Result<Values, ReadErr>
     requires count { before ≤ 2 ^ 24 }
     requires first { words.old ≡ Plain word.now ∷ after.old }
     ensures read { Gives (λ vs. vs) result (values kind before words.old) }
@@ -363,7 +429,12 @@ fn plain_values(alloc: Global, kind: Option<NcType>, before: u64, word: &[u8], w
 }
 
 /// Reads values to the line's end.
-pub fn values(alloc: Global, kind: Option<NcType>, before: u64, words: &mut Words<'_>) -> Result<Values, ReadErr>
+pub fn values(
+    alloc: Global,
+    kind: Option<NcType>,
+    before: u64,
+    words: &mut Words<'_>,
+) -> Result<Values, ReadErr>
     requires { before ≤ 2 ^ 24 }
     ensures read { Gives (λ vs. vs) result (values kind before words.old) }
     ensures bound { IfOk result (λ vs. before + count_of vs ≤ 2 ^ 24) }

@@ -9,11 +9,14 @@ ghost use Rattle.ncmpi_script.specs.Reading.{Gives};
 use crate::dims::Dims;
 use crate::fault::ReadErr;
 use crate::names::Names;
-use crate::parts_of_list::ListParts;
 use crate::numbers::is_name;
+use crate::parts_of_list::ListParts;
 use crate::reading::{bracketed, ended, name, type_name};
 use crate::words::Words;
-use nc_base::{Attr, AttrList, IdList, LimitName, MAX_VAR_DIMS, MAX_VARS, Memory, Name, NcType, ScriptKind, Var, VarList};
+use nc_base::{
+    Attr, AttrList, IdList, LimitName, MAX_VAR_DIMS, MAX_VARS, Memory, Name, NcType, ScriptKind,
+    Var, VarList,
+};
 use std::alloc::{AllocError, Global};
 use std::marker::Model;
 
@@ -62,7 +65,12 @@ impl<'a> Vars<'a> {
     }
 
     /// Reads the rest of a variable's line.
-    pub fn read(&self, version: u8, dims: &Dims<'a>, words: &mut Words<'a>) -> Result<(NcType, &'a [u8], IdList), ReadErr>
+    pub fn read(
+        &self,
+        version: u8,
+        dims: &Dims<'a>,
+        words: &mut Words<'a>,
+    ) -> Result<(NcType, &'a [u8], IdList), ReadErr>
         ensures read { Gives (λ v. record { name = v.1.now; dims = v.2; attrs = []; kind = v.0; begin = 0 }) result (var_line version dims.now self.now words.old) }
         ensures new { IfOk result (λ v. is_among v.1.now (var_names self.now) ≡ false) }
     {
@@ -100,7 +108,11 @@ impl<'a> Vars<'a> {
 }
 
 /// Reads a variable's type and its name, which is none of these.
-pub fn var_head<'a>(version: u8, names: &Names<'a>, words: &mut Words<'a>) -> Result<(NcType, &'a [u8]), ReadErr>
+pub fn var_head<'a>(
+    version: u8,
+    names: &Names<'a>,
+    words: &mut Words<'a>,
+) -> Result<(NcType, &'a [u8]), ReadErr>
     ensures read { Gives (λ v. ((v.0, v.1.now), words.new)) result (var_head version names.now words.old) }
     ensures new { IfOk result (λ v. is_among v.1.now names.now ≡ false) }
 {

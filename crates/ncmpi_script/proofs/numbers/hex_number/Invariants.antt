@@ -6,5 +6,5 @@ use Rattle.ncmpi_script.proofs.numbers.hex_number.Given as goal
 abbrev pub invariant-loop-digit : goal.invariant-loop-digit
 invariant-loop-digit l = record {
   value : fold hex_sum (Some l.n) (drop l.digit-index l.digits) ≡ fold hex_sum (Some 0) l.digits;
-  bound : l.n < sixteens l.digit-index
+  bound : l.n < sixteens l.digit-index;
 }

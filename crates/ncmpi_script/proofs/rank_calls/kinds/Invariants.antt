@@ -5,5 +5,5 @@ use Rattle.ncmpi_script.proofs.rank_calls.kinds.Given as goal
 abbrev pub invariant-loop-call : goal.invariant-loop-call
 invariant-loop-call l = record {
   value : l.list ≡ kinds (take l.call-index l.calls);
-  bound : length l.list ≤ l.call-index
+  bound : length l.list ≤ l.call-index;
 }

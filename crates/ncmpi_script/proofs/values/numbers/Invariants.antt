@@ -5,7 +5,7 @@ use Rattle.ncmpi_script.proofs.values.numbers.Given as goal
 abbrev pub invariant-loop-found : goal.invariant-loop-found
 invariant-loop-found l = record {
   read : each_value (number_for l.kind) l.kind l.before l.found l.words ≡ each_value (number_for l.kind) l.kind l.before [] l.fn.words;
-  bound : l.before + length l.found ≤ 2 ^ 24
+  bound : l.before + length l.found ≤ 2 ^ 24;
 }
 
 abbrev pub decreases-loop-found : goal.decreases-loop-found

@@ -15,8 +15,8 @@ pub returns : goal.returns
 returns c =
     let v = c.index_mut.result.now in
     on_ok c.push.result
-        (λ (more : c.push.new.self ≡ v.attrs ++ c.args.attr ∷ []).
-        ap (λ (attrs : List Attr). slice_set c.self.inside.list.items c.args.place (record v { attrs = attrs })) more
-        ∙ attached c.self.inside.list.items c.args.place v c.args.attr c.index_mut.ensures.value (omega (arith, ap length c.self.view_is))
-        ∙ ap (with_attr_at c.args.place c.args.attr) c.self.view_is)
-        c.push.ensures.ok
+    (λ (more : c.push.new.self ≡ v.attrs ++ c.args.attr ∷ []).
+    ap (λ (attrs : List Attr). slice_set c.self.inside.list.items c.args.place (record v { attrs = attrs })) more
+    ∙ attached c.self.inside.list.items c.args.place v c.args.attr c.index_mut.ensures.value (omega (arith, ap length c.self.view_is))
+    ∙ ap (with_attr_at c.args.place c.args.attr) c.self.view_is)
+    c.push.ensures.ok
