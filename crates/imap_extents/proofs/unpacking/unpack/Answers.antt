@@ -1,0 +1,25 @@
+use Rattle.std.proofs.Common.{◌≡◌, ◌*◌, ◌∙◌, sym, ap, ℕ, List, Option, length, map}
+use Rattle.serial_spec.specs.ExternalForm.{size_of}
+use Rattle.imap_extents.specs.Found.{char_in, bits_in}
+use Rattle.nc_base.specs.declared.request.Value.{Value}
+use Rattle.imap_extents.proofs.PositionLaws.{length-positions}
+use Rattle.imap_extents.proofs.PlacingLaws.{spread_text, spread_bits}
+use Rattle.imap_extents.proofs.unpacking.unpack.Goals as goal
+
+pub last_values-requires-clause-long : goal.last_values-requires-clause-long
+last_values-requires-clause-long c =
+    c.requires.long
+    ∙ ap (λ (n : ℕ). n * size_of c.args.kind)
+    (sym (length-positions c.args.region.now) ∙ sym (ap (λ (ps : List ℕ). length ps) (c.deref.ensures.value ∙ c.in_ok-positions.ensures)))
+
+pub returns-in-Char : goal.returns-in-Char
+returns-in-Char c =
+    spread_text c.args.kind c.args.region.now c.args.bytes.now c.deref.result.now c.in_ok-found.found.items c.from_vec.result
+    c.in-Char.is (c.deref.ensures.value ∙ c.in_ok-positions.ensures) c.in_ok-found.ensures
+    (c.from_vec.ensures ∙ c.in_ok-characters-in-Char.ensures ∙ ap (λ (l : List (Option Value)). map char_in l) c.deref-in-Char.ensures.value)
+
+pub returns-in-Float : goal.returns-in-Float
+returns-in-Float c =
+    spread_bits c.args.kind c.args.region.now c.args.bytes.now c.deref.result.now c.in_ok-found.found.items c.from_vec-in-Float.result
+    c.in-Float.is (c.deref.ensures.value ∙ c.in_ok-positions.ensures) c.in_ok-found.ensures
+    (c.from_vec-in-Float.ensures ∙ c.in_ok-patterns-in-Float.ensures ∙ ap (λ (l : List (Option Value)). map bits_in l) c.deref-in-Float.ensures.value)

@@ -1,0 +1,13 @@
+//! Between the values of a call in memory and the bytes of its request.
+//!
+//! The elements of a request go in row-major order. Memory that is not packed has them by an index map, which counts
+//! values of memory (PnetCDF C API reference, the form `varm`). Where two elements have one position of memory, the
+//! later one stands there after a read; that is our choice.
+#![tactic(auto)]
+
+mod packing;
+mod positions;
+mod unpacking;
+
+pub use packing::pack;
+pub use unpacking::unpack;

@@ -1,0 +1,134 @@
+// From the bytes of a request to memory.
+ghost use Rattle.std.specs.Prelude.{◌≡◌, ◌+◌, ◌*◌, ◌<◌, ◌≤◌, length, map, replicate, None, IfOk};
+ghost use Rattle.std.specs.List.{range_with_len};
+ghost use Rattle.serial_spec.specs.ExternalForm as external;
+ghost use Rattle.serial_spec.specs.Layout.{product, greatest};
+ghost use Rattle.serial_spec.specs.Limits.{most_elements};
+ghost use Rattle.serial_spec.specs.Request.{cells, number_in, spread};
+ghost use Rattle.imap_extents.specs.Mapped.{IsMapped};
+ghost use Rattle.imap_extents.specs.Found.{value_of_last, char_in, bits_in};
+
+use crate::positions::positions_of;
+use nc_base::{BitList, Blob, Memory, NcType, NumberList, Region, Value, Values};
+use std::alloc::Global;
+use type_external::{decode_one, size_of};
+
+/// What a get brings to memory: the values of the bytes, which are those of the region's elements in row-major order,
+/// at their positions. There are as many values as the positions reach; where no element stands they are 0, and where
+/// several stand the last of them counts. The index map has an entry for each count where memory is not packed.
+pub fn unpack(alloc: Global, kind: NcType, region: &Region, bytes: &[u8]) -> Result<Values, Memory>
+    requires mapped { IsMapped region.now }
+    requires long { length bytes.now ≡ product region.now.count * external.size_of kind }
+    ensures { IfOk result (λ values. values ≡ spread kind region.now bytes.now) }
+{
+    let positions = positions_of(alloc, region)?;
+    let found = last_values(alloc, kind, &positions, bytes)?;
+    match kind {
+        NcType::Char => Ok(Values::Text(Blob::from_vec(characters(alloc, &found)?))),
+        NcType::Float | NcType::Double => {
+            Ok(Values::Bits(BitList::from_vec(patterns(alloc, &found)?)))
+        }
+        _ => Ok(Values::Numbers(NumberList::from_vec(numbers(alloc, &found)?))),
+    }
+}
+
+/// The greatest position plus one.
+fn reach_of(positions: &[u64]) -> u64
+    requires { greatest (map (λ m. m + 1) positions.now) ≤ most_elements }
+    ensures { result ≡ greatest (map (λ m. m + 1) positions.now) }
+{
+    let mut reach = 0;
+    for position in positions {
+        reach = reach.max(position.saturating_add(1));
+    }
+    reach
+}
+
+/// For each value of memory the last one that stands there.
+fn last_values(
+    alloc: Global,
+    kind: NcType,
+    positions: &[u64],
+    bytes: &[u8],
+) -> Result<Vec<Option<Value>>, Memory>
+    requires reach { greatest (map (λ m. m + 1) positions.now) ≤ most_elements }
+    requires long { length bytes.now ≡ length positions.now * external.size_of kind }
+    ensures { IfOk result (λ found. found.items ≡ map (value_of_last kind (cells (external.size_of kind) positions.now bytes.now)) (range_with_len 0 (greatest (map (λ m. m + 1) positions.now)))) }
+{
+    let size = size_of(kind) as usize;
+    let mut found = none_found(alloc, reach_of(positions) as usize)?;
+    let mut rest = bytes;
+    for position in positions {
+        let (form, later) = rest.split_at(size);
+        found[*position as usize] = Some(decode_one(kind, form));
+        rest = later;
+    }
+    Ok(found)
+}
+
+/// No value, so many times.
+fn none_found(alloc: Global, count: usize) -> Result<Vec<Option<Value>>, Memory>
+    ensures { IfOk result (λ found. found.items ≡ replicate count None) }
+{
+    Ok(vec![in alloc; None; count]?)
+}
+
+/// The numbers, 0 where there is none.
+fn numbers(alloc: Global, found: &[Option<Value>]) -> Result<Vec<i128>, Memory>
+    ensures { IfOk result (λ all. all.items ≡ map number_in found.now) }
+{
+    let mut numbers = Vec::with_capacity(alloc, found.len())?;
+    for value in found {
+        numbers.push(number_in(*value))?;
+    }
+    Ok(numbers)
+}
+
+fn number_in(value: Option<Value>) -> i128
+    ensures { result ≡ number_in value }
+{
+    match value {
+        Some(Value::Number(number)) => number,
+        _ => 0,
+    }
+}
+
+/// The bytes of text, 0 where there is none.
+fn characters(alloc: Global, found: &[Option<Value>]) -> Result<Vec<u8>, Memory>
+    ensures { IfOk result (λ all. all.items ≡ map char_in found.now) }
+{
+    let mut characters = Vec::with_capacity(alloc, found.len())?;
+    for value in found {
+        characters.push(char_in(*value))?;
+    }
+    Ok(characters)
+}
+
+fn char_in(value: Option<Value>) -> u8
+    ensures { result ≡ char_in value }
+{
+    match value {
+        Some(Value::Char(character)) => character,
+        _ => 0,
+    }
+}
+
+/// The bit patterns, 0 where there is none.
+fn patterns(alloc: Global, found: &[Option<Value>]) -> Result<Vec<u64>, Memory>
+    ensures { IfOk result (λ all. all.items ≡ map bits_in found.now) }
+{
+    let mut patterns = Vec::with_capacity(alloc, found.len())?;
+    for value in found {
+        patterns.push(bits_in(*value))?;
+    }
+    Ok(patterns)
+}
+
+fn bits_in(value: Option<Value>) -> u64
+    ensures { result ≡ bits_in value }
+{
+    match value {
+        Some(Value::Bits(pattern)) => pattern,
+        _ => 0,
+    }
+}
