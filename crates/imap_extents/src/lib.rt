@@ -11,3 +11,6 @@ mod unpacking;
 
 pub use packing::pack;
 pub use unpacking::unpack;
+
+#[cfg(test)]
+mod tests;
