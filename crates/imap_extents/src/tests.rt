@@ -90,9 +90,9 @@ fn columns_become_rows(rt: HostRuntime) -> Result<(), Fail> {
     let alloc = rt.alloc();
     let values = numbers(alloc, &[1, 2, 3, 4, 5, 6])?;
     let bytes = pack(alloc, NcType::Byte, &rows(alloc, false)?, &values)?;
-    assert!(rt; bytes.as_slice() == [1, 3, 5, 2, 4, 6]);
+    assert!(rt; bytes.as_slice() == [1u8, 3, 5, 2, 4, 6].as_slice());
     let plain = pack(alloc, NcType::Byte, &rows(alloc, true)?, &values)?;
-    assert!(rt; plain.as_slice() == [1, 2, 3, 4, 5, 6]);
+    assert!(rt; plain.as_slice() == [1u8, 2, 3, 4, 5, 6].as_slice());
     Ok(())
 }
 
