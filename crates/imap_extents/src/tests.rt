@@ -1,5 +1,4 @@
-// Memory and bytes side by side. The values of a put by a map are those of the example of `nc_put_varm` in the
-// PnetCDF C API reference: two rows of three, transposed in memory.
+// Memory and bytes side by side. Two rows of three, which memory has column by column: the map 1, 2.
 ghost use Rattle.std.specs.Prelude.{◌≡◌, ◌∷◌, [], IfOk};
 ghost use Rattle.imap_extents.specs.Mapped.{IsMapped};
 
