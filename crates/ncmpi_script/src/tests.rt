@@ -1,5 +1,11 @@
-use super::*;
-use nc_base::{Call, LimitName, ScriptKind};
+// Texts of scripts, and what is read of them.
+mod faults;
+mod limits;
+mod values;
+mod whole;
+
+use crate::read_script;
+use nc_base::{Call, LimitName, Script, ScriptKind};
 use std::alloc::{AllocError, Global};
 use std::process::Abort;
 use std::test::Fail;
@@ -27,6 +33,41 @@ fn refused<R: Abort>(rt: &R, alloc: Global, table: &[(&str, u32, ScriptKind)]) {
 fn read<R: Abort>(rt: &R, alloc: Global, table: &[&str]) {
     for text in table {
         assert_eq!(rt; fault(alloc, text.as_bytes()), None, "{text}");
+    }
+}
+
+// A line between others.
+fn of_lines(alloc: Global, before: &str, line: &str, after: &str) -> Result<Vec<u8>, AllocError> {
+    let mut text = Vec::from_slice(alloc, before.as_bytes())?;
+    text.extend_from_slice(line.as_bytes())?;
+    text.extend_from_slice(after.as_bytes())?;
+    Ok(text)
+}
+
+// Each line, which has this number behind these lines, is refused for that cause.
+fn line_refused<R: Abort>(
+    rt: &R,
+    alloc: Global,
+    before: &str,
+    number: u32,
+    table: &[(&str, ScriptKind)],
+) -> Result<(), Fail> {
+    for (line, kind) in table {
+        let text = of_lines(alloc, before, line, "\n")?;
+        assert_eq!(rt;
+            fault(alloc, text.as_slice()),
+            Some((number, *kind)),
+            "{line}"
+        );
+    }
+    Ok(())
+}
+
+// The calls of a rank.
+fn calls_of(script: &Script, rank: usize) -> &[Call] {
+    match script.calls.as_slice().get(rank) {
+        Some(own) => own.as_slice(),
+        None => &[],
     }
 }
 
