@@ -1,0 +1,161 @@
+// Where the variables of a dataset lie.
+ghost use Rattle.std.specs.Prelude.{◌≡◌, ◌+◌, ◌<◌, ◌^◌, ◌++◌, ◌==◌, IfOk, OnOk, codes, decimal, flat_map, if◌then◌else◌, map, true};
+ghost use Rattle.serial_spec.specs.HeaderGrammar.{header_len, is_sound};
+ghost use Rattle.serial_spec.specs.Layout.{slab};
+ghost use Rattle.script_spec.specs.Shown.{dim_name};
+ghost use Rattle.script_spec.specs.Texts.{dim_line, extent_of, in_brackets, offsets_text, var_lines};
+ghost use Rattle.printed_text.specs.Offsets.{head_lines, length_words, title_line, variables_of};
+
+use crate::words::{push_bytes, push_numbered, type_word};
+use nc_base::{Blob, Dim, Header, Memory, Var};
+use std::alloc::Global;
+use var_layout::{header_len, is_record, slab_of};
+
+/// The version, what the header takes, the dimensions, and where each variable lies.
+pub fn offsets_text(alloc: Global, header: &Header) -> Result<Blob, Memory>
+    requires { is_sound header.now ≡ true }
+    ensures { IfOk result (λ text. text ≡ offsets_text header.now) }
+{
+    let mut out = Vec::new(alloc);
+    push_offsets(&mut out, header)?;
+    Ok(Blob::from_vec(out))
+}
+
+pub(crate) fn push_offsets(out: &mut Vec<u8>, header: &Header) -> Result<(), Memory>
+    requires { is_sound header.now ≡ true }
+    ensures { OnOk result (out.new.items ≡ out.old.items ++ offsets_text header.now) }
+{
+    push_head(out, header)?;
+    push_bytes(out, b"dimensions:\n")?;
+    push_dims(out, header.records, header.dims.as_slice())?;
+    push_bytes(out, b"fixed-size variables:\n")?;
+    push_vars(out, header, false)?;
+    push_bytes(out, b"record variables:\n")?;
+    push_vars(out, header, true)
+}
+
+/// The version, the header's length and its extent.
+fn push_head(out: &mut Vec<u8>, header: &Header) -> Result<(), Memory>
+    requires { is_sound header.now ≡ true }
+    ensures { OnOk result (out.new.items ≡ out.old.items ++ head_lines header.now) }
+{
+    let len = header_len(header);
+    push_numbered(out, b"// file format: CDF-", u64::from(header.version))?;
+    push_numbered(out, b"\nfile header:\n  size = ", len)?;
+    push_numbered(
+        out,
+        b" bytes\n  extent = ",
+        extent(len, header.vars.as_slice()),
+    )?;
+    push_bytes(out, b" bytes\n")
+}
+
+/// The least begin, or the header's length where there is no variable.
+fn extent(len: u64, vars: &[Var]) -> u64
+    ensures { result ≡ extent_of len vars.now }
+{
+    let Some((first, others)) = vars.split_first() else {
+        return len;
+    };
+    let mut least = first.begin;
+    for var in others {
+        least = least.min(var.begin);
+    }
+    least
+}
+
+fn push_dims(out: &mut Vec<u8>, records: u64, dims: &[Dim]) -> Result<(), Memory>
+    ensures { OnOk result (out.new.items ≡ out.old.items ++ flat_map (dim_line records) dims.now) }
+{
+    for dim in dims {
+        push_dim(out, records, dim)?;
+    }
+    Ok(())
+}
+
+fn push_dim(out: &mut Vec<u8>, records: u64, dim: &Dim) -> Result<(), Memory>
+    ensures { OnOk result (out.new.items ≡ out.old.items ++ dim_line records dim.now) }
+{
+    push_bytes(out, b"  ")?;
+    push_bytes(out, dim.name.as_slice())?;
+    push_length(out, records, dim.len)?;
+    out.push(b'\n')?;
+    Ok(())
+}
+
+/// A dimension's length, or how many records there are.
+fn push_length(out: &mut Vec<u8>, records: u64, len: u64) -> Result<(), Memory>
+    ensures { OnOk result (out.new.items ≡ out.old.items ++ length_words records len) }
+{
+    if len == 0 {
+        push_numbered(out, b" = UNLIMITED // (", records)?;
+        push_bytes(out, b" currently)")
+    } else {
+        push_numbered(out, b" = ", len)
+    }
+}
+
+/// The record variables, or the fixed ones.
+fn push_vars(out: &mut Vec<u8>, header: &Header, of_records: bool) -> Result<(), Memory>
+    requires { is_sound header.now ≡ true }
+    ensures { OnOk result (out.new.items ≡ out.old.items ++ flat_map (var_lines header.now) (variables_of of_records header.now header.now.vars)) }
+{
+    for var in header.vars.as_slice() {
+        if is_record(header, var) == of_records {
+            push_var(out, header, var)?;
+        }
+    }
+    Ok(())
+}
+
+fn push_var(out: &mut Vec<u8>, header: &Header, var: &Var) -> Result<(), Memory>
+    requires { var.now.begin + slab header.now var.now < 2 ^ 62 }
+    ensures { OnOk result (out.new.items ≡ out.old.items ++ var_lines header.now var.now) }
+{
+    let size = slab_of(header, var);
+    push_title(out, header, var)?;
+    push_numbered(out, b"    start file offset = ", var.begin)?;
+    push_numbered(out, b"\n    end file offset = ", var.begin + size)?;
+    push_numbered(out, b"\n    size in bytes = ", size)?;
+    out.push(b'\n')?;
+    Ok(())
+}
+
+/// A variable's type, name and dimensions.
+fn push_title(out: &mut Vec<u8>, header: &Header, var: &Var) -> Result<(), Memory>
+    ensures { OnOk result (out.new.items ≡ out.old.items ++ title_line header.now var.now) }
+{
+    push_bytes(out, b"  ")?;
+    push_bytes(out, type_word(var.kind))?;
+    out.push(b' ')?;
+    push_bytes(out, var.name.as_slice())?;
+    push_shape(out, header, var.dims.as_slice())?;
+    push_bytes(out, b":\n")
+}
+
+/// The names of the dimensions in brackets, or nothing of a scalar.
+fn push_shape(out: &mut Vec<u8>, header: &Header, ids: &[u32]) -> Result<(), Memory>
+    ensures { OnOk result (out.new.items ≡ out.old.items ++ in_brackets (map (dim_name header.now) ids.now)) }
+{
+    let Some((first, others)) = ids.split_first() else {
+        return Ok(());
+    };
+    out.push(b'(')?;
+    push_bytes(out, dim_name(header, *first))?;
+    for id in others {
+        push_bytes(out, b", ")?;
+        push_bytes(out, dim_name(header, *id))?;
+    }
+    out.push(b')')?;
+    Ok(())
+}
+
+/// The name of a dimension, empty for an id that none has.
+fn dim_name(header: &Header, id: u32) -> &[u8]
+    ensures { result.now ≡ dim_name header.now id }
+{
+    match header.dims.as_slice().get(id as usize) {
+        Some(dim) => dim.name.as_slice(),
+        None => b"",
+    }
+}

@@ -1,0 +1,188 @@
+// The text of a run.
+ghost use Rattle.std.specs.Prelude.{◌≡◌, ◌++◌, ◌∷◌, [], IfOk, OnOk, codes, decimal, flat_map, map, true, zip};
+ghost use Rattle.std.specs.List.{enumerate_from};
+ghost use Rattle.serial_spec.specs.HeaderGrammar.{is_sound};
+ghost use Rattle.script_spec.specs.Texts.{call_lines, item_line, line, mark_word, option_words, outcome, pair_words, rank_lines, run_text, value_words};
+ghost use Rattle.printed_text.specs.Spaced.{spaced};
+
+use crate::digits::{NameDigits, RankDigits};
+use crate::offsets::push_offsets;
+use crate::words::{
+    code_word, push_bytes, push_call_word, push_decimal, push_numbered, push_values, push_word,
+};
+use nc_base::{
+    Answer, Blob, Call, CallList, Code, Header, Item, Mark, Memory, Pair, RunEnd, Script, Values,
+};
+use std::alloc::Global;
+
+/// What a plain run prints: its ranks, the order of its steps, each rank's answers and how many requests it left, and where
+/// the variables lie. The header has the final record count.
+pub fn run_text(
+    alloc: Global,
+    script: &Script,
+    header: &Header,
+    end: &RunEnd,
+) -> Result<Blob, Memory>
+    requires { is_sound header.now ≡ true }
+    ensures { IfOk result (λ text. text ≡ run_text script.now header.now end.now.order end.now.answers end.now.pending) }
+{
+    let names = NameDigits::new(alloc, header)?;
+    let mut out = Vec::new(alloc);
+    push_numbered(&mut out, b"ranks ", u64::from(script.ranks))?;
+    push_order(&mut out, end.order.as_slice())?;
+    push_ranks(alloc, &mut out, &names, script.calls.as_slice(), end)?;
+    push_offsets(&mut out, header)?;
+    Ok(Blob::from_vec(out))
+}
+
+/// The end of the line before, and the marks.
+fn push_order(out: &mut Vec<u8>, order: &[Mark]) -> Result<(), Memory>
+    ensures { OnOk result (out.new.items ≡ out.old.items ++ 10 ∷ line (codes "order" ∷ map mark_word order.now)) }
+{
+    push_bytes(out, b"\norder")?;
+    for mark in order {
+        push_mark(out, *mark)?;
+    }
+    out.push(b'\n')?;
+    Ok(())
+}
+
+/// A blank and a mark.
+fn push_mark(out: &mut Vec<u8>, mark: Mark) -> Result<(), Memory>
+    ensures { OnOk result (out.new.items ≡ out.old.items ++ 32 ∷ mark_word mark) }
+{
+    match mark {
+        Mark::Meet(meeting) => push_numbered(out, b" m", u64::from(meeting)),
+        Mark::Solo(rank, call) => {
+            push_numbered(out, b" s", u64::from(rank))?;
+            push_numbered(out, b".", u64::from(call))
+        }
+    }
+}
+
+fn push_ranks(
+    alloc: Global,
+    out: &mut Vec<u8>,
+    names: &NameDigits,
+    calls: &[CallList],
+    end: &RunEnd,
+) -> Result<(), Memory>
+    ensures { OnOk result (out.new.items ≡ out.old.items
+        ++ flat_map (rank_lines names.now) (enumerate_from 0 (zip (zip calls.now end.now.answers) end.now.pending))) }
+{
+    let answers = end.answers.as_slice();
+    let pending = end.pending.as_slice();
+    for (rank, ((calls, answers), pending)) in calls.iter().zip(answers).zip(pending).enumerate() {
+        push_numbered(out, b"rank ", rank as u64)?;
+        push_rank(alloc, out, names, calls.as_slice(), answers.as_slice())?;
+        push_numbered(out, b"pending ", *pending)?;
+        out.push(b'\n')?;
+    }
+    Ok(())
+}
+
+/// The end of the line before, and a rank's calls with their answers.
+fn push_rank(
+    alloc: Global,
+    out: &mut Vec<u8>,
+    names: &NameDigits,
+    calls: &[Call],
+    answers: &[Answer],
+) -> Result<(), Memory>
+    ensures { OnOk result (out.new.items ≡ out.old.items
+        ++ 10 ∷ flat_map (call_lines names.now calls.now) (enumerate_from 0 (zip calls.now answers.now))) }
+{
+    let digits = RankDigits::new(alloc, names, calls)?;
+    out.push(b'\n')?;
+    for (number, (call, answer)) in calls.iter().zip(answers).enumerate() {
+        push_call(out, &digits, number as u64, call, answer)?;
+    }
+    Ok(())
+}
+
+/// A call's line, and one line for each of its items.
+fn push_call(
+    out: &mut Vec<u8>,
+    digits: &RankDigits,
+    number: u64,
+    call: &Call,
+    answer: &Answer,
+) -> Result<(), Memory>
+    ensures { OnOk result (out.new.items ≡ out.old.items ++ call_lines digits.now.0 digits.now.1 (number, (call.now, answer.now))) }
+{
+    push_decimal(out, number)?;
+    out.push(b' ')?;
+    push_call_word(out, call)?;
+    push_answer(out, digits.of_call(call), answer)?;
+    push_items(out, digits, answer.items.as_slice())
+}
+
+/// What follows a call's word on its line.
+fn push_answer(out: &mut Vec<u8>, digits: u8, answer: &Answer) -> Result<(), Memory>
+    ensures { OnOk result (out.new.items ≡ out.old.items ++ (spaced (outcome answer.now.code answer.now.pair)
+        ++ spaced (option_words (λ x. decimal x ∷ []) answer.now.number)
+        ++ spaced (option_words (value_words digits) answer.now.values) ++ 10 ∷ [])) }
+{
+    push_outcome(out, answer.code, &answer.pair)?;
+    if let Some(number) = answer.number {
+        push_numbered(out, b" ", number)?;
+    }
+    push_got(out, digits, &answer.values)?;
+    out.push(b'\n')?;
+    Ok(())
+}
+
+/// The code, and two requests that share a byte: in place of ok, or after another code.
+fn push_outcome(out: &mut Vec<u8>, code: Code, pair: &Option<Pair>) -> Result<(), Memory>
+    ensures { OnOk result (out.new.items ≡ out.old.items ++ spaced (outcome code pair.now)) }
+{
+    match pair {
+        None => push_word(out, code_word(code)),
+        Some(pair) => {
+            if code != Code::Ok {
+                push_word(out, code_word(code))?;
+            }
+            push_pair(out, pair)
+        }
+    }
+}
+
+fn push_pair(out: &mut Vec<u8>, pair: &Pair) -> Result<(), Memory>
+    ensures { OnOk result (out.new.items ≡ out.old.items ++ spaced (pair_words pair.now)) }
+{
+    push_numbered(out, b" overlap ", u64::from(pair.rank1))?;
+    push_numbered(out, b" ", u64::from(pair.request1))?;
+    push_numbered(out, b" ", u64::from(pair.rank2))?;
+    push_numbered(out, b" ", u64::from(pair.request2))?;
+    push_numbered(out, b" ", pair.at)
+}
+
+/// What a get read, if anything.
+fn push_got(out: &mut Vec<u8>, digits: u8, values: &Option<Values>) -> Result<(), Memory>
+    ensures { OnOk result (out.new.items ≡ out.old.items ++ spaced (option_words (value_words digits) values.now)) }
+{
+    match values {
+        None => Ok(()),
+        Some(values) => push_values(out, digits, values),
+    }
+}
+
+fn push_items(out: &mut Vec<u8>, digits: &RankDigits, items: &[Item]) -> Result<(), Memory>
+    ensures { OnOk result (out.new.items ≡ out.old.items ++ flat_map (item_line digits.now.0 digits.now.1) items.now) }
+{
+    for item in items {
+        push_item(out, digits, item)?;
+    }
+    Ok(())
+}
+
+/// What a wait or a cancel tells of one request.
+fn push_item(out: &mut Vec<u8>, digits: &RankDigits, item: &Item) -> Result<(), Memory>
+    ensures { OnOk result (out.new.items ≡ out.old.items ++ item_line digits.now.0 digits.now.1 item.now) }
+{
+    push_numbered(out, b"  ", u64::from(item.id))?;
+    push_word(out, code_word(item.code))?;
+    push_got(out, digits.of_item(item.id), &item.values)?;
+    out.push(b'\n')?;
+    Ok(())
+}
