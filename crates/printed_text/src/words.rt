@@ -223,6 +223,7 @@ pub fn push_values(out: &mut Vec<u8>, digits: u8, values: &Values) -> Result<(),
     }
 }
 
+#[tactic(auto, using(crate::proofs::WordLaws::spaced_more))]
 fn push_numbers(out: &mut Vec<u8>, numbers: &[i128]) -> Result<(), Memory>
     ensures { OnOk result (out.new.items ≡ out.old.items ++ spaced (map signed_decimal numbers.now)) }
 {
@@ -233,6 +234,7 @@ fn push_numbers(out: &mut Vec<u8>, numbers: &[i128]) -> Result<(), Memory>
     Ok(())
 }
 
+#[tactic(auto, using(crate::proofs::WordLaws::spaced_more))]
 fn push_patterns(out: &mut Vec<u8>, digits: u8, patterns: &[u64]) -> Result<(), Memory>
     ensures { OnOk result (out.new.items ≡ out.old.items ++ spaced (map (λ n. 120 ∷ hex digits n) patterns.now)) }
 {
