@@ -5,4 +5,15 @@
 //! names and ids.
 #![tactic(auto)]
 
+mod digits;
+mod faults;
+mod offsets;
+mod runs;
 pub mod words;
+
+pub use faults::{disk_line, header_line, layout_line, redef_line, script_line, usage_line};
+pub use offsets::offsets_text;
+pub use runs::run_text;
+
+#[cfg(test)]
+mod tests;

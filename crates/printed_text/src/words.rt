@@ -1,7 +1,7 @@
 // Words and values.
 ghost use Rattle.std.specs.Prelude.{◌≡◌, ◌<◌, ◌++◌, ◌∷◌, OnOk, decimal, map};
 ghost use Rattle.std.specs.Fmt.{signed_decimal};
-ghost use Rattle.script_spec.specs.Texts.{call_word, code_word, form_word, hex, hex_digit, kind_word, quoted, text_char, type_word, value_words, with_all};
+ghost use Rattle.script_spec.specs.Texts.{call_word, code_word, form_word, hex, hex_digit, kind_word, quoted, text_char, text_line, type_word, value_words, with_all};
 ghost use Rattle.printed_text.specs.Spaced.{spaced};
 
 use itoa::Buffer;
@@ -35,6 +35,15 @@ pub fn push_numbered(out: &mut Vec<u8>, words: &[u8], number: u64) -> Result<(),
 {
     push_bytes(out, words)?;
     push_decimal(out, number)
+}
+
+/// A line of words and a number after them.
+pub fn push_number_line(out: &mut Vec<u8>, words: &[u8], number: u64) -> Result<(), Memory>
+    ensures { OnOk result (out.new.items ≡ out.old.items ++ text_line (words.now ++ decimal number)) }
+{
+    push_numbered(out, words, number)?;
+    out.push(b'\n')?;
+    Ok(())
 }
 
 pub fn push_signed(out: &mut Vec<u8>, number: i128) -> Result<(), Memory>
