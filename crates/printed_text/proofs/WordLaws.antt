@@ -63,6 +63,9 @@ all_pushed {A} f front now all n whole so_far =
     let most : length all ≤ n = omega arith in
     so_far ∙ ap (λ (ys : List A). front ++ flat_map f ys) (take_all n all most)
 
+regroup : (a b d e f g : List ℕ) → ((a ++ b ++ d) ++ (e ++ f)) ++ g ≡ a ++ (b ++ (d ++ (e ++ (f ++ (g ++ [])))))
+regroup a b d e f g = simp (append_assoc, append-nil)
+
 -- two requests, each with its rank, and a byte
 pub pair_spaced : (w a b x y z : List ℕ) → ((32 ∷ w ++ 32 ∷ a ++ 32 ∷ b) ++ (32 ∷ x ++ 32 ∷ y)) ++ 32 ∷ z ≡ spaced (w ∷ a ∷ b ∷ x ∷ y ∷ z ∷ [])
-pair_spaced w a b x y z = simp (append_assoc, append-nil)
+pair_spaced w a b x y z = regroup (32 ∷ w) (32 ∷ a) (32 ∷ b) (32 ∷ x) (32 ∷ y) (32 ∷ z)
