@@ -1,4 +1,4 @@
-use Rattle.std.proofs.Common.{List, ℕ, ◌∷◌, ◌++◌, decimal}
+use Rattle.std.proofs.Common.{◌∷◌, ◌++◌, decimal}
 use Rattle.printed_text.proofs.Appends.{then_append}
 use Rattle.printed_text.proofs.runs.push_holder.Goals as goal
 
