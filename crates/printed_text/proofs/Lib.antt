@@ -1,0 +1,4 @@
+pub mod Appends
+pub mod DigitLaws
+pub mod OffsetLaws
+pub mod WordLaws

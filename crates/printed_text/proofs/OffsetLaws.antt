@@ -1,0 +1,45 @@
+-- Where variables lie.
+use Rattle.std.proofs.Common.{◌≡◌, ◌+◌, ◌^◌, ◌<◌, ℕ, List, [], ◌∷◌, ◌++◌, length, take, get_or, Bool, true, false, cond, Some, sym, ap, ◌∙◌, arith}
+use Rattle.std.specs.List.{slice_get, filter, flat_map}
+use Rattle.std.proofs.lemmas.List.{append-nil, append_assoc}
+use Rattle.std.proofs.lemmas.List.Concat.{flat_map-append}
+use Rattle.std.proofs.lemmas.List.Elements.{filter_more}
+use Rattle.std.proofs.lemmas.Option.{slice_get-get_or}
+use Rattle.nc_base.specs.declared.header.Header.{Header}
+use Rattle.nc_base.specs.declared.header.Var.{Var}
+use Rattle.serial_spec.specs.HeaderGrammar.{is_sound}
+use Rattle.serial_spec.specs.Layout.{slab, vsize}
+use Rattle.var_layout.proofs.Soundness.{var_kept, slab_below}
+
+-- a variable of a sound header ends within a file
+pub var_ends : (header : Header) (vars : List Var) (k : ℕ) (v : Var) → is_sound header ≡ true → vars ≡ header.vars → k < length vars → v ≡ get_or vars k v
+    → v.begin + slab header v < 2 ^ 62
+var_ends header vars k v sound same within here =
+    let found : slice_get header.vars k ≡ Some v =
+    sym (ap (λ (vs : List Var). slice_get vs k) same) ∙ (slice_get-get_or vars k v within ∙ ap (λ (w : Var). Some w) (sym here)) in
+    let end : v.begin + vsize header v < 2 ^ 62 = (var_kept header k v sound found).1.end in
+    let below = slab_below header v in
+    omega arith
+
+-- an item that is listed, and one that is not
+pub listed_more : {A : Type 0} (f : A → List ℕ) (p : A → Bool) (front now next : List ℕ) (xs : List A) (k : ℕ) (v : A) → k < length xs → v ≡ get_or xs k v
+    → now ≡ front ++ flat_map f (filter p (take k xs)) → p v ≡ true → next ≡ now ++ f v → next ≡ front ++ flat_map f (filter p (take (k + 1) xs))
+listed_more {A} f p front now next xs k v h e so_far passes pushed =
+    pushed
+    ∙ ap (λ (t : List ℕ). t ++ f v) so_far
+    ∙ append_assoc front (flat_map f (filter p (take k xs))) (f v)
+    ∙ ap (λ (t : List ℕ). front ++ (flat_map f (filter p (take k xs)) ++ t)) (sym (append-nil (f v)))
+    ∙ ap (λ (t : List ℕ). front ++ t) (sym (flat_map-append f (filter p (take k xs)) (v ∷ [])))
+    ∙ ap (λ (t : Bool). front ++ flat_map f (filter p (take k xs) ++ cond t (v ∷ []) [])) (sym passes)
+    ∙ ap (λ (w : A). front ++ flat_map f (filter p (take k xs) ++ cond (p w) (w ∷ []) [])) e
+    ∙ ap (λ (ws : List A). front ++ flat_map f ws) (sym (filter_more p xs k v h))
+
+pub unlisted_more : {A : Type 0} (f : A → List ℕ) (p : A → Bool) (front now next : List ℕ) (xs : List A) (k : ℕ) (v : A) → k < length xs → v ≡ get_or xs k v
+    → now ≡ front ++ flat_map f (filter p (take k xs)) → p v ≡ false → next ≡ now → next ≡ front ++ flat_map f (filter p (take (k + 1) xs))
+unlisted_more {A} f p front now next xs k v h e so_far fails same =
+    same
+    ∙ so_far
+    ∙ ap (λ (ws : List A). front ++ flat_map f ws) (sym (append-nil (filter p (take k xs))))
+    ∙ ap (λ (t : Bool). front ++ flat_map f (filter p (take k xs) ++ cond t (v ∷ []) [])) (sym fails)
+    ∙ ap (λ (w : A). front ++ flat_map f (filter p (take k xs) ++ cond (p w) (w ∷ []) [])) e
+    ∙ ap (λ (ws : List A). front ++ flat_map f ws) (sym (filter_more p xs k v h))

@@ -1,0 +1,71 @@
+-- Words on a line.
+use Rattle.std.proofs.Common.{◌≡◌, ℕ, zero, suc, ◌+◌, ◌-◌, ◌/◌, ◌%◌, ◌<◌, ◌≤◌, List, [], ◌∷◌, ◌++◌, length, map, take, get_or, sym, ap, ◌∙◌, arith}
+use Rattle.std.proofs.lemmas.List.{append-nil, append_assoc, flat_map_more, map_more, take_all, take_more}
+use Rattle.std.proofs.lemmas.List.Concat.{flat_map-append}
+use Rattle.std.specs.List.{flat_map}
+use Rattle.script_spec.specs.Texts.{joined, hex, hex_digit}
+use Rattle.printed_text.specs.Spaced.{spaced}
+
+-- the first word stands by itself, each other one behind a blank
+pub joined_spaced : (w : List ℕ) (ws : List (List ℕ)) → joined 32 (w ∷ ws) ≡ w ++ spaced ws
+joined_spaced w [] = sym (append-nil w)
+joined_spaced w (x ∷ xs) = ap (λ (t : List ℕ). w ++ 32 ∷ t) (joined_spaced x xs)
+
+-- one item more
+pub mapped_more : {A B : Type 0} (g : B → List ℕ) (f : A → B) (front : List ℕ) (xs : List A) (i : ℕ) (d : A) → i < length xs
+    → front ++ flat_map g (map f (take (i + 1) xs)) ≡ (front ++ flat_map g (map f (take i xs))) ++ g (f (get_or xs i d))
+mapped_more {A} {B} g f front xs i d h =
+    ap (λ (ws : List B). front ++ flat_map g ws) (map_more f xs i d h)
+    ∙ ap (λ (t : List ℕ). front ++ t) (flat_map-append g (map f (take i xs)) (f (get_or xs i d) ∷ []) ∙ ap (λ (t : List ℕ). flat_map g (map f (take i xs)) ++ t) (append-nil (g (f (get_or xs i d)))))
+    ∙ sym (append_assoc front (flat_map g (map f (take i xs))) (g (f (get_or xs i d))))
+
+-- one word more
+pub spaced_more : {A : Type 0} (f : A → List ℕ) (front : List ℕ) (xs : List A) (i : ℕ) (d : A) → i < length xs
+    → front ++ spaced (map f (take (i + 1) xs)) ≡ (front ++ spaced (map f (take i xs))) ++ 32 ∷ f (get_or xs i d)
+spaced_more f front xs i d h = mapped_more (λ w. 32 ∷ w) f front xs i d h
+
+pub hex_last : (n x : ℕ) → 0 < n → hex n x ≡ hex (n - 1) (x / 16) ++ hex_digit (x % 16) ∷ []
+hex_last zero x h = absurd (omega arith)
+hex_last (suc n) x h =
+    let e : suc n - 1 ≡ n = omega arith in
+    ap (λ (m : ℕ). hex m (x / 16) ++ hex_digit (x % 16) ∷ []) (sym e)
+
+-- the words of a call's line
+pub call_words : (n c : List ℕ) (o x v : List (List ℕ))
+    → ((n ++ 32 ∷ []) ++ c) ++ ((spaced o ++ spaced x) ++ spaced v) ≡ joined 32 (n ∷ c ∷ o ++ x ++ v)
+call_words n c o x v =
+    append_assoc (n ++ 32 ∷ []) c ((spaced o ++ spaced x) ++ spaced v)
+    ∙ append_assoc n (32 ∷ []) (c ++ ((spaced o ++ spaced x) ++ spaced v))
+    ∙ sym (joined_spaced n (c ∷ o ++ x ++ v)
+    ∙ ap (λ (t : List ℕ). n ++ 32 ∷ (c ++ t)) (flat_map-append (λ w. 32 ∷ w) (o ++ x) v ∙ ap (λ (t : List ℕ). t ++ spaced v) (flat_map-append (λ w. 32 ∷ w) o x)))
+
+-- the words of an item's line
+pub item_words : (n c : List ℕ) (v : List (List ℕ)) → (n ++ 32 ∷ c) ++ spaced v ≡ joined 32 (n ∷ c ∷ v)
+item_words n c v = append_assoc n (32 ∷ c) (spaced v) ∙ sym (joined_spaced n (c ∷ v))
+
+pub spaced_one : (w : List ℕ) → spaced (w ∷ []) ≡ 32 ∷ w
+spaced_one w = append-nil (32 ∷ w)
+
+-- an item that goes last
+pub next_pushed : {A : Type 0} (f : A → List ℕ) (front now next : List ℕ) (all : List A) (n m : ℕ) (x : A) → n < length all → x ≡ get_or all n x → m ≡ n + 1
+    → now ≡ front ++ flat_map f (take n all) → next ≡ now ++ f x → next ≡ front ++ flat_map f (take m all)
+next_pushed {A} f front now next all n m x within here one so_far pushed =
+    pushed
+    ∙ ap (λ (t : List ℕ). t ++ f x) so_far
+    ∙ ap (λ (y : A). (front ++ flat_map f (take n all)) ++ f y) here
+    ∙ flat_map_more f front (take n all) (get_or all n x)
+    ∙ ap (λ (ys : List A). front ++ flat_map f ys) (sym (take_more all n x within))
+    ∙ ap (λ (k : ℕ). front ++ flat_map f (take k all)) (sym one)
+
+pub all_pushed : {A : Type 0} (f : A → List ℕ) (front now : List ℕ) (all : List A) (n : ℕ) → n ≡ length all
+    → now ≡ front ++ flat_map f (take n all) → now ≡ front ++ flat_map f all
+all_pushed {A} f front now all n whole so_far =
+    let most : length all ≤ n = omega arith in
+    so_far ∙ ap (λ (ys : List A). front ++ flat_map f ys) (take_all n all most)
+
+regroup : (a b d e f g : List ℕ) → ((a ++ b ++ d) ++ (e ++ f)) ++ g ≡ a ++ (b ++ (d ++ (e ++ (f ++ (g ++ [])))))
+regroup a b d e f g = simp (append_assoc, append-nil)
+
+-- two requests, each with its rank, and a byte
+pub pair_spaced : (w a b x y z : List ℕ) → ((32 ∷ w ++ 32 ∷ a ++ 32 ∷ b) ++ (32 ∷ x ++ 32 ∷ y)) ++ 32 ∷ z ≡ spaced (w ∷ a ∷ b ∷ x ∷ y ∷ z ∷ [])
+pair_spaced w a b x y z = regroup (32 ∷ w) (32 ∷ a) (32 ∷ b) (32 ∷ x) (32 ∷ y) (32 ∷ z)

@@ -1,0 +1,13 @@
+use Rattle.std.proofs.lemmas.List.{append_assoc}
+use Rattle.printed_text.proofs.offsets.push_bracketed.Goals as goal
+
+pub returns : goal.returns
+returns c =
+    simp (
+      c.in_ok-push-2.ensures.items,
+      c.in_ok-push_other_names.ensures,
+      c.in_ok-push_bytes.ensures,
+      c.in_ok-push.ensures.items,
+      c.dim_name.ensures,
+      append_assoc,
+    )

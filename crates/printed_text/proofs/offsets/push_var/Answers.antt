@@ -1,0 +1,20 @@
+use Rattle.std.proofs.Common.{List, ℕ, ◌+◌, ◌++◌, codes, decimal}
+use Rattle.serial_spec.specs.Layout.{slab}
+use Rattle.script_spec.specs.Texts.{text_line}
+use Rattle.printed_text.specs.Offsets.{title_line}
+use Rattle.printed_text.proofs.Appends.{then_append}
+use Rattle.printed_text.proofs.offsets.push_var.Goals as goal
+
+pub returns : goal.returns
+returns c =
+    let o : List ℕ = c.args.out.now.items in
+    let h = c.args.header.now in
+    let v = c.args.var.now in
+    let title : List ℕ = title_line h v in
+    let begin : List ℕ = text_line (codes "    start file offset = " ++ decimal v.begin) in
+    let end : List ℕ = text_line (codes "    end file offset = " ++ decimal (v.begin + slab h v)) in
+    let size : List ℕ = text_line (codes "    size in bytes = " ++ decimal (slab h v)) in
+    let third = rw c.size_of-size.ensures at c.in_ok-push_number_line-2.ensures in
+    let last = rw c.size_of-size.ensures at c.in_ok-push_number_line-3.ensures in
+    then_append o _ _ (title ++ begin ++ end) size
+    (then_append o _ _ (title ++ begin) end (then_append o _ _ title begin c.in_ok-push_title.ensures c.in_ok-push_number_line.ensures) third) last

@@ -1,0 +1,8 @@
+use Rattle.std.proofs.Common.{◌≡◌, ◌++◌, length, take}
+use Rattle.std.specs.List.{enumerate_from, flat_map, zip}
+use Rattle.script_spec.specs.Texts.{call_lines}
+use Rattle.printed_text.proofs.runs.push_calls.Given as goal
+
+abbrev pub invariant-loop-number : goal.invariant-loop-number
+invariant-loop-number l =
+    l.out.items ≡ l.initial.out.items ++ flat_map (call_lines l.fn.names l.fn.calls) (take (length l.yielded) (enumerate_from 0 (zip l.fn.calls l.fn.answers)))

@@ -1,0 +1,10 @@
+use Rattle.std.proofs.lemmas.List.{append_assoc}
+use Rattle.std.proofs.Common.{map, codes}
+use Rattle.script_spec.specs.Texts.{mark_word}
+use Rattle.printed_text.proofs.WordLaws.{joined_spaced}
+use Rattle.printed_text.proofs.runs.push_order.Goals as goal
+
+pub returns : goal.returns
+returns c =
+    let words = joined_spaced (codes "order") (map mark_word c.args.order.now) in
+    simp (c.in_ok-push.ensures.items, c.in_ok-push_marks.ensures, c.in_ok-push_bytes.ensures, words, append_assoc)

@@ -1,0 +1,8 @@
+use Rattle.std.proofs.Common.{◌≡◌, ◌++◌, length, take}
+use Rattle.std.specs.List.{enumerate_from, flat_map, zip}
+use Rattle.script_spec.specs.Texts.{rank_lines}
+use Rattle.printed_text.proofs.runs.push_ranks.Given as goal
+
+abbrev pub invariant-loop-rank : goal.invariant-loop-rank
+invariant-loop-rank l =
+    l.out.items ≡ l.initial.out.items ++ flat_map (rank_lines l.fn.names) (take (length l.yielded) (enumerate_from 0 (zip (zip l.fn.calls l.fn.end.answers) l.fn.end.pending)))
