@@ -78,7 +78,7 @@ hex_pair_again g h rest a b = ap (λ (o : Option ℕ). first_hex o (hex_digit h 
 split_byte : (c : ℕ) → c < 256 → 16 * (c / 16 % 16) + c % 16 ≡ c
 split_byte c h = omega arith
 
-below_16 : (c : ℕ) → c % 16 < 16
+pub below_16 : (c : ℕ) → c % 16 < 16
 below_16 c = omega arith
 
 escaped_again : (c : ℕ) (rest text tail : List ℕ) → c < 256 → text_from Between rest ≡ Some (text, tail) → text_from Between ((92 ∷ 120 ∷ hex 2 c) ++ rest) ≡ Some (c ∷ text, tail)
@@ -86,7 +86,7 @@ escaped_again c rest text tail small h =
     hex_pair_again (c / 16 % 16) (c % 16) rest (below_16 (c / 16)) (below_16 c)
     ∙ (ap (λ (x : ℕ). more_text x (text_from Between rest)) (split_byte c small) ∙ ap (more_text c) h)
 
-abbrev char_else : Bool → ℕ → List ℕ
+abbrev pub char_else : Bool → ℕ → List ℕ
 char_else b c = cond b (c ∷ []) (92 ∷ 120 ∷ hex 2 c)
 
 char_again : (rest text tail : List ℕ) → text_from Between rest ≡ Some (text, tail) → (c : ℕ) → c < 256 → IsAgain rest text tail c
@@ -109,7 +109,7 @@ char_again rest text tail h c small = ⊎_elim
     (cases_Bool (c == 92)))
     (cases_Bool (c == 34))
 
-byte_bound : (c : ℕ) → is_byte c ≡ true → c < 256
+pub byte_bound : (c : ℕ) → is_byte c ≡ true → c < 256
 byte_bound c h = grind (arith, common_steps)
 
 text_again : (text tail : List ℕ) → list_all is_byte text ≡ true → text_from Between ((flat_map text_char text ++ 34 ∷ []) ++ tail) ≡ Some (text, tail)
@@ -153,7 +153,7 @@ plain_again c cs tail a h blank =
     ∙ (ap (λ (front : List ℕ). (Plain (c ∷ front), drop (length cs) (cs ++ tail))) (take_at cs tail (length cs) refl)
     ∙ ap (λ (back : List ℕ). (Plain (c ∷ cs), back)) (drop_at cs tail (length cs) refl)))
 
-not_true : (b : Bool) → not b ≡ true → b ≡ false
+pub not_true : (b : Bool) → not b ≡ true → b ≡ false
 not_true true h = absurd (cc)
 not_true false h = refl
 

@@ -1,2 +1,4 @@
 pub mod Steps
 pub mod Lexing
+pub mod Lines
+pub mod Numerals

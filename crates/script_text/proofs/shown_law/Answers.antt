@@ -1,5 +1,6 @@
 use Rattle.script_text.proofs.Steps.{same_ok}
-use Rattle.script_text.proofs.Lexing.{words_again}
+use Rattle.script_text.proofs.Lines.{valid_bytes}
+use Rattle.script_text.proofs.Numerals.{size_again}
 use Rattle.script_text.proofs.shown_law.Goals as goal
 
 pub returns : goal.returns
