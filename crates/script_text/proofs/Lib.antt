@@ -2,3 +2,4 @@ pub mod Steps
 pub mod Lexing
 pub mod Lines
 pub mod Numerals
+pub mod Sequences

@@ -66,3 +66,36 @@ pub whole_value : {A : Type 0} (p : A × List Word) (x : A) → whole p ≡ Ok x
 whole_value p x h =
     let a = went (ended p.1) _ x h in
     (same_ok p.0 x a.rest, is_end p.1 a.value a.first)
+
+-- the words after a word that is read
+pub word_before : {A : Type 0} (f : List ℕ → Option A) (e : ScriptKind) (ws : List Word) (r : A × List Word) → reads_as f e ws ≡ Ok r → (w : Word) × (ws ≡ w ∷ r.1)
+word_before f e [] r h = absurd (cc)
+word_before f e (w ∷ ws) r h =
+    let a = went (next (w ∷ ws)) _ r h in
+    let b = went (or_fault e (f a.value.0)) _ r a.rest in
+    let last = ap (λ (p : _ × List Word). p.1) (same_ok (b.value, a.value.1) r b.rest) in
+    let c = went (bare w) (λ x. Ok (x, ws)) a.value a.first in
+    let behind = ap (λ (p : List ℕ × List Word). p.1) (same_ok (c.value, ws) a.value c.rest) in
+    (w, ap (λ (more : List Word). w ∷ more) (behind ∙ last))
+
+-- ---- a step by cases, as a step that goes on
+
+abbrev pub carry : {A B E : Type 0} → Result A E → (A → Result B E) → Result B E
+carry r f = elim r [ Err e ↦ Err e | Ok x ↦ f x ]
+
+pub carried : {A B E : Type 0} (r : Result A E) (f : A → Result B E) (y : B) → carry r f ≡ Ok y → Went r f y
+carried (Ok x) f y h = record { value = x; first = refl; rest = h }
+carried (Err e) f y h = absurd (cc)
+
+pub carry_on : {A B E : Type 0} (r : Result A E) (f : A → Result B E) (x : A) (y : B) → r ≡ Ok x → f x ≡ Ok y → carry r f ≡ Ok y
+carry_on r f x y e h = ap (λ (s : Result _ _). carry s f) e ∙ h
+
+-- ---- what comes of two tests, one after the other
+
+pub by_true : {A : Type 0} (b : Bool) (x y : A) → b ≡ true → elim b as (λ t. A) [ true ↦ x | false ↦ y ] ≡ x
+by_true true x y h = refl
+by_true false x y h = absurd (cc)
+
+pub by_false : {A : Type 0} (b : Bool) (x y : A) → b ≡ false → elim b as (λ t. A) [ true ↦ x | false ↦ y ] ≡ y
+by_false false x y h = refl
+by_false true x y h = absurd (cc)
