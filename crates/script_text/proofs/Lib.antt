@@ -3,3 +3,4 @@ pub mod Lexing
 pub mod Lines
 pub mod Numerals
 pub mod Sequences
+pub mod PrintedValues
