@@ -4,3 +4,4 @@ pub mod Lines
 pub mod Numerals
 pub mod Sequences
 pub mod PrintedValues
+pub mod PrintedRegions

@@ -398,3 +398,6 @@ name_plain (c ∷ cs) h =
     let both = and_parts _ _ (and_parts (starts_name c && list_all in_name cs) (nat_lt (length cs) 256) h).0 in
     let b = in_name_bounds c (starts_in c both.0) in
     and_from _ _ (ap not (ne_eqb c 34 (omega arith))) all
+
+pub decimal_word : (n : ℕ) → n < 10 ^ 64 → IsNumberWord (decimal n)
+decimal_word n h = let d = decimal_numeral n h in digits_word (decimal n) d.some d.digits

@@ -302,7 +302,7 @@ values_fit t before (Plain w ∷ ws) vs low read h = by (bytes_eq w (codes "seq"
 
 -- ---- printed values again
 
-not_letters : (w : List ℕ) (c : ℕ) (cs : List ℕ) → IsNumberWord w → 57 < c → bytes_eq w (c ∷ cs) ≡ false
+pub not_letters : (w : List ℕ) (c : ℕ) (cs : List ℕ) → IsNumberWord w → 57 < c → bytes_eq w (c ∷ cs) ≡ false
 not_letters w c cs n high =
     let low = n.low in
     ap (λ x. bytes_eq x (c ∷ cs)) n.spelled ∙ and_left _ _ (ne_eqb n.head c (omega arith))
