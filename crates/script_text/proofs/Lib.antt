@@ -5,3 +5,4 @@ pub mod Numerals
 pub mod Sequences
 pub mod PrintedValues
 pub mod PrintedRegions
+pub mod PrintedCalls
