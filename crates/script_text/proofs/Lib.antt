@@ -6,3 +6,4 @@ pub mod Sequences
 pub mod PrintedValues
 pub mod PrintedRegions
 pub mod PrintedCalls
+pub mod CallLines

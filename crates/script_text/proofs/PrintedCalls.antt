@@ -185,6 +185,14 @@ pub record CallAgain (ranks r : ℕ) (own : List Call) (c : Call) : Type 0 where
   pub good : list_all is_good (call_tokens c) ≡ true
   pub again : (before : ℕ) → before + values_in_call c ≤ most_values → call_of ranks r own before (call_word c) (call_tokens c) ≡ Ok c
 
+-- such a call after so many values, which has room for its own
+pub record CallRead (ranks r : ℕ) (own : List Call) (before : ℕ) (c : Call) : Type 0 where
+  pub same : CallAgain ranks r own c
+  pub few : before + values_in_call c ≤ most_values
+
+no_values : (ranks r : ℕ) (own : List Call) (before : ℕ) (c : Call) → before ≤ most_values → values_in_call c ≡ 0 → CallAgain ranks r own c → CallRead ranks r own before c
+no_values ranks r own before c low none again = record { same = again; few = omega (arith, none) }
+
 -- the values of a call, wherever it stands
 fitting_at : (vs : Values) (before now : ℕ) → Fitting None before vs → now + count_of vs ≤ most_values → Fitting None now vs
 fitting_at vs before now fit low = record { are = fit.are; room = record { all = low; own = fit.room.own } }
@@ -203,15 +211,17 @@ put_same ranks r own all n f g before vs hn hg hv =
     }
 
 put_read : (ranks r : ℕ) (own : List Call) (all : Bool) (f : Form) (before : ℕ) (ws : List Word) (c : Call)
-    → before ≤ most_values → list_all is_read ws ≡ true → put_call all f before ws ≡ Ok c → CallAgain ranks r own c
+    → before ≤ most_values → list_all is_read ws ≡ true → put_call all f before ws ≡ Ok c → CallRead ranks r own before c
 put_read ranks r own all f before ws c low read h =
     let a = went (name ws) _ c h in
     let b = went (region f a.value.1) _ c a.rest in
     let d = went (values None before b.value.1) _ c b.rest in
     let read_on = region_kept is_read f a.value.1 b.value b.first (kept is_read name_of_text kind.BadName ws a.value a.first read) in
-    subst (CallAgain ranks r own) (same_ok (call.Put all a.value.0 b.value.0 d.value) c d.rest)
-    (put_same ranks r own all a.value.0 f b.value.0 before d.value (name_read ws a.value a.first) (region_again f a.value.1 b.value b.first)
-    (values_fit None before b.value.1 d.value low read_on d.first))
+    let fit = values_fit None before b.value.1 d.value low read_on d.first in
+    subst (CallRead ranks r own before) (same_ok (call.Put all a.value.0 b.value.0 d.value) c d.rest) (record {
+      same = put_same ranks r own all a.value.0 f b.value.0 before d.value (name_read ws a.value a.first) (region_again f a.value.1 b.value b.first) fit;
+      few = fit.room.all;
+    })
 
 get_same : (ranks r : ℕ) (own : List Call) (all : Bool) (n : List ℕ) (f : Form) (g : Given) → is_name n ≡ true → RegionAgain f g → CallAgain ranks r own (call.Get all n g)
 get_same ranks r own all n f g hn hg =
@@ -224,27 +234,28 @@ get_same ranks r own all n f g hn hg =
           (go_on (region g.form rest) _ (g, []) (call.Get all n g) (ap (region g.form) (sym (append-nil rest)) ∙ region_of.again []) refl);
     }
 
-get_read : (ranks r : ℕ) (own : List Call) (all : Bool) (f : Form) (ws : List Word) (c : Call) → get_call all f ws ≡ Ok c → CallAgain ranks r own c
-get_read ranks r own all f ws c h =
+get_read : (ranks r : ℕ) (own : List Call) (before : ℕ) (low : before ≤ most_values) (all : Bool) (f : Form) (ws : List Word) (c : Call) → get_call all f ws ≡ Ok c → CallRead ranks r own before c
+get_read ranks r own before low all f ws c h =
     let a = went (name ws) _ c h in
     let b = went (region f a.value.1) _ c a.rest in
     let d = went (ended b.value.1) _ c b.rest in
-    subst (CallAgain ranks r own) (same_ok (call.Get all a.value.0 b.value.0) c d.rest)
-    (get_same ranks r own all a.value.0 f b.value.0 (name_read ws a.value a.first) (region_again f a.value.1 b.value b.first))
+    subst (CallRead ranks r own before) (same_ok (call.Get all a.value.0 b.value.0) c d.rest)
+    (no_values ranks r own before _ low refl (get_same ranks r own all a.value.0 f b.value.0 (name_read ws a.value a.first) (region_again f a.value.1 b.value b.first)))
 
 -- the values of a post of this kind
 pub record PostedAgain (k : PostKind) (before : ℕ) (vs : Values) : Type 0 where
   pub good : list_all is_good (value_tokens vs) ≡ true
   pub again : (now : ℕ) → now + count_of vs ≤ most_values → post_values k now (value_tokens vs) ≡ Ok vs
+  pub few : before + count_of vs ≤ most_values
 
 put_values : (before : ℕ) (vs : Values) → Fitting None before vs → PostedAgain Iput before vs × PostedAgain Bput before vs
 put_values before vs fit = (
-      record { good = values_good None vs fit.are; again = λ now low. values_again None now vs (fitting_at vs before now fit low) },
-      record { good = values_good None vs fit.are; again = λ now low. values_again None now vs (fitting_at vs before now fit low) },
+      record { good = values_good None vs fit.are; again = λ now low. values_again None now vs (fitting_at vs before now fit low); few = fit.room.all },
+      record { good = values_good None vs fit.are; again = λ now low. values_again None now vs (fitting_at vs before now fit low); few = fit.room.all },
     )
 
 posted_read : (k : PostKind) (before : ℕ) (ws : List Word) (vs : Values) → before ≤ most_values → list_all is_read ws ≡ true → post_values k before ws ≡ Ok vs → PostedAgain k before vs
-posted_read Iget before ws vs low read h = subst (PostedAgain Iget before) (whole_value (Numbers [], ws) vs h).0 (record { good = refl; again = λ now fits. refl })
+posted_read Iget before ws vs low read h = subst (PostedAgain Iget before) (whole_value (Numbers [], ws) vs h).0 (record { good = refl; again = λ now fits. refl; few = omega arith })
 posted_read Iput before ws vs low read h = (put_values before vs (values_fit None before ws vs low read h)).0
 posted_read Bput before ws vs low read h = (put_values before vs (values_fit None before ws vs low read h)).1
 
@@ -266,7 +277,7 @@ post_same ranks r own k id n f g before vs low fresh hn hg hv =
     }
 
 post_read : (ranks r : ℕ) (own : List Call) (k : PostKind) (f : Form) (before : ℕ) (ws : List Word) (c : Call)
-    → before ≤ most_values → list_all is_read ws ≡ true → post_call k (posted own) f before ws ≡ Ok c → CallAgain ranks r own c
+    → before ≤ most_values → list_all is_read ws ≡ true → post_call k (posted own) f before ws ≡ Ok c → CallRead ranks r own before c
 post_read ranks r own k f before ws c low read h =
     let i = went (new_id (posted own) ws) _ c h in
     let a = went (name i.value.1) _ c i.rest in
@@ -280,81 +291,83 @@ post_read ranks r own k f before ws c low read h =
     let small = subst (λ (x : ℕ × List Word). x.0 < 2 ^ 32) same (id_bound id_read.0 e.value.0 id_read.1) in
     let read_id = subst (λ (x : ℕ × List Word). list_all is_read x.1 ≡ true) same (kept is_read id_of_text kind.BadNumber ws e.value e.first read) in
     let read_on = region_kept is_read f a.value.1 b.value b.first (kept is_read name_of_text kind.BadName i.value.1 a.value a.first read_id) in
-    subst (CallAgain ranks r own) (same_ok (call.Post i.value.0 k a.value.0 b.value.0 d.value) c d.rest)
-    (post_same ranks r own k i.value.0 a.value.0 f b.value.0 before d.value small fresh (name_read i.value.1 a.value a.first) (region_again f a.value.1 b.value b.first)
-    (posted_read k before b.value.1 d.value low read_on d.first))
+    let vs = posted_read k before b.value.1 d.value low read_on d.first in
+    subst (CallRead ranks r own before) (same_ok (call.Post i.value.0 k a.value.0 b.value.0 d.value) c d.rest) (record {
+      same = post_same ranks r own k i.value.0 a.value.0 f b.value.0 before d.value small fresh (name_read i.value.1 a.value a.first) (region_again f a.value.1 b.value b.first) vs;
+      few = vs.few;
+    })
 
 -- ---- calls of no form
 
-wait_read : (ranks r : ℕ) (own : List Call) (all : Bool) (ws : List Word) (c : Call) → (choice ws >>= λ x. Ok (call.Wait all x)) ≡ Ok c → CallAgain ranks r own c
-wait_read ranks r own all ws c h =
+wait_read : (ranks r : ℕ) (own : List Call) (before : ℕ) (low : before ≤ most_values) (all : Bool) (ws : List Word) (c : Call) → (choice ws >>= λ x. Ok (call.Wait all x)) ≡ Ok c → CallRead ranks r own before c
+wait_read ranks r own before low all ws c h =
     let a = went (choice ws) (λ x. Ok (call.Wait all x)) c h in
     let k = choice_read ws a.value a.first in
-    subst (CallAgain ranks r own) (same_ok (call.Wait all a.value) c a.rest) (record {
+    subst (CallRead ranks r own before) (same_ok (call.Wait all a.value) c a.rest) (no_values ranks r own before _ low refl (record {
       good = k.good;
-      again = λ now low. wait_word ranks r own now (choice_tokens a.value) all ∙ go_on (choice (choice_tokens a.value)) (λ x. Ok (call.Wait all x)) a.value (call.Wait all a.value) k.again refl;
-    })
+      again = λ now fits. wait_word ranks r own now (choice_tokens a.value) all ∙ go_on (choice (choice_tokens a.value)) (λ x. Ok (call.Wait all x)) a.value (call.Wait all a.value) k.again refl;
+    }))
 
-cancel_read : (ranks r : ℕ) (own : List Call) (ws : List Word) (c : Call) → (choice ws >>= λ x. Ok (call.Cancel x)) ≡ Ok c → CallAgain ranks r own c
-cancel_read ranks r own ws c h =
+cancel_read : (ranks r : ℕ) (own : List Call) (before : ℕ) (low : before ≤ most_values) (ws : List Word) (c : Call) → (choice ws >>= λ x. Ok (call.Cancel x)) ≡ Ok c → CallRead ranks r own before c
+cancel_read ranks r own before low ws c h =
     let a = went (choice ws) (λ x. Ok (call.Cancel x)) c h in
     let k = choice_read ws a.value a.first in
-    subst (CallAgain ranks r own) (same_ok (call.Cancel a.value) c a.rest) (record {
+    subst (CallRead ranks r own before) (same_ok (call.Cancel a.value) c a.rest) (no_values ranks r own before _ low refl (record {
       good = k.good;
-      again = λ now low. go_on (choice (choice_tokens a.value)) (λ x. Ok (call.Cancel x)) a.value (call.Cancel a.value) k.again refl;
-    })
+      again = λ now fits. go_on (choice (choice_tokens a.value)) (λ x. Ok (call.Cancel x)) a.value (call.Cancel a.value) k.again refl;
+    }))
 
-attach_read : (ranks r : ℕ) (own : List Call) (ws : List Word) (c : Call) → attach_call ws ≡ Ok c → CallAgain ranks r own c
-attach_read ranks r own ws c h =
+attach_read : (ranks r : ℕ) (own : List Call) (before : ℕ) (low : before ≤ most_values) (ws : List Word) (c : Call) → attach_call ws ≡ Ok c → CallRead ranks r own before c
+attach_read ranks r own before low ws c h =
     let a = went (size ws) _ c h in
-    let low = size_read ws a.value a.first in
+    let small = size_read ws a.value a.first in
     let n = a.value.0 in
-    subst (CallAgain ranks r own) (whole_value (call.Attach n, a.value.1) c a.rest).0 (record {
-      good = and_from _ _ (size_plain n low) refl;
-      again = λ now few. go_on (size (Plain (decimal n) ∷ [])) _ (n, []) (call.Attach n) (size_word n [] low) refl;
-    })
+    subst (CallRead ranks r own before) (whole_value (call.Attach n, a.value.1) c a.rest).0 (no_values ranks r own before _ low refl (record {
+      good = and_from _ _ (size_plain n small) refl;
+      again = λ now few. go_on (size (Plain (decimal n) ∷ [])) _ (n, []) (call.Attach n) (size_word n [] small) refl;
+    }))
 
-inquiry_read : (ranks r : ℕ) (own : List Call) (ws : List Word) (c : Call) → inquiry ws ≡ Ok c → CallAgain ranks r own c
-inquiry_read ranks r own ws c h =
+inquiry_read : (ranks r : ℕ) (own : List Call) (before : ℕ) (low : before ≤ most_values) (ws : List Word) (c : Call) → inquiry ws ≡ Ok c → CallRead ranks r own before c
+inquiry_read ranks r own before low ws c h =
     let a = went (name ws) _ c h in
     let hn = name_read ws a.value a.first in
     let n = a.value.0 in
-    subst (CallAgain ranks r own) (whole_value (call.InqDim n, a.value.1) c a.rest).0 (record {
+    subst (CallRead ranks r own before) (whole_value (call.InqDim n, a.value.1) c a.rest).0 (no_values ranks r own before _ low refl (record {
       good = and_from _ _ (name_plain n hn) refl;
       again = λ now few. go_on (name (Plain n ∷ [])) _ (n, []) (call.InqDim n) (name_again n [] hn) refl;
-    })
+    }))
 
-fill_read : (ranks r : ℕ) (own : List Call) (ws : List Word) (c : Call) → fill_call ranks r ws ≡ Ok c → CallAgain ranks r own c
-fill_read ranks r own ws c h =
+fill_read : (ranks r : ℕ) (own : List Call) (before : ℕ) (low : before ≤ most_values) (ws : List Word) (c : Call) → fill_call ranks r ws ≡ Ok c → CallRead ranks r own before c
+fill_read ranks r own before low ws c h =
     let a = went (name ws) _ c h in
     let b = went (size a.value.1) _ c a.rest in
     let d = went (ended b.value.1) _ c b.rest in
     let hn = name_read ws a.value a.first in
-    let low = size_read a.value.1 b.value b.first in
+    let small = size_read a.value.1 b.value b.first in
     let n = a.value.0 in
     let k = b.value.0 in
-    subst (CallAgain ranks r own) (same_ok (call.FillRec n k r ranks) c d.rest) (record {
-      good = and_from _ _ (name_plain n hn) (and_from _ _ (size_plain k low) refl);
+    subst (CallRead ranks r own before) (same_ok (call.FillRec n k r ranks) c d.rest) (no_values ranks r own before _ low refl (record {
+      good = and_from _ _ (name_plain n hn) (and_from _ _ (size_plain k small) refl);
       again = λ now few. go_on (name (Plain n ∷ Plain (decimal k) ∷ [])) _ (n, Plain (decimal k) ∷ []) (call.FillRec n k r ranks) (name_again n (Plain (decimal k) ∷ []) hn)
-          (go_on (size (Plain (decimal k) ∷ [])) _ (k, []) (call.FillRec n k r ranks) (size_word k [] low) refl);
-    })
+          (go_on (size (Plain (decimal k) ∷ [])) _ (k, []) (call.FillRec n k r ranks) (size_word k [] small) refl);
+    }))
 
-lone_read : (ranks r : ℕ) (own : List Call) (w : List ℕ) (ws : List Word) (c : Call) → lone_call w ws ≡ Ok c → CallAgain ranks r own c
-lone_read ranks r own w ws c h = by (bytes_eq w (codes "buffer_detach")) (bytes_eq w (codes "begin_indep_data")) (bytes_eq w (codes "end_indep_data")) (bytes_eq w (codes "sync_numrecs")) h
+lone_read : (ranks r : ℕ) (own : List Call) (before : ℕ) (low : before ≤ most_values) (w : List ℕ) (ws : List Word) (c : Call) → lone_call w ws ≡ Ok c → CallRead ranks r own before c
+lone_read ranks r own before low w ws c h = by (bytes_eq w (codes "buffer_detach")) (bytes_eq w (codes "begin_indep_data")) (bytes_eq w (codes "end_indep_data")) (bytes_eq w (codes "sync_numrecs")) h
   where
     by : (i j k l : Bool)
         → elim (cond {A = Option (List ℕ × Call)} i (Some (codes "buffer_detach", call.Detach)) (cond j (Some (codes "begin_indep_data", call.BeginIndep)) (cond k (Some (codes "end_indep_data", call.EndIndep)) (cond l (Some (codes "sync_numrecs", call.SyncRecords)) None)))) as (λ x. Result Call ScriptKind) [
       | None ↦ Err kind.UnknownWord
       | Some p ↦ whole (p.1, ws)
-    ] ≡ Ok c → CallAgain ranks r own c
-    by true j k l e = subst (CallAgain ranks r own) (whole_value (call.Detach, ws) c e).0 (record { good = refl; again = λ now low. refl })
-    by false true k l e = subst (CallAgain ranks r own) (whole_value (call.BeginIndep, ws) c e).0 (record { good = refl; again = λ now low. refl })
-    by false false true l e = subst (CallAgain ranks r own) (whole_value (call.EndIndep, ws) c e).0 (record { good = refl; again = λ now low. refl })
-    by false false false true e = subst (CallAgain ranks r own) (whole_value (call.SyncRecords, ws) c e).0 (record { good = refl; again = λ now low. refl })
+    ] ≡ Ok c → CallRead ranks r own before c
+    by true j k l e = subst (CallRead ranks r own before) (whole_value (call.Detach, ws) c e).0 (no_values ranks r own before _ low refl (record { good = refl; again = λ now fits. refl }))
+    by false true k l e = subst (CallRead ranks r own before) (whole_value (call.BeginIndep, ws) c e).0 (no_values ranks r own before _ low refl (record { good = refl; again = λ now fits. refl }))
+    by false false true l e = subst (CallRead ranks r own before) (whole_value (call.EndIndep, ws) c e).0 (no_values ranks r own before _ low refl (record { good = refl; again = λ now fits. refl }))
+    by false false false true e = subst (CallRead ranks r own before) (whole_value (call.SyncRecords, ws) c e).0 (no_values ranks r own before _ low refl (record { good = refl; again = λ now fits. refl }))
     by false false false false e = absurd (cc)
 
-other_read : (ranks r : ℕ) (own : List Call) (w : List ℕ) (ws : List Word) (c : Call) → other_call ranks r w ws ≡ Ok c → CallAgain ranks r own c
-other_read ranks r own w ws c h = by (bytes_eq w (codes "buffer_attach")) (bytes_eq w (codes "inq_dimlen")) (bytes_eq w (codes "fill_var_rec")) h
+other_read : (ranks r : ℕ) (own : List Call) (before : ℕ) (low : before ≤ most_values) (w : List ℕ) (ws : List Word) (c : Call) → other_call ranks r w ws ≡ Ok c → CallRead ranks r own before c
+other_read ranks r own before low w ws c h = by (bytes_eq w (codes "buffer_attach")) (bytes_eq w (codes "inq_dimlen")) (bytes_eq w (codes "fill_var_rec")) h
   where
     by : (i j k : Bool) → elim i as (λ x. Result Call ScriptKind) [
       | true ↦ attach_call ws
@@ -362,14 +375,14 @@ other_read ranks r own w ws c h = by (bytes_eq w (codes "buffer_attach")) (bytes
         | true ↦ inquiry ws
         | false ↦ elim k as (λ x. Result Call ScriptKind) [ true ↦ fill_call ranks r ws | false ↦ lone_call w ws ]
       ]
-    ] ≡ Ok c → CallAgain ranks r own c
-    by true j k e = attach_read ranks r own ws c e
-    by false true k e = inquiry_read ranks r own ws c e
-    by false false true e = fill_read ranks r own ws c e
-    by false false false e = lone_read ranks r own w ws c e
+    ] ≡ Ok c → CallRead ranks r own before c
+    by true j k e = attach_read ranks r own before low ws c e
+    by false true k e = inquiry_read ranks r own before low ws c e
+    by false false true e = fill_read ranks r own before low ws c e
+    by false false false e = lone_read ranks r own before low w ws c e
 
-plain_read : (ranks r : ℕ) (own : List Call) (w : List ℕ) (ws : List Word) (c : Call) → plain_call ranks r w ws ≡ Ok c → CallAgain ranks r own c
-plain_read ranks r own w ws c h = by (bytes_eq w (codes "wait")) (bytes_eq w (codes "wait_all")) (bytes_eq w (codes "cancel")) h
+plain_read : (ranks r : ℕ) (own : List Call) (before : ℕ) (low : before ≤ most_values) (w : List ℕ) (ws : List Word) (c : Call) → plain_call ranks r w ws ≡ Ok c → CallRead ranks r own before c
+plain_read ranks r own before low w ws c h = by (bytes_eq w (codes "wait")) (bytes_eq w (codes "wait_all")) (bytes_eq w (codes "cancel")) h
   where
     by : (i j k : Bool) → elim i as (λ x. Result Call ScriptKind) [
       | true ↦ (choice ws >>= λ x. Ok (call.Wait false x))
@@ -377,14 +390,14 @@ plain_read ranks r own w ws c h = by (bytes_eq w (codes "wait")) (bytes_eq w (co
         | true ↦ (choice ws >>= λ x. Ok (call.Wait true x))
         | false ↦ elim k as (λ x. Result Call ScriptKind) [ true ↦ (choice ws >>= λ x. Ok (call.Cancel x)) | false ↦ other_call ranks r w ws ]
       ]
-    ] ≡ Ok c → CallAgain ranks r own c
-    by true j k e = wait_read ranks r own false ws c e
-    by false true k e = wait_read ranks r own true ws c e
-    by false false true e = cancel_read ranks r own ws c e
-    by false false false e = other_read ranks r own w ws c e
+    ] ≡ Ok c → CallRead ranks r own before c
+    by true j k e = wait_read ranks r own before low false ws c e
+    by false true k e = wait_read ranks r own before low true ws c e
+    by false false true e = cancel_read ranks r own before low ws c e
+    by false false false e = other_read ranks r own before low w ws c e
 
 pub call_read : (ranks r : ℕ) (own : List Call) (before : ℕ) (w : List ℕ) (ws : List Word) (c : Call)
-    → before ≤ most_values → list_all is_read ws ≡ true → call_of ranks r own before w ws ≡ Ok c → CallAgain ranks r own c
+    → before ≤ most_values → list_all is_read ws ≡ true → call_of ranks r own before w ws ≡ Ok c → CallRead ranks r own before c
 call_read ranks r own before w ws c low read h = by (after_prefix (codes "put_") w) (after_prefix (codes "get_") w) (post_of_text w) h
   where
     by : (i j : Option (List ℕ)) (k : Option (PostKind × List ℕ)) → elim i as (λ x. Result Call ScriptKind) [
@@ -396,14 +409,14 @@ call_read ranks r own before w ws c low read h = by (after_prefix (codes "put_")
           | None ↦ plain_call ranks r w ws
         ]
       ]
-    ] ≡ Ok c → CallAgain ranks r own c
+    ] ≡ Ok c → CallRead ranks r own before c
     by (Some rest) j k e =
         let a = went (or_fault kind.UnknownWord (form_and_all rest)) (λ f. put_call f.1 f.0 before ws) c e in
         put_read ranks r own a.value.1 a.value.0 before ws c low read a.rest
     by None (Some rest) k e =
         let a = went (or_fault kind.UnknownWord (form_and_all rest)) (λ f. get_call f.1 f.0 ws) c e in
-        get_read ranks r own a.value.1 a.value.0 ws c a.rest
+        get_read ranks r own before low a.value.1 a.value.0 ws c a.rest
     by None None (Some p) e =
         let a = went (or_fault kind.UnknownWord (form_of_text p.1)) (λ f. post_call p.0 (posted own) f before ws) c e in
         post_read ranks r own p.0 a.value before ws c low read a.rest
-    by None None None e = plain_read ranks r own w ws c e
+    by None None None e = plain_read ranks r own before low w ws c e
