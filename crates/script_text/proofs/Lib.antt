@@ -7,3 +7,4 @@ pub mod PrintedValues
 pub mod PrintedRegions
 pub mod PrintedCalls
 pub mod CallLines
+pub mod PrintedAttributes
