@@ -8,3 +8,4 @@ pub mod PrintedRegions
 pub mod PrintedCalls
 pub mod CallLines
 pub mod PrintedAttributes
+pub mod PrintedDefinitions
