@@ -9,3 +9,4 @@ pub mod PrintedCalls
 pub mod CallLines
 pub mod PrintedAttributes
 pub mod PrintedDefinitions
+pub mod AddedLines
