@@ -10,3 +10,5 @@ pub mod CallLines
 pub mod PrintedAttributes
 pub mod PrintedDefinitions
 pub mod AddedLines
+pub mod Places
+pub mod DefinedChains
