@@ -12,3 +12,5 @@ pub mod PrintedDefinitions
 pub mod AddedLines
 pub mod Places
 pub mod DefinedChains
+pub mod DefinedLines
+pub mod ReadWords

@@ -204,7 +204,7 @@ hex_sum_none : (hs : List ℕ) → fold hex_sum None hs ≡ None
 hex_sum_none [] = refl
 hex_sum_none (h ∷ hs) = hex_sum_none hs
 
-hex_value_bound : (c h : ℕ) → hex_value c ≡ Some h → h < 16
+pub hex_value_bound : (c h : ℕ) → hex_value c ≡ Some h → h < 16
 hex_value_bound c h e = by (is_digit c) (nat_le 65 c && nat_le c 70) (nat_le 97 c && nat_le c 102) refl refl refl e
   where
     by : (x y z : Bool) → is_digit c ≡ x → (nat_le 65 c && nat_le c 70) ≡ y → (nat_le 97 c && nat_le c 102) ≡ z
