@@ -116,7 +116,7 @@ pub record DataEnd (ranks v : ℕ) (calls : List (List Call)) : Type 0 where
   pub chains : Chains ranks 0 calls
   pub few : v + count_all calls ≤ most_values
 
-line_ok : {A : Type 0} (n : ℕ) (r : Result A ScriptKind) (x : A) → at_line n r ≡ Ok x → r ≡ Ok x
+pub line_ok : {A : Type 0} (n : ℕ) (r : Result A ScriptKind) (x : A) → at_line n r ≡ Ok x → r ≡ Ok x
 line_ok n (Ok y) x h = ap (λ z. Ok z) (same_ok y x h)
 line_ok n (Err e) x h = absurd (cc)
 

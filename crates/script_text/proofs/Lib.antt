@@ -14,3 +14,4 @@ pub mod Places
 pub mod DefinedChains
 pub mod DefinedLines
 pub mod ReadWords
+pub mod KnownLines
