@@ -15,3 +15,4 @@ pub mod DefinedChains
 pub mod DefinedLines
 pub mod ReadWords
 pub mod KnownLines
+pub mod Whole
