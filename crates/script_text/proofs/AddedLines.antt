@@ -1,33 +1,31 @@
 -- Runs of lines of the definitions, and what is added to a dataset that is opened: each line, printed, is read in the state in which it was read before.
-use Rattle.std.proofs.Common.{◌≡◌, ◌⊎◌, ◌∙◌, ℕ, zero, suc, ◌+◌, ◌≤◌, ◌<◌, List, [], ◌∷◌, ◌++◌, map, length, drop, flat_map, Bool, true, false, not, cond, nat_lt, nat_le, ◌==◌, ◌&&◌, Option, Some, None, Result, Ok, Err, refl, sym, ap, subst, ⊎_elim, inl, inr, append_assoc, arith, bytes_eq, codes}
+use Rattle.std.proofs.Common.{◌≡◌, ◌⊎◌, ◌∙◌, ℕ, ◌+◌, ◌≤◌, List, [], ◌∷◌, ◌++◌, map, length, drop, flat_map, Bool, true, false, cond, nat_lt, Option, Some, None, Result, Ok, Err, refl, sym, ap, subst, ⊎_elim, inl, inr, arith, bytes_eq, codes}
 use Rattle.std.specs.List.{list_all, list_any}
-use Rattle.std.proofs.lemmas.Bool.{and_parts, and_from, cond-true, cond-false, cases_Bool}
+use Rattle.std.proofs.lemmas.Bool.{and_from, cond-true, cond-false}
 use Rattle.std.proofs.lemmas.Slice.Eq.{bytes_eq-Decides}
 use Rattle.nc_base.specs.declared.errors.ScriptKind.{ScriptKind}
 use Rattle.nc_base.specs.declared.errors.ScriptKind.TheVariants as kind
 use Rattle.nc_base.specs.declared.errors.ScriptErr.{ScriptErr}
 use Rattle.nc_base.specs.declared.errors.LimitName.TheVariants as limit
-use Rattle.nc_base.specs.declared.header.NcType.{NcType}
-use Rattle.nc_base.specs.declared.header.Dim.{Dim}
 use Rattle.nc_base.specs.declared.header.Attr.{Attr}
 use Rattle.nc_base.specs.declared.script.Extra.{Extra}
 use Rattle.nc_base.specs.declared.script.Extra.TheVariants as extra
 use Rattle.serial_spec.specs.Limits.{most_dims_of_var}
 use Rattle.serial_spec.specs.Lawful.{most_values}
 use Rattle.script_spec.specs.Texts.{type_word, line}
-use Rattle.script_spec.specs.Shown.{bracketed, shown_extra, shown_attr, shown_dim}
+use Rattle.script_spec.specs.Shown.{bracketed, shown_extra, shown_attr}
 use Rattle.script_spec.specs.ScriptWords.{Word, Plain, Quoted, Broken, Line, is_name}
-use Rattle.script_spec.specs.ScriptSteps.{◌>>=◌, refuse_if, bare, reads_as, name_of_text, ended, whole}
-use Rattle.script_spec.specs.ScriptDefinitions.{dim_line, var_head, name_list, owner_of_text, owner_name, attribute, Added, is_added_record, added_shape, dim_addition, var_addition, att_addition, addition, Known, known_after, definition_or_addition}
-use Rattle.script_spec.specs.ScriptGrammar.{at_line, definition_step, definitions, data_line}
-use Rattle.script_text.proofs.Steps.{Went, went, go_on, same_ok, not_refused, passed, read_word, word_read, by_true, by_false}
-use Rattle.script_text.proofs.Lexing.{spelling, is_plain, is_good}
+use Rattle.script_spec.specs.ScriptSteps.{refuse_if, reads_as, name_of_text, ended}
+use Rattle.script_spec.specs.ScriptDefinitions.{dim_line, var_head, name_list, owner_of_text, owner_name, attribute, Added, is_added_record, added_shape, dim_addition, var_addition, att_addition, addition, Known, known_after}
+use Rattle.script_spec.specs.ScriptGrammar.{at_line, definition_step, definitions}
+use Rattle.script_text.proofs.Steps.{went, go_on, same_ok, not_refused, passed, read_word, word_read, by_false}
+use Rattle.script_text.proofs.Lexing.{is_plain, is_good}
 use Rattle.script_text.proofs.Lines.{is_line, spelled, numbered}
 use Rattle.script_text.proofs.Numerals.{name_plain}
 use Rattle.script_text.proofs.PrintedValues.{is_read}
 use Rattle.script_text.proofs.PrintedRegions.{kept}
-use Rattle.script_text.proofs.PrintedAttributes.{type_plain, attr_tokens, attr_spelled, AttrAgain, AttrRead, attr_read}
-use Rattle.script_text.proofs.PrintedDefinitions.{dim_tokens, DimAgain, dim_read, HeadAgain, head_read, head_again, names_read, names_plain, names_again}
+use Rattle.script_text.proofs.PrintedAttributes.{type_plain, attr_tokens, attr_spelled, attr_read}
+use Rattle.script_text.proofs.PrintedDefinitions.{dim_tokens, dim_read, head_read, head_again, names_read, names_plain, names_again}
 
 -- ---- runs of lines
 
@@ -46,7 +44,7 @@ pub runs_on : (version : ℕ) (k x y : Known) (a b : List (List Word)) → Runs 
 runs_on version k x y [] b h j = subst (λ (z : Known). Runs version z b y) (sym h) j
 runs_on version k x y (ws ∷ a) b h j = (h.0, h.1, runs_on version h.0 x y a b h.2 j)
 
-abbrev defined_by : ℕ → ℕ → List Line → Result (Option ℕ × Known) ScriptErr → Result (ℕ × (Known × List Line)) ScriptErr
+abbrev pub defined_by : ℕ → ℕ → List Line → Result (Option ℕ × Known) ScriptErr → Result (ℕ × (Known × List Line)) ScriptErr
 defined_by past version lines r = elim r [ Err e ↦ Err e | Ok s ↦ elim s.0 [ Some ranks ↦ Ok (ranks, (s.1, lines)) | None ↦ definitions past version s.1 lines ] ]
 
 step_again : (version : ℕ) (k x : Known) (first : List ℕ) (ws : List Word) → bytes_eq first (codes "data") ≡ false → known_after version k first ws ≡ Ok x → definition_step version k (Plain first) ws ≡ Ok (None, x)
@@ -234,11 +232,11 @@ Replay v d (e ∷ es) w x = (r : ℕ × Added) × (list_all is_good (extra_rest 
 replay_pushed : (v w : ℕ) (d x : Added) (es : List Extra) (e : Extra) (r : ℕ × Added) → Replay v d es w x → list_all is_good (extra_rest e) ≡ true → addition w x (extra_word e) (extra_rest e) ≡ Ok r
     → Replay v d (es ++ e ∷ []) (w + r.0) r.1
 replay_pushed v w d x [] e r h good again = (
-      r,
-      good,
-      ap (λ (n : ℕ). addition n d (extra_word e) (extra_rest e)) h.0 ∙ (ap (λ (y : Added). addition w y (extra_word e) (extra_rest e)) h.1 ∙ again),
-      (ap (λ (n : ℕ). n + r.0) h.0, refl),
-    )
+  r,
+  good,
+  ap (λ (n : ℕ). addition n d (extra_word e) (extra_rest e)) h.0 ∙ (ap (λ (y : Added). addition w y (extra_word e) (extra_rest e)) h.1 ∙ again),
+  (ap (λ (n : ℕ). n + r.0) h.0, refl),
+)
 replay_pushed v w d x (f ∷ es) e r h good again = (h.0, h.1, h.2, replay_pushed (v + h.0.0) w h.0.1 x es e r h.3 good again)
 
 pub replay_on : (v w : ℕ) (d x : Added) (r : ℕ × Added) → Replay v d x.extras w x → AddedBy w x r → Replay v d r.1.extras (w + r.0) r.1
@@ -256,7 +254,7 @@ extra_leads k (extra.Att owner a) r h = (refl, go_on (addition k.values k.added 
 pub replay_runs : (v w : ℕ) (d x : Added) (es : List Extra) (k : Known) → Replay v d es w x → Runs 0 (record k { added = d; values = v }) (map extra_line es) (record k { added = x; values = w })
 replay_runs v w d x [] k h = ap (λ (n : ℕ). record k { added = d; values = n }) h.0 ∙ ap (λ (y : Added). record k { added = y; values = w }) h.1
 replay_runs v w d x (e ∷ es) k h = (
-      record k { added = h.0.1; values = v + h.0.0 },
-      extra_leads (record k { added = d; values = v }) e h.0 h.2,
-      replay_runs (v + h.0.0) w h.0.1 x es k h.3,
-    )
+  record k { added = h.0.1; values = v + h.0.0 },
+  extra_leads (record k { added = d; values = v }) e h.0 h.2,
+  replay_runs (v + h.0.0) w h.0.1 x es k h.3,
+)

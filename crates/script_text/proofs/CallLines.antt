@@ -1,5 +1,5 @@
 -- The calls of all ranks, printed rank by rank, are read as the same calls.
-use Rattle.std.proofs.Common.{◌≡◌, ◌⊎◌, ◌∙◌, ℕ, zero, suc, ◌+◌, ◌-◌, ◌^◌, ◌≤◌, ◌<◌, List, [], ◌∷◌, ◌++◌, map, length, replicate, flat_map, Bool, true, false, not, cond, nat_lt, ◌==◌, ◌&&◌, ◌||◌, Option, Some, None, unwrap_or, slice_get, slice_set, Result, Ok, Err, refl, sym, ap, subst, append_assoc, append-nil, length-append, arith, bytes_eq, codes, decimal}
+use Rattle.std.proofs.Common.{◌≡◌, ◌∙◌, ℕ, zero, suc, ◌+◌, ◌≤◌, ◌<◌, List, [], ◌∷◌, ◌++◌, map, length, replicate, flat_map, Bool, true, false, not, cond, nat_lt, slice_set, Result, Ok, Err, refl, sym, ap, subst, append_assoc, append-nil, length-append, arith, bytes_eq, codes, decimal}
 use Rattle.std.specs.List.{list_all, enumerate_from}
 use Rattle.std.proofs.lemmas.Bool.{and_parts, and_from, cond-true, ne_eqb}
 use Rattle.std.proofs.lemmas.List.{set_at}
@@ -11,16 +11,15 @@ use Rattle.nc_base.specs.declared.request.Call.{Call}
 use Rattle.serial_spec.specs.Lawful.{most_values, values_in_call}
 use Rattle.script_spec.specs.Texts.{call_word, line}
 use Rattle.script_spec.specs.Shown.{shown_call}
-use Rattle.script_spec.specs.ScriptWords.{Word, Plain, Quoted, Broken, Line, is_comment, is_digit, begins_rank, digits_value}
+use Rattle.script_spec.specs.ScriptWords.{Word, Plain, Line, is_comment, is_digit, begins_rank, digits_value}
 use Rattle.script_spec.specs.ScriptSteps.{◌>>=◌, bare, next, whole}
 use Rattle.script_spec.specs.ScriptCalls.{Called, calls_of, rank_of_text, with_call, call_line, call_of, called_after}
 use Rattle.script_spec.specs.ScriptGrammar.{at_line, call_step, data_part}
-use Rattle.script_text.proofs.Steps.{Went, went, go_on, same_ok, whole_value, by_true, by_false}
-use Rattle.script_text.proofs.Lexing.{spelling, is_plain, is_good}
+use Rattle.script_text.proofs.Steps.{went, go_on, same_ok, whole_value, by_false}
 use Rattle.script_text.proofs.Lines.{is_line, spelled, numbered, all_joined}
-use Rattle.script_text.proofs.Numerals.{IsNumeral, decimal_numeral, decimal_plain, decimal_word}
+use Rattle.script_text.proofs.Numerals.{decimal_numeral, decimal_plain, decimal_word}
 use Rattle.script_text.proofs.PrintedValues.{is_read, not_letters}
-use Rattle.script_text.proofs.PrintedCalls.{call_tokens, call_spelled, call_plain, CallAgain, CallRead, call_read}
+use Rattle.script_text.proofs.PrintedCalls.{call_tokens, call_spelled, call_plain, CallAgain, call_read}
 
 -- ---- calls that were read
 
@@ -140,6 +139,7 @@ data_holds ranks v past (l ∷ lines) d r holds read h = by (at_line l.number (c
   where
     both : (list_all is_read l.rest ≡ true) × (are_read lines ≡ true)
     both = and_parts _ _ read
+
     by : (s : Result (Bool × Called) ScriptErr) → at_line l.number (call_step d l.first l.rest) ≡ s → data_by past l lines s ≡ Ok r
         → ((e : Called) → Holds ranks v e → are_read lines ≡ true → data_part past e lines ≡ Ok r → Holds ranks v r.1.0) → Holds ranks v r.1.0
     by (Err e) is k more = absurd (cc)

@@ -1,31 +1,29 @@
 -- The definitions of a new dataset, printed in their canonical order, are read as the same definitions.
-use Rattle.std.proofs.Common.{◌≡◌, ◌⊎◌, ◌∙◌, ℕ, zero, suc, ◌+◌, ◌≤◌, ◌<◌, List, [], ◌∷◌, ◌++◌, map, position, length, drop, flat_map, Bool, true, false, not, cond, nat_lt, nat_le, ◌==◌, ◌&&◌, ◌||◌, Option, Some, None, slice_get, Result, Ok, Err, refl, sym, ap, subst, inr, append_assoc, append-nil, arith, bytes_eq, codes}
+use Rattle.std.proofs.Common.{◌≡◌, ◌∙◌, ℕ, suc, ◌+◌, ◌≤◌, List, [], ◌∷◌, ◌++◌, map, position, length, drop, Bool, true, false, nat_lt, ◌==◌, ◌||◌, Some, None, Ok, refl, sym, ap, subst, inr, append_assoc, append-nil, arith, bytes_eq, codes}
 use Rattle.std.specs.List.{list_all, list_any}
 use Rattle.std.proofs.lemmas.Bool.{and_parts, and_from, and_left, and_right, or_from, or_parts, ne_eqb}
 use Rattle.std.proofs.lemmas.List.Folds.{list_any-append}
-use Rattle.nc_base.specs.declared.errors.ScriptKind.{ScriptKind}
 use Rattle.nc_base.specs.declared.errors.ScriptKind.TheVariants as kind
 use Rattle.nc_base.specs.declared.errors.LimitName.TheVariants as limit
-use Rattle.nc_base.specs.declared.header.NcType.{NcType}
 use Rattle.nc_base.specs.declared.header.Dim.{Dim}
 use Rattle.nc_base.specs.declared.header.Attr.{Attr}
 use Rattle.nc_base.specs.declared.header.Var.{Var}
 use Rattle.serial_spec.specs.Limits.{most_dims_of_var}
 use Rattle.serial_spec.specs.Lawful.{most_values}
-use Rattle.script_spec.specs.Texts.{type_word, line}
-use Rattle.script_spec.specs.Shown.{bracketed, shown_attr, shown_dim}
-use Rattle.script_spec.specs.ScriptWords.{Word, Plain, Quoted, Broken, is_name, starts_name}
-use Rattle.script_spec.specs.ScriptSteps.{◌>>=◌, refuse_if, or_fault, reads_as, ended}
-use Rattle.script_spec.specs.ScriptDefinitions.{is_among, dim_names, dim_line, var_head, name_list, dim_ids, is_record_dim, var_names, shape, var_line, owner_of_text, owner_place, Title, same_title, attribute, Defined, with_dim, with_var, with_attr_at, with_title, with_attr, att_line, dim_definition, var_definition, fill_line, definition, Known, known_after}
-use Rattle.script_text.proofs.Steps.{Went, went, go_on, same_ok, not_refused, passed, no_fault, faultless, word_read, by_true, by_false}
-use Rattle.script_text.proofs.Lexing.{spelling, is_plain, is_good}
-use Rattle.script_text.proofs.Lines.{is_line, spelled, all_joined}
+use Rattle.script_spec.specs.Texts.{type_word}
+use Rattle.script_spec.specs.Shown.{bracketed}
+use Rattle.script_spec.specs.ScriptWords.{Word, Plain, is_name, starts_name}
+use Rattle.script_spec.specs.ScriptSteps.{◌>>=◌, refuse_if, or_fault, reads_as}
+use Rattle.script_spec.specs.ScriptDefinitions.{is_among, dim_line, var_head, name_list, dim_ids, is_record_dim, var_names, shape, var_line, owner_of_text, owner_place, Title, same_title, attribute, Defined, with_dim, with_var, with_attr_at, with_title, with_attr, att_line, definition, Known}
+use Rattle.script_text.proofs.Steps.{go_on, passed, faultless, word_read, by_false}
+use Rattle.script_text.proofs.Lexing.{is_plain}
+use Rattle.script_text.proofs.Lines.{is_line, all_joined}
 use Rattle.script_text.proofs.Numerals.{name_plain}
 use Rattle.script_text.proofs.PrintedAttributes.{type_plain, attr_tokens, AttrAgain}
-use Rattle.script_text.proofs.PrintedDefinitions.{dim_tokens, DimAgain, HeadAgain, head_again, names_plain, names_again}
-use Rattle.script_text.proofs.AddedLines.{Leads, Runs, runs_on, att_spelled, Owner, owner_again}
-use Rattle.script_text.proofs.Places.{name_at, names_shown, bytes_own, place_of_new}
-use Rattle.script_text.proofs.DefinedChains.{DimChain, VarAgain, VarOk, VarChain, attr_names, AttrChain, OwnChains, with_own, push_attr, pushes, count_attrs, count_own}
+use Rattle.script_text.proofs.PrintedDefinitions.{dim_tokens, HeadAgain, head_again, names_plain, names_again}
+use Rattle.script_text.proofs.AddedLines.{Leads, Runs, runs_on, owner_again}
+use Rattle.script_text.proofs.Places.{name_at, names_shown, place_of_new}
+use Rattle.script_text.proofs.DefinedChains.{DimChain, VarOk, VarChain, AttrChain, OwnChains, with_own, push_attr, pushes, count_attrs, count_own}
 
 -- ---- lines of the definitions
 
@@ -36,12 +34,12 @@ at_state k d v = record k { defined = d; values = v }
 pub leads_by : (version : ℕ) (k : Known) (first : List ℕ) (ws : List Word) (r : ℕ × Defined) → (version == 0) ≡ false → bytes_eq first (codes "ranks") ≡ false → bytes_eq first (codes "hint") ≡ false → bytes_eq first (codes "data") ≡ false
     → definition version k.values k.defined first ws ≡ Ok r → Leads version k (Plain first ∷ ws) (record k { defined = r.1; values = k.values + r.0 })
 leads_by version k first ws r new a b c h = (
-      c,
-      by_false (bytes_eq first (codes "ranks")) _ _ a
+  c,
+  by_false (bytes_eq first (codes "ranks")) _ _ a
       ∙ (by_false (bytes_eq first (codes "hint")) _ _ b
       ∙ (by_false (version == 0) _ _ new
       ∙ go_on (definition version k.values k.defined first ws) (λ x. Ok (record k { defined = x.1; values = k.values + x.0 })) r _ h refl)),
-    )
+)
 
 -- ---- dimensions
 
@@ -99,7 +97,7 @@ vars_run version k d names (v ∷ vs) done new h same =
     let more = vars_run version k d (names ++ v.name ∷ []) vs (done ++ bare v ∷ []) new h.1 (joined_vars done (bare v ∷ []) ∙ ap (λ (xs : List (List ℕ)). xs ++ v.name ∷ []) same) in (
       at_state k next 0,
       leads_by version (at_state k here 0) (codes "var") ws (0, next) new refl refl refl
-      (go_on (var_line version d.dims done ws) (λ y. Ok (0, with_var y here)) (bare v) (0, next) (var_again version d.dims names done v h.0 same) refl),
+          (go_on (var_line version d.dims done ws) (λ y. Ok (0, with_var y here)) (bare v) (0, next) (var_again version d.dims names done v h.0 same) refl),
       subst (λ (xs : List Var). Runs version (at_state k next 0) (map (line_of_var d.dims) vs) (at_state k (record d { vars = xs }) 0)) (append_assoc done (bare v ∷ []) (map bare vs)) more,
     )
 
@@ -212,7 +210,7 @@ own_run version k d front back (a ∷ list) names w titles v new named alone h f
     let more = own_run version k d front back list (names ++ a.name ∷ []) (with_own a w) next_titles (v + a.count) new named alone h.2 (fresh_pushed titles w.name names a.name fresh) (omega arith) in
     let total : (v + a.count) + count_attrs list ≡ v + (a.count + count_attrs list) = omega arith in
     let same : at_state k (with_vars d (front ++ with_list w ((w.attrs ++ a ∷ []) ++ list) ∷ back) (next_titles ++ titles_of w.name list)) ((v + a.count) + count_attrs list)
-            ≡ at_state k (with_vars d (front ++ with_list w (w.attrs ++ a ∷ list) ∷ back) (titles ++ titles_of w.name (a ∷ list))) (v + count_attrs (a ∷ list)) =
+    ≡ at_state k (with_vars d (front ++ with_list w (w.attrs ++ a ∷ list) ∷ back) (titles ++ titles_of w.name (a ∷ list))) (v + count_attrs (a ∷ list)) =
     ap (λ (xs : List Attr). at_state k (with_vars d (front ++ with_list w xs ∷ back) (next_titles ++ titles_of w.name list)) ((v + a.count) + count_attrs list)) (append_assoc w.attrs (a ∷ []) list)
     ∙ (ap (λ (ts : List Title). at_state k (with_vars d (front ++ with_list w (w.attrs ++ a ∷ list) ∷ back) ts) ((v + a.count) + count_attrs list)) (append_assoc titles ((w.name, a.name) ∷ []) (titles_of w.name list))
     ∙ ap (λ (n : ℕ). at_state k (with_vars d (front ++ with_list w (w.attrs ++ a ∷ list) ∷ back) (titles ++ titles_of w.name (a ∷ list))) n) total) in (

@@ -1,8 +1,8 @@
 -- The number of ranks and the hints, and what is known before `data` as a whole.
-use Rattle.std.proofs.Common.{◌≡◌, ◌⊎◌, ◌∙◌, ℕ, zero, suc, ◌+◌, ◌%◌, ◌^◌, ◌≤◌, ◌<◌, min, List, [], ◌∷◌, ◌++◌, map, zip, replicate, length, flat_map, Bool, true, false, not, cond, nat_lt, nat_le, ◌==◌, ◌&&◌, ◌||◌, Option, Some, None, is_some, unwrap_or, slice_get, slice_set, Result, Ok, Err, refl, sym, ap, subst, arith, bytes_eq, codes, decimal}
+use Rattle.std.proofs.Common.{◌≡◌, ◌∙◌, ℕ, ◌+◌, ◌%◌, ◌^◌, ◌≤◌, ◌<◌, min, List, [], ◌∷◌, ◌++◌, map, zip, replicate, flat_map, Bool, true, false, cond, nat_le, ◌==◌, ◌&&◌, Option, Some, None, is_some, slice_set, Result, Ok, Err, refl, ap, subst, arith, bytes_eq, codes, decimal}
 use Rattle.std.specs.List.{list_all}
-use Rattle.std.proofs.lemmas.Bool.{and_parts, and_from, cond-true}
-use borrow.Author.Tests.{leb-true, le-leb, lt-ltb, eq-eqb}
+use Rattle.std.proofs.lemmas.Bool.{and_parts, and_from}
+use borrow.Author.Tests.{leb-true, le-leb, eq-eqb}
 use Rattle.nc_base.specs.declared.errors.ScriptKind.{ScriptKind}
 use Rattle.nc_base.specs.declared.errors.ScriptKind.TheVariants as kind
 use Rattle.nc_base.specs.declared.errors.ScriptErr.{ScriptErr}
@@ -12,18 +12,18 @@ use Rattle.nc_base.specs.declared.script.OverlapRule.TheVariants.{Refuse, Serial
 use Rattle.serial_spec.specs.Lawful.{most_values}
 use Rattle.script_spec.specs.Texts.{line}
 use Rattle.script_spec.specs.Shown.{rule_word, hint_words, shown_hints}
-use Rattle.script_spec.specs.ScriptWords.{Word, Plain, Quoted, Broken, Line}
-use Rattle.script_spec.specs.ScriptSteps.{◌>>=◌, refuse_if, or_fault, bare, reads_as, whole, ended}
-use Rattle.script_spec.specs.ScriptDefinitions.{HintForm, Within, Either, hint_forms, hint_of_text, hint_form, number_within, one_of_two, hint_value, hint_in, hint_line, ranks_line, Defined, no_definition, definition, Added, nothing_added, addition, Known, nothing_known, definition_or_addition, known_after}
-use Rattle.script_spec.specs.ScriptGrammar.{at_line, data_line, definition_step, definitions, hint_or, rule_of, hints_of}
-use Rattle.script_text.proofs.Steps.{Went, went, go_on, same_ok, not_refused, passed, no_fault, faultless, word_read, whole_value, by_true, by_false}
-use Rattle.script_text.proofs.Lexing.{spelling, is_plain, is_good}
+use Rattle.script_spec.specs.ScriptWords.{Word, Plain, Line}
+use Rattle.script_spec.specs.ScriptSteps.{◌>>=◌, refuse_if, or_fault, bare, reads_as}
+use Rattle.script_spec.specs.ScriptDefinitions.{Within, Either, hint_forms, hint_of_text, hint_form, number_within, hint_value, hint_in, hint_line, ranks_line, no_definition, definition, nothing_added, addition, Known, nothing_known, definition_or_addition, known_after}
+use Rattle.script_spec.specs.ScriptGrammar.{at_line, data_line, definition_step, definitions, rule_of, hints_of}
+use Rattle.script_text.proofs.Steps.{went, go_on, same_ok, passed, no_fault, word_read, whole_value}
+use Rattle.script_text.proofs.Lexing.{is_plain}
 use Rattle.script_text.proofs.Lines.{is_line, spelled}
 use Rattle.script_text.proofs.PrintedValues.{is_read}
-use Rattle.script_text.proofs.PrintedDefinitions.{is_value_of, within_again, within_plain, are_hints, hint_read, hint_or_fits, ranks_read, ranks_again}
+use Rattle.script_text.proofs.PrintedDefinitions.{is_value_of, within_again, within_plain, are_hints, hint_read, hint_or_fits, ranks_read}
 use Rattle.script_text.proofs.CallLines.{are_read, line_ok}
-use Rattle.script_text.proofs.AddedLines.{Leads, Runs, Replay, replay_on, AddedBy, addition_read}
-use Rattle.script_text.proofs.DefinedChains.{DefinedOk, DefinedOn, definition_read}
+use Rattle.script_text.proofs.AddedLines.{Leads, Runs, Replay, replay_on, addition_read, defined_by}
+use Rattle.script_text.proofs.DefinedChains.{DefinedOk, definition_read}
 
 -- ---- the hints as they are printed
 
@@ -81,27 +81,27 @@ nodes_fit n h =
 
 pub hints_fit : (ranks : ℕ) (hints : List (Option ℕ)) → is_value_of (Within 1 64 1) ranks ≡ true → are_hints hint_forms hints ≡ true → HintsFit (hints_of ranks hints)
 hints_fit ranks hints r h = record {
-      cb_nodes = hint_or_fits hint_forms hints 0 (min ranks 8) h (nodes_fit ranks r);
-      cb_buffer = hint_or_fits hint_forms hints 1 16777216 h refl;
-      rd_buffer = hint_or_fits hint_forms hints 2 4194304 h refl;
-      wr_buffer = hint_or_fits hint_forms hints 3 524288 h refl;
-      line_room = hint_or_fits hint_forms hints 4 2 h refl;
-      header_align = hint_or_fits hint_forms hints 7 4 h refl;
-      var_align = hint_or_fits hint_forms hints 8 4 h refl;
-      striping_unit = hint_or_fits hint_forms hints 9 1 h refl;
-    }
+  cb_nodes = hint_or_fits hint_forms hints 0 (min ranks 8) h (nodes_fit ranks r);
+  cb_buffer = hint_or_fits hint_forms hints 1 16777216 h refl;
+  rd_buffer = hint_or_fits hint_forms hints 2 4194304 h refl;
+  wr_buffer = hint_or_fits hint_forms hints 3 524288 h refl;
+  line_room = hint_or_fits hint_forms hints 4 2 h refl;
+  header_align = hint_or_fits hint_forms hints 7 4 h refl;
+  var_align = hint_or_fits hint_forms hints 8 4 h refl;
+  striping_unit = hint_or_fits hint_forms hints 9 1 h refl;
+}
 
 -- ---- the lines of the hints
 
 hint_leads : (version : ℕ) (k : Known) (word shown : List ℕ) (i v : ℕ) → hint_of_text word ≡ Some i → is_some (hint_in i k.hints) ≡ false → hint_value (hint_form i) (Plain shown ∷ []) ≡ Ok (v, [])
     → Leads version k (Plain (codes "hint") ∷ Plain word ∷ Plain shown ∷ []) (record k { hints = slice_set k.hints i (Some v) })
 hint_leads version k word shown i v at free read = (
-      refl,
-      go_on (hint_line k.hints (Plain word ∷ Plain shown ∷ [])) (λ h. Ok (record k { hints = slice_set k.hints h.0 (Some h.1) })) (i, v) _
+  refl,
+  go_on (hint_line k.hints (Plain word ∷ Plain shown ∷ [])) (λ h. Ok (record k { hints = slice_set k.hints h.0 (Some h.1) })) (i, v) _
       (go_on (reads_as hint_of_text kind.UnknownWord (Plain word ∷ Plain shown ∷ [])) _ (i, Plain shown ∷ []) (i, v) (word_read hint_of_text kind.UnknownWord word i (Plain shown ∷ []) at)
       (go_on (refuse_if (is_some (hint_in i k.hints)) kind.TwiceNamed) _ tt (i, v) (passed _ _ free)
       (go_on (hint_value (hint_form i) (Plain shown ∷ [])) _ (v, []) (i, v) read refl))) refl,
-    )
+)
 
 number_value : (low high unit n : ℕ) → is_value_of (Within low high unit) n ≡ true → high < 2 ^ 63 → hint_value (Within low high unit) (Plain (decimal n) ∷ []) ≡ Ok (n, [])
 number_value low high unit n h top = word_read (number_within low high unit) kind.BadNumber (decimal n) n [] (within_again low high unit n h top)
@@ -133,41 +133,41 @@ hints_run version k h fit =
       with_hints k t1,
       hint_leads version (with_hints k t0) (codes "cb_nodes") (decimal h.cb_nodes) 0 h.cb_nodes refl refl (number_value 1 64 1 h.cb_nodes fit.cb_nodes (omega arith)),
       (
-      with_hints k t2,
-      hint_leads version (with_hints k t1) (codes "cb_buffer_size") (decimal h.cb_buffer) 1 h.cb_buffer refl refl (number_value 1 33554432 1 h.cb_buffer fit.cb_buffer (omega arith)),
-      (
-      with_hints k t3,
-      hint_leads version (with_hints k t2) (codes "ind_rd_buffer_size") (decimal h.rd_buffer) 2 h.rd_buffer refl refl (number_value 1 33554432 1 h.rd_buffer fit.rd_buffer (omega arith)),
-      (
-      with_hints k t4,
-      hint_leads version (with_hints k t3) (codes "ind_wr_buffer_size") (decimal h.wr_buffer) 3 h.wr_buffer refl refl (number_value 1 33554432 1 h.wr_buffer fit.wr_buffer (omega arith)),
-      (
-      with_hints k t5,
-      hint_leads version (with_hints k t4) (codes "line_room") (decimal h.line_room) 4 h.line_room refl refl (number_value 1 64 1 h.line_room fit.line_room (omega arith)),
-      (
-      with_hints k t6,
-      hint_leads version (with_hints k t5) (codes "threads") (cond h.threads (codes "on") (codes "off")) 5 (flag h.threads) refl refl (flag_value h.threads),
-      (
-      with_hints k t7,
-      hint_leads version (with_hints k t6) (codes "overlap") (rule_word h.overlap) 6 (rule_number h.overlap) refl refl (rule_value h.overlap),
-      (
-      with_hints k t8,
-      hint_leads version (with_hints k t7) (codes "nc_header_align_size") (decimal h.header_align) 7 h.header_align refl refl (number_value 4 1048576 4 h.header_align fit.header_align (omega arith)),
-      (
-      with_hints k t9,
-      hint_leads version (with_hints k t8) (codes "nc_var_align_size") (decimal h.var_align) 8 h.var_align refl refl (number_value 4 1048576 4 h.var_align fit.var_align (omega arith)),
-      (
-      with_hints k (hint_table h),
-      hint_leads version (with_hints k t9) (codes "striping_unit") (decimal h.striping_unit) 9 h.striping_unit refl refl (number_value 1 33554432 1 h.striping_unit fit.striping_unit (omega arith)),
-      refl,
-      ),
-      ),
-      ),
-      ),
-      ),
-      ),
-      ),
-      ),
+        with_hints k t2,
+        hint_leads version (with_hints k t1) (codes "cb_buffer_size") (decimal h.cb_buffer) 1 h.cb_buffer refl refl (number_value 1 33554432 1 h.cb_buffer fit.cb_buffer (omega arith)),
+        (
+          with_hints k t3,
+          hint_leads version (with_hints k t2) (codes "ind_rd_buffer_size") (decimal h.rd_buffer) 2 h.rd_buffer refl refl (number_value 1 33554432 1 h.rd_buffer fit.rd_buffer (omega arith)),
+          (
+            with_hints k t4,
+            hint_leads version (with_hints k t3) (codes "ind_wr_buffer_size") (decimal h.wr_buffer) 3 h.wr_buffer refl refl (number_value 1 33554432 1 h.wr_buffer fit.wr_buffer (omega arith)),
+            (
+              with_hints k t5,
+              hint_leads version (with_hints k t4) (codes "line_room") (decimal h.line_room) 4 h.line_room refl refl (number_value 1 64 1 h.line_room fit.line_room (omega arith)),
+              (
+                with_hints k t6,
+                hint_leads version (with_hints k t5) (codes "threads") (cond h.threads (codes "on") (codes "off")) 5 (flag h.threads) refl refl (flag_value h.threads),
+                (
+                  with_hints k t7,
+                  hint_leads version (with_hints k t6) (codes "overlap") (rule_word h.overlap) 6 (rule_number h.overlap) refl refl (rule_value h.overlap),
+                  (
+                    with_hints k t8,
+                    hint_leads version (with_hints k t7) (codes "nc_header_align_size") (decimal h.header_align) 7 h.header_align refl refl (number_value 4 1048576 4 h.header_align fit.header_align (omega arith)),
+                    (
+                      with_hints k t9,
+                      hint_leads version (with_hints k t8) (codes "nc_var_align_size") (decimal h.var_align) 8 h.var_align refl refl (number_value 4 1048576 4 h.var_align fit.var_align (omega arith)),
+                      (
+                        with_hints k (hint_table h),
+                        hint_leads version (with_hints k t9) (codes "striping_unit") (decimal h.striping_unit) 9 h.striping_unit refl refl (number_value 1 33554432 1 h.striping_unit fit.striping_unit (omega arith)),
+                        refl,
+                      ),
+                    ),
+                  ),
+                ),
+              ),
+            ),
+          ),
+        ),
       ),
     )
 
@@ -300,15 +300,13 @@ step_ok version k w ws s read ok h =
         let a = went (known_after version k first ws) (λ more. Ok (None, more)) s e in
         subst (StepOk version) (same_ok (None, a.value) s a.rest) (known_on version k a.value first ws read ok a.first)
 
-abbrev defined_by : ℕ → ℕ → List Line → Result (Option ℕ × Known) ScriptErr → Result (ℕ × (Known × List Line)) ScriptErr
-defined_by past version lines r = elim r [ Err e ↦ Err e | Ok s ↦ elim s.0 [ Some ranks ↦ Ok (ranks, (s.1, lines)) | None ↦ definitions past version s.1 lines ] ]
-
 pub definitions_read : (past version : ℕ) (lines : List Line) (k : Known) (r : ℕ × (Known × List Line)) → are_read lines ≡ true → KnownOk version k → definitions past version k lines ≡ Ok r → AtData version r
 definitions_read past version [] k r read ok h = absurd (cc)
 definitions_read past version (l ∷ lines) k r read ok h = by (at_line l.number (definition_step version k l.first l.rest)) refl h (λ x. definitions_read past version lines x r)
   where
     both : (list_all is_read l.rest ≡ true) × (are_read lines ≡ true)
     both = and_parts _ _ read
+
     by : (s : Result (Option ℕ × Known) ScriptErr) → at_line l.number (definition_step version k l.first l.rest) ≡ s → defined_by past version lines s ≡ Ok r
         → ((x : Known) → are_read lines ≡ true → KnownOk version x → definitions past version x lines ≡ Ok r → AtData version r) → AtData version r
     by (Err e) is j more = absurd (cc)

@@ -1,5 +1,5 @@
 -- Lines that are printed are the significant lines of their text, which is ASCII.
-use Rattle.std.proofs.Common.{◌≡◌, ◌⊎◌, ◌∙◌, ℕ, zero, suc, ◌+◌, ◌-◌, ◌*◌, ◌/◌, ◌%◌, ◌≤◌, ◌<◌, List, [], ◌∷◌, ◌++◌, map, length, take, drop, get_or, flat_map, Bool, true, false, not, cond, nat_lt, nat_le, ◌==◌, ◌&&◌, refl, sym, ap, subst, ⊎_elim, inl, inr, append_assoc, length-append, take_all, true≢false, arith, IsUtf8, IsAscii}
+use Rattle.std.proofs.Common.{◌≡◌, ◌∙◌, ℕ, zero, suc, ◌+◌, ◌/◌, ◌%◌, ◌≤◌, ◌<◌, List, [], ◌∷◌, ◌++◌, map, length, take, get_or, flat_map, Bool, true, false, not, nat_lt, nat_le, ◌==◌, ◌&&◌, refl, sym, ap, subst, ⊎_elim, append_assoc, take_all, arith, IsUtf8, IsAscii}
 use Rattle.std.proofs.lemmas.Bool.{and_parts, and_from, ne_eqb, eq-eqb, eqb-true, cases_Bool, cases_lt, cond-true, cond-false, agree_below_at, le-leb, lt-ltb, le-ltb}
 use Rattle.std.proofs.lemmas.Grind.{common_steps}
 use Rattle.std.proofs.lemmas.List.Splits.{slice_split_at, length-slice_split}
@@ -7,13 +7,13 @@ use Rattle.std.proofs.lemmas.List.Folds.{list_all-append}
 use Rattle.std.proofs.lemmas.List.Sums.{AllPass-from_list_all}
 use Rattle.std.proofs.lemmas.Str.{IsUtf8-from_ascii, IsUtf8-from_is_utf8, utf8_valid_len-IsUtf8}
 use Rattle.std.proofs.lemmas.Str.Ascii.{IsAscii-from_all}
-use Rattle.std.specs.List.{All, list_all, slice_split, enumerate_from, position_or_len}
+use Rattle.std.specs.List.{All, list_all, slice_split, enumerate_from}
 use Rattle.std.specs.Str.{is_utf8}
 use Rattle.std.specs.Str.Lossy.{valid_len_up_to, utf8_valid_len}
 use lib.Utf8.{scalar, scalars, encode, encodes, scalar_cases, next}
-use Rattle.script_spec.specs.Texts.{text_char, quoted, hex, hex_digit, joined, line}
+use Rattle.script_spec.specs.Texts.{text_char, hex_digit, joined, line}
 use Rattle.script_spec.specs.ScriptWords.{Word, Plain, Quoted, Broken, Line, words, is_comment, is_newline, line_of, significant, significant_of, text_lines, without_empty_end}
-use Rattle.script_text.proofs.Lexing.{spelling, is_graphic, is_plain, is_byte, is_good, graphic_bounds, char_else, byte_bound, tail_of, joined_words, words_again, not_true, below_16}
+use Rattle.script_text.proofs.Lexing.{spelling, is_graphic, is_byte, is_good, graphic_bounds, char_else, byte_bound, tail_of, joined_words, words_again, not_true, below_16}
 
 -- ---- what holds of each byte
 

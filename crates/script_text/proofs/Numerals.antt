@@ -1,8 +1,8 @@
 -- Numbers, bits, lists and names that are printed are read as themselves, and what is read of them is within its range.
-use Rattle.std.proofs.Common.{◌≡◌, ◌∙◌, ℕ, zero, suc, ◌+◌, ◌-◌, ◌*◌, ◌/◌, ◌%◌, ◌^◌, ◌≤◌, ◌<◌, List, [], ◌∷◌, ◌++◌, map, length, take, get_or, fold, Bool, true, false, not, cond, nat_lt, nat_le, ◌==◌, ◌&&◌, ◌||◌, Option, Some, None, option_map, option_and_then, ℤ, pos, negsuc, neg_ℤ, unsigned_abs, refl, sym, ap, subst, ⊎_elim, length-append, arith, decimal, codes, bytes_eq}
+use Rattle.std.proofs.Common.{◌≡◌, ◌∙◌, ℕ, zero, suc, ◌+◌, ◌-◌, ◌*◌, ◌/◌, ◌%◌, ◌^◌, ◌≤◌, ◌<◌, List, [], ◌∷◌, ◌++◌, map, length, take, get_or, fold, Bool, true, false, not, cond, nat_lt, nat_le, ◌==◌, ◌&&◌, ◌||◌, Option, Some, None, option_map, option_and_then, ℤ, pos, negsuc, neg_ℤ, unsigned_abs, refl, sym, ap, subst, length-append, arith, decimal}
 use Rattle.std.specs.Fmt.{signed_decimal}
-use Rattle.std.specs.List.{list_all, slice_split, All, position_or_len}
-use Rattle.std.proofs.lemmas.Bool.{and_parts, and_from, and_left, or_from, or_cases, ne_eqb, eq-eqb, eqb-true, cases_Bool, cond-true, cond-false, le-leb, lt-ltb, le-ltb}
+use Rattle.std.specs.List.{list_all, slice_split, All}
+use Rattle.std.proofs.lemmas.Bool.{and_parts, and_from, ne_eqb, eq-eqb, cond-true, cond-false, le-leb, lt-ltb}
 use Rattle.std.proofs.lemmas.Fmt.{decimal_by_steps_wide, length-decimal-le_wide}
 use Rattle.std.proofs.lemmas.Grind.{common_steps}
 use Rattle.std.proofs.lemmas.List.{take_at, get_or_at}
@@ -11,8 +11,8 @@ use Rattle.std.proofs.lemmas.List.Splits.{slice_split_at, slice_split_none}
 use native.Mathlib.Nat.{mul-le-mul_right}
 use Rattle.script_spec.specs.Texts.{hex, hex_digit, joined}
 use Rattle.script_spec.specs.Shown.{bracketed, size_list}
-use Rattle.script_spec.specs.ScriptWords.{is_digit, digits_value, is_digits, begins_rank, natural_of, below, size_of_text, number_of_text, hex_sum, hex_value, bits_of_text, is_letter, starts_name, in_name, is_name, between_brackets, is_comma, parts, all_some, list_of_text}
-use Rattle.script_text.proofs.Lexing.{is_graphic, is_plain, graphic_bounds, hex_again}
+use Rattle.script_spec.specs.ScriptWords.{is_digit, digits_value, is_digits, natural_of, below, size_of_text, number_of_text, hex_sum, hex_value, bits_of_text, starts_name, in_name, is_name, between_brackets, is_comma, parts, all_some, list_of_text}
+use Rattle.script_text.proofs.Lexing.{is_graphic, is_plain, hex_again}
 use Rattle.script_text.proofs.Lines.{all_more, all_joined}
 
 -- ---- digits

@@ -1,7 +1,7 @@
 -- Places of names in a list.
-use Rattle.std.proofs.Common.{◌≡◌, ◌⊎◌, ◌∙◌, ℕ, zero, suc, ◌+◌, ◌≤◌, ◌<◌, List, [], ◌∷◌, ◌++◌, map, position, length, drop, Bool, true, false, not, cond, nat_lt, ◌&&◌, ◌||◌, Option, Some, None, option_map, slice_get, refl, sym, ap, subst, ⊎_elim, arith, bytes_eq}
+use Rattle.std.proofs.Common.{◌≡◌, ◌⊎◌, ◌∙◌, ℕ, zero, suc, ◌+◌, ◌≤◌, ◌<◌, List, [], ◌∷◌, ◌++◌, map, position, length, drop, Bool, true, false, not, cond, nat_lt, ◌||◌, Option, Some, None, option_map, slice_get, refl, sym, ap, subst, ⊎_elim, arith, bytes_eq, inl, inr}
 use Rattle.std.specs.List.{list_all, list_any, position_or_len}
-use Rattle.std.proofs.lemmas.Bool.{and_parts, and_from, or_from, or_parts, cases_lt, cases_Bool, cond-true, cond-false}
+use Rattle.std.proofs.lemmas.Bool.{and_parts, and_from, or_parts, cases_lt, cond-true, cond-false}
 use Rattle.std.proofs.lemmas.Slice.Eq.{bytes_eq-Decides}
 use borrow.Author.Tests.{ltb-true, lt-ltb, le-ltb}
 use Rattle.nc_base.specs.declared.header.Dim.{Dim}
@@ -41,8 +41,8 @@ pub place_cases : {A : Type 0} (p : A → Bool) (x : A) (xs : List A) (k : ℕ) 
 place_cases p x xs k h = by (p x) refl (sym (position_cons p x xs) ∙ h)
   where
     by : (b : Bool) → p x ≡ b → cond b (Some 0) (option_map suc (position p xs)) ≡ Some k → ((p x ≡ true) × (k ≡ 0)) ⊎ ((p x ≡ false) × Later p xs k)
-    by true e j = let same : 0 ≡ k = cc in Rattle.std.proofs.Common.inl (e, sym same)
-    by false e j = Rattle.std.proofs.Common.inr (e, later_from p xs k j)
+    by true e j = let same : 0 ≡ k = cc in inl (e, sym same)
+    by false e j = inr (e, later_from p xs k j)
 
 pub place_here : {A : Type 0} (p : A → Bool) (x : A) (xs : List A) → p x ≡ true → position p (x ∷ xs) ≡ Some 0
 place_here p x xs h = position_cons p x xs ∙ cond-true _ _ _ h

@@ -1,11 +1,8 @@
 -- Types and attributes that are printed are read again.
-use Rattle.std.proofs.Common.{◌≡◌, ◌⊎◌, ◌∙◌, ℕ, zero, suc, ◌+◌, ◌^◌, ◌≤◌, ◌<◌, List, [], ◌∷◌, ◌++◌, map, find, length, take, drop, flat_map, Bool, true, false, not, cond, nat_lt, nat_le, ◌&&◌, Option, Some, None, Result, Ok, Err, ℤ, refl, sym, ap, subst, arith, bytes_eq, codes}
+use Rattle.std.proofs.Common.{◌≡◌, ◌∙◌, ℕ, ◌+◌, ◌≤◌, ◌<◌, List, [], ◌∷◌, ◌++◌, map, find, length, take, drop, flat_map, Bool, true, false, cond, nat_le, Option, Some, None, Ok, ℤ, refl, ap, subst, arith, bytes_eq}
 use Rattle.std.specs.List.{list_all, list_any}
-use Rattle.std.specs.Int.{Width, w8, w16, w32, w64, to_be_bytes, byte_len}
 use Rattle.std.proofs.lemmas.Bool.{and_parts, and_from, cond-true}
 use Rattle.std.proofs.lemmas.List.{take_at, drop_at}
-use borrow.Author.Tests.{ltb-true, lt-ltb}
-use Rattle.nc_base.specs.declared.errors.ScriptKind.{ScriptKind}
 use Rattle.nc_base.specs.declared.errors.ScriptKind.TheVariants as kind
 use Rattle.nc_base.specs.declared.header.NcType.{NcType}
 use Rattle.nc_base.specs.declared.header.NcType.TheVariants.{Byte, Char, Short, Int, Float, Double, UByte, UShort, UInt, Int64, UInt64}
@@ -22,15 +19,15 @@ use Rattle.serial_spec.specs.Request.{count_of, number_in, code_in, gathered}
 use Rattle.serial_spec.proofs.ValueLaws.{val-ext}
 use Rattle.script_spec.specs.Texts.{type_word}
 use Rattle.script_spec.specs.Shown.{pieces, attr_values, shown_values}
-use Rattle.script_spec.specs.ScriptWords.{Word, Plain, Quoted, Broken, is_name}
-use Rattle.script_spec.specs.ScriptSteps.{◌>>=◌, refuse_if, or_fault, reads_as, name, name_of_text}
+use Rattle.script_spec.specs.ScriptWords.{Word, Plain, is_name}
+use Rattle.script_spec.specs.ScriptSteps.{refuse_if, reads_as, name, name_of_text}
 use Rattle.script_spec.specs.ScriptValues.{are_numbers, are_patterns, are_text, values}
 use Rattle.script_spec.specs.ScriptDefinitions.{types, type_of, Title, same_title, external_bytes, attr_of, attribute_name, attribute}
-use Rattle.script_text.proofs.Steps.{Went, went, go_on, same_ok, not_refused, passed, read_word, word_read}
+use Rattle.script_text.proofs.Steps.{went, go_on, same_ok, not_refused, passed, read_word, word_read}
 use Rattle.script_text.proofs.Lexing.{spelling, is_plain, is_good, is_byte}
 use Rattle.script_text.proofs.Numerals.{name_plain}
 use Rattle.script_text.proofs.Sequences.{is_fit_number, is_fit_pattern}
-use Rattle.script_text.proofs.PrintedValues.{value_tokens, values_spelled, is_read, AreFit, HasRoom, Fitting, values_fit, values_again, values_good}
+use Rattle.script_text.proofs.PrintedValues.{value_tokens, values_spelled, is_read, Fitting, values_fit, values_again, values_good}
 use Rattle.script_text.proofs.PrintedRegions.{kept, name_read, name_again}
 
 -- ---- types
@@ -134,14 +131,14 @@ pub record AttrShown (n : List ℕ) (t : NcType) (vs : Values) : Type 0 where
 -- values that are shown as they are
 as_they_are : (n : List ℕ) (t : NcType) (before : ℕ) (vs : Values) → attr_values (attr_of n t vs) ≡ vs → Fitting (Some t) before vs → AttrShown n t vs
 as_they_are n t before vs same fit = record {
-      good = ap (λ (us : Values). list_all is_good (value_tokens us)) same ∙ values_good (Some t) vs fit.are;
-      again = λ now few. (
-          vs,
-          ap (λ (us : Values). values (Some t) now (value_tokens us)) same
-          ∙ values_again (Some t) now vs (record { are = fit.are; room = record { all = few; own = λ none. absurd (cc) } }),
-          refl,
-        );
-    }
+  good = ap (λ (us : Values). list_all is_good (value_tokens us)) same ∙ values_good (Some t) vs fit.are;
+  again = λ now few. (
+    vs,
+    ap (λ (us : Values). values (Some t) now (value_tokens us)) same
+        ∙ values_again (Some t) now vs (record { are = fit.are; room = record { all = few; own = λ none. absurd (cc) } }),
+    refl,
+  );
+}
 
 gathered_numbers : (c : Class) (os : List (Option Value)) → are_numbers c ≡ true → gathered c os ≡ Numbers (map number_in os)
 gathered_numbers class.Signed os h = refl
@@ -163,26 +160,29 @@ gathered_bits class.Unsigned os h = absurd (cc)
 
 nothing_shown : (n : List ℕ) (t : NcType) (c : Class) → class_of t ≡ c → AttrShown n t (Numbers [])
 nothing_shown n t class.Signed e = record {
-      good = ap (λ (x : Class). list_all is_good (value_tokens (gathered x []))) e;
-      again = λ now few. (Numbers [], ap (λ (x : Class). values (Some t) now (value_tokens (gathered x []))) e, refl);
-    }
+  good = ap (λ (x : Class). list_all is_good (value_tokens (gathered x []))) e;
+  again = λ now few. (Numbers [], ap (λ (x : Class). values (Some t) now (value_tokens (gathered x []))) e, refl);
+}
 nothing_shown n t class.Unsigned e = record {
-      good = ap (λ (x : Class). list_all is_good (value_tokens (gathered x []))) e;
-      again = λ now few. (Numbers [], ap (λ (x : Class). values (Some t) now (value_tokens (gathered x []))) e, refl);
-    }
+  good = ap (λ (x : Class). list_all is_good (value_tokens (gathered x []))) e;
+  again = λ now few. (Numbers [], ap (λ (x : Class). values (Some t) now (value_tokens (gathered x []))) e, refl);
+}
 nothing_shown n t class.Pattern e = record {
-      good = ap (λ (x : Class). list_all is_good (value_tokens (gathered x []))) e;
-      again = λ now few. (Numbers [], ap (λ (x : Class). values (Some t) now (value_tokens (gathered x []))) e, refl);
-    }
+  good = ap (λ (x : Class). list_all is_good (value_tokens (gathered x []))) e;
+  again = λ now few. (Numbers [], ap (λ (x : Class). values (Some t) now (value_tokens (gathered x []))) e, refl);
+}
 nothing_shown n t class.Text e = record {
-      good = ap (λ (x : Class). list_all is_good (value_tokens (gathered x []))) e;
-      again = λ now few. (
-          Text [],
-          ap (λ (x : Class). values (Some t) now (value_tokens (gathered x []))) e
-          ∙ values_again (Some t) now (Text []) (record { are = (refl, ap are_text e); room = record { all = few; own = λ none. absurd (cc) } }),
-          refl,
-        );
-    }
+  good = ap (λ (x : Class). list_all is_good (value_tokens (gathered x []))) e;
+  again = λ now few. (
+    Text [],
+    ap (λ (x : Class). values (Some t) now (value_tokens (gathered x []))) e
+        ∙ values_again (Some t) now (Text []) (record { are = (refl, ap are_text e); room = record { all = few; own = λ none. absurd (cc) } }),
+    refl,
+  );
+}
+
+some_numbers : (z : ℤ) (zs : List ℤ) → 0 < length (z ∷ zs)
+some_numbers z zs = omega arith
 
 numbers_shown : (n : List ℕ) (t : NcType) (before : ℕ) (zs : List ℤ) → Fitting (Some t) before (Numbers zs) → AttrShown n t (Numbers zs)
 numbers_shown n t before [] fit = nothing_shown n t (class_of t) refl
@@ -190,7 +190,7 @@ numbers_shown n t before (z ∷ zs) fit =
     let os = seen t (length (z ∷ zs)) (external_bytes t (Numbers (z ∷ zs))) in
     let same : os ≡ map (λ y. Some (value.Number y)) (z ∷ zs) = seen_again t (λ y. value.Number y) (is_fit_number (Some t)) (λ y h. (and_parts _ _ h).1) (z ∷ zs) fit.are.0 in
     as_they_are n t before (Numbers (z ∷ zs))
-    (gathered_numbers (class_of t) os (fit.are.1 (omega arith)) ∙ ap (λ (ys : List ℤ). Numbers ys) (ap (map number_in) same ∙ numbers_of (z ∷ zs))) fit
+    (gathered_numbers (class_of t) os (fit.are.1 (some_numbers z zs)) ∙ ap (λ (ys : List ℤ). Numbers ys) (ap (map number_in) same ∙ numbers_of (z ∷ zs))) fit
 
 bits_shown : (n : List ℕ) (t : NcType) (before : ℕ) (ns : List ℕ) → Fitting (Some t) before (Bits ns) → AttrShown n t (Bits ns)
 bits_shown n t before ns fit =

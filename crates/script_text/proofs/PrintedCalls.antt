@@ -1,35 +1,32 @@
 -- A call that is printed is read as the same call.
-use Rattle.std.proofs.Common.{◌≡◌, ◌⊎◌, ◌∙◌, ℕ, zero, suc, ◌+◌, ◌^◌, ◌≤◌, ◌<◌, List, [], ◌∷◌, ◌++◌, map, length, find, Bool, true, false, not, cond, nat_lt, ◌==◌, ◌&&◌, ◌||◌, Option, Some, None, Result, Ok, Err, refl, sym, ap, subst, append-nil, arith, bytes_eq, codes, decimal}
-use Rattle.std.specs.List.{list_all, list_any}
-use Rattle.std.proofs.lemmas.Bool.{and_parts, and_from}
-use borrow.Author.Tests.{ltb-true}
+use Rattle.std.proofs.Common.{◌≡◌, ◌∙◌, ℕ, ◌+◌, ◌^◌, ◌≤◌, ◌<◌, List, [], ◌∷◌, ◌++◌, map, Bool, true, false, cond, Option, Some, None, Result, Ok, Err, refl, sym, ap, subst, append-nil, arith, bytes_eq, codes, decimal}
+use Rattle.std.specs.List.{list_all}
+use Rattle.std.proofs.lemmas.Bool.{and_from}
 use Rattle.nc_base.specs.declared.errors.ScriptKind.{ScriptKind}
 use Rattle.nc_base.specs.declared.errors.ScriptKind.TheVariants as kind
 use Rattle.nc_base.specs.declared.request.Values.{Values}
-use Rattle.nc_base.specs.declared.request.Values.TheVariants.{Numbers, Text, Bits}
+use Rattle.nc_base.specs.declared.request.Values.TheVariants.{Numbers}
 use Rattle.nc_base.specs.declared.request.Form.{Form}
 use Rattle.nc_base.specs.declared.request.Form.TheVariants as form
 use Rattle.nc_base.specs.declared.request.Given.{Given}
 use Rattle.nc_base.specs.declared.request.PostKind.{PostKind}
 use Rattle.nc_base.specs.declared.request.PostKind.TheVariants.{Iput, Iget, Bput}
-use Rattle.nc_base.specs.declared.request.Choice.{Choice}
 use Rattle.nc_base.specs.declared.request.Call.{Call}
 use Rattle.nc_base.specs.declared.request.Call.TheVariants as call
 use Rattle.serial_spec.specs.Lawful.{most_values, values_in_call}
 use Rattle.serial_spec.specs.Request.{count_of}
 use Rattle.script_spec.specs.Texts.{call_word, form_word, kind_word, with_all}
-use Rattle.script_spec.specs.Shown.{call_words, region_words, shown_values, size_list}
-use Rattle.script_spec.specs.ScriptWords.{Word, Plain, Quoted, Broken, is_name}
-use Rattle.script_spec.specs.ScriptSteps.{◌>>=◌, refuse_if, or_fault, bare, reads_as, size, name, name_of_text, ended, whole}
+use Rattle.script_spec.specs.Shown.{call_words, region_words, shown_values}
+use Rattle.script_spec.specs.ScriptWords.{Word, Plain, is_name}
+use Rattle.script_spec.specs.ScriptSteps.{◌>>=◌, refuse_if, or_fault, reads_as, size, name, name_of_text, ended, whole}
 use Rattle.script_spec.specs.ScriptValues.{values}
-use Rattle.script_spec.specs.ScriptWords.{size_of_text}
-use Rattle.script_spec.specs.ScriptCalls.{after_prefix, form_of_text, form_and_all, region, id_of_text, choice, posted, is_posted, new_id, put_call, get_call, post_values, post_call, fill_call, attach_call, inquiry, lone_calls, lone_call, other_call, plain_call, post_of_text, call_of}
-use Rattle.script_text.proofs.Steps.{Went, went, go_on, same_ok, not_refused, passed, no_fault, faultless, read_word, word_read, is_end, whole_value}
+use Rattle.script_spec.specs.ScriptCalls.{after_prefix, form_of_text, form_and_all, region, id_of_text, choice, posted, is_posted, new_id, put_call, get_call, post_values, post_call, fill_call, attach_call, inquiry, lone_call, other_call, plain_call, post_of_text, call_of}
+use Rattle.script_text.proofs.Steps.{went, go_on, same_ok, not_refused, passed, read_word, word_read, whole_value}
 use Rattle.script_text.proofs.Lexing.{spelling, is_plain, is_good}
 use Rattle.script_text.proofs.Lines.{all_joined}
 use Rattle.script_text.proofs.Numerals.{name_plain, size_plain}
-use Rattle.script_text.proofs.PrintedValues.{value_tokens, values_spelled, is_read, AreFit, HasRoom, Fitting, values_fit, values_again, values_good}
-use Rattle.script_text.proofs.PrintedRegions.{kept, name_read, name_again, size_read, size_word, region_tokens, region_spelled, RegionAgain, region_again, region_kept, id_bound, id_again, id_plain, choice_tokens, choice_spelled, ChoiceAgain, choice_read}
+use Rattle.script_text.proofs.PrintedValues.{value_tokens, values_spelled, is_read, Fitting, values_fit, values_again, values_good}
+use Rattle.script_text.proofs.PrintedRegions.{kept, name_read, name_again, size_read, size_word, region_tokens, region_spelled, RegionAgain, region_again, region_kept, id_bound, id_again, id_plain, choice_tokens, choice_spelled, choice_read}
 
 -- ---- calls as they are printed
 
@@ -250,9 +247,9 @@ pub record PostedAgain (k : PostKind) (before : ℕ) (vs : Values) : Type 0 wher
 
 put_values : (before : ℕ) (vs : Values) → Fitting None before vs → PostedAgain Iput before vs × PostedAgain Bput before vs
 put_values before vs fit = (
-      record { good = values_good None vs fit.are; again = λ now low. values_again None now vs (fitting_at vs before now fit low); few = fit.room.all },
-      record { good = values_good None vs fit.are; again = λ now low. values_again None now vs (fitting_at vs before now fit low); few = fit.room.all },
-    )
+  record { good = values_good None vs fit.are; again = λ now low. values_again None now vs (fitting_at vs before now fit low); few = fit.room.all },
+  record { good = values_good None vs fit.are; again = λ now low. values_again None now vs (fitting_at vs before now fit low); few = fit.room.all },
+)
 
 posted_read : (k : PostKind) (before : ℕ) (ws : List Word) (vs : Values) → before ≤ most_values → list_all is_read ws ≡ true → post_values k before ws ≡ Ok vs → PostedAgain k before vs
 posted_read Iget before ws vs low read h = subst (PostedAgain Iget before) (whole_value (Numbers [], ws) vs h).0 (record { good = refl; again = λ now fits. refl; few = omega arith })
@@ -357,9 +354,9 @@ lone_read ranks r own before low w ws c h = by (bytes_eq w (codes "buffer_detach
   where
     by : (i j k l : Bool)
         → elim (cond {A = Option (List ℕ × Call)} i (Some (codes "buffer_detach", call.Detach)) (cond j (Some (codes "begin_indep_data", call.BeginIndep)) (cond k (Some (codes "end_indep_data", call.EndIndep)) (cond l (Some (codes "sync_numrecs", call.SyncRecords)) None)))) as (λ x. Result Call ScriptKind) [
-      | None ↦ Err kind.UnknownWord
-      | Some p ↦ whole (p.1, ws)
-    ] ≡ Ok c → CallRead ranks r own before c
+          | None ↦ Err kind.UnknownWord
+          | Some p ↦ whole (p.1, ws)
+        ] ≡ Ok c → CallRead ranks r own before c
     by true j k l e = subst (CallRead ranks r own before) (whole_value (call.Detach, ws) c e).0 (no_values ranks r own before _ low refl (record { good = refl; again = λ now fits. refl }))
     by false true k l e = subst (CallRead ranks r own before) (whole_value (call.BeginIndep, ws) c e).0 (no_values ranks r own before _ low refl (record { good = refl; again = λ now fits. refl }))
     by false false true l e = subst (CallRead ranks r own before) (whole_value (call.EndIndep, ws) c e).0 (no_values ranks r own before _ low refl (record { good = refl; again = λ now fits. refl }))

@@ -1,27 +1,25 @@
 -- Hints, dimensions and variables that are printed are read again.
-use Rattle.std.proofs.Common.{◌≡◌, ◌⊎◌, ◌∙◌, ℕ, zero, suc, ◌+◌, ◌-◌, ◌%◌, ◌^◌, ◌≤◌, ◌<◌, List, [], ◌∷◌, ◌++◌, map, position, length, drop, Bool, true, false, not, cond, nat_lt, nat_le, ◌==◌, ◌&&◌, ◌||◌, Option, Some, None, option_map, is_some, slice_get, slice_set, unwrap_or, Result, Ok, Err, refl, sym, ap, subst, ⊎_elim, arith, bytes_eq, codes, decimal}
-use Rattle.std.specs.List.{list_all, list_any, position_or_len, prefix_len}
-use Rattle.std.proofs.lemmas.Bool.{and_parts, and_from, and_right, cond-true, cond-false, cases_Bool, or_cases, ne_eqb, eq-eqb}
-use Rattle.std.proofs.lemmas.Slice.Eq.{bytes_eq-Decides}
-use borrow.Author.Tests.{ltb-true, lt-ltb, leb-true, le-leb, eqb-true, not-false}
-use Rattle.nc_base.specs.declared.errors.ScriptKind.{ScriptKind}
+use Rattle.std.proofs.Common.{◌≡◌, ◌⊎◌, ◌∙◌, ℕ, zero, suc, ◌%◌, ◌^◌, ◌<◌, List, [], ◌∷◌, length, Bool, true, false, not, cond, nat_le, ◌==◌, ◌&&◌, ◌||◌, Option, Some, None, is_some, slice_get, slice_set, unwrap_or, Ok, refl, sym, ap, subst, ⊎_elim, arith, bytes_eq, codes, decimal, inl, inr}
+use Rattle.std.specs.List.{list_all, list_any}
+use Rattle.std.proofs.lemmas.Bool.{and_parts, and_from, cond-true, cond-false}
+use borrow.Author.Tests.{leb-true, not-false}
 use Rattle.nc_base.specs.declared.errors.ScriptKind.TheVariants as kind
 use Rattle.nc_base.specs.declared.errors.LimitName.TheVariants as limit
 use Rattle.nc_base.specs.declared.header.NcType.{NcType}
 use Rattle.nc_base.specs.declared.header.Dim.{Dim}
-use Rattle.serial_spec.specs.Limits.{most_dims, most_dims_of_var, most_vars}
-use Rattle.script_spec.specs.Texts.{type_word}
+use Rattle.serial_spec.specs.Limits.{most_dims, most_vars}
+use Rattle.script_spec.specs.Texts.{type_word, joined}
 use Rattle.script_spec.specs.Shown.{bracketed}
-use Rattle.script_spec.specs.ScriptWords.{Word, Plain, Quoted, Broken, is_name, below, size_of_text, between_brackets, parts, all_some}
-use Rattle.script_spec.specs.ScriptSteps.{◌>>=◌, refuse_if, or_fault, reads_as, name, ended, whole}
+use Rattle.script_spec.specs.ScriptWords.{Word, Plain, is_name, below, size_of_text, between_brackets, parts}
+use Rattle.script_spec.specs.ScriptSteps.{refuse_if, reads_as, name, ended}
 use Rattle.script_spec.specs.ScriptDefinitions.{HintForm, Within, Either, hint_forms, hint_of_text, hint_form, number_within, one_of_two, hint_value, hint_in, hint_line, ranks_line, type_of, is_among, length_limit, length_of_text, is_unlimited, dim_names, dim_line, var_head, name_list}
-use Rattle.script_text.proofs.Steps.{Went, went, go_on, same_ok, not_refused, passed, Read, read_word, word_read, whole_value}
-use Rattle.script_text.proofs.Lexing.{spelling, is_plain, is_good}
+use Rattle.script_text.proofs.Steps.{went, go_on, same_ok, not_refused, passed, read_word, word_read, whole_value}
+use Rattle.script_text.proofs.Lexing.{is_plain, is_good}
 use Rattle.script_text.proofs.Lines.{all_more}
 use Rattle.script_text.proofs.Numerals.{below_bound, below_again, size_bound, size_again, size_plain, decimal_word, brackets_again, parts_again, bracketed_plain, is_item, name_item, name_plain}
 use Rattle.script_text.proofs.PrintedValues.{not_letters}
 use Rattle.script_text.proofs.PrintedRegions.{name_read, name_again}
-use Rattle.script_text.proofs.PrintedAttributes.{type_plain, type_read, type_word_again}
+use Rattle.script_text.proofs.PrintedAttributes.{type_read, type_word_again}
 
 -- ---- hints
 
@@ -35,6 +33,7 @@ within_read low high unit w n h = by (size_of_text w) h
     by_test : (m : ℕ) (b : Bool) → (nat_le low m && nat_le m high && m % unit == 0) ≡ b → cond {A = Option ℕ} b (Some m) None ≡ Some n → (nat_le low n && nat_le n high && n % unit == 0) ≡ true
     by_test m true e k = let same : m ≡ n = cc in subst (λ x. (nat_le low x && nat_le x high && x % unit == 0) ≡ true) same e
     by_test m false e k = absurd (cc)
+
     by : (o : Option ℕ) → elim o as (λ x. Option ℕ) [ None ↦ None | Some m ↦ cond (nat_le low m && nat_le m high && m % unit == 0) (Some m) None ] ≡ Some n → (nat_le low n && nat_le n high && n % unit == 0) ≡ true
     by None k = absurd (cc)
     by (Some m) k = by_test m (nat_le low m && nat_le m high && m % unit == 0) refl k
@@ -139,12 +138,14 @@ length_is version w n h = by (bytes_eq w (codes "unlimited")) h
     by_zero m true e s low k = absurd (cc)
     by_zero m false e s low k =
         let same : m ≡ n = cc in
-        Rattle.std.proofs.Common.inr (subst (λ x. ((x == 0) ≡ false) × (x < length_limit version) × (x < 2 ^ 63)) same (e, low, size_bound w m s))
+        inr (subst (λ x. ((x == 0) ≡ false) × (x < length_limit version) × (x < 2 ^ 63)) same (e, low, size_bound w m s))
+
     by_size : (o : Option ℕ) → below (length_limit version) (size_of_text w) ≡ o → length_by o ≡ Some n → (n ≡ 0) ⊎ (((n == 0) ≡ false) × (n < length_limit version) × (n < 2 ^ 63))
     by_size None e k = absurd (cc)
     by_size (Some m) e k = let b = below_bound (length_limit version) (size_of_text w) m e in by_zero m (m == 0) refl b.0 b.1 k
+
     by : (b : Bool) → cond {A = Option ℕ} b (Some 0) (length_by (below (length_limit version) (size_of_text w))) ≡ Some n → (n ≡ 0) ⊎ (((n == 0) ≡ false) × (n < length_limit version) × (n < 2 ^ 63))
-    by true k = let same : 0 ≡ n = cc in Rattle.std.proofs.Common.inl (sym same)
+    by true k = let same : 0 ≡ n = cc in inl (sym same)
     by false k = by_size (below (length_limit version) (size_of_text w)) refl k
 
 record LengthAgain (version n : ℕ) : Type 0 where
@@ -233,7 +234,7 @@ names_plain ns h = bracketed_plain ns (all_more is_name is_item name_item ns h)
 
 pub names_again : (ns : List (List ℕ)) (more : List Word) → list_all is_name ns ≡ true → name_list (Plain (bracketed ns) ∷ more) ≡ Ok (ns, more)
 names_again ns more h =
-    let inside = Rattle.script_spec.specs.Texts.joined 44 ns in
+    let inside = joined 44 ns in
     let again : parts inside ≡ ns = parts_again ns (all_more is_name is_item name_item ns h) in
     go_on (reads_as between_brackets kind.BadNumber (Plain (bracketed ns) ∷ more)) _ (inside, more) (ns, more) (word_read between_brackets kind.BadNumber (bracketed ns) inside more (brackets_again inside))
     (go_on (refuse_if (not (list_all is_name (parts inside))) kind.BadName) _ tt (ns, more) (passed _ _ (ap (λ (xs : List (List ℕ)). not (list_all is_name xs)) again ∙ ap not h))

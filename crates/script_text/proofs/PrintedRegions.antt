@@ -1,9 +1,8 @@
 -- Names, regions, ids and choices that are printed are read again.
-use Rattle.std.proofs.Common.{◌≡◌, ◌⊎◌, ◌∙◌, ℕ, zero, suc, ◌+◌, ◌-◌, ◌^◌, ◌≤◌, ◌<◌, List, [], ◌∷◌, ◌++◌, map, length, flat_map, Bool, true, false, not, cond, nat_lt, nat_le, ◌==◌, ◌&&◌, Option, Some, None, Result, Ok, Err, refl, sym, ap, subst, append_assoc, append-nil, length-append, arith, bytes_eq, codes, decimal}
+use Rattle.std.proofs.Common.{◌≡◌, ◌∙◌, ℕ, zero, suc, ◌+◌, ◌^◌, ◌<◌, List, [], ◌∷◌, ◌++◌, map, length, flat_map, Bool, true, false, cond, nat_lt, ◌==◌, ◌&&◌, Option, Some, None, Result, Ok, refl, sym, ap, subst, append_assoc, append-nil, length-append, arith, bytes_eq, codes, decimal}
 use Rattle.std.specs.List.{list_all}
-use Rattle.std.proofs.lemmas.Bool.{and_parts, and_from, cond-true, ne_eqb}
-use Rattle.std.proofs.lemmas.Grind.{common_steps}
-use borrow.Author.Tests.{ltb-true, ltb-false, lt-ltb, le-ltb, eqb-false}
+use Rattle.std.proofs.lemmas.Bool.{and_parts, and_from, cond-true}
+use borrow.Author.Tests.{ltb-true, ltb-false, lt-ltb}
 use Rattle.nc_base.specs.declared.errors.ScriptKind.{ScriptKind}
 use Rattle.nc_base.specs.declared.errors.ScriptKind.TheVariants as kind
 use Rattle.nc_base.specs.declared.errors.LimitName.TheVariants as limit
@@ -15,13 +14,13 @@ use Rattle.nc_base.specs.declared.request.Choice.{Choice}
 use Rattle.nc_base.specs.declared.request.Choice.TheVariants.{Every, Listed}
 use Rattle.serial_spec.specs.Lawful.{most_parts}
 use Rattle.script_spec.specs.Shown.{size_list, part_words, form_words, choice_words}
-use Rattle.script_spec.specs.ScriptWords.{Word, Plain, Quoted, Broken, is_word, is_name, size_of_text, list_of_text, below}
-use Rattle.script_spec.specs.ScriptSteps.{◌>>=◌, refuse_if, or_fault, bare, reads_as, size, list, name, name_of_text, ended, whole}
-use Rattle.script_spec.specs.ScriptCalls.{given_of, given_parts, part, part_list, many_regions, region, id_of_text, one_id, ids, choice}
-use Rattle.script_text.proofs.Steps.{Went, went, go_on, same_ok, not_refused, passed, no_fault, faultless, Read, read_word, word_read, word_before, is_end, whole_value, carry, carried, carry_on, by_true, by_false}
+use Rattle.script_spec.specs.ScriptWords.{Word, Plain, is_word, is_name, size_of_text, list_of_text}
+use Rattle.script_spec.specs.ScriptSteps.{◌>>=◌, refuse_if, bare, reads_as, size, list, name, name_of_text, whole}
+use Rattle.script_spec.specs.ScriptCalls.{given_of, given_parts, part, part_list, region, id_of_text, one_id, ids, choice}
+use Rattle.script_text.proofs.Steps.{went, go_on, same_ok, not_refused, passed, no_fault, faultless, read_word, word_read, word_before, whole_value, carried, carry_on, by_false}
 use Rattle.script_text.proofs.Lexing.{spelling, is_plain, is_good}
 use Rattle.script_text.proofs.Lines.{all_joined}
-use Rattle.script_text.proofs.Numerals.{IsNumberWord, decimal_word, below_bound, below_again, size_bound, size_again, size_plain, is_size, list_bound, list_again, list_plain, name_plain}
+use Rattle.script_text.proofs.Numerals.{decimal_word, below_bound, below_again, size_bound, size_again, size_plain, is_size, list_bound, list_again, list_plain}
 use Rattle.script_text.proofs.PrintedValues.{plain_spelled, not_letters}
 
 -- what holds of each word holds of each that follows the one that is read
@@ -152,37 +151,37 @@ pub record RegionAgain (f : Form) (g : Given) : Type 0 where
 
 var1_again : (s : List ℕ) → are_sizes s ≡ true → RegionAgain form.Var1 (given_of form.Var1 s [] [] [])
 var1_again s hs = record {
-      same_form = refl;
-      good = and_from _ _ (list_plain s hs) refl;
-      again = λ more. go_on (list (Plain (size_list s) ∷ more)) _ (s, more) _ (list_word s more hs) refl;
-    }
+  same_form = refl;
+  good = and_from _ _ (list_plain s hs) refl;
+  again = λ more. go_on (list (Plain (size_list s) ∷ more)) _ (s, more) _ (list_word s more hs) refl;
+}
 
 vara_again : (s c : List ℕ) → are_sizes s ≡ true → are_sizes c ≡ true → RegionAgain form.Vara (given_of form.Vara s c [] [])
 vara_again s c hs hc = record {
-      same_form = refl;
-      good = and_from _ _ (list_plain s hs) (and_from _ _ (list_plain c hc) refl);
-      again = λ more. go_on (list (Plain (size_list s) ∷ Plain (size_list c) ∷ more)) _ (s, Plain (size_list c) ∷ more) _ (list_word s _ hs)
-          (go_on (list (Plain (size_list c) ∷ more)) _ (c, more) _ (list_word c more hc) refl);
-    }
+  same_form = refl;
+  good = and_from _ _ (list_plain s hs) (and_from _ _ (list_plain c hc) refl);
+  again = λ more. go_on (list (Plain (size_list s) ∷ Plain (size_list c) ∷ more)) _ (s, Plain (size_list c) ∷ more) _ (list_word s _ hs)
+      (go_on (list (Plain (size_list c) ∷ more)) _ (c, more) _ (list_word c more hc) refl);
+}
 
 vars_again : (s c d : List ℕ) → are_sizes s ≡ true → are_sizes c ≡ true → are_sizes d ≡ true → RegionAgain form.Vars (given_of form.Vars s c d [])
 vars_again s c d hs hc hd = record {
-      same_form = refl;
-      good = and_from _ _ (list_plain s hs) (and_from _ _ (list_plain c hc) (and_from _ _ (list_plain d hd) refl));
-      again = λ more. go_on (list (Plain (size_list s) ∷ Plain (size_list c) ∷ Plain (size_list d) ∷ more)) _ (s, Plain (size_list c) ∷ Plain (size_list d) ∷ more) _ (list_word s _ hs)
-          (go_on (list (Plain (size_list c) ∷ Plain (size_list d) ∷ more)) _ (c, Plain (size_list d) ∷ more) _ (list_word c _ hc)
-          (go_on (list (Plain (size_list d) ∷ more)) _ (d, more) _ (list_word d more hd) refl));
-    }
+  same_form = refl;
+  good = and_from _ _ (list_plain s hs) (and_from _ _ (list_plain c hc) (and_from _ _ (list_plain d hd) refl));
+  again = λ more. go_on (list (Plain (size_list s) ∷ Plain (size_list c) ∷ Plain (size_list d) ∷ more)) _ (s, Plain (size_list c) ∷ Plain (size_list d) ∷ more) _ (list_word s _ hs)
+      (go_on (list (Plain (size_list c) ∷ Plain (size_list d) ∷ more)) _ (c, Plain (size_list d) ∷ more) _ (list_word c _ hc)
+      (go_on (list (Plain (size_list d) ∷ more)) _ (d, more) _ (list_word d more hd) refl));
+}
 
 varm_again : (s c d m : List ℕ) → are_sizes s ≡ true → are_sizes c ≡ true → are_sizes d ≡ true → are_sizes m ≡ true → RegionAgain form.Varm (given_of form.Varm s c d m)
 varm_again s c d m hs hc hd hm = record {
-      same_form = refl;
-      good = and_from _ _ (list_plain s hs) (and_from _ _ (list_plain c hc) (and_from _ _ (list_plain d hd) (and_from _ _ (list_plain m hm) refl)));
-      again = λ more. go_on (list (Plain (size_list s) ∷ Plain (size_list c) ∷ Plain (size_list d) ∷ Plain (size_list m) ∷ more)) _ (s, Plain (size_list c) ∷ Plain (size_list d) ∷ Plain (size_list m) ∷ more) _ (list_word s _ hs)
-          (go_on (list (Plain (size_list c) ∷ Plain (size_list d) ∷ Plain (size_list m) ∷ more)) _ (c, Plain (size_list d) ∷ Plain (size_list m) ∷ more) _ (list_word c _ hc)
-          (go_on (list (Plain (size_list d) ∷ Plain (size_list m) ∷ more)) _ (d, Plain (size_list m) ∷ more) _ (list_word d _ hd)
-          (go_on (list (Plain (size_list m) ∷ more)) _ (m, more) _ (list_word m more hm) refl)));
-    }
+  same_form = refl;
+  good = and_from _ _ (list_plain s hs) (and_from _ _ (list_plain c hc) (and_from _ _ (list_plain d hd) (and_from _ _ (list_plain m hm) refl)));
+  again = λ more. go_on (list (Plain (size_list s) ∷ Plain (size_list c) ∷ Plain (size_list d) ∷ Plain (size_list m) ∷ more)) _ (s, Plain (size_list c) ∷ Plain (size_list d) ∷ Plain (size_list m) ∷ more) _ (list_word s _ hs)
+      (go_on (list (Plain (size_list c) ∷ Plain (size_list d) ∷ Plain (size_list m) ∷ more)) _ (c, Plain (size_list d) ∷ Plain (size_list m) ∷ more) _ (list_word c _ hc)
+      (go_on (list (Plain (size_list d) ∷ Plain (size_list m) ∷ more)) _ (d, Plain (size_list m) ∷ more) _ (list_word d _ hd)
+      (go_on (list (Plain (size_list m) ∷ more)) _ (m, more) _ (list_word m more hm) refl)));
+}
 
 varn_again : (ps : List Part) → list_all is_part ps ≡ true → (length ps == 0) ≡ false → nat_lt most_parts (length ps) ≡ false → RegionAgain form.Varn (given_parts ps)
 varn_again ps h some few =
@@ -196,29 +195,35 @@ varn_again ps h some few =
           (go_on (part_list (length ps) [] (flat_map part_tokens ps ++ more)) _ (ps, more) _ (parts_again ps [] more h) refl)));
     }
 
+given : {x y : Given × List Word} (f : Form) → x ≡ y → RegionAgain f x.0 → RegionAgain f y.0
+given f e h = subst (λ (z : Given × List Word). RegionAgain f z.0) e h
+
+left : {x y : Given × List Word} (p : Word → Bool) → x ≡ y → list_all p x.1 ≡ true → list_all p y.1 ≡ true
+left p e h = subst (λ (z : Given × List Word). list_all p z.1 ≡ true) e h
+
 pub region_again : (f : Form) (ws : List Word) (r : Given × List Word) → region f ws ≡ Ok r → RegionAgain f r.0
 region_again form.Var ws r h =
-    subst (RegionAgain form.Var) (ap (λ (x : Given × List Word). x.0) (same_ok (given_of form.Var [] [] [] [], ws) r h)) (record { same_form = refl; good = refl; again = λ more. refl })
+    given form.Var (same_ok (given_of form.Var [] [] [] [], ws) r h) (record { same_form = refl; good = refl; again = λ more. refl })
 region_again form.Var1 ws r h =
     let a = went (list ws) _ r h in
-    subst (RegionAgain form.Var1) (ap (λ (x : Given × List Word). x.0) (same_ok (given_of form.Var1 a.value.0 [] [] [], a.value.1) r a.rest)) (var1_again a.value.0 (list_read ws a.value a.first))
+    given form.Var1 (same_ok (given_of form.Var1 a.value.0 [] [] [], a.value.1) r a.rest) (var1_again a.value.0 (list_read ws a.value a.first))
 region_again form.Vara ws r h =
     let a = went (list ws) _ r h in
     let b = went (list a.value.1) _ r a.rest in
-    subst (RegionAgain form.Vara) (ap (λ (x : Given × List Word). x.0) (same_ok (given_of form.Vara a.value.0 b.value.0 [] [], b.value.1) r b.rest))
+    given form.Vara (same_ok (given_of form.Vara a.value.0 b.value.0 [] [], b.value.1) r b.rest)
     (vara_again a.value.0 b.value.0 (list_read ws a.value a.first) (list_read a.value.1 b.value b.first))
 region_again form.Vars ws r h =
     let a = went (list ws) _ r h in
     let b = went (list a.value.1) _ r a.rest in
     let c = went (list b.value.1) _ r b.rest in
-    subst (RegionAgain form.Vars) (ap (λ (x : Given × List Word). x.0) (same_ok (given_of form.Vars a.value.0 b.value.0 c.value.0 [], c.value.1) r c.rest))
+    given form.Vars (same_ok (given_of form.Vars a.value.0 b.value.0 c.value.0 [], c.value.1) r c.rest)
     (vars_again a.value.0 b.value.0 c.value.0 (list_read ws a.value a.first) (list_read a.value.1 b.value b.first) (list_read b.value.1 c.value c.first))
 region_again form.Varm ws r h =
     let a = went (list ws) _ r h in
     let b = went (list a.value.1) _ r a.rest in
     let c = went (list b.value.1) _ r b.rest in
     let d = went (list c.value.1) _ r c.rest in
-    subst (RegionAgain form.Varm) (ap (λ (x : Given × List Word). x.0) (same_ok (given_of form.Varm a.value.0 b.value.0 c.value.0 d.value.0, d.value.1) r d.rest))
+    given form.Varm (same_ok (given_of form.Varm a.value.0 b.value.0 c.value.0 d.value.0, d.value.1) r d.rest)
     (varm_again a.value.0 b.value.0 c.value.0 d.value.0 (list_read ws a.value a.first) (list_read a.value.1 b.value b.first) (list_read b.value.1 c.value c.first) (list_read c.value.1 d.value d.first))
 region_again form.Varn ws r h =
     let a = went (size ws) _ r h in
@@ -227,38 +232,38 @@ region_again form.Varn ws r h =
     let d = went (part_list a.value.0 [] a.value.1) _ r c.rest in
     let parts = parts_read a.value.0 [] a.value.1 d.value refl d.first in
     let long : a.value.0 ≡ length d.value.0 = omega (arith, parts.1) in
-    subst (RegionAgain form.Varn) (ap (λ (x : Given × List Word). x.0) (same_ok (given_parts d.value.0, d.value.1) r d.rest))
+    given form.Varn (same_ok (given_parts d.value.0, d.value.1) r d.rest)
     (varn_again d.value.0 parts.0 (subst (λ n. (n == 0) ≡ false) long (not_refused _ _ b.value b.first)) (subst (λ n. nat_lt most_parts n ≡ false) long (not_refused _ _ c.value c.first)))
 
 pub region_kept : (p : Word → Bool) (f : Form) (ws : List Word) (r : Given × List Word) → region f ws ≡ Ok r → list_all p ws ≡ true → list_all p r.1 ≡ true
-region_kept p form.Var ws r h all = subst (λ xs. list_all p xs ≡ true) (ap (λ (x : Given × List Word). x.1) (same_ok (given_of form.Var [] [] [] [], ws) r h)) all
+region_kept p form.Var ws r h all = left p (same_ok (given_of form.Var [] [] [] [], ws) r h) all
 region_kept p form.Var1 ws r h all =
     let a = went (list ws) _ r h in
-    subst (λ xs. list_all p xs ≡ true) (ap (λ (x : Given × List Word). x.1) (same_ok (given_of form.Var1 a.value.0 [] [] [], a.value.1) r a.rest)) (list_kept p ws a.value a.first all)
+    left p (same_ok (given_of form.Var1 a.value.0 [] [] [], a.value.1) r a.rest) (list_kept p ws a.value a.first all)
 region_kept p form.Vara ws r h all =
     let a = went (list ws) _ r h in
     let b = went (list a.value.1) _ r a.rest in
-    subst (λ xs. list_all p xs ≡ true) (ap (λ (x : Given × List Word). x.1) (same_ok (given_of form.Vara a.value.0 b.value.0 [] [], b.value.1) r b.rest))
+    left p (same_ok (given_of form.Vara a.value.0 b.value.0 [] [], b.value.1) r b.rest)
     (list_kept p a.value.1 b.value b.first (list_kept p ws a.value a.first all))
 region_kept p form.Vars ws r h all =
     let a = went (list ws) _ r h in
     let b = went (list a.value.1) _ r a.rest in
     let c = went (list b.value.1) _ r b.rest in
-    subst (λ xs. list_all p xs ≡ true) (ap (λ (x : Given × List Word). x.1) (same_ok (given_of form.Vars a.value.0 b.value.0 c.value.0 [], c.value.1) r c.rest))
+    left p (same_ok (given_of form.Vars a.value.0 b.value.0 c.value.0 [], c.value.1) r c.rest)
     (list_kept p b.value.1 c.value c.first (list_kept p a.value.1 b.value b.first (list_kept p ws a.value a.first all)))
 region_kept p form.Varm ws r h all =
     let a = went (list ws) _ r h in
     let b = went (list a.value.1) _ r a.rest in
     let c = went (list b.value.1) _ r b.rest in
     let d = went (list c.value.1) _ r c.rest in
-    subst (λ xs. list_all p xs ≡ true) (ap (λ (x : Given × List Word). x.1) (same_ok (given_of form.Varm a.value.0 b.value.0 c.value.0 d.value.0, d.value.1) r d.rest))
+    left p (same_ok (given_of form.Varm a.value.0 b.value.0 c.value.0 d.value.0, d.value.1) r d.rest)
     (list_kept p c.value.1 d.value d.first (list_kept p b.value.1 c.value c.first (list_kept p a.value.1 b.value b.first (list_kept p ws a.value a.first all))))
 region_kept p form.Varn ws r h all =
     let a = went (size ws) _ r h in
     let b = went (refuse_if (a.value.0 == 0) kind.BadNumber) _ r a.rest in
     let c = went (refuse_if (nat_lt most_parts a.value.0) (kind.Limit limit.Parts)) _ r b.rest in
     let d = went (part_list a.value.0 [] a.value.1) _ r c.rest in
-    subst (λ xs. list_all p xs ≡ true) (ap (λ (x : Given × List Word). x.1) (same_ok (given_parts d.value.0, d.value.1) r d.rest))
+    left p (same_ok (given_parts d.value.0, d.value.1) r d.rest)
     (parts_kept p a.value.0 [] a.value.1 d.value d.first (kept p size_of_text kind.BadNumber ws a.value a.first all))
 
 -- ---- ids

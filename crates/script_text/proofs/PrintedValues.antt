@@ -1,15 +1,13 @@
 -- Values that are printed are read as the same values.
-use Rattle.std.proofs.Common.{◌≡◌, ◌⊎◌, ◌∙◌, ℕ, zero, suc, ◌+◌, ◌-◌, ◌*◌, ◌^◌, ◌≤◌, ◌<◌, List, [], ◌∷◌, ◌++◌, map, length, Bool, true, false, not, cond, nat_lt, ◌==◌, ◌&&◌, ◌||◌, Option, Some, None, is_some, Result, Ok, Err, ℤ, unsigned_abs, refl, sym, ap, subst, ⊎_elim, append_assoc, append-nil, length-append, arith, bytes_eq, codes}
+use Rattle.std.proofs.Common.{◌≡◌, ◌∙◌, ℕ, suc, ◌+◌, ◌^◌, ◌≤◌, ◌<◌, List, [], ◌∷◌, ◌++◌, map, length, Bool, true, false, not, cond, nat_lt, ◌&&◌, Option, Some, None, is_some, Result, Ok, ℤ, unsigned_abs, refl, sym, ap, subst, append_assoc, append-nil, length-append, arith, bytes_eq, codes}
 use Rattle.std.specs.Fmt.{signed_decimal}
 use Rattle.std.specs.List.{list_all}
-use Rattle.std.proofs.lemmas.Bool.{and_parts, and_from, and_left, cases_Bool, cond-true, ne_eqb}
-use Rattle.std.proofs.lemmas.Grind.{common_steps}
-use borrow.Author.Tests.{ltb-true, ltb-false, lt-ltb, le-ltb, not-true, not-false}
+use Rattle.std.proofs.lemmas.Bool.{and_parts, and_from, and_left, cond-true, ne_eqb}
+use borrow.Author.Tests.{ltb-true, ltb-false, lt-ltb, le-ltb, not-false}
 use Rattle.nc_base.specs.declared.errors.ScriptKind.{ScriptKind}
 use Rattle.nc_base.specs.declared.errors.ScriptKind.TheVariants as kind
 use Rattle.nc_base.specs.declared.errors.LimitName.TheVariants as limit
 use Rattle.nc_base.specs.declared.header.NcType.{NcType}
-use Rattle.nc_base.specs.declared.request.Value.{Value}
 use Rattle.nc_base.specs.declared.request.Value.TheVariants as value
 use Rattle.nc_base.specs.declared.request.Values.{Values}
 use Rattle.nc_base.specs.declared.request.Values.TheVariants.{Numbers, Text, Bits}
@@ -21,11 +19,11 @@ use Rattle.serial_spec.specs.Request.{count_of}
 use Rattle.script_spec.specs.Texts.{hex}
 use Rattle.script_spec.specs.Shown.{shown_values}
 use Rattle.script_spec.specs.ScriptWords.{Word, Plain, Quoted, Broken, number_of_text, bits_of_text}
-use Rattle.script_spec.specs.ScriptSteps.{◌>>=◌, refuse_if, or_fault, bare, reads_as, size, ended}
+use Rattle.script_spec.specs.ScriptSteps.{refuse_if, or_fault, bare, reads_as, size, ended}
 use Rattle.script_spec.specs.ScriptValues.{within_limits, are_numbers, are_patterns, are_text, may_be, may_have, wrong_kind, number_for, pattern_for, one_value, each_value, sequence_count, sequence, last_number, is_term, term, numbers_between, pattern_sequence, last_pattern, is_pattern_term, pattern_term, patterns_between, seq_values, seqx_values, pattern_values, text_values, number_values, bits_values, begins_x, listed_kind, listed_values, values}
-use Rattle.script_text.proofs.Steps.{Went, went, go_on, same_ok, not_refused, passed, no_fault, faultless, Read, read_word, word_read, is_end, carry, carried, carry_on, by_true, by_false}
-use Rattle.script_text.proofs.Lexing.{spelling, is_byte, is_plain, is_good, is_graphic}
-use Rattle.script_text.proofs.Numerals.{IsNumberWord, number_word, number_again, number_bound, bits_again, bits_bound, hex_graphic}
+use Rattle.script_text.proofs.Steps.{went, go_on, same_ok, not_refused, passed, no_fault, faultless, carried, carry_on, by_false}
+use Rattle.script_text.proofs.Lexing.{spelling, is_byte, is_good}
+use Rattle.script_text.proofs.Numerals.{IsNumberWord, number_word, number_again, number_bound, bits_again, bits_bound, hex_graphic, sixteens}
 use Rattle.script_text.proofs.Sequences.{is_fit_number, is_fit_pattern, numbers_fit, length-sequence, patterns_fit, length-pattern_sequence}
 
 -- ---- values as they are printed
@@ -139,6 +137,7 @@ number_fit t w z h = by (number_of_text w) refl h
         let same : y ≡ z = cc in
         subst (λ x. is_fit_number t x ≡ true) same (and_from _ _ (lt-ltb (unsigned_abs y) (10 ^ 20) (number_bound w y e)) k)
     by_test y false e k j = absurd (cc)
+
     by : (o : Option ℤ) → number_of_text w ≡ o → elim o as (λ x. Option ℤ) [ None ↦ None | Some y ↦ cond (may_have t (value.Number y)) (Some y) None ] ≡ Some z → is_fit_number t z ≡ true
     by None e k = absurd (cc)
     by (Some y) e k = by_test y (may_have t (value.Number y)) e refl k
@@ -151,6 +150,7 @@ pattern_fit t w n h = by (bits_of_text w) refl h
         let same : y ≡ n = cc in
         subst (λ x. is_fit_pattern t x ≡ true) same (and_from _ _ (lt-ltb y (2 ^ 64) (bits_bound w y e)) k)
     by_test y false e k j = absurd (cc)
+
     by : (o : Option ℕ) → bits_of_text w ≡ o → elim o as (λ x. Option ℕ) [ None ↦ None | Some y ↦ cond (may_have t (value.Bits y)) (Some y) None ] ≡ Some n → is_fit_pattern t n ≡ true
     by None e k = absurd (cc)
     by (Some y) e k = by_test y (may_have t (value.Bits y)) e refl k
@@ -167,7 +167,7 @@ abbrev pattern_by : Option NcType → Option ℕ → Option ℕ
 pattern_by t o = elim o [ None ↦ None | Some y ↦ cond (may_have t (value.Bits y)) (Some y) None ]
 
 pattern_word_again : (n k : ℕ) → k ≡ 16 → n < 2 ^ 64 → bits_of_text (120 ∷ hex k n) ≡ Some n
-pattern_word_again n k e h = bits_again k n (omega arith) (omega arith) (subst (λ j. n < Rattle.script_text.proofs.Numerals.sixteens j) (sym e) h)
+pattern_word_again n k e h = bits_again k n (omega arith) (omega arith) (subst (λ j. n < sixteens j) (sym e) h)
 
 pattern_for_again : (t : Option NcType) (n : ℕ) → is_fit_pattern t n ≡ true → pattern_for t (120 ∷ hex 16 n) ≡ Some n
 pattern_for_again t n h =

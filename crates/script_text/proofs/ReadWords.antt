@@ -1,9 +1,9 @@
 -- The texts on the lines of bytes have bytes.
-use Rattle.std.proofs.Common.{◌≡◌, ◌⊎◌, ◌∙◌, ℕ, zero, suc, ◌+◌, ◌-◌, ◌*◌, ◌≤◌, ◌<◌, List, [], ◌∷◌, ◌++◌, length, take, drop, flat_map, Bool, true, false, not, cond, nat_lt, nat_le, ◌==◌, ◌&&◌, ◌||◌, Option, Some, None, option_map, refl, sym, ap, subst, arith}
+use Rattle.std.proofs.Common.{◌≡◌, ℕ, zero, suc, ◌+◌, ◌*◌, ◌<◌, List, [], ◌∷◌, length, take, drop, Bool, true, false, not, cond, ◌==◌, ◌||◌, Option, Some, None, option_map, refl, subst, arith}
 use Rattle.std.specs.List.{list_all, slice_split, onto_first, enumerate_from, position_or_len}
-use Rattle.std.proofs.lemmas.Bool.{and_parts, and_from, cond_both}
+use Rattle.std.proofs.lemmas.Bool.{and_parts, and_from}
 use borrow.Author.Tests.{lt-ltb}
-use Rattle.script_spec.specs.ScriptWords.{Word, Plain, Quoted, Broken, Line, is_blank, is_comment, is_newline, begins_blank, after_blanks, first_word, quoted_word, text_from, Within, Between, AfterBackslash, FirstHex, SecondHex, words, words_within, hex_value, escape, last_line, without_empty_end, text_lines, line_of, significant, significant_of}
+use Rattle.script_spec.specs.ScriptWords.{Word, Plain, Quoted, Broken, Line, is_blank, is_comment, is_newline, begins_blank, after_blanks, first_word, quoted_word, text_from, Within, Between, AfterBackslash, FirstHex, SecondHex, words, words_within, hex_value, escape, without_empty_end, text_lines, line_of, significant, significant_of}
 use Rattle.script_text.proofs.Lexing.{is_byte}
 use Rattle.script_text.proofs.Lines.{all_joined}
 use Rattle.script_text.proofs.Numerals.{hex_value_bound}
@@ -46,9 +46,9 @@ text_bytes Between (c ∷ cs) ok h =
   where
     by : (i j : Bool) → is_byte c ≡ true → are_bytes cs ≡ true → BytesOf (text_from AfterBackslash cs) → BytesOf (text_from Between cs)
         → BytesOf (elim i as (λ z. Option (List ℕ × List ℕ)) [
-      | true ↦ Some ([], cs)
-      | false ↦ elim j as (λ z. Option (List ℕ × List ℕ)) [ true ↦ text_from AfterBackslash cs | false ↦ option_map (λ r. (c ∷ r.0, r.1)) (text_from Between cs) ]
-    ])
+          | true ↦ Some ([], cs)
+          | false ↦ elim j as (λ z. Option (List ℕ × List ℕ)) [ true ↦ text_from AfterBackslash cs | false ↦ option_map (λ r. (c ∷ r.0, r.1)) (text_from Between cs) ]
+        ])
     by true j b rest one two = (refl, rest)
     by false true b rest one two = one
     by false false b rest one two = with_byte c (text_from Between cs) b two
@@ -58,9 +58,9 @@ text_bytes AfterBackslash (c ∷ cs) ok h =
   where
     by : (i : Bool) (o : Option ℕ) → escape c ≡ o → is_byte c ≡ true → BytesOf (text_from FirstHex cs) → BytesOf (text_from Between cs)
         → BytesOf (elim i as (λ z. Option (List ℕ × List ℕ)) [
-      | true ↦ text_from FirstHex cs
-      | false ↦ elim o as (λ z. Option (List ℕ × List ℕ)) [ None ↦ None | Some x ↦ option_map (λ r. (x ∷ r.0, r.1)) (text_from Between cs) ]
-    ])
+          | true ↦ text_from FirstHex cs
+          | false ↦ elim o as (λ z. Option (List ℕ × List ℕ)) [ None ↦ None | Some x ↦ option_map (λ r. (x ∷ r.0, r.1)) (text_from Between cs) ]
+        ])
     by true o e b one two = one
     by false None e b one two = tt
     by false (Some x) e b one two = with_byte x (text_from Between cs) (escape_byte c x b e) two

@@ -1,14 +1,14 @@
 -- A whole script: what is printed of what was read is read as the same script.
-use Rattle.std.proofs.Common.{◌≡◌, ◌⊎◌, ◌∙◌, ℕ, zero, suc, ◌+◌, ◌%◌, ◌^◌, ◌≤◌, ◌<◌, List, [], ◌∷◌, ◌++◌, map, replicate, length, flat_map, Bool, true, false, not, cond, nat_lt, nat_le, ◌==◌, ◌&&◌, ◌||◌, Option, Some, None, Result, Ok, Err, refl, sym, ap, subst, ⊎_elim, inl, inr, append_assoc, append-nil, length-append, arith, bytes_eq, codes, decimal}
+use Rattle.std.proofs.Common.{◌≡◌, ◌∙◌, ℕ, zero, suc, ◌+◌, ◌%◌, ◌^◌, ◌≤◌, ◌<◌, List, [], ◌∷◌, ◌++◌, map, replicate, length, flat_map, Bool, true, false, not, cond, nat_lt, nat_le, ◌==◌, ◌&&◌, ◌||◌, Option, Some, None, Result, Ok, Err, refl, sym, ap, subst, ⊎_elim, append_assoc, append-nil, arith, codes, decimal, take}
 use Rattle.std.specs.List.{list_all, enumerate_from}
 use Rattle.std.specs.Str.Lossy.{utf8_valid_len}
 use Rattle.std.proofs.lemmas.Bool.{and_parts, and_from, or_cases, cond-true, ne_eqb, eqb-true}
-use borrow.Author.Tests.{leb-true, ltb-false, le-ltb}
+use borrow.Author.Tests.{leb-true, le-ltb}
 use Rattle.nc_base.specs.declared.errors.ScriptKind.{ScriptKind}
 use Rattle.nc_base.specs.declared.errors.ScriptKind.TheVariants as kind
 use Rattle.nc_base.specs.declared.errors.ScriptErr.{ScriptErr}
+use Rattle.nc_base.specs.declared.errors.LimitName.TheVariants as limit
 use Rattle.nc_base.specs.declared.header.Header.{Header}
-use Rattle.nc_base.specs.declared.header.Attr.{Attr}
 use Rattle.nc_base.specs.declared.header.Var.{Var}
 use Rattle.nc_base.specs.declared.script.Hints.{Hints}
 use Rattle.nc_base.specs.declared.script.Extra.{Extra}
@@ -18,23 +18,22 @@ use Rattle.serial_spec.specs.HeaderGrammar.{is_version}
 use Rattle.serial_spec.specs.History.{kinds}
 use Rattle.serial_spec.specs.Lawful.{most_values}
 use Rattle.script_spec.specs.Texts.{line}
-use Rattle.script_spec.specs.Shown.{shown, shown_hints, shown_extra, shown_dim, shown_var, shown_attr, shown_definitions, shown_call}
-use Rattle.script_spec.specs.ScriptWords.{Word, Plain, Quoted, Broken, Line, is_word, size_of_text, text_lines, significant}
-use Rattle.script_spec.specs.ScriptSteps.{◌>>=◌, bare, reads_as, whole}
-use Rattle.script_spec.specs.ScriptDefinitions.{HintForm, Within, Either, hint_forms, Defined, no_definition, Added, nothing_added, Known, nothing_known, ranks_line}
+use Rattle.script_spec.specs.Shown.{shown, shown_hints, shown_extra, shown_dim, shown_var, shown_attr, shown_call}
+use Rattle.script_spec.specs.ScriptWords.{Word, Plain, Line, is_word, size_of_text, text_lines, significant}
+use Rattle.script_spec.specs.ScriptSteps.{◌>>=◌, reads_as, whole}
+use Rattle.script_spec.specs.ScriptDefinitions.{Within, Defined, no_definition, Added, nothing_added, Known, nothing_known, ranks_line}
 use Rattle.script_spec.specs.ScriptCalls.{Called, mismatch}
-use Rattle.script_spec.specs.ScriptGrammar.{at_line, version_of_text, version_line, head, data_line, definition_step, definitions, call_step, data_part, finish, hints_of, header_of, script_of, no_calls, script_of_lines, most_bytes, most_lines, newlines, too_many_lines, within_lines, script_of_utf8, script_of_text, Reads}
-use Rattle.script_text.proofs.Steps.{Went, went, go_on, same_ok, read_word, word_read, whole_value, by_true, by_false}
-use Rattle.script_text.proofs.Lexing.{spelling, is_plain, is_good}
+use Rattle.script_spec.specs.ScriptGrammar.{at_line, version_of_text, version_line, head, definitions, data_part, finish, hints_of, header_of, script_of, no_calls, script_of_lines, most_bytes, most_lines, newlines, too_many_lines, within_lines, script_of_utf8, Reads, is_mismatch}
+use Rattle.script_text.proofs.Steps.{went, go_on, same_ok, read_word, word_read, whole_value}
 use Rattle.script_text.proofs.Lines.{is_line, spelled, numbered, all_joined, significant_lines, valid_lines, valid_bytes}
 use Rattle.script_text.proofs.Numerals.{size_again, size_plain}
 use Rattle.script_text.proofs.PrintedDefinitions.{is_value_of, ranks_again, within_plain}
 use Rattle.script_text.proofs.CallLines.{Chains, count_all, Holds, DataEnd, are_read, data_holds, call_lines, flat_joined, calls_spelled, calls_are_lines, data_again, line_ok}
 use Rattle.script_text.proofs.AddedLines.{Leads, Runs, runs_on, run_again, Replay, replay_runs, replay_lines, extra_line, extras_spelled, att_spelled}
-use Rattle.script_text.proofs.DefinedChains.{DefinedOk, count_attrs, count_own}
+use Rattle.script_text.proofs.DefinedChains.{DefinedOk}
 use Rattle.script_text.proofs.DefinedLines.{at_state, leads_by, line_of_dim, line_of_var, line_of_att, lines_of_own, definition_lines, told_again, nothing_but, definitions_run, definitions_are_lines}
 use Rattle.script_text.proofs.ReadWords.{significant_read}
-use Rattle.script_text.proofs.KnownLines.{hint_tokens, mapped_spelled, hints_spelled, hint_table, hints_again, HintsFit, hints_fit, with_hints, hints_run, hints_are_lines, What, KnownOk, nothing_ok, AtData, definitions_read}
+use Rattle.script_text.proofs.KnownLines.{hint_tokens, mapped_spelled, hints_spelled, hint_table, hints_again, HintsFit, hints_fit, with_hints, hints_run, hints_are_lines, What, nothing_ok, definitions_read}
 
 -- ---- a script, as its lines
 
@@ -264,6 +263,12 @@ length_empty : (n : ℕ) → length (replicate {A = List Call} n []) ≡ n
 length_empty zero = refl
 length_empty (suc n) = ap suc (length_empty n)
 
+none_called : (n : ℕ) (k : Known) → k.values ≤ most_values → Holds n k.values (no_calls n k)
+none_called n k few = record { long = length_empty n; chains = chains_empty n 0 n; counted = omega (arith, count_empty n); few = few }
+
+all_called : (n values : ℕ) (d : Called) → Holds n values d → DataEnd n values d.calls
+all_called n values d holds = record { long = holds.long; chains = holds.chains; few = omega (arith, holds.counted, holds.few) }
+
 agreed : (n : ℕ) (calls : List (List Call)) (lines : List Line) (u : Unit {0}) → finish n calls lines ≡ Ok u → mismatch (map (λ own. kinds own) calls) ≡ None
 agreed n calls (l ∷ lines) u h = absurd (cc)
 agreed n calls [] u h = by (mismatch (map (λ own. kinds own) calls)) refl h
@@ -346,9 +351,9 @@ whole_read past (l ∷ lines) script read h =
     let first = head_read l.first l.rest version (line_ok l.number (head l.first l.rest) version a.first) in
     let known = definitions_read past version lines nothing_known d.value (and_parts _ _ read).1 (nothing_ok version) d.first in
     let r : is_value_of (Within 1 64 1) n ≡ true = ranks_of k.ranks n known.ranks known.known.ranks in
-    let begin : Holds n k.values (no_calls n k) = record { long = length_empty n; chains = chains_empty n 0 n; counted = omega (arith, count_empty n); few = known.known.few } in
+    let begin : Holds n k.values (no_calls n k) = none_called n k known.known.few in
     let holds = data_holds n k.values past d.value.1.1 (no_calls n k) c.value begin known.read c.first in
-    let end : DataEnd n k.values calls = record { long = holds.long; chains = holds.chains; few = omega (arith, holds.counted, holds.few) } in
+    let end : DataEnd n k.values calls = all_called n k.values c.value.1.0 holds in
     let h2 = hints_of n k.hints in
     let again = known_again (version == 0) version n h2 k refl r (hints_fit n k.hints r known.known.hints) known.known.few known.known.what in
     subst Whole (same_ok (script_of version n k calls) script f.rest)
@@ -360,22 +365,35 @@ whole_read past (l ∷ lines) script read h =
 
 -- ---- a whole text
 
+abbrev within_by : Bool → Result Script ScriptErr → Result Script ScriptErr
+within_by b told = elim b [
+  | false ↦ told
+  | true ↦ elim told [
+    | Ok script ↦ too_many_lines
+    | Err e ↦ elim (nat_le e.line most_lines && not (is_mismatch e.kind)) [ true ↦ Err e | false ↦ too_many_lines ]
+  ]
+]
+
+abbrev text_by : Bool → Bool → List ℕ → Result Script ScriptErr
+text_by i j text = elim i [
+  | true ↦ Err (record { line = 1; kind = kind.Limit limit.Script })
+  | false ↦ elim j [
+    | false ↦ Err (record { line = newlines (take (utf8_valid_len text) text) + 1; kind = kind.NotUtf8 })
+    | true ↦ script_of_utf8 text
+  ]
+]
+
 within_told : (n : ℕ) (told : Result Script ScriptErr) (script : Script) → within_lines n told ≡ Ok script → told ≡ Ok script
 within_told n told script h = by (nat_lt most_lines n) told h
   where
     by_line : (e : ScriptErr) (b : Bool) → elim b as (λ x. Result Script ScriptErr) [ true ↦ Err e | false ↦ too_many_lines ] ≡ Ok script → ⊥
     by_line e true k = absurd (cc)
     by_line e false k = absurd (cc)
-    by : (b : Bool) (told : Result Script ScriptErr) → elim b as (λ x. Result Script ScriptErr) [
-      | false ↦ told
-      | true ↦ elim told as (λ x. Result Script ScriptErr) [
-        | Ok s ↦ too_many_lines
-        | Err e ↦ elim (nat_le e.line most_lines && not (Rattle.script_spec.specs.ScriptGrammar.is_mismatch e.kind)) as (λ x. Result Script ScriptErr) [ true ↦ Err e | false ↦ too_many_lines ]
-      ]
-    ] ≡ Ok script → told ≡ Ok script
+
+    by : (b : Bool) (told : Result Script ScriptErr) → within_by b told ≡ Ok script → told ≡ Ok script
     by false told k = k
     by true (Ok s) k = absurd (cc)
-    by true (Err e) k = absurd (by_line e (nat_le e.line most_lines && not (Rattle.script_spec.specs.ScriptGrammar.is_mismatch e.kind)) k)
+    by true (Err e) k = absurd (by_line e (nat_le e.line most_lines && not (is_mismatch e.kind)) k)
 
 pub record IsText (text : List ℕ) (script : Script) : Type 0 where
   pub valid : (utf8_valid_len text == length text) ≡ true
@@ -384,34 +402,10 @@ pub record IsText (text : List ℕ) (script : Script) : Type 0 where
 is_text : (text : List ℕ) (script : Script) → Reads text script → IsText text script
 is_text text script h = by (nat_lt most_bytes (length text)) (utf8_valid_len text == length text) refl h
   where
-    by : (i j : Bool) → (utf8_valid_len text == length text) ≡ j → elim i as (λ x. Result Script ScriptErr) [
-      | true ↦ Err (record { line = 1; kind = kind.Limit Rattle.nc_base.specs.declared.errors.LimitName.TheVariants.Script })
-      | false ↦ elim j as (λ x. Result Script ScriptErr) [
-        | false ↦ Err (record { line = newlines (Rattle.std.proofs.Common.take (utf8_valid_len text) text) + 1; kind = kind.NotUtf8 })
-        | true ↦ script_of_utf8 text
-      ]
-    ] ≡ Ok script → IsText text script
+    by : (i j : Bool) → (utf8_valid_len text == length text) ≡ j → text_by i j text ≡ Ok script → IsText text script
     by true j e k = absurd (cc)
     by false false e k = absurd (cc)
     by false true e k = record { valid = e; told = within_told (length (text_lines text)) (script_of_lines (length (text_lines text) + 1) (significant text)) script k }
-
-abbrev within_by : Bool → Result Script ScriptErr → Result Script ScriptErr
-within_by b told = elim b [
-  | false ↦ told
-  | true ↦ elim told [
-    | Ok script ↦ too_many_lines
-    | Err e ↦ elim (nat_le e.line most_lines && not (Rattle.script_spec.specs.ScriptGrammar.is_mismatch e.kind)) [ true ↦ Err e | false ↦ too_many_lines ]
-  ]
-]
-
-abbrev text_by : Bool → Bool → List ℕ → Result Script ScriptErr
-text_by i j text = elim i [
-  | true ↦ Err (record { line = 1; kind = kind.Limit Rattle.nc_base.specs.declared.errors.LimitName.TheVariants.Script })
-  | false ↦ elim j [
-    | false ↦ Err (record { line = newlines (Rattle.std.proofs.Common.take (utf8_valid_len text) text) + 1; kind = kind.NotUtf8 })
-    | true ↦ script_of_utf8 text
-  ]
-]
 
 text_again : (text : List ℕ) (script : Script) → length text ≤ most_bytes → (utf8_valid_len text == length text) ≡ true → length (text_lines text) ≤ most_lines
     → script_of_lines (length (text_lines text) + 1) (significant text) ≡ Ok script → Reads text script
