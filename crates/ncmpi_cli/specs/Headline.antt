@@ -89,12 +89,18 @@ pub record Asks (left : Option (List ℕ)) (script : Script) : Type 0 where
   pub reads : IfSome left (λ text. Reads text script)
   pub built : is_built script ≡ true
 
+-- nothing is wrong with the dataset, as far as it is told
+pub record IsFaultless (script : Script) (held : Option (List ℕ)) : Type 0 where
+  pub created : script.fresh ≡ true → layout_fault script.header (align_of script.hints) ≡ None
+  pub opened : script.fresh ≡ false → IfSome held (λ file. (e : HeaderErr) → HasFault (front file) e → ⊥)
+
 -- What is made of a dataset before the ranks begin, and its header.
 pub record IsReady (script : Script) (header : Header) (held_before held_after : Option (List ℕ)) : Type 0 where
   pub file : List ℕ
   pub held : IfSome held_before (λ bytes. bytes ≡ file)
   pub heads : IsHeaderOf script file header
   pub sound : is_sound header ≡ true
+  pub faultless : IsFaultless script held_before
   pub bytes : held_after ≡ after (λ before. start script header before) held_before
 
 -- The line tells what is wrong with a dataset: with the layout of a created one, with the header of an opened one.
@@ -108,7 +114,7 @@ pub record IsBadDataset (left held : Option (List ℕ)) (line : List ℕ) : Type
   pub asks : Asks left script
   pub tells : TellsDataset script held line
 
--- nothing is wrong with the dataset
+-- the same of a dataset that is told where it is opened
 pub record IsRight (script : Script) (held : Option (List ℕ)) : Type 0 where
   pub created : script.fresh ≡ true → layout_fault script.header (align_of script.hints) ≡ None
   pub opened : script.fresh ≡ false → IsSomeAnd held (λ file. (e : HeaderErr) → HasFault (front file) e → ⊥)

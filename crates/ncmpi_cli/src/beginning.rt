@@ -1,5 +1,5 @@
 // What comes before the ranks: the words, the script and the dataset.
-ghost use Rattle.std.specs.Prelude.{◌≡◌, ◌↔◌, ◌≤◌, ◌∷◌, ℕ, List, [], true, false, is_some, IfOk, IfErr, OnOk, OnErr, IfSome, IsErrOf, Err, Some};
+ghost use Rattle.std.specs.Prelude.{◌≡◌, ◌↔◌, ◌≤◌, ◌∷◌, ℕ, List, [], true, false, is_some, IfOk, IfErr, OnOk, OnErr, IfSome, IsErrOf, Err, Some, None};
 ghost use Rattle.std.specs.List.{list_all};
 ghost use Rattle.nc_base.specs.declared.request.Call.{Call};
 ghost use Rattle.nc_outside.specs.Told.{after};
@@ -97,6 +97,7 @@ fn laid_out(alloc: Global, script: &Script) -> Result<Header, Stop>
     requires fresh { script.now.fresh ≡ true }
     ensures header { IfOk result (λ header. header ≡ created_header script.now) }
     ensures writable { IfOk result (λ header. is_writable header ≡ true) }
+    ensures faultless { OnOk result (layout_fault script.now.header (align_of script.now.hints) ≡ None) }
     ensures refused { (e : LayoutErr) → result ≡ Err (Stop.Layout e) → layout_fault script.now.header (align_of script.now.hints) ≡ Some e }
     ensures only { IfErr result IsOfLayout }
 {

@@ -1,9 +1,10 @@
 // Which scripts are built.
-ghost use Rattle.std.specs.Prelude.{◌≡◌, length, slice_get, option_copied};
-ghost use Rattle.std.specs.List.{list_all};
-ghost use Rattle.serial_spec.specs.Layout.{lengths, product};
+ghost use Rattle.std.specs.Prelude.{◌≡◌, ◌-◌, ◌^◌, true, map, min, slice_get, option_copied};
+ghost use Rattle.serial_spec.specs.ExternalForm.{class_of};
+ghost use Rattle.serial_spec.specs.Layout.{length_of, product};
 ghost use Rattle.serial_spec.specs.RankMachine.{kind_code};
 ghost use Rattle.serial_spec.specs.RegionCheck.{is_ok_code};
+ghost use Rattle.serial_spec.specs.Request.{count_of};
 ghost use Rattle.ncmpi_cli.specs.Built as spec;
 
 use nc_base::{Call, Form, Given, Header, MAX_ELEMENTS, NcType, Script, Values, Var};
@@ -71,13 +72,13 @@ fn is_plain_put(header: &Header, var: &Var, given: &Given, values: &Values) -> b
         )
         && elements <= MAX_ELEMENTS
         && kind_fits(var.kind, values).is_ok()
-        && elements <= values.len() as u64
+        && elements <= count_of(values) as u64
         && all_fit(var.kind, values)
 }
 
 // How many values there are.
 fn count_of(values: &Values) -> usize
-    ensures { result ≡ spec.count_of values.now }
+    ensures { result ≡ count_of values.now }
 {
     match values {
         Values::Numbers(numbers) => numbers.len(),

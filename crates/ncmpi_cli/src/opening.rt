@@ -20,6 +20,7 @@ use var_layout::end_of;
 pub(crate) fn open<D: Disk>(alloc: Global, disk: &mut D, name: &str) -> Result<Header, Stop>
     ensures opened { IfOk result (λ header. IsOpened (D.held disk.old) header) }
     ensures sound { IfOk result (λ header. is_sound header ≡ true) }
+    ensures faultless { OnOk result (IfSome (D.held disk.old) (λ file. (e : HeaderErr) → HasFault (front file) e → ⊥)) }
     ensures bytes { IfOk result (λ header. D.held disk.new ≡ after (λ file. longer file (end_of header (header_len header) header.records)) (D.held disk.old)) }
     ensures from { OnOk result (D.from disk.new ≡ 0) }
     ensures len { IfOk result (λ header. end_of header (header_len header) header.records ≤ D.len disk.new) }

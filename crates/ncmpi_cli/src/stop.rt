@@ -1,5 +1,5 @@
 // Why a run ends early.
-ghost use Rattle.std.specs.Prelude.{◌≡◌, None, IfOk};
+ghost use Rattle.std.specs.Prelude.{◌≡◌, None, IfOk, IsOk};
 ghost use Rattle.std.specs.Option.{option_map};
 ghost use Rattle.ncmpi_cli.specs.declared.stop.Stop.TheVariants.{Layout, Memory};
 ghost use Rattle.ncmpi_cli.specs.Stops.{fixed_line_of, line_of, status_of, stop_of_disk, stop_of_header, stop_of_script, stop_of_take};
@@ -120,7 +120,8 @@ impl Stop {
     /// The line that tells it, where one is made for it.
     pub(crate) fn made_line(self, alloc: Global) -> Result<Option<Blob>, nc_base::Memory>
         requires { fixed_line_of self ≡ None }
-        ensures { IfOk result (λ line. line ≡ line_of self) }
+        ensures line { IfOk result (λ line. line ≡ line_of self) }
+        ensures none { line_of self ≡ None → IsOk result }
     {
         match self {
             Stop::Script(e) => Ok(Some(script_line(alloc, &e)?)),

@@ -1,9 +1,10 @@
 // The top call.
-ghost use Rattle.std.specs.Prelude.{◌≡◌, ◌↔◌, ◌⊎◌, ℕ, [], None, true, false, is_some, IfSome, IsSomeAnd};
+ghost use Rattle.std.specs.Prelude.{◌≡◌, ◌↔◌, ◌⊎◌, ◌∷◌, ℕ, List, [], None, true, false, is_some, IfSome, IsSomeAnd};
 ghost use Rattle.nc_outside.specs.Cause.{Rose};
 ghost use Rattle.nc_base.specs.declared.script.Script.{Script};
 ghost use Rattle.script_spec.specs.ScriptGrammar.{Reads};
 ghost use Rattle.ncmpi_cli.specs.Headline.{AsksFor, GivesLine, IsBadDataset, IsBeforeRanks, IsBeforeStart, IsRight, IsSilent, IsStatus, IsWrong, RanToSink, RanWell, refusal};
+ghost use Rattle.ncmpi_cli.specs.Built.{is_built};
 ghost use Rattle.ncmpi_cli.specs.Plain.{meetings};
 ghost use Rattle.ncmpi_cli.specs.Stops.{line_of_status};
 ghost use Rattle.ncmpi_cli.specs.Words.{texts, is_form};
