@@ -1,0 +1,245 @@
+-- What is defined after a line, and what is known then.
+use Rattle.std.proofs.Common.{◌≡◌, ℕ, zero, suc, ◌+◌, ◌≤◌, List, [], ◌∷◌, ◌++◌, length, replicate, true, false, Option, Some, None, Ok, Err, IfOk, IfSome, refl, subst, arith, ◌==◌, count_by, slice_set, bytes_eq, codes, length-append, is_some}
+use Rattle.std.specs.List.{AllByRecursion}
+use Rattle.nc_base.specs.declared.errors.ScriptKind.TheVariants as kind
+use Rattle.nc_base.specs.declared.header.Dim.{Dim}
+use Rattle.nc_base.specs.declared.header.Attr.{Attr}
+use Rattle.nc_base.specs.declared.header.Var.{Var}
+use Rattle.serial_spec.specs.Limits.{most_dims, most_vars}
+use Rattle.serial_spec.specs.Lawful.{most_values}
+use Rattle.script_spec.specs.ScriptWords.{Word}
+use Rattle.script_spec.specs.ScriptSteps.{◌>>=◌, refuse_if, reads_as, ended}
+use Rattle.script_spec.specs.ScriptDefinitions.{HintForm, Within, Either, hint_form, hint_in, hint_of_text, hint_value, hint_line, ranks_line, number_within, one_of_two, is_unlimited, dim_line, var_line, owner_of_text, owner_place, attribute, Defined, no_definition, with_dim, with_var, with_attr, with_title, att_line, dim_definition, var_definition, fill_line, definition, Added, var_head, added_shape, dim_addition, var_addition, att_addition, Known, nothing_known, addition, known_after}
+use Rattle.script_laws.proofs.ListLaws.{some_same, all_more, all_weaker}
+use Rattle.script_laws.proofs.StepLaws.{first_then, then_with, by_test, read_as}
+use Rattle.script_laws.proofs.WordLaws.{InRange, within_read, one_of_two_read}
+use Rattle.script_laws.proofs.DimLaws.{FitsDim, NewDim, dim_read, one_more, FitsAttr, NewAttr, attribute_read, FitsVar, wider, later, NewVar, var_read, attr_placed, length-placed}
+
+-- ---- the definitions of a new dataset, after so many lines
+
+pub record FitsDefined (version lines : ℕ) (d : Defined) : Type 0 where
+  pub few_dims : length d.dims ≤ most_dims
+  pub dims : AllByRecursion (FitsDim version) d.dims
+  pub one_record : count_by is_unlimited d.dims ≤ 1
+  pub few_vars : length d.vars ≤ most_vars
+  pub vars : AllByRecursion (FitsVar version lines d.dims) d.vars
+  pub few_attrs : length d.attrs ≤ lines
+  pub attrs : AllByRecursion (FitsAttr version) d.attrs
+
+pub nothing_fits : (version lines : ℕ) → FitsDefined version lines no_definition
+nothing_fits version lines =
+    record { few_dims = omega arith; dims = tt; one_record = omega arith; few_vars = omega arith; vars = tt; few_attrs = omega arith; attrs = tt }
+
+pub later_defined : (version lines more : ℕ) → lines ≤ more → (d : Defined) → FitsDefined version lines d → FitsDefined version more d
+later_defined version lines more h d f =
+    record {
+      few_dims = f.few_dims;
+      dims = f.dims;
+      one_record = f.one_record;
+      few_vars = f.few_vars;
+      vars = all_weaker (FitsVar version lines d.dims) (FitsVar version more d.dims) (later version lines more d.dims h) d.vars f.vars;
+      few_attrs = let few = f.few_attrs in omega arith;
+      attrs = f.attrs;
+    }
+
+dim_fits : (version lines : ℕ) (d : Defined) (x : Dim) → FitsDefined version lines d → NewDim version d.dims x → FitsDefined version lines (with_dim x d)
+dim_fits version lines d x f new =
+    record {
+      few_dims = let room = new.room in omega (arith, length-append d.dims (x ∷ []));
+      dims = all_more (FitsDim version) d.dims x f.dims new.fits;
+      one_record = one_more d.dims x f.one_record new.once;
+      few_vars = f.few_vars;
+      few_attrs = f.few_attrs;
+      attrs = f.attrs;
+      vars = all_weaker (FitsVar version lines d.dims) (FitsVar version lines (d.dims ++ x ∷ [])) (wider version lines d.dims x) d.vars f.vars;
+    }
+
+var_fits : (version lines : ℕ) (d : Defined) (x : Var) → FitsDefined version lines d → NewVar version lines d.dims d.vars x → FitsDefined version lines (with_var x d)
+var_fits version lines d x f new =
+    record {
+      few_dims = f.few_dims;
+      dims = f.dims;
+      one_record = f.one_record;
+      few_attrs = f.few_attrs;
+      attrs = f.attrs;
+      few_vars = let room = new.room in omega (arith, length-append d.vars (x ∷ []));
+      vars = all_more (FitsVar version lines d.dims) d.vars x f.vars new.fits;
+    }
+
+attr_fits : (version lines : ℕ) (d : Defined) (k : Option ℕ) (a : Attr) (owner : List ℕ) → FitsDefined version lines d → FitsAttr version a
+    → FitsDefined version (suc lines) (with_title owner a.name (with_attr k a d))
+attr_fits version lines d None a owner f fits =
+    let more = later_defined version lines (suc lines) (omega arith) d f in
+    record {
+      few_dims = f.few_dims;
+      dims = f.dims;
+      one_record = f.one_record;
+      few_vars = f.few_vars;
+      vars = more.vars;
+      few_attrs = let few = f.few_attrs in omega (arith, length-append d.attrs (a ∷ []));
+      attrs = all_more (FitsAttr version) d.attrs a f.attrs fits;
+    }
+attr_fits version lines d (Some k) a owner f fits =
+    let more = later_defined version lines (suc lines) (omega arith) d f in
+    record {
+      few_dims = f.few_dims;
+      dims = f.dims;
+      one_record = f.one_record;
+      few_attrs = more.few_attrs;
+      attrs = f.attrs;
+      few_vars = let few = f.few_vars in omega (arith, length-placed k a d.vars);
+      vars = attr_placed version lines d.dims k a d.vars fits f.vars;
+    }
+
+filled_fits : (version lines : ℕ) (d : Defined) → FitsDefined version lines d → FitsDefined version lines (record d { filled = true })
+filled_fits version lines d f =
+    record { few_dims = f.few_dims; dims = f.dims; one_record = f.one_record; few_vars = f.few_vars; vars = f.vars; few_attrs = f.few_attrs; attrs = f.attrs }
+
+-- what a line gives: what is defined, with so many values more
+pub record FitsLine (version lines before : ℕ) (r : ℕ × Defined) : Type 0 where
+  pub fits : FitsDefined version (suc lines) r.1
+  pub few : before + r.0 ≤ most_values
+
+pub defined_after : (version lines before : ℕ) (d : Defined) (first : List ℕ) (ws : List Word) → before ≤ most_values → FitsDefined version lines d
+    → IfOk (definition version before d first ws) (FitsLine version lines before)
+defined_after version lines before d first ws h f =
+    by_test (bytes_eq first (codes "dim")) (dim_definition version d ws) _ P (λ _. of_dim) (λ _.
+    by_test (bytes_eq first (codes "var")) (var_definition version d ws) _ P (λ _. of_var) (λ _.
+    by_test (bytes_eq first (codes "att")) (att_line version before d ws) _ P (λ _. of_attr) (λ _.
+    by_test (bytes_eq first (codes "fill")) (fill_line d ws) (Err kind.UnknownWord) P (λ _. of_fill) (λ _. tt))))
+  where
+    P : ℕ × Defined → Type 0
+    P = FitsLine version lines before
+
+    more : (e : Defined) → FitsDefined version lines e → FitsDefined version (suc lines) e
+    more e g = later_defined version lines (suc lines) (omega arith) e g
+
+    of_dim : IfOk (dim_definition version d ws) (FitsLine version lines before)
+    of_dim = then_with (dim_line version d.dims ws) _ _ (NewDim version d.dims) (dim_read version d.dims ws)
+        (λ x new. record { fits = more (with_dim x d) (dim_fits version lines d x f new); few = omega arith })
+
+    of_var : IfOk (var_definition version d ws) (FitsLine version lines before)
+    of_var = then_with (var_line version d.dims d.vars ws) _ _ (NewVar version lines d.dims d.vars) (var_read version lines d.dims d.vars ws)
+        (λ x new. record { fits = more (with_var x d) (var_fits version lines d x f new); few = omega arith })
+
+    of_attr : IfOk (att_line version before d ws) (FitsLine version lines before)
+    of_attr = first_then (reads_as owner_of_text kind.BadName ws) _ _ (λ o _.
+        first_then (owner_place d.vars o.0) _ _ (λ k _.
+        then_with (attribute version d.titles before o.0 o.1) _ _ (NewAttr version before) (attribute_read version d.titles before o.0 o.1 h)
+        (λ a new. record { fits = attr_fits version lines d k a o.0 f new.fits; few = new.few })))
+
+    of_fill : IfOk (fill_line d ws) (FitsLine version lines before)
+    of_fill = first_then (refuse_if d.filled kind.TwiceNamed) _ _ (λ _ _.
+        first_then (ended ws) _ _ (λ _ _. record { fits = more (record d { filled = true }) (filled_fits version lines d f); few = omega arith }))
+
+-- ---- what is added to an existing dataset
+
+addition_few : (before : ℕ) (d : Added) (first : List ℕ) (ws : List Word) → before ≤ most_values → IfOk (addition before d first ws) (λ r. before + r.0 ≤ most_values)
+addition_few before d first ws h =
+    by_test (bytes_eq first (codes "dim")) (dim_addition d ws) _ P (λ _. of_dim) (λ _.
+    by_test (bytes_eq first (codes "var")) (var_addition d ws) _ P (λ _. of_var) (λ _.
+    by_test (bytes_eq first (codes "att")) (att_addition before d ws) (Err kind.UnknownWord) P (λ _. of_attr) (λ _. tt)))
+  where
+    P : ℕ × Added → Type 0
+    P r = before + r.0 ≤ most_values
+
+    of_dim : IfOk (dim_addition d ws) (λ r. before + r.0 ≤ most_values)
+    of_dim = first_then (dim_line 5 d.dims ws) _ _ (λ _ _. omega arith)
+
+    of_var : IfOk (var_addition d ws) (λ r. before + r.0 ≤ most_values)
+    of_var = first_then (var_head 5 d.vars ws) _ _ (λ v _.
+        first_then (added_shape d.dims v.1) _ _ (λ names _.
+        first_then (ended names.1) _ _ (λ _ _. omega arith)))
+
+    of_attr : IfOk (att_addition before d ws) (λ r. before + r.0 ≤ most_values)
+    of_attr = first_then (reads_as owner_of_text kind.BadName ws) _ _ (λ o _.
+        then_with (attribute 5 d.titles before o.0 o.1) _ _ (NewAttr 5 before) (attribute_read 5 d.titles before o.0 o.1 h) (λ a new. new.few))
+
+-- ---- hints
+
+abbrev pub FitsForm : HintForm → ℕ → Type 0
+FitsForm (Within low high unit) n = InRange low high unit n
+FitsForm (Either zero_word one_word) n = n ≤ 1
+
+abbrev pub FitHints : List (Option ℕ) → Type 0
+FitHints hints = (h n : ℕ) → hint_in h hints ≡ Some n → FitsForm (hint_form h) n
+
+value_read : (form : HintForm) (ws : List Word) → IfOk (hint_value form ws) (λ r. FitsForm form r.0)
+value_read (Within low high unit) ws = read_as (number_within low high unit) kind.BadNumber ws (InRange low high unit) (within_read low high unit)
+value_read (Either zero_word one_word) ws = read_as (one_of_two zero_word one_word) kind.UnknownWord ws (λ n. n ≤ 1) (one_of_two_read zero_word one_word)
+
+hint_read : (hints : List (Option ℕ)) (ws : List Word) → IfOk (hint_line hints ws) (λ r. FitsForm (hint_form r.0) r.1)
+hint_read hints ws =
+    first_then (reads_as hint_of_text kind.UnknownWord ws) _ _ (λ h _.
+    first_then (refuse_if (is_some (hint_in h.0 hints)) kind.TwiceNamed) _ _ (λ _ _.
+    then_with (hint_value (hint_form h.0) h.1) _ _ (λ r. FitsForm (hint_form h.0) r.0) (value_read (hint_form h.0) h.1) (λ v fits.
+    first_then (ended v.1) _ _ (λ _ _. fits))))
+
+no_hint : (m h n : ℕ) → hint_in h (replicate m None) ≡ Some n → ⊥
+no_hint zero h n e = cc
+no_hint (suc m) zero n e = cc
+no_hint (suc m) (suc h) n e = no_hint m h n e
+
+one_hint : (F : ℕ → ℕ → Type 0) (hints : List (Option ℕ)) (k v : ℕ) → ((h n : ℕ) → hint_in h hints ≡ Some n → F h n) → F k v
+    → (h n : ℕ) → hint_in h (slice_set hints k (Some v)) ≡ Some n → F h n
+one_hint F [] k v f p h n e = f h n e
+one_hint F (o ∷ os) zero v f p zero n e = let same : v ≡ n = some_same v n e in subst (F zero) same p
+one_hint F (o ∷ os) zero v f p (suc h) n e = f (suc h) n e
+one_hint F (o ∷ os) (suc k) v f p zero n e = f zero n e
+one_hint F (o ∷ os) (suc k) v f p (suc h) n e = one_hint (λ i m. F (suc i) m) os k v (λ i m q. f (suc i) m q) p h n e
+
+ranks_read : (ranks : Option ℕ) (ws : List Word) → IfOk (ranks_line ranks ws) (InRange 1 64 1)
+ranks_read ranks ws =
+    first_then (refuse_if (is_some ranks) kind.TwiceNamed) _ _ (λ _ _.
+    then_with (reads_as (number_within 1 64 1) kind.BadNumber ws) _ _ (λ r. InRange 1 64 1 r.0)
+    (read_as (number_within 1 64 1) kind.BadNumber ws (InRange 1 64 1) (within_read 1 64 1)) (λ n fits.
+    first_then (ended n.1) _ _ (λ _ _. fits)))
+
+-- ---- what is known after so many lines; version 0 is that of an existing dataset
+
+pub record FitsKnown (version lines : ℕ) (known : Known) : Type 0 where
+  pub ranks : IfSome known.ranks (InRange 1 64 1)
+  pub hints : FitHints known.hints
+  pub few : known.values ≤ most_values
+  pub fresh : (version == 0) ≡ false → FitsDefined version lines known.defined
+  pub old : (version == 0) ≡ true → known.defined ≡ no_definition
+
+pub nothing_known_fits : (version lines : ℕ) → FitsKnown version lines nothing_known
+nothing_known_fits version lines =
+    record { ranks = tt; hints = λ h n e. absurd (no_hint 10 h n e); few = omega arith; fresh = λ _. nothing_fits version lines; old = λ _. refl }
+
+pub later_known : (version lines more : ℕ) → lines ≤ more → (known : Known) → FitsKnown version lines known → FitsKnown version more known
+later_known version lines more h known f =
+    record { ranks = f.ranks; hints = f.hints; few = f.few; fresh = λ e. later_defined version lines more h known.defined (f.fresh e); old = f.old }
+
+pub known_more : (version lines : ℕ) (known : Known) (first : List ℕ) (ws : List Word) → FitsKnown version lines known
+    → IfOk (known_after version known first ws) (FitsKnown version (suc lines))
+known_more version lines known first ws f =
+    by_test (bytes_eq first (codes "ranks")) _ _ P (λ _. of_ranks) (λ _.
+    by_test (bytes_eq first (codes "hint")) _ _ P (λ _. of_hint) (λ _.
+    by_test (version == 0) _ _ P (λ e. of_addition e) (λ e. of_definition e)))
+  where
+    P : Known → Type 0
+    P = FitsKnown version (suc lines)
+
+    more : FitsKnown version (suc lines) known
+    more = later_known version lines (suc lines) (omega arith) known f
+
+    of_ranks : IfOk (ranks_line known.ranks ws >>= λ n. Ok (record known { ranks = Some n })) (FitsKnown version (suc lines))
+    of_ranks = then_with (ranks_line known.ranks ws) _ _ (InRange 1 64 1) (ranks_read known.ranks ws) (λ n fits. record { ranks = fits; hints = f.hints; few = f.few; fresh = more.fresh; old = f.old })
+
+    of_hint : IfOk (hint_line known.hints ws >>= λ h. Ok (record known { hints = slice_set known.hints h.0 (Some h.1) })) (FitsKnown version (suc lines))
+    of_hint = then_with (hint_line known.hints ws) _ _ (λ r. FitsForm (hint_form r.0) r.1) (hint_read known.hints ws)
+        (λ h fits. record { ranks = f.ranks; hints = one_hint (λ k n. FitsForm (hint_form k) n) known.hints h.0 h.1 f.hints fits; few = f.few; fresh = more.fresh; old = f.old })
+
+    of_definition : (version == 0) ≡ false
+        → IfOk (definition version known.values known.defined first ws >>= λ x. Ok (record known { defined = x.1; values = known.values + x.0 })) (FitsKnown version (suc lines))
+    of_definition e = then_with (definition version known.values known.defined first ws) _ _ (FitsLine version lines known.values)
+        (defined_after version lines known.values known.defined first ws f.few (f.fresh e))
+        (λ x new. record { ranks = f.ranks; hints = f.hints; few = new.few; fresh = λ _. new.fits; old = λ o. absurd (cc) })
+
+    of_addition : (version == 0) ≡ true
+        → IfOk (addition known.values known.added first ws >>= λ x. Ok (record known { added = x.1; values = known.values + x.0 })) (FitsKnown version (suc lines))
+    of_addition e = then_with (addition known.values known.added first ws) _ _ (λ r. known.values + r.0 ≤ most_values)
+        (addition_few known.values known.added first ws f.few)
+        (λ x new. record { ranks = f.ranks; hints = f.hints; few = new; fresh = more.fresh; old = f.old })

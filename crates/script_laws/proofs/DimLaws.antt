@@ -1,0 +1,252 @@
+-- Dimensions, variables and attributes as they are defined, line by line.
+use Rattle.std.proofs.Common.{◌≡◌, ◌∙◌, ℕ, suc, ◌+◌, ◌*◌, ◌^◌, ◌<◌, ◌≤◌, List, [], ◌∷◌, ◌++◌, length, drop, Bool, true, false, cond, ◌&&◌, ◌||◌, Option, Some, None, IfOk, IfSome, refl, ap, subst, arith, nat_lt, nat_le, ◌==◌, count_by, slice_get, slice_set, position, bytes_eq, length-append, length-set}
+use Rattle.std.specs.List.{AllByRecursion, list_any, position_or_len}
+use borrow.Author.Tests.{ltb-true, ltb-false, leb-false, eq-eqb}
+use Rattle.std.proofs.lemmas.List.{length-map}
+use Rattle.std.proofs.lemmas.List.Sums.{sum_by-append, sum_by-cons}
+use Rattle.nc_base.specs.declared.errors.ScriptKind.{ScriptKind}
+use Rattle.nc_base.specs.declared.errors.ScriptKind.TheVariants as kind
+use Rattle.nc_base.specs.declared.errors.LimitName.TheVariants as limit
+use Rattle.nc_base.specs.declared.header.NcType.{NcType}
+use Rattle.nc_base.specs.declared.header.Dim.{Dim}
+use Rattle.nc_base.specs.declared.header.Attr.{Attr}
+use Rattle.nc_base.specs.declared.header.Var.{Var}
+use Rattle.nc_base.specs.declared.request.Values.{Values}
+use Rattle.serial_spec.specs.Limits.{most_dims, most_dims_of_var, most_vars}
+use Rattle.serial_spec.specs.Lawful.{most_values}
+use Rattle.serial_spec.specs.ExternalForm.{size_of}
+use Rattle.serial_spec.specs.Request.{count_of}
+use Rattle.serial_spec.specs.HeaderGrammar.{fits_count, is_type, is_writable_dim, is_writable_attr}
+use Rattle.serial_spec.proofs.ElementLaws.{get_left}
+use Rattle.script_spec.specs.ScriptWords.{Word, is_name}
+use Rattle.script_spec.specs.ScriptSteps.{refuse_if, or_fault, reads_as, name, ended}
+use Rattle.script_spec.specs.ScriptValues.{values}
+use Rattle.script_spec.specs.ScriptDefinitions.{type_of, is_among, length_limit, length_of_text, is_unlimited, dim_names, dim_line, var_head, name_list, dim_ids, is_record_dim, var_names, shape, var_line, Title, attr_of, attribute_name, attribute, external_bytes, same_title, with_attr_at}
+use Rattle.script_laws.proofs.ListLaws.{all_more, all_weaker, all_both, all_later, all_at, all_set, all_fail, both_true, found_all}
+use Rattle.script_laws.proofs.StepLaws.{first_then, then_with, unless_refused, read_as}
+use Rattle.script_laws.proofs.WordLaws.{kept_if, name_short, named, type_read, length_read, small_fits, length_fits}
+use Rattle.script_laws.proofs.ValueLaws.{AreWithin, values_within, bytes_long}
+
+-- ---- a dimension
+
+abbrev pub FitsDim : ℕ → Dim → Type 0
+FitsDim version d = is_writable_dim version d ≡ true
+
+pub record NewDim (version : ℕ) (dims : List Dim) (d : Dim) : Type 0 where
+  pub fits : FitsDim version d
+  pub short : d.len < length_limit version
+  pub room : length dims < most_dims
+  pub once : (is_unlimited d && list_any is_unlimited dims) ≡ false
+
+dim_fits : (version : ℕ) (n : List ℕ) (len : ℕ) → is_name n ≡ true → len < length_limit version → FitsDim version (record { name = n; len = len })
+dim_fits version n len good short =
+    let name_fits : fits_count version (length n) ≡ true = small_fits version (length n) (let h = name_short n good in omega arith) in
+    let len_fits = length_fits version len short in
+    both_true _ _ (both_true _ _ name_fits len_fits.0) len_fits.1
+
+pub dim_read : (version : ℕ) (dims : List Dim) (ws : List Word) → IfOk (dim_line version dims ws) (NewDim version dims)
+dim_read version dims ws =
+    then_with (name ws) _ _ (λ r. is_name r.0 ≡ true) (named ws) (λ n good.
+    first_then (refuse_if (is_among n.0 (dim_names dims)) kind.TwiceNamed) _ _ (λ _ _.
+    then_with (refuse_if (nat_le most_dims (length dims)) (kind.Limit limit.Dims)) _ _ (λ _. length dims < most_dims)
+    (unless_refused _ _ (length dims < most_dims) (λ e. leb-false _ _ e)) (λ _ room.
+    then_with (reads_as (length_of_text version) kind.BadNumber n.1) _ _ (λ r. r.0 < length_limit version)
+    (read_as (length_of_text version) kind.BadNumber n.1 (λ m. m < length_limit version) (length_read version)) (λ len short.
+    then_with (refuse_if (len.0 == 0 && list_any is_unlimited dims) kind.BadShape) _ _ (λ _. (len.0 == 0 && list_any is_unlimited dims) ≡ false)
+    (unless_refused _ _ _ (λ e. e)) (λ _ once.
+    first_then (ended len.1) _ _ (λ _ _. record { fits = dim_fits version n.0 len.0 good short; short = short; room = room; once = once }))))))
+
+-- ---- one unlimited dimension at most
+
+count_none : {A : Type 0} (p : A → Bool) (xs : List A) → list_any p xs ≡ false → count_by p xs ≡ 0
+count_none p [] h = refl
+count_none p (x ∷ xs) h = sum_by-cons (λ y. cond (p y) 1 0) x xs ∙ by_first (p x) (λ e. count_none p xs e) h
+  where
+    by_first : (b : Bool) → (list_any p xs ≡ false → count_by p xs ≡ 0) → (b || list_any p xs) ≡ false → cond b 1 0 + count_by p xs ≡ 0
+    by_first true rest e = absurd (cc)
+    by_first false rest e = omega (arith, rest e)
+
+at_most_one : (b c : Bool) (n : ℕ) → n ≤ 1 → (c ≡ false → n ≡ 0) → (b && c) ≡ false → n + cond b 1 0 ≤ 1
+at_most_one true true n h f e = absurd (cc)
+at_most_one true false n h f e = let none : n ≡ 0 = f refl in omega arith
+at_most_one false c n h f e = omega arith
+
+pub one_more : (dims : List Dim) (d : Dim) → count_by is_unlimited dims ≤ 1 → (is_unlimited d && list_any is_unlimited dims) ≡ false → count_by is_unlimited (dims ++ d ∷ []) ≤ 1
+one_more dims d h once =
+    let more = at_most_one (is_unlimited d) (list_any is_unlimited dims) (count_by is_unlimited dims) h (λ e. count_none is_unlimited dims e) once in
+    let long : count_by is_unlimited (dims ++ d ∷ []) ≡ count_by is_unlimited dims + cond (is_unlimited d) 1 0 =
+    sum_by-append (λ (x : Dim). cond (is_unlimited x) 1 0) dims (d ∷ []) ∙ omega arith in
+    omega arith
+
+-- ---- an attribute
+
+abbrev pub FitsAttr : ℕ → Attr → Type 0
+FitsAttr version a = is_writable_attr version a ≡ true
+
+attr_fits : (version : ℕ) (n : List ℕ) (t : NcType) (vs : Values) → is_name n ≡ true → is_type version t ≡ true → count_of vs ≤ 2 ^ 24 → FitsAttr version (attr_of n t vs)
+attr_fits version n t vs good typed few =
+    let name_fits : fits_count version (length n) ≡ true = small_fits version (length n) (let h = name_short n good in omega arith) in
+    let count_fits : fits_count version (count_of vs) ≡ true = small_fits version (count_of vs) few in
+    let whole : (length (external_bytes t vs) == count_of vs * size_of t) ≡ true = eq-eqb _ _ (bytes_long t vs) in
+    both_true _ _ (both_true _ _ (both_true _ _ name_fits typed) count_fits) whole
+
+title_named : (titles : List Title) (owner : List ℕ) (ws : List Word) → IfOk (attribute_name titles owner ws) (λ r. is_name r.0 ≡ true)
+title_named titles owner ws =
+    then_with (name ws) _ _ (λ r. is_name r.0 ≡ true) (named ws) (λ n good.
+    first_then (refuse_if (list_any (same_title (owner, n.0)) titles) kind.TwiceNamed) _ _ (λ _ _. good))
+
+pub record NewAttr (version before : ℕ) (a : Attr) : Type 0 where
+  pub fits : FitsAttr version a
+  pub few : before + a.count ≤ most_values
+
+pub attribute_read : (version : ℕ) (titles : List Title) (before : ℕ) (owner : List ℕ) (ws : List Word) → before ≤ most_values → IfOk (attribute version titles before owner ws) (NewAttr version before)
+attribute_read version titles before owner ws h =
+    then_with (attribute_name titles owner ws) _ _ (λ r. is_name r.0 ≡ true) (title_named titles owner ws) (λ n good.
+    then_with (reads_as (type_of version) kind.UnknownWord n.1) _ _ (λ r. is_type version r.0 ≡ true)
+    (read_as (type_of version) kind.UnknownWord n.1 (λ t. is_type version t ≡ true) (type_read version)) (λ t typed.
+    then_with (values (Some t.0) before t.1) _ _ (AreWithin before) (values_within (Some t.0) before t.1 h) (λ vs few.
+    record { fits = attr_fits version n.0 t.0 vs good typed (omega arith); few = few })))
+
+-- ---- a variable, over these dimensions, after so many lines
+
+pub record FitsVar (version lines : ℕ) (dims : List Dim) (v : Var) : Type 0 where
+  pub named : fits_count version (length v.name) ≡ true
+  pub typed : is_type version v.kind ≡ true
+  pub few_dims : length v.dims ≤ most_dims_of_var
+  pub ids : AllByRecursion (λ id. id < length dims) v.dims
+  pub inner : AllByRecursion (λ id. is_record_dim dims id ≡ false) (drop 1 v.dims)
+  pub few_attrs : length v.attrs ≤ lines
+  pub attrs : AllByRecursion (FitsAttr version) v.attrs
+  pub begins : v.begin ≡ 0
+
+still_inner : (dims : List Dim) (d : Dim) (id : ℕ) → id < length dims → is_record_dim dims id ≡ false → is_record_dim (dims ++ d ∷ []) id ≡ false
+still_inner dims d id h e = ap (λ (o : Option Dim). elim o as (λ _. Bool) [ None ↦ false | Some x ↦ is_unlimited x ]) (get_left dims (d ∷ []) id h) ∙ e
+
+pub wider : (version lines : ℕ) (dims : List Dim) (d : Dim) (v : Var) → FitsVar version lines dims v → FitsVar version lines (dims ++ d ∷ []) v
+wider version lines dims d v f =
+    record {
+      named = f.named;
+      typed = f.typed;
+      few_dims = f.few_dims;
+      few_attrs = f.few_attrs;
+      attrs = f.attrs;
+      begins = f.begins;
+      ids = all_weaker (λ id. id < length dims) (λ id. id < length (dims ++ d ∷ [])) (λ id h. omega (arith, length-append dims (d ∷ []))) v.dims f.ids;
+      inner = all_weaker (λ id. (id < length dims) × (is_record_dim dims id ≡ false)) (λ id. is_record_dim (dims ++ d ∷ []) id ≡ false) (λ id h. still_inner dims d id h.0 h.1) (drop 1 v.dims)
+          (all_both (λ id. id < length dims) (λ id. is_record_dim dims id ≡ false) (drop 1 v.dims) (all_later (λ id. id < length dims) v.dims f.ids) f.inner);
+    }
+
+pub later : (version lines more : ℕ) (dims : List Dim) → lines ≤ more → (v : Var) → FitsVar version lines dims v → FitsVar version more dims v
+later version lines more dims h v f =
+    record {
+      named = f.named;
+      typed = f.typed;
+      few_dims = f.few_dims;
+      ids = f.ids;
+      inner = f.inner;
+      few_attrs = let few = f.few_attrs in omega arith;
+      attrs = f.attrs;
+      begins = f.begins;
+    }
+
+-- ---- the places of a variable's dimensions
+
+position_below : {A : Type 0} (p : A → Bool) (xs : List A) (n : ℕ) → position p xs ≡ Some n → n < length xs
+position_below p xs n e =
+    let k = kept_if (nat_lt (position_or_len p xs) (length xs)) (position_or_len p xs) n e in
+    subst (λ (m : ℕ). m < length xs) k.1 (ltb-true _ _ k.0)
+
+some_or_fault : {A : Type 0} (e : ScriptKind) (o : Option A) (P : A → Type 0) → IfSome o P → IfOk (or_fault e o) P
+some_or_fault e None P h = tt
+some_or_fault e (Some x) P h = h
+
+ids_found : (dims : List Dim) (names : List (List ℕ)) → IfSome (dim_ids dims names) (λ ids. AllByRecursion (λ id. id < length dims) ids)
+ids_found dims names =
+    found_all (λ id. id < length dims) (λ n. position (bytes_eq n) (dim_names dims))
+    (λ n id e. let b = position_below (bytes_eq n) (dim_names dims) id e in omega (arith, length-map dims (λ (d : Dim). d.name))) names
+
+record FitsShape (dims : List Dim) (ids : List ℕ) : Type 0 where
+  few : length ids ≤ most_dims_of_var
+  below : AllByRecursion (λ id. id < length dims) ids
+  inner : AllByRecursion (λ id. is_record_dim dims id ≡ false) (drop 1 ids)
+
+shaped : (dims : List Dim) (ws : List Word) → IfOk (shape dims ws) (λ r. FitsShape dims r.0)
+shaped dims ws =
+    first_then (name_list ws) _ _ (λ names _.
+    then_with (or_fault kind.UnknownName (dim_ids dims names.0)) _ _ (λ ids. AllByRecursion (λ id. id < length dims) ids)
+    (some_or_fault kind.UnknownName (dim_ids dims names.0) (λ ids. AllByRecursion (λ id. id < length dims) ids) (ids_found dims names.0)) (λ ids below.
+    then_with (refuse_if (nat_lt most_dims_of_var (length ids)) (kind.Limit limit.VarDims)) _ _ (λ _. length ids ≤ most_dims_of_var)
+    (unless_refused _ _ (length ids ≤ most_dims_of_var) (λ e. ltb-false _ _ e)) (λ _ few.
+    then_with (refuse_if (list_any (is_record_dim dims) (drop 1 ids)) kind.BadShape) _ _ (λ _. AllByRecursion (λ id. is_record_dim dims id ≡ false) (drop 1 ids))
+    (unless_refused _ _ _ (λ e. all_fail (is_record_dim dims) (drop 1 ids) e)) (λ _ inner. record { few = few; below = below; inner = inner }))))
+
+pub record NewHead (version : ℕ) (names : List (List ℕ)) (t : NcType) (n : List ℕ) : Type 0 where
+  pub typed : is_type version t ≡ true
+  pub good : is_name n ≡ true
+  pub room : length names < most_vars
+
+pub head_read : (version : ℕ) (names : List (List ℕ)) (ws : List Word) → IfOk (var_head version names ws) (λ r. NewHead version names r.0.0 r.0.1)
+head_read version names ws =
+    then_with (reads_as (type_of version) kind.UnknownWord ws) _ _ (λ r. is_type version r.0 ≡ true)
+    (read_as (type_of version) kind.UnknownWord ws (λ t. is_type version t ≡ true) (type_read version)) (λ t typed.
+    then_with (name t.1) _ _ (λ r. is_name r.0 ≡ true) (named t.1) (λ n good.
+    first_then (refuse_if (is_among n.0 names) kind.TwiceNamed) _ _ (λ _ _.
+    then_with (refuse_if (nat_le most_vars (length names)) (kind.Limit limit.Vars)) _ _ (λ _. length names < most_vars)
+    (unless_refused _ _ (length names < most_vars) (λ e. leb-false _ _ e)) (λ _ room. record { typed = typed; good = good; room = room }))))
+
+pub record NewVar (version lines : ℕ) (dims : List Dim) (vars : List Var) (v : Var) : Type 0 where
+  pub fits : FitsVar version lines dims v
+  pub room : length vars < most_vars
+
+pub var_read : (version lines : ℕ) (dims : List Dim) (vars : List Var) (ws : List Word) → IfOk (var_line version dims vars ws) (NewVar version lines dims vars)
+var_read version lines dims vars ws =
+    then_with (var_head version (var_names vars) ws) _ _ (λ r. NewHead version (var_names vars) r.0.0 r.0.1) (head_read version (var_names vars) ws) (λ v head.
+    then_with (shape dims v.1) _ _ (λ r. FitsShape dims r.0) (shaped dims v.1) (λ ids fits.
+    first_then (ended ids.1) _ _ (λ _ _.
+    record {
+      fits = record {
+        named = small_fits version (length v.0.1) (let h = name_short v.0.1 head.good in omega arith);
+        typed = head.typed;
+        few_dims = fits.few;
+        ids = fits.below;
+        inner = fits.inner;
+        few_attrs = omega arith;
+        attrs = tt;
+        begins = refl;
+      };
+      room = let room = head.room in omega (arith, length-map vars (λ (x : Var). x.name));
+    })))
+
+-- ---- an attribute more of one variable
+
+pub attr_placed : (version lines : ℕ) (dims : List Dim) (k : ℕ) (a : Attr) (vars : List Var) → FitsAttr version a → AllByRecursion (FitsVar version lines dims) vars
+    → AllByRecursion (FitsVar version (suc lines) dims) (with_attr_at k a vars)
+attr_placed version lines dims k a vars fits all = by_place (slice_get vars k) (λ v e. all_at (FitsVar version lines dims) vars k v all e)
+  where
+    more : AllByRecursion (FitsVar version (suc lines) dims) vars
+    more = all_weaker (FitsVar version lines dims) (FitsVar version (suc lines) dims) (later version lines (suc lines) dims (omega arith)) vars all
+
+    grown : (v : Var) → FitsVar version lines dims v → FitsVar version (suc lines) dims (record v { attrs = v.attrs ++ a ∷ [] })
+    grown v f =
+        record {
+          named = f.named;
+          typed = f.typed;
+          few_dims = f.few_dims;
+          ids = f.ids;
+          inner = f.inner;
+          few_attrs = let few = f.few_attrs in omega (arith, length-append v.attrs (a ∷ []));
+          attrs = all_more (FitsAttr version) v.attrs a f.attrs fits;
+          begins = f.begins;
+        }
+
+    by_place : (o : Option Var) → ((v : Var) → o ≡ Some v → FitsVar version lines dims v)
+        → AllByRecursion (FitsVar version (suc lines) dims) (elim o as (λ _. List Var) [ None ↦ vars | Some v ↦ slice_set vars k (record v { attrs = v.attrs ++ a ∷ [] }) ])
+    by_place None f = more
+    by_place (Some v) f = all_set (FitsVar version (suc lines) dims) vars k (record v { attrs = v.attrs ++ a ∷ [] }) more (grown v (f v refl))
+
+pub length-placed : (k : ℕ) (a : Attr) (vars : List Var) → length (with_attr_at k a vars) ≡ length vars
+length-placed k a vars = by_place (slice_get vars k)
+  where
+    by_place : (o : Option Var) → length (elim o as (λ _. List Var) [ None ↦ vars | Some v ↦ slice_set vars k (record v { attrs = v.attrs ++ a ∷ [] }) ]) ≡ length vars
+    by_place None = refl
+    by_place (Some v) = length-set vars k (record v { attrs = v.attrs ++ a ∷ [] })

@@ -1,0 +1,54 @@
+-- The hints of a script are within their ranges.
+use Rattle.std.proofs.Common.{◌≡◌, ℕ, ◌*◌, ◌/◌, ◌%◌, ◌≤◌, List, true, Option, min, arith}
+use borrow.Author.Tests.{le-leb, eq-eqb}
+use Rattle.serial_spec.specs.Lawful.{is_within, is_alignment, are_lawful_hints}
+use Rattle.script_spec.specs.ScriptDefinitions.{hint_in}
+use Rattle.script_spec.specs.ScriptGrammar.{hint_or, hints_of}
+use Rattle.script_laws.proofs.ListLaws.{both_true}
+use Rattle.script_laws.proofs.WordLaws.{InRange}
+use Rattle.script_laws.proofs.DefinedLaws.{FitHints}
+use Rattle.script_laws.proofs.RunLaws.{or_default, header_aligned, var_aligned}
+
+within_range : (low high unit n : ℕ) → InRange low high unit n → is_within low high n ≡ true
+within_range low high unit n f = both_true _ _ (le-leb low n f.at_least) (le-leb n high f.at_most)
+
+aligned : (n : ℕ) → InRange 4 1048576 4 n → is_alignment n ≡ true
+aligned n f =
+    let multiple : n % 4 ≡ 0 = f.multiple in
+    let whole : (n / 4) * 4 ≡ n = omega arith in
+    both_true _ _ (within_range 4 1048576 4 n f) (eq-eqb _ _ whole)
+
+any_unit : (low high n : ℕ) → low ≤ n → n ≤ high → InRange low high 1 n
+any_unit low high n a b = record { at_least = a; at_most = b; multiple = omega arith }
+
+nodes : (ranks : ℕ) (hints : List (Option ℕ)) → InRange 1 64 1 ranks → FitHints hints → InRange 1 64 1 (hint_or hints 0 (min ranks 8))
+nodes ranks hints r f =
+    let few : ranks ≤ 64 = r.at_most in
+    let some : 1 ≤ ranks = r.at_least in
+    or_default (hint_in 0 hints) (min ranks 8) (InRange 1 64 1) (f 0) (any_unit 1 64 (min ranks 8) (omega arith) (omega arith))
+
+cb_buffer : (hints : List (Option ℕ)) → FitHints hints → InRange 1 33554432 1 (hint_or hints 1 16777216)
+cb_buffer hints f = or_default (hint_in 1 hints) 16777216 (InRange 1 33554432 1) (f 1) (any_unit 1 33554432 16777216 (omega arith) (omega arith))
+
+rd_buffer : (hints : List (Option ℕ)) → FitHints hints → InRange 1 33554432 1 (hint_or hints 2 4194304)
+rd_buffer hints f = or_default (hint_in 2 hints) 4194304 (InRange 1 33554432 1) (f 2) (any_unit 1 33554432 4194304 (omega arith) (omega arith))
+
+wr_buffer : (hints : List (Option ℕ)) → FitHints hints → InRange 1 33554432 1 (hint_or hints 3 524288)
+wr_buffer hints f = or_default (hint_in 3 hints) 524288 (InRange 1 33554432 1) (f 3) (any_unit 1 33554432 524288 (omega arith) (omega arith))
+
+line_room : (hints : List (Option ℕ)) → FitHints hints → InRange 1 64 1 (hint_or hints 4 2)
+line_room hints f = or_default (hint_in 4 hints) 2 (InRange 1 64 1) (f 4) (any_unit 1 64 2 (omega arith) (omega arith))
+
+striping_unit : (hints : List (Option ℕ)) → FitHints hints → InRange 1 33554432 1 (hint_or hints 9 1)
+striping_unit hints f = or_default (hint_in 9 hints) 1 (InRange 1 33554432 1) (f 9) (any_unit 1 33554432 1 (omega arith) (omega arith))
+
+pub lawful_hints : (ranks : ℕ) (hints : List (Option ℕ)) → InRange 1 64 1 ranks → FitHints hints → are_lawful_hints (hints_of ranks hints) ≡ true
+lawful_hints ranks hints r f =
+    let a = within_range 1 64 1 _ (nodes ranks hints r f) in
+    let b = both_true _ _ a (within_range 1 33554432 1 _ (cb_buffer hints f)) in
+    let c = both_true _ _ b (within_range 1 33554432 1 _ (rd_buffer hints f)) in
+    let d = both_true _ _ c (within_range 1 33554432 1 _ (wr_buffer hints f)) in
+    let e = both_true _ _ d (within_range 1 64 1 _ (line_room hints f)) in
+    let g = both_true _ _ e (aligned _ (header_aligned hints f)) in
+    let h = both_true _ _ g (aligned _ (var_aligned hints f)) in
+    both_true _ _ h (within_range 1 33554432 1 _ (striping_unit hints f))

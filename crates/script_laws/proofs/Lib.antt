@@ -1,0 +1,10 @@
+pub mod StepLaws
+pub mod ListLaws
+pub mod WordLaws
+pub mod ValueLaws
+pub mod DimLaws
+pub mod DefinedLaws
+pub mod ReadLaws
+pub mod RunLaws
+pub mod HintLaws
+pub mod HeaderLaws

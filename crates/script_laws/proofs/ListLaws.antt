@@ -1,0 +1,100 @@
+-- Lists whose elements all are of one kind.
+use Rattle.std.proofs.Common.{◌≡◌, ℕ, zero, suc, List, [], ◌∷◌, ◌++◌, drop, map, Bool, true, false, not, ◌||◌, ◌&&◌, Option, Some, None, IfSome, slice_get, slice_set, option_map, refl, sym, subst}
+use Rattle.std.specs.List.{AllByRecursion, list_any, list_all}
+use Rattle.script_spec.specs.ScriptWords.{all_some}
+
+pub some_same : {A : Type 0} (x y : A) → Some x ≡ Some y → x ≡ y
+some_same x y e = cc
+
+pub and_left : (a b : Bool) → (a && b) ≡ true → a ≡ true
+and_left true b h = refl
+and_left false b h = cc
+
+pub and_right : (a b : Bool) → (a && b) ≡ true → b ≡ true
+and_right true b h = h
+and_right false b h = cc
+
+pub both_true : (a b : Bool) → a ≡ true → b ≡ true → (a && b) ≡ true
+both_true true b p q = q
+both_true false b p q = p
+
+pub not_false : (b : Bool) → b ≡ false → not b ≡ true
+not_false true e = sym e
+not_false false e = refl
+
+pub not_true : (b : Bool) → not b ≡ true → b ≡ false
+not_true true e = sym e
+not_true false e = refl
+
+pub is_true : (b : Bool) → not b ≡ false → b ≡ true
+is_true true e = refl
+is_true false e = sym e
+
+or_left : (a b : Bool) → (a || b) ≡ false → a ≡ false
+or_left true b h = cc
+or_left false b h = refl
+
+or_right : (a b : Bool) → (a || b) ≡ false → b ≡ false
+or_right true b h = cc
+or_right false b h = h
+
+both_false : (a b : Bool) → a ≡ false → b ≡ false → (a || b) ≡ false
+both_false true b p q = p
+both_false false b p q = q
+
+-- ---- all of them
+
+pub all_more : {A : Type 0} (P : A → Type 0) (xs : List A) (x : A) → AllByRecursion P xs → P x → AllByRecursion P (xs ++ x ∷ [])
+all_more P [] x h p = (p, tt)
+all_more P (y ∷ ys) x h p = (h.0, all_more P ys x h.1 p)
+
+pub all_weaker : {A : Type 0} (P Q : A → Type 0) → ((x : A) → P x → Q x) → (xs : List A) → AllByRecursion P xs → AllByRecursion Q xs
+all_weaker P Q f [] h = tt
+all_weaker P Q f (x ∷ xs) h = (f x h.0, all_weaker P Q f xs h.1)
+
+pub all_both : {A : Type 0} (P Q : A → Type 0) (xs : List A) → AllByRecursion P xs → AllByRecursion Q xs → AllByRecursion (λ x. P x × Q x) xs
+all_both P Q [] h k = tt
+all_both P Q (x ∷ xs) h k = ((h.0, k.0), all_both P Q xs h.1 k.1)
+
+pub all_later : {A : Type 0} (P : A → Type 0) (xs : List A) → AllByRecursion P xs → AllByRecursion P (drop 1 xs)
+all_later P [] h = tt
+all_later P (x ∷ xs) h = h.1
+
+pub all_at : {A : Type 0} (P : A → Type 0) (xs : List A) (k : ℕ) (x : A) → AllByRecursion P xs → slice_get xs k ≡ Some x → P x
+all_at P [] k x h e = absurd (cc)
+all_at P (y ∷ ys) zero x h e = subst P (some_same y x e) h.0
+all_at P (y ∷ ys) (suc k) x h e = all_at P ys k x h.1 e
+
+pub all_set : {A : Type 0} (P : A → Type 0) (xs : List A) (k : ℕ) (x : A) → AllByRecursion P xs → P x → AllByRecursion P (slice_set xs k x)
+all_set P [] k x h p = tt
+all_set P (y ∷ ys) zero x h p = (p, h.1)
+all_set P (y ∷ ys) (suc k) x h p = (h.0, all_set P ys k x h.1 p)
+
+-- ---- the same as tests
+
+pub all_pass : {A : Type 0} (test : A → Bool) (P : A → Type 0) → ((x : A) → P x → test x ≡ true) → (xs : List A) → AllByRecursion P xs → list_all test xs ≡ true
+all_pass test P f [] h = refl
+all_pass test P f (x ∷ xs) h = both_true (test x) (list_all test xs) (f x h.0) (all_pass test P f xs h.1)
+
+pub none_passes : {A : Type 0} (test : A → Bool) (P : A → Type 0) → ((x : A) → P x → test x ≡ false) → (xs : List A) → AllByRecursion P xs → list_any test xs ≡ false
+none_passes test P f [] h = refl
+none_passes test P f (x ∷ xs) h = both_false (test x) (list_any test xs) (f x h.0) (none_passes test P f xs h.1)
+
+pub all_fail : {A : Type 0} (test : A → Bool) (xs : List A) → list_any test xs ≡ false → AllByRecursion (λ x. test x ≡ false) xs
+all_fail test [] h = tt
+all_fail test (x ∷ xs) h = (or_left _ _ h, all_fail test xs (or_right _ _ h))
+
+-- ---- what is found of each
+
+some_more : {A : Type 0} (P : A → Type 0) (x : A) (r : Option (List A)) → P x → IfSome r (λ xs. AllByRecursion P xs) → IfSome (option_map (λ xs. x ∷ xs) r) (λ xs. AllByRecursion P xs)
+some_more P x None p h = tt
+some_more P x (Some xs) p h = (p, h)
+
+found_first : {A : Type 0} (P : A → Type 0) (o : Option A) (os : List (Option A)) → ((x : A) → o ≡ Some x → P x) → IfSome (all_some os) (λ xs. AllByRecursion P xs)
+    → IfSome (all_some (o ∷ os)) (λ xs. AllByRecursion P xs)
+found_first P None os f h = tt
+found_first P (Some x) os f h = some_more P x (all_some os) (f x refl) h
+
+pub found_all : {A B : Type 0} (P : A → Type 0) (f : B → Option A) → ((b : B) (x : A) → f b ≡ Some x → P x) → (bs : List B) → IfSome (all_some (map f bs)) (λ xs. AllByRecursion P xs)
+found_all P f h [] = tt
+found_all P f h (b ∷ bs) = found_first P (f b) (map f bs) (h b) (found_all P f h bs)

@@ -1,0 +1,200 @@
+-- A whole script that is read.
+use Rattle.std.proofs.Common.{◌≡◌, ◌∙◌, ℕ, suc, ◌+◌, ◌≤◌, List, [], ◌∷◌, ◌++◌, length, take, Bool, true, false, cond, not, ◌&&◌, Option, Some, None, Result, Ok, Err, IfOk, IfSome, refl, subst, arith, nat_lt, nat_le, ◌==◌, bytes_eq, codes, length-append, length-set}
+use Rattle.std.specs.Str.Lossy.{utf8_valid_len}
+use Rattle.std.specs.List.{enumerate_from}
+use Rattle.std.proofs.lemmas.List.FromFn.{length-enumerate_from}
+use Rattle.std.proofs.lemmas.List.{length-replicate}
+use borrow.Author.Tests.{ltb-false}
+use Rattle.nc_base.specs.declared.errors.ScriptKind.{ScriptKind}
+use Rattle.nc_base.specs.declared.errors.ScriptKind.TheVariants as kind
+use Rattle.nc_base.specs.declared.errors.ScriptErr.{ScriptErr}
+use Rattle.nc_base.specs.declared.request.Call.{Call}
+use Rattle.nc_base.specs.declared.script.Script.{Script}
+use Rattle.serial_spec.specs.HeaderGrammar.{is_version}
+use Rattle.script_spec.specs.ScriptWords.{Word, Line, text_lines, significant, significant_of, line_of, words, is_comment, is_word, size_of_text}
+use Rattle.script_spec.specs.ScriptSteps.{◌>>=◌, or_fault, bare, reads_as, ended, whole}
+use Rattle.script_spec.specs.ScriptDefinitions.{Known, nothing_known, known_after}
+use Rattle.script_spec.specs.ScriptCalls.{Called, calls_of, rank_of_text, call_line, called_after}
+use Rattle.script_spec.specs.ScriptGrammar.{at_line, version_of_text, version_line, head, data_line, definition_step, definitions, call_step, data_part, finish, script_of, no_calls, script_of_lines, most_bytes, most_lines, newlines, is_mismatch, too_many_lines, within_lines, script_of_utf8, script_of_text, Reads}
+use Rattle.script_laws.proofs.StepLaws.{first_then, then_with, ok_then, by_test, if_read, found, read_as, whole_line}
+use Rattle.script_laws.proofs.WordLaws.{InRange, kept_if}
+use Rattle.script_laws.proofs.DefinedLaws.{FitsKnown, nothing_known_fits, later_known, known_more}
+
+at_line_kept : {A : Type 0} (n : ℕ) (r : Result A ScriptKind) (P : A → Type 0) → IfOk r P → IfOk (at_line n r) P
+at_line_kept n (Ok x) P h = h
+at_line_kept n (Err e) P h = tt
+
+-- ---- the head
+
+-- a version, or that of an existing dataset
+abbrev pub IsHead : ℕ → Type 0
+IsHead version = (version == 0) ≡ false → is_version version ≡ true
+
+version_read : (w : List ℕ) (n : ℕ) → version_of_text w ≡ Some n → is_version n ≡ true
+version_read w n h = by_size (size_of_text w) h
+  where
+    by_size : (o : Option ℕ) → elim o as (λ _. Option ℕ) [ None ↦ None | Some m ↦ cond (is_version m) (Some m) None ] ≡ Some n → is_version n ≡ true
+    by_size None e = absurd (cc)
+    by_size (Some m) e = let k = kept_if (is_version m) m n e in subst (λ (x : ℕ). is_version x ≡ true) k.1 k.0
+
+head_read : (w : Word) (ws : List Word) → IfOk (head w ws) IsHead
+head_read w ws =
+    by_test (is_word (codes "create") w) (version_line ws) _ IsHead (λ _. of_version) (λ _.
+    by_test (is_word (codes "open") w) (whole (0, ws)) (Err kind.NoHead) IsHead (λ _. whole_line 0 ws IsHead (λ e. absurd (cc))) (λ _. tt))
+  where
+    of_version : IfOk (version_line ws) IsHead
+    of_version = then_with (reads_as version_of_text kind.BadNumber ws) _ _ (λ r. is_version r.0 ≡ true)
+        (read_as version_of_text kind.BadNumber ws (λ n. is_version n ≡ true) version_read) (λ v good.
+        first_then (ended v.1) _ _ (λ _ _. λ _. good))
+
+-- ---- the definitions
+
+record FitsStep (version lines : ℕ) (s : Option ℕ × Known) : Type 0 where
+  known : FitsKnown version lines s.1
+  ranks : IfSome s.0 (InRange 1 64 1)
+
+ranks_known : (o : Option ℕ) (ranks : ℕ) → IfSome o (InRange 1 64 1) → o ≡ Some ranks → InRange 1 64 1 ranks
+ranks_known None ranks h e = absurd (cc)
+ranks_known (Some n) ranks h e = let same : n ≡ ranks = cc in subst (InRange 1 64 1) same h
+
+step_kept : (version lines : ℕ) (known : Known) (w : Word) (ws : List Word) → FitsKnown version lines known → IfOk (definition_step version known w ws) (FitsStep version (suc lines))
+step_kept version lines known w ws f =
+    first_then (bare w) _ _ (λ first _.
+    by_test (bytes_eq first (codes "data")) _ _ (FitsStep version (suc lines)) (λ _. of_data) (λ _. of_more first))
+  where
+    of_data : IfOk (data_line known ws >>= λ ranks. Ok (Some ranks, known)) (FitsStep version (suc lines))
+    of_data = then_with (data_line known ws) _ _ (InRange 1 64 1)
+        (first_then (or_fault kind.MissingWord known.ranks) _ _ (λ ranks told. whole_line ranks ws (InRange 1 64 1) (ranks_known known.ranks ranks f.ranks (found _ _ ranks told))))
+        (λ ranks fits. record { known = later_known version lines (suc lines) (omega arith) known f; ranks = fits })
+
+    of_more : (first : List ℕ) → IfOk (known_after version known first ws >>= λ more. Ok (None, more)) (FitsStep version (suc lines))
+    of_more first = then_with (known_after version known first ws) _ _ (FitsKnown version (suc lines)) (known_more version lines known first ws f)
+        (λ more fits. record { known = fits; ranks = tt })
+
+-- what the definitions give
+pub record FitsDefinitions (version most : ℕ) (r : ℕ × (Known × List Line)) : Type 0 where
+  pub known : FitsKnown version most r.1.0
+  pub ranks : InRange 1 64 1 r.0
+
+definitions_kept : (past version lines most : ℕ) (known : Known) (ls : List Line) → lines + length ls ≤ most → FitsKnown version lines known
+    → IfOk (definitions past version known ls) (FitsDefinitions version most)
+definitions_kept past version lines most known [] h f = tt
+definitions_kept past version lines most known (l ∷ ls) h f =
+    ok_then (at_line l.number (definition_step version known l.first l.rest)) _ (FitsDefinitions version most) (FitsStep version (suc lines))
+    (at_line_kept l.number _ (FitsStep version (suc lines)) (step_kept version lines known l.first l.rest f))
+    (λ s fits. by_ranks s s.0 fits.ranks fits.known (definitions_kept past version (suc lines) most s.1 ls (omega arith) fits.known))
+  where
+    by_ranks : (s : Option ℕ × Known) (o : Option ℕ) → IfSome o (InRange 1 64 1) → FitsKnown version (suc lines) s.1 → IfOk (definitions past version s.1 ls) (FitsDefinitions version most)
+        → IfOk (elim o as (λ _. Result (ℕ × (Known × List Line)) ScriptErr) [ Some ranks ↦ Ok (ranks, (s.1, ls)) | None ↦ definitions past version s.1 ls ]) (FitsDefinitions version most)
+    by_ranks s (Some ranks) r k rest = record { known = later_known version (suc lines) most (omega arith) s.1 k; ranks = r }
+    by_ranks s None r k rest = rest
+
+-- ---- the calls
+
+call_kept : (ranks : ℕ) (d : Called) (w : Word) (ws : List Word) → length d.calls ≡ ranks → IfOk (call_step d w ws) (λ s. length s.1.calls ≡ ranks)
+call_kept ranks d w ws h =
+    first_then (bare w) _ _ (λ first _.
+    by_test (bytes_eq first (codes "end")) _ _ HasCalls (λ _. whole_line {A = Bool × Called} (true, d) ws HasCalls h) (λ _. of_call first))
+  where
+    HasCalls : Bool × Called → Type 0
+    HasCalls s = length s.1.calls ≡ ranks
+
+    of_call : (first : List ℕ) → IfOk {T = Bool × Called} (called_after d first ws >>= λ more. Ok (false, more)) (λ s. length s.1.calls ≡ ranks)
+    of_call first = then_with (called_after d first ws) _ _ (λ m. length m.calls ≡ ranks)
+        (first_then (rank_of_text (length d.calls) first) _ _ (λ r _.
+        first_then (call_line d r ws) _ _ (λ c _. length-set d.calls r (calls_of r d.calls ++ c ∷ []) ∙ h)))
+        (λ m e. e)
+
+calls_kept : (past ranks : ℕ) (d : Called) (ls : List Line) → length d.calls ≡ ranks → IfOk (data_part past d ls) (λ r. length r.1.0.calls ≡ ranks)
+calls_kept past ranks d [] h = tt
+calls_kept past ranks d (l ∷ ls) h =
+    ok_then (at_line l.number (call_step d l.first l.rest)) _ (λ r. length r.1.0.calls ≡ ranks) (λ s. length s.1.calls ≡ ranks)
+    (at_line_kept l.number _ (λ s. length s.1.calls ≡ ranks) (call_kept ranks d l.first l.rest h))
+    (λ s e. by_end s s.0 e (calls_kept past ranks s.1 ls e))
+  where
+    by_end : (s : Bool × Called) (b : Bool) → length s.1.calls ≡ ranks → IfOk (data_part past s.1 ls) (λ r. length r.1.0.calls ≡ ranks)
+        → IfOk (elim b as (λ _. Result (ℕ × (Called × List Line)) ScriptErr) [ true ↦ Ok (l.number, (s.1, ls)) | false ↦ data_part past s.1 ls ]) (λ r. length r.1.0.calls ≡ ranks)
+    by_end s true e rest = e
+    by_end s false e rest = rest
+
+-- ---- the whole
+
+-- of what a script that is read is made, of at most so many lines
+pub record FitsParts (most version size : ℕ) (found : Known) (called : List (List Call)) : Type 0 where
+  pub head : IsHead version
+  pub known : FitsKnown version most found
+  pub ranks : InRange 1 64 1 size
+  pub calls : length called ≡ size
+
+lines_kept : (past most : ℕ) (ls : List Line) (P : Script → Type 0) → length ls ≤ most
+    → ((version ranks : ℕ) (known : Known) (calls : List (List Call)) → FitsParts most version ranks known calls → P (script_of version ranks known calls))
+    → IfOk (script_of_lines past ls) P
+lines_kept past most [] P h f = tt
+lines_kept past most (l ∷ ls) P h f =
+    then_with (at_line l.number (head l.first l.rest)) _ _ IsHead (at_line_kept l.number _ IsHead (head_read l.first l.rest)) (λ version good.
+    then_with (definitions past version nothing_known ls) _ _ (FitsDefinitions version most)
+    (definitions_kept past version 0 most nothing_known ls (omega arith) (nothing_known_fits version 0)) (λ d fits.
+    then_with (data_part past (no_calls d.0 d.1.0) d.1.1) _ _ (λ r. length r.1.0.calls ≡ d.0)
+    (calls_kept past d.0 (no_calls d.0 d.1.0) d.1.1 (length-replicate d.0 [])) (λ c same.
+    first_then (finish c.0 c.1.0.calls c.1.1) _ _ (λ _ _.
+    f version d.0 d.1.0 c.1.0.calls (record { head = good; known = fits.known; ranks = fits.ranks; calls = same })))))
+
+-- ---- the lines of a text
+
+few_words : (n : ℕ) (ws : List Word) → length (line_of n ws) ≤ 1
+few_words n [] = omega arith
+few_words n (w ∷ ws) = by_comment (is_comment w)
+  where
+    lines_by : Bool → List Line
+    lines_by b = cond b [] (record { number = n; first = w; rest = ws } ∷ [])
+
+    by_comment : (b : Bool) → length (lines_by b) ≤ 1
+    by_comment true = omega arith
+    by_comment false = omega arith
+
+few_significant : (numbered : List (ℕ × List ℕ)) → length (significant_of numbered) ≤ length numbered
+few_significant [] = omega arith
+few_significant (l ∷ ls) = omega (arith, few_words l.0 (words l.1), few_significant ls, length-append (line_of l.0 (words l.1)) (significant_of ls))
+
+few_lines : (text : List ℕ) → length (significant text) ≤ length (text_lines text)
+few_lines text = omega (arith, few_significant (enumerate_from 1 (text_lines text)), length-enumerate_from 1 (text_lines text))
+
+-- a text that is read has no more lines than the limit
+lines_within : (n : ℕ) (told : Result Script ScriptErr) (P : Script → Type 0) → (n ≤ most_lines → IfOk told P) → IfOk (within_lines n told) P
+lines_within n told P f = by_limit (nat_lt most_lines n) told (λ e. f (ltb-false _ _ e))
+  where
+    of_fault : (b : Bool) (e : ScriptErr) → IfOk (elim b as (λ _. Result Script ScriptErr) [ true ↦ Err e | false ↦ too_many_lines ]) P
+    of_fault true e = tt
+    of_fault false e = tt
+
+    by_limit : (b : Bool) (r : Result Script ScriptErr) → (b ≡ false → IfOk r P)
+        → IfOk (elim b as (λ _. Result Script ScriptErr) [
+          | false ↦ r
+          | true ↦ elim r as (λ _. Result Script ScriptErr) [
+            | Ok script ↦ too_many_lines
+            | Err e ↦ elim (nat_le e.line most_lines && not (is_mismatch e.kind)) as (λ _. Result Script ScriptErr) [ true ↦ Err e | false ↦ too_many_lines ]
+          ]
+        ]) P
+    by_limit false r g = g refl
+    by_limit true (Ok script) g = tt
+    by_limit true (Err e) g = of_fault (nat_le e.line most_lines && not (is_mismatch e.kind)) e
+
+-- What holds of every script that is made of fitting parts holds of one that is read.
+pub read_script : (text : List ℕ) (s : Script) (P : Script → Type 0)
+    → ((version ranks : ℕ) (known : Known) (calls : List (List Call)) → FitsParts most_lines version ranks known calls → P (script_of version ranks known calls))
+    → Reads text s → P s
+read_script text s P f h = if_read (script_of_text text) P s h of_text
+  where
+    of_utf8 : IfOk (script_of_utf8 text) P
+    of_utf8 = lines_within (length (text_lines text)) (script_of_lines (length (text_lines text) + 1) (significant text)) P
+        (λ few. lines_kept (length (text_lines text) + 1) most_lines (significant text) P (omega (arith, few_lines text)) f)
+
+    by_valid : (b : Bool) → IfOk (elim b as (λ _. Result Script ScriptErr) [
+      | false ↦ Err (record { line = newlines (take (utf8_valid_len text) text) + 1; kind = kind.NotUtf8 })
+      | true ↦ script_of_utf8 text
+    ]) P
+    by_valid true = of_utf8
+    by_valid false = tt
+
+    of_text : IfOk (script_of_text text) P
+    of_text = by_test (nat_lt most_bytes (length text)) _ _ P (λ _. tt) (λ _. by_valid (utf8_valid_len text == length text))

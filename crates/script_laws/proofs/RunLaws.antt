@@ -1,0 +1,47 @@
+-- The hints and the calls of a script, and the header of one for an existing dataset.
+use Rattle.std.proofs.Common.{◌≡◌, ◌∙◌, ℕ, ◌≤◌, List, length, false, Option, Some, None, refl, ap, arith, ◌==◌, unwrap_or}
+use borrow.Author.Tests.{eqb-true}
+use Rattle.nc_base.specs.declared.script.Script.{Script}
+use Rattle.script_spec.specs.ScriptDefinitions.{hint_in, Defined, no_definition}
+use Rattle.script_spec.specs.ScriptGrammar.{header_of, hint_or, Reads}
+use Rattle.script_laws.proofs.ListLaws.{is_true}
+use Rattle.script_laws.proofs.WordLaws.{InRange}
+use Rattle.script_laws.proofs.DefinedLaws.{FitHints}
+use Rattle.script_laws.proofs.ReadLaws.{read_script}
+
+pub read_ranks : (text : List ℕ) (s : Script) → Reads text s → length s.calls ≡ s.ranks
+read_ranks text s = read_script text s (λ t. length t.calls ≡ t.ranks) (λ version ranks known calls parts. parts.calls)
+
+-- a hint, or its default
+pub or_default : (o : Option ℕ) (default : ℕ) (P : ℕ → Type 0) → ((n : ℕ) → o ≡ Some n → P n) → P default → P (unwrap_or o default)
+or_default None default P f p = p
+or_default (Some n) default P f p = f n refl
+
+four : InRange 4 1048576 4 4
+four = record { at_least = omega arith; at_most = omega arith; multiple = refl }
+
+pub header_aligned : (hints : List (Option ℕ)) → FitHints hints → InRange 4 1048576 4 (hint_or hints 7 4)
+header_aligned hints f = or_default (hint_in 7 hints) 4 (InRange 4 1048576 4) (f 7) four
+
+pub var_aligned : (hints : List (Option ℕ)) → FitHints hints → InRange 4 1048576 4 (hint_or hints 8 4)
+var_aligned hints f = or_default (hint_in 8 hints) 4 (InRange 4 1048576 4) (f 8) four
+
+between : (n : ℕ) → InRange 4 1048576 4 n → (4 ≤ n) × (n ≤ 1048576)
+between n f = (f.at_least, f.at_most)
+
+pub read_header_align : (text : List ℕ) (s : Script) → Reads text s → (4 ≤ s.hints.header_align) × (s.hints.header_align ≤ 1048576)
+read_header_align text s =
+    read_script text s (λ t. (4 ≤ t.hints.header_align) × (t.hints.header_align ≤ 1048576)) (λ version ranks known calls parts. between _ (header_aligned known.hints parts.known.hints))
+
+pub read_var_align : (text : List ℕ) (s : Script) → Reads text s → (4 ≤ s.hints.var_align) × (s.hints.var_align ≤ 1048576)
+read_var_align text s =
+    read_script text s (λ t. (4 ≤ t.hints.var_align) × (t.hints.var_align ≤ 1048576)) (λ version ranks known calls parts. between _ (var_aligned known.hints parts.known.hints))
+
+pub read_records : (text : List ℕ) (s : Script) → Reads text s → s.header.records ≡ 0
+read_records text s = read_script text s (λ t. t.header.records ≡ 0) (λ version ranks known calls parts. refl)
+
+pub read_opened : (text : List ℕ) (s : Script) → Reads text s → s.fresh ≡ false → s.header ≡ header_of 0 no_definition
+read_opened text s =
+    read_script text s (λ t. t.fresh ≡ false → t.header ≡ header_of 0 no_definition) (λ version ranks known calls parts old.
+    let zero_version = is_true (version == 0) old in
+    ap (λ (n : ℕ). header_of n known.defined) (eqb-true version 0 zero_version) ∙ ap (λ (d : Defined). header_of 0 d) (parts.known.old zero_version))

@@ -1,0 +1,46 @@
+-- Steps that succeed, from word to word.
+use Rattle.std.proofs.Common.{◌≡◌, ℕ, List, Bool, true, false, Option, Some, None, Result, Ok, Err, IfOk, refl, subst}
+use Rattle.nc_base.specs.declared.errors.ScriptKind.{ScriptKind}
+use Rattle.script_spec.specs.ScriptWords.{Word}
+use Rattle.script_spec.specs.ScriptSteps.{◌>>=◌, refuse_if, or_fault, reads_as, next, ended, whole}
+
+pub first_then : {A B E : Type 0} (m : Result A E) (f : A → Result B E) (P : B → Type 0) → ((x : A) → m ≡ Ok x → IfOk (f x) P) → IfOk (m >>= f) P
+first_then (Ok x) f P h = h x refl
+first_then (Err e) f P h = tt
+
+-- the same where something is known of what the first step gives
+pub then_with : {A B E : Type 0} (m : Result A E) (f : A → Result B E) (P : B → Type 0) (Q : A → Type 0) → IfOk m Q → ((x : A) → Q x → IfOk (f x) P) → IfOk (m >>= f) P
+then_with (Ok x) f P Q q h = h x q
+then_with (Err e) f P Q q h = tt
+
+pub ok_then : {A B E : Type 0} (m : Result A E) (f : A → Result B E) (P : B → Type 0) (Q : A → Type 0) → IfOk m Q → ((x : A) → Q x → IfOk (f x) P)
+    → IfOk (elim m as (λ _. Result B E) [ Err e ↦ Err e | Ok x ↦ f x ]) P
+ok_then (Ok x) f P Q q h = h x q
+ok_then (Err e) f P Q q h = tt
+
+pub by_test : {A E : Type 0} (b : Bool) (p q : Result A E) (P : A → Type 0) → (b ≡ true → IfOk p P) → (b ≡ false → IfOk q P)
+    → IfOk (elim b as (λ _. Result A E) [ true ↦ p | false ↦ q ]) P
+by_test true p q P f g = f refl
+by_test false p q P f g = g refl
+
+pub if_read : {A E : Type 0} (r : Result A E) (P : A → Type 0) (x : A) → r ≡ Ok x → IfOk r P → P x
+if_read {A} {E} r P x e h = let Q : Result A E → Type 0 = λ s. IfOk s P in subst Q e h
+
+pub not_refused : (b : Bool) (e : ScriptKind) (u : Unit {0}) → refuse_if b e ≡ Ok u → b ≡ false
+not_refused true e u h = absurd (cc)
+not_refused false e u h = refl
+
+pub unless_refused : (b : Bool) (e : ScriptKind) (P : Type 0) → (b ≡ false → P) → IfOk (refuse_if b e) (λ _. P)
+unless_refused true e P f = tt
+unless_refused false e P f = f refl
+
+pub found : {A : Type 0} (e : ScriptKind) (o : Option A) (x : A) → or_fault e o ≡ Ok x → o ≡ Some x
+found e None x h = absurd (cc)
+found e (Some y) x h = cc
+
+pub read_as : {A : Type 0} (f : List ℕ → Option A) (e : ScriptKind) (ws : List Word) (P : A → Type 0) → ((w : List ℕ) (x : A) → f w ≡ Some x → P x) → IfOk (reads_as f e ws) (λ r. P r.0)
+read_as f e ws P h =
+    first_then (next ws) _ _ (λ w _. first_then (or_fault e (f w.0)) _ _ (λ x told. h w.0 x (found e (f w.0) x told)))
+
+pub whole_line : {A : Type 0} (x : A) (ws : List Word) (P : A → Type 0) → P x → IfOk (whole (x, ws)) P
+whole_line x ws P h = first_then (ended ws) _ _ (λ _ _. h)

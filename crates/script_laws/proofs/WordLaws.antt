@@ -1,0 +1,115 @@
+-- What single words say.
+use Rattle.std.proofs.Common.{◌≡◌, ℕ, ◌*◌, ◌%◌, ◌^◌, ◌<◌, ◌≤◌, List, [], ◌∷◌, length, Bool, true, false, cond, ◌&&◌, Option, Some, None, IfOk, refl, subst, arith, nat_lt, nat_le, ◌==◌, find, bytes_eq, codes}
+use Rattle.std.specs.List.{list_all}
+use Rattle.std.specs.Int.{w32, w64, byte_len}
+use Rattle.std.proofs.lemmas.Bool.Decides.{nat_tests}
+use borrow.Author.Tests.{ltb-true, leb-true, eqb-true}
+use Rattle.nc_base.specs.declared.errors.ScriptKind.TheVariants as kind
+use Rattle.nc_base.specs.declared.header.NcType.{NcType}
+use Rattle.serial_spec.specs.Limits.{file_limit}
+use Rattle.serial_spec.specs.HeaderGrammar.{fits_count, is_type, number_of, last_type}
+use Rattle.script_spec.specs.Texts.{type_word}
+use Rattle.script_spec.specs.ScriptWords.{Word, below, natural_of, size_of_text, is_name, starts_name, in_name}
+use Rattle.script_spec.specs.ScriptSteps.{name, name_of_text}
+use Rattle.script_spec.specs.ScriptDefinitions.{number_within, one_of_two, type_of, types, length_limit, length_of_text}
+use Rattle.script_laws.proofs.ListLaws.{and_left, and_right}
+use Rattle.script_laws.proofs.StepLaws.{read_as}
+
+pub kept_if : {A : Type 0} (b : Bool) (x y : A) → cond b (Some x) None ≡ Some y → (b ≡ true) × (x ≡ y)
+kept_if true x y h = (refl, cc)
+kept_if false x y h = absurd (cc)
+
+-- ---- names
+
+pub name_short : (n : List ℕ) → is_name n ≡ true → length n ≤ 256
+name_short [] h = omega arith
+name_short (c ∷ cs) h = let t : length cs < 256 = ltb-true (length cs) 256 (and_right (starts_name c && list_all in_name cs) (nat_lt (length cs) 256) h) in omega arith
+
+pub name_read : (w n : List ℕ) → name_of_text w ≡ Some n → is_name n ≡ true
+name_read w n h = let k = kept_if (is_name w) w n h in subst (λ (x : List ℕ). is_name x ≡ true) k.1 k.0
+
+pub named : (ws : List Word) → IfOk (name ws) (λ r. is_name r.0 ≡ true)
+named ws = read_as name_of_text kind.BadName ws (λ n. is_name n ≡ true) name_read
+
+-- ---- numbers
+
+pub record InRange (low high unit n : ℕ) : Type 0 where
+  pub at_least : low ≤ n
+  pub at_most : n ≤ high
+  pub multiple : n % unit ≡ 0
+
+pub within_read : (low high unit : ℕ) (w : List ℕ) (n : ℕ) → number_within low high unit w ≡ Some n → InRange low high unit n
+within_read low high unit w n h = by_size (size_of_text w) h
+  where
+    kept : (m : ℕ) → (nat_le low m && nat_le m high && m % unit == 0) ≡ true → InRange low high unit m
+    kept m e =
+        let both = and_left (nat_le low m && nat_le m high) (m % unit == 0) e in
+        record {
+          at_least = leb-true low m (and_left (nat_le low m) (nat_le m high) both);
+          at_most = leb-true m high (and_right (nat_le low m) (nat_le m high) both);
+          multiple = eqb-true (m % unit) 0 (and_right (nat_le low m && nat_le m high) (m % unit == 0) e);
+        }
+
+    by_size : (o : Option ℕ)
+        → elim o as (λ _. Option ℕ) [ None ↦ None | Some m ↦ cond (nat_le low m && nat_le m high && m % unit == 0) (Some m) None ] ≡ Some n → InRange low high unit n
+    by_size None e = absurd (cc)
+    by_size (Some m) e = let k = kept_if (nat_le low m && nat_le m high && m % unit == 0) m n e in subst (λ (x : ℕ). InRange low high unit x) k.1 (kept m k.0)
+
+pub one_of_two_read : (zero_word one_word w : List ℕ) (n : ℕ) → one_of_two zero_word one_word w ≡ Some n → n ≤ 1
+one_of_two_read zero_word one_word w n h = by_words (bytes_eq w zero_word) (bytes_eq w one_word) h
+  where
+    by_words : (a b : Bool) → cond a (Some 0) (cond b (Some 1) None) ≡ Some n → n ≤ 1
+    by_words true b e = let same : 0 ≡ n = cc in omega arith
+    by_words false true e = let same : 1 ≡ n = cc in omega arith
+    by_words false false e = absurd (cc)
+
+below_read : (limit : ℕ) (o : Option ℕ) (n : ℕ) → below limit o ≡ Some n → n < limit
+below_read limit None n h = absurd (cc)
+below_read limit (Some m) n h = let k = kept_if (nat_lt m limit) m n h in subst (λ (x : ℕ). x < limit) k.1 (ltb-true m limit k.0)
+
+pub size_read : (w : List ℕ) (n : ℕ) → size_of_text w ≡ Some n → n < 2 ^ 63
+size_read w n h = below_read (2 ^ 63) (natural_of w) n h
+
+-- ---- types
+
+pub type_read : (version : ℕ) (w : List ℕ) (t : NcType) → type_of version w ≡ Some t → is_type version t ≡ true
+type_read version w t h = by_word (find (λ (k : NcType). bytes_eq w (type_word k)) types) h
+  where
+    by_word : (o : Option NcType) → elim o as (λ _. Option NcType) [ None ↦ None | Some k ↦ cond (nat_le (number_of k) (last_type version)) (Some k) None ] ≡ Some t → is_type version t ≡ true
+    by_word None e = absurd (cc)
+    by_word (Some k) e = let c = kept_if (nat_le (number_of k) (last_type version)) k t e in subst (λ (x : NcType). is_type version x ≡ true) c.1 c.0
+
+-- ---- the lengths of dimensions
+
+pub length_read : (version : ℕ) (w : List ℕ) (n : ℕ) → length_of_text version w ≡ Some n → n < length_limit version
+length_read version w n h = by_word (bytes_eq w (codes "unlimited")) (below (length_limit version) (size_of_text w)) (λ m e. below_read (length_limit version) (size_of_text w) m e) h
+  where
+    some_limit : (t : Bool) → 0 < cond t (2 ^ 62) (2 ^ 31)
+    some_limit true = omega arith
+    some_limit false = omega arith
+
+    kept : (m : ℕ) (t : Bool) → m < length_limit version → cond t None (Some m) ≡ Some n → n < length_limit version
+    kept m true h e = absurd (cc)
+    kept m false h e = let same : m ≡ n = cc in subst (λ (x : ℕ). x < length_limit version) same h
+
+    by_word : (b : Bool) (o : Option ℕ) → ((m : ℕ) → o ≡ Some m → m < length_limit version)
+        → cond b (Some 0) (elim o as (λ _. Option ℕ) [ None ↦ None | Some m ↦ cond (m == 0) None (Some m) ]) ≡ Some n → n < length_limit version
+    by_word true o f e = let same : 0 ≡ n = cc in subst (λ (x : ℕ). x < length_limit version) same (some_limit (version == 5))
+    by_word false None f e = absurd (cc)
+    by_word false (Some m) f e = kept m (m == 0) (f m refl) e
+
+-- ---- fields that they fit
+
+pub small_fits : (version n : ℕ) → n ≤ 2 ^ 24 → fits_count version n ≡ true
+small_fits version n h = by_width (version == 5)
+  where
+    by_width : (t : Bool) → nat_lt (2 * n) (256 ^ byte_len (cond t w64 w32)) ≡ true
+    by_width true = grind (arith, nat_tests)
+    by_width false = grind (arith, nat_tests)
+
+pub length_fits : (version n : ℕ) → n < length_limit version → (fits_count version n ≡ true) × (nat_le n file_limit ≡ true)
+length_fits version n h = by_width (version == 5) h
+  where
+    by_width : (t : Bool) → n < cond t (2 ^ 62) (2 ^ 31) → (nat_lt (2 * n) (256 ^ byte_len (cond t w64 w32)) ≡ true) × (nat_le n file_limit ≡ true)
+    by_width true e = (grind (arith, nat_tests), grind (arith, nat_tests))
+    by_width false e = (grind (arith, nat_tests), grind (arith, nat_tests))
