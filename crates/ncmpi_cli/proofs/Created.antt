@@ -1,9 +1,12 @@
 -- The file of a created dataset.
 use Rattle.std.proofs.Common.{◌≡◌, ℕ, ◌+◌, ◌-◌, ◌≤◌, List, [], ◌++◌, length, drop, replicate, Option, refl, sym, ap, ◌∙◌, arith}
 use Rattle.std.proofs.lemmas.List.{drop-replicate}
+use Rattle.nc_base.specs.declared.header.Header.{Header}
 use Rattle.nc_outside.specs.Told.{after}
 use Rattle.nc_outside.proofs.ToldLaws.{after-after}
 use Rattle.serial_spec.specs.File.{longer, written}
+use Rattle.serial_spec.specs.HeaderGrammar.{header_len}
+use Rattle.serial_spec.specs.Layout.{end_of}
 use Rattle.serial_spec.proofs.FileLaws.{written-front}
 
 -- bytes at the front of zeros
@@ -28,3 +31,7 @@ created bytes end size place old emptied grown new long s p e g n =
     ∙ ap (λ (x : ℕ). after (λ _. written (longer [] size) x bytes) old) p
     ∙ ap (λ (x : ℕ). after (λ _. written (longer [] x) 0 bytes) old) s
     ∙ ap (λ (t : List ℕ). after (λ _. t) old) (front-of-zeros bytes end long)
+
+-- a file ends behind its header
+pub front_fits : (header : Header) (n : ℕ) → header_len header ≤ end_of header (header_len header) n
+front_fits header n = omega arith

@@ -35,7 +35,7 @@ pub(crate) fn open<D: Disk>(alloc: Global, disk: &mut D, name: &str) -> Result<H
     Ok(header)
 }
 
-// The first bytes of the dataset, among which its header stands.
+// Starts the disk, and reads the first bytes of the dataset, among which its header stands.
 fn first_bytes<D: Disk>(alloc: Global, disk: &mut D, name: &str) -> Result<Vec<u8>, DiskErr>
     ensures bytes { IfOk result (λ bytes. IfSome (D.held disk.old) (λ file. bytes.items ≡ front file)) }
     ensures few { IfOk result (λ bytes. length bytes.items ≤ 2 ^ 20) }
@@ -44,11 +44,24 @@ fn first_bytes<D: Disk>(alloc: Global, disk: &mut D, name: &str) -> Result<Vec<u
     ensures cause { HasDiskCause (D.faults disk.old) (D.faults disk.new) result }
 {
     disk.start(alloc, name, false)?;
+    let bytes = read_front(alloc, disk)?;
+    Ok(bytes)
+}
+
+fn read_front<D: Disk>(alloc: Global, disk: &mut D) -> Result<Vec<u8>, DiskErr>
+    requires from { D.from disk.old ≡ 0 }
+    ensures bytes { IfOk result (λ bytes. IfSome (D.held disk.old) (λ file. bytes.items ≡ front file)) }
+    ensures few { IfOk result (λ bytes. length bytes.items ≤ 2 ^ 20) }
+    ensures from { D.from disk.new ≡ 0 }
+    ensures held { D.held disk.new ≡ D.held disk.old }
+    ensures cause { HasDiskCause (D.faults disk.old) (D.faults disk.new) result }
+{
     let len = disk.size().min(MAX_HEADER_BYTES) as usize;
-    let mut bytes = vec![in alloc; 0; len]?;
-    if len > 0 {
-        disk.read_at(alloc, 0, &mut bytes)?;
+    if len == 0 {
+        return Ok(Vec::new(alloc));
     }
+    let mut bytes = vec![in alloc; 0; len]?;
+    disk.read_at(alloc, 0, &mut bytes)?;
     Ok(bytes)
 }
 

@@ -1,18 +1,29 @@
-use Rattle.std.proofs.Common.{◌≡◌, ◌≤◌, ℕ, refl, arith, ◌∙◌, ap, sym}
-use Rattle.std.proofs.lemmas.Bool.{and_parts}
+use Rattle.std.proofs.Common.{◌≡◌, ◌≤◌, ◌-◌, ℕ, List, true, refl, arith, ◌∙◌, ap, sym}
 use Rattle.nc_outside.specs.Told.{after}
-use Rattle.serial_spec.specs.HeaderGrammar.{canon, header_len, is_sound}
+use Rattle.serial_spec.specs.File.{written}
 use Rattle.serial_spec.specs.Layout.{end_of}
+use Rattle.nc_base.specs.declared.header.Header.{Header}
+use Rattle.serial_spec.specs.HeaderGrammar.{canon, header_len, is_sound, is_writable}
 use Rattle.serial_spec.proofs.SpellingLaws.{left}
 use Rattle.var_layout.proofs.ElementPlaces.{sound_end}
-use Rattle.ncmpi_cli.proofs.Created.{created}
+use Rattle.ncmpi_cli.proofs.Created.{created, front_fits}
 use Rattle.ncmpi_cli.proofs.creating.create.Goals as goal
 
+sound : (header : Header) → is_writable header ≡ true → is_sound header ≡ true
+sound header h = left _ _ (left _ _ (left _ _ (left _ _ h)))
+
 pub end_of-end-requires-clause-sound : goal.end_of-end-requires-clause-sound
-end_of-end-requires-clause-sound g c = left _ _ (left _ _ (left _ _ (left _ _ c.requires)))
+end_of-end-requires-clause-sound g c = sound c.args.header.now c.requires.writable
 
 pub end_of-end-requires-clause-below : goal.end_of-end-requires-clause-below
-end_of-end-requires-clause-below g c = sound_end c.args.header.now 0 (left _ _ (left _ _ (left _ _ (left _ _ c.requires)))) (omega arith)
+end_of-end-requires-clause-below g c = sound_end c.args.header.now 0 (sound c.args.header.now c.requires.writable) (omega arith)
 
 pub returns-clause-bytes : goal.returns-clause-bytes
-returns-clause-bytes g c = cc
+returns-clause-bytes g c =
+    let h : Header = c.args.header.now in
+    let place : 0 - g.D.Disk.from c.grow.new.self ≡ 0 = omega arith in
+    created (canon h) (end_of h (header_len h) 0) (g.D.Disk.len c.grow.new.self) (0 - g.D.Disk.from c.grow.new.self)
+    (g.D.Disk.held c.args.disk.now) (g.D.Disk.held c.start.new.self) (g.D.Disk.held c.grow.new.self) (g.D.Disk.held c.write_at.new.self)
+    (front_fits h 0) (c.in_ok-grow.ensures.size ∙ c.end_of-end.ensures) place (c.in_ok-start.ensures.emptied refl).1 c.in_ok-grow.ensures.bytes
+    (c.in_ok-write_at.ensures.bytes
+    ∙ ap (λ (b : List ℕ). after (λ file. written file (0 - g.D.Disk.from c.grow.new.self) b) (g.D.Disk.held c.grow.new.self)) (c.as_slice.ensures ∙ c.in_ok-bytes.ensures))
