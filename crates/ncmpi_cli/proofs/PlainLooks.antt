@@ -1,7 +1,7 @@
 -- What is plain under a header is so under that header laid out. A plain put is looked at and refused by nothing: it asks
 -- for one post.
 use Rattle.std.proofs.Common.{◌≡◌, ℕ, zero, suc, ◌+◌, ◌-◌, ◌*◌, ◌^◌, ◌<◌, ◌≤◌, Bool, true, false, cond, not, ◌&&◌, ◌||◌, List, [], ◌∷◌, length, map, replicate, ℤ, Option, Some, None, refl, sym, ap, subst, ◌∙◌, eq-eqb, arith}
-use Rattle.std.specs.Prelude.{nat_lt, nat_le, ◌==◌, is_none, option_map, slice_get, slice_index, zip, bytes_eq}
+use Rattle.std.specs.Prelude.{nat_lt, nat_le, ◌==◌, is_none, option_map, slice_get, slice_index, bytes_eq}
 use Rattle.std.specs.List.{list_all, list_any, range_with_len, position_from}
 use Rattle.std.proofs.lemmas.Bool.{and_left, and_right, and_from, and_parts, lt-ltb, le-ltb, lt-leb, leb-true, ltb-true, ltb-false, ne_eqb, not-true, not_from_true, false≢true}
 use Rattle.std.proofs.lemmas.Iterator.Adapters.{position_from-zero}
@@ -10,7 +10,6 @@ use Rattle.std.proofs.lemmas.Nat.{mul-le}
 use Rattle.nc_base.specs.declared.answer.Code.{Code}
 use Rattle.nc_base.specs.declared.answer.Code.TheVariants as code
 use Rattle.nc_base.specs.declared.header.Header.{Header}
-use Rattle.nc_base.specs.declared.header.NcType.{NcType}
 use Rattle.nc_base.specs.declared.header.Var.{Var}
 use Rattle.nc_base.specs.declared.plan.Post.{Post}
 use Rattle.nc_base.specs.declared.request.Call.{Call}
