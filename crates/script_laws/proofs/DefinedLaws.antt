@@ -1,19 +1,20 @@
 -- What is defined after a line, and what is known then.
-use Rattle.std.proofs.Common.{◌≡◌, ℕ, zero, suc, ◌+◌, ◌≤◌, List, [], ◌∷◌, ◌++◌, length, replicate, true, false, Option, Some, None, Ok, Err, IfOk, IfSome, refl, subst, arith, ◌==◌, count_by, slice_set, bytes_eq, codes, length-append, is_some}
+use Rattle.std.proofs.Common.{◌≡◌, ℕ, zero, suc, ◌+◌, ◌≤◌, sum, map, List, [], ◌∷◌, ◌++◌, length, replicate, true, false, Option, Some, None, Ok, Err, IfOk, IfSome, refl, subst, arith, ◌==◌, count_by, slice_set, bytes_eq, codes, length-append, is_some}
 use Rattle.std.specs.List.{AllByRecursion}
 use Rattle.nc_base.specs.declared.errors.ScriptKind.TheVariants as kind
 use Rattle.nc_base.specs.declared.header.Dim.{Dim}
 use Rattle.nc_base.specs.declared.header.Attr.{Attr}
 use Rattle.nc_base.specs.declared.header.Var.{Var}
 use Rattle.serial_spec.specs.Limits.{most_dims, most_vars}
-use Rattle.serial_spec.specs.Lawful.{most_values}
+use Rattle.serial_spec.specs.Lawful.{most_values, attr_values, extra_values}
 use Rattle.script_spec.specs.ScriptWords.{Word}
 use Rattle.script_spec.specs.ScriptSteps.{◌>>=◌, refuse_if, reads_as, ended}
-use Rattle.script_spec.specs.ScriptDefinitions.{HintForm, Within, Either, hint_form, hint_in, hint_of_text, hint_value, hint_line, ranks_line, number_within, one_of_two, is_unlimited, dim_line, var_line, owner_of_text, owner_place, attribute, Defined, no_definition, with_dim, with_var, with_attr, with_title, att_line, dim_definition, var_definition, fill_line, definition, Added, var_head, added_shape, dim_addition, var_addition, att_addition, Known, nothing_known, addition, known_after}
-use Rattle.script_laws.proofs.ListLaws.{some_same, all_more, all_weaker}
+use Rattle.script_spec.specs.ScriptDefinitions.{HintForm, Within, Either, hint_form, hint_in, hint_of_text, hint_value, hint_line, ranks_line, number_within, one_of_two, is_unlimited, dim_line, var_line, owner_of_text, owner_place, attribute, Defined, no_definition, with_dim, with_var, with_attr, with_title, att_line, dim_definition, var_definition, fill_line, definition, nothing_added, Known, nothing_known, addition, known_after}
+use Rattle.script_laws.proofs.ListLaws.{sum_more, some_same, all_more, all_weaker}
 use Rattle.script_laws.proofs.StepLaws.{first_then, then_with, by_test, read_as}
 use Rattle.script_laws.proofs.WordLaws.{InRange, within_read, one_of_two_read}
-use Rattle.script_laws.proofs.DimLaws.{FitsDim, NewDim, dim_read, one_more, FitsAttr, NewAttr, attribute_read, FitsVar, wider, later, NewVar, var_read, attr_placed, length-placed}
+use Rattle.script_laws.proofs.AddedLaws.{FitsAdded, nothing_added_fits, FitsAddition, addition_read}
+use Rattle.script_laws.proofs.DimLaws.{values_placed, FitsDim, NewDim, dim_read, one_more, FitsAttr, NewAttr, attribute_read, FitsVar, wider, later, NewVar, var_read, attr_placed, length-placed}
 
 -- ---- the definitions of a new dataset, after so many lines
 
@@ -95,13 +96,25 @@ filled_fits : (version lines : ℕ) (d : Defined) → FitsDefined version lines 
 filled_fits version lines d f =
     record { few_dims = f.few_dims; dims = f.dims; one_record = f.one_record; few_vars = f.few_vars; vars = f.vars; few_attrs = f.few_attrs; attrs = f.attrs }
 
+-- the values of all attributes
+abbrev pub defined_values : Defined → ℕ
+defined_values d = attr_values d.attrs + sum (map (λ (v : Var). attr_values v.attrs) d.vars)
+
+var_values : (d : Defined) (x : Var) → attr_values x.attrs ≡ 0 → defined_values (with_var x d) ≤ defined_values d
+var_values d x none = omega (arith, sum_more (λ (v : Var). attr_values v.attrs) d.vars x)
+
+more_values : (d : Defined) (k : Option ℕ) (a : Attr) (owner : List ℕ) → defined_values (with_title owner a.name (with_attr k a d)) ≤ defined_values d + a.count
+more_values d None a owner = omega (arith, sum_more (λ (b : Attr). b.count) d.attrs a)
+more_values d (Some k) a owner = omega (arith, values_placed k a d.vars)
+
 -- what a line gives: what is defined, with so many values more
-pub record FitsLine (version lines before : ℕ) (r : ℕ × Defined) : Type 0 where
+pub record FitsLine (version lines before : ℕ) (old : Defined) (r : ℕ × Defined) : Type 0 where
   pub fits : FitsDefined version (suc lines) r.1
   pub few : before + r.0 ≤ most_values
+  pub held : defined_values r.1 ≤ defined_values old + r.0
 
 pub defined_after : (version lines before : ℕ) (d : Defined) (first : List ℕ) (ws : List Word) → before ≤ most_values → FitsDefined version lines d
-    → IfOk (definition version before d first ws) (FitsLine version lines before)
+    → IfOk (definition version before d first ws) (FitsLine version lines before d)
 defined_after version lines before d first ws h f =
     by_test (bytes_eq first (codes "dim")) (dim_definition version d ws) _ P (λ _. of_dim) (λ _.
     by_test (bytes_eq first (codes "var")) (var_definition version d ws) _ P (λ _. of_var) (λ _.
@@ -109,51 +122,28 @@ defined_after version lines before d first ws h f =
     by_test (bytes_eq first (codes "fill")) (fill_line d ws) (Err kind.UnknownWord) P (λ _. of_fill) (λ _. tt))))
   where
     P : ℕ × Defined → Type 0
-    P = FitsLine version lines before
+    P = FitsLine version lines before d
 
     more : (e : Defined) → FitsDefined version lines e → FitsDefined version (suc lines) e
     more e g = later_defined version lines (suc lines) (omega arith) e g
 
-    of_dim : IfOk (dim_definition version d ws) (FitsLine version lines before)
+    of_dim : IfOk (dim_definition version d ws) (FitsLine version lines before d)
     of_dim = then_with (dim_line version d.dims ws) _ _ (NewDim version d.dims) (dim_read version d.dims ws)
-        (λ x new. record { fits = more (with_dim x d) (dim_fits version lines d x f new); few = omega arith })
+        (λ x new. record { fits = more (with_dim x d) (dim_fits version lines d x f new); few = omega arith; held = omega arith })
 
-    of_var : IfOk (var_definition version d ws) (FitsLine version lines before)
+    of_var : IfOk (var_definition version d ws) (FitsLine version lines before d)
     of_var = then_with (var_line version d.dims d.vars ws) _ _ (NewVar version lines d.dims d.vars) (var_read version lines d.dims d.vars ws)
-        (λ x new. record { fits = more (with_var x d) (var_fits version lines d x f new); few = omega arith })
+        (λ x new. record { fits = more (with_var x d) (var_fits version lines d x f new); few = omega arith; held = let none = var_values d x new.none in omega arith })
 
-    of_attr : IfOk (att_line version before d ws) (FitsLine version lines before)
+    of_attr : IfOk (att_line version before d ws) (FitsLine version lines before d)
     of_attr = first_then (reads_as owner_of_text kind.BadName ws) _ _ (λ o _.
         first_then (owner_place d.vars o.0) _ _ (λ k _.
         then_with (attribute version d.titles before o.0 o.1) _ _ (NewAttr version before) (attribute_read version d.titles before o.0 o.1 h)
-        (λ a new. record { fits = attr_fits version lines d k a o.0 f new.fits; few = new.few })))
+        (λ a new. record { fits = attr_fits version lines d k a o.0 f new.fits; few = new.few; held = more_values d k a o.0 })))
 
-    of_fill : IfOk (fill_line d ws) (FitsLine version lines before)
+    of_fill : IfOk (fill_line d ws) (FitsLine version lines before d)
     of_fill = first_then (refuse_if d.filled kind.TwiceNamed) _ _ (λ _ _.
-        first_then (ended ws) _ _ (λ _ _. record { fits = more (record d { filled = true }) (filled_fits version lines d f); few = omega arith }))
-
--- ---- what is added to an existing dataset
-
-addition_few : (before : ℕ) (d : Added) (first : List ℕ) (ws : List Word) → before ≤ most_values → IfOk (addition before d first ws) (λ r. before + r.0 ≤ most_values)
-addition_few before d first ws h =
-    by_test (bytes_eq first (codes "dim")) (dim_addition d ws) _ P (λ _. of_dim) (λ _.
-    by_test (bytes_eq first (codes "var")) (var_addition d ws) _ P (λ _. of_var) (λ _.
-    by_test (bytes_eq first (codes "att")) (att_addition before d ws) (Err kind.UnknownWord) P (λ _. of_attr) (λ _. tt)))
-  where
-    P : ℕ × Added → Type 0
-    P r = before + r.0 ≤ most_values
-
-    of_dim : IfOk (dim_addition d ws) (λ r. before + r.0 ≤ most_values)
-    of_dim = first_then (dim_line 5 d.dims ws) _ _ (λ _ _. omega arith)
-
-    of_var : IfOk (var_addition d ws) (λ r. before + r.0 ≤ most_values)
-    of_var = first_then (var_head 5 d.vars ws) _ _ (λ v _.
-        first_then (added_shape d.dims v.1) _ _ (λ names _.
-        first_then (ended names.1) _ _ (λ _ _. omega arith)))
-
-    of_attr : IfOk (att_addition before d ws) (λ r. before + r.0 ≤ most_values)
-    of_attr = first_then (reads_as owner_of_text kind.BadName ws) _ _ (λ o _.
-        then_with (attribute 5 d.titles before o.0 o.1) _ _ (NewAttr 5 before) (attribute_read 5 d.titles before o.0 o.1 h) (λ a new. new.few))
+        first_then (ended ws) _ _ (λ _ _. record { fits = more (record d { filled = true }) (filled_fits version lines d f); few = omega arith; held = omega arith }))
 
 -- ---- hints
 
@@ -203,14 +193,17 @@ pub record FitsKnown (version lines : ℕ) (known : Known) : Type 0 where
   pub few : known.values ≤ most_values
   pub fresh : (version == 0) ≡ false → FitsDefined version lines known.defined
   pub old : (version == 0) ≡ true → known.defined ≡ no_definition
+  pub none_added : (version == 0) ≡ false → known.added ≡ nothing_added
+  pub added : FitsAdded known.added
+  pub held : defined_values known.defined + extra_values known.added.extras ≤ known.values
 
 pub nothing_known_fits : (version lines : ℕ) → FitsKnown version lines nothing_known
 nothing_known_fits version lines =
-    record { ranks = tt; hints = λ h n e. absurd (no_hint 10 h n e); few = omega arith; fresh = λ _. nothing_fits version lines; old = λ _. refl }
+    record { ranks = tt; hints = λ h n e. absurd (no_hint 10 h n e); few = omega arith; fresh = λ _. nothing_fits version lines; old = λ _. refl; none_added = λ _. refl; added = nothing_added_fits; held = omega arith }
 
 pub later_known : (version lines more : ℕ) → lines ≤ more → (known : Known) → FitsKnown version lines known → FitsKnown version more known
 later_known version lines more h known f =
-    record { ranks = f.ranks; hints = f.hints; few = f.few; fresh = λ e. later_defined version lines more h known.defined (f.fresh e); old = f.old }
+    record { ranks = f.ranks; hints = f.hints; few = f.few; fresh = λ e. later_defined version lines more h known.defined (f.fresh e); old = f.old; none_added = f.none_added; added = f.added; held = f.held }
 
 pub known_more : (version lines : ℕ) (known : Known) (first : List ℕ) (ws : List Word) → FitsKnown version lines known
     → IfOk (known_after version known first ws) (FitsKnown version (suc lines))
@@ -226,20 +219,20 @@ known_more version lines known first ws f =
     more = later_known version lines (suc lines) (omega arith) known f
 
     of_ranks : IfOk (ranks_line known.ranks ws >>= λ n. Ok (record known { ranks = Some n })) (FitsKnown version (suc lines))
-    of_ranks = then_with (ranks_line known.ranks ws) _ _ (InRange 1 64 1) (ranks_read known.ranks ws) (λ n fits. record { ranks = fits; hints = f.hints; few = f.few; fresh = more.fresh; old = f.old })
+    of_ranks = then_with (ranks_line known.ranks ws) _ _ (InRange 1 64 1) (ranks_read known.ranks ws) (λ n fits. record { ranks = fits; hints = f.hints; few = f.few; fresh = more.fresh; old = f.old; none_added = f.none_added; added = f.added; held = f.held })
 
     of_hint : IfOk (hint_line known.hints ws >>= λ h. Ok (record known { hints = slice_set known.hints h.0 (Some h.1) })) (FitsKnown version (suc lines))
     of_hint = then_with (hint_line known.hints ws) _ _ (λ r. FitsForm (hint_form r.0) r.1) (hint_read known.hints ws)
-        (λ h fits. record { ranks = f.ranks; hints = one_hint (λ k n. FitsForm (hint_form k) n) known.hints h.0 h.1 f.hints fits; few = f.few; fresh = more.fresh; old = f.old })
+        (λ h fits. record { ranks = f.ranks; hints = one_hint (λ k n. FitsForm (hint_form k) n) known.hints h.0 h.1 f.hints fits; few = f.few; fresh = more.fresh; old = f.old; none_added = f.none_added; added = f.added; held = f.held })
 
     of_definition : (version == 0) ≡ false
         → IfOk (definition version known.values known.defined first ws >>= λ x. Ok (record known { defined = x.1; values = known.values + x.0 })) (FitsKnown version (suc lines))
-    of_definition e = then_with (definition version known.values known.defined first ws) _ _ (FitsLine version lines known.values)
+    of_definition e = then_with (definition version known.values known.defined first ws) _ _ (FitsLine version lines known.values known.defined)
         (defined_after version lines known.values known.defined first ws f.few (f.fresh e))
-        (λ x new. record { ranks = f.ranks; hints = f.hints; few = new.few; fresh = λ _. new.fits; old = λ o. absurd (cc) })
+        (λ x new. record { ranks = f.ranks; hints = f.hints; few = new.few; fresh = λ _. new.fits; old = λ o. absurd (cc); none_added = f.none_added; added = f.added; held = let a = f.held in let b = new.held in omega arith })
 
     of_addition : (version == 0) ≡ true
         → IfOk (addition known.values known.added first ws >>= λ x. Ok (record known { added = x.1; values = known.values + x.0 })) (FitsKnown version (suc lines))
-    of_addition e = then_with (addition known.values known.added first ws) _ _ (λ r. known.values + r.0 ≤ most_values)
-        (addition_few known.values known.added first ws f.few)
-        (λ x new. record { ranks = f.ranks; hints = f.hints; few = new; fresh = more.fresh; old = f.old })
+    of_addition e = then_with (addition known.values known.added first ws) _ _ (FitsAddition known.values known.added)
+        (addition_read known.values known.added first ws f.few f.added)
+        (λ x new. record { ranks = f.ranks; hints = f.hints; few = new.few; fresh = more.fresh; old = f.old; none_added = λ o. absurd (cc); added = new.fits; held = let a = f.held in let b = new.held in omega arith })

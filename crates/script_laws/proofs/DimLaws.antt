@@ -1,9 +1,9 @@
 -- Dimensions, variables and attributes as they are defined, line by line.
-use Rattle.std.proofs.Common.{◌≡◌, ◌∙◌, ℕ, suc, ◌+◌, ◌*◌, ◌^◌, ◌<◌, ◌≤◌, List, [], ◌∷◌, ◌++◌, length, drop, Bool, true, false, cond, ◌&&◌, ◌||◌, Option, Some, None, IfOk, IfSome, refl, ap, subst, arith, nat_lt, nat_le, ◌==◌, count_by, slice_get, slice_set, position, bytes_eq, length-append, length-set}
+use Rattle.std.proofs.Common.{◌≡◌, ◌∙◌, ℕ, suc, ◌+◌, ◌*◌, ◌^◌, ◌<◌, ◌≤◌, List, [], ◌∷◌, ◌++◌, length, drop, Bool, true, false, cond, ◌&&◌, ◌||◌, Option, Some, None, IfOk, IfSome, refl, ap, subst, arith, nat_lt, nat_le, ◌==◌, count_by, sum, map, slice_get, slice_set, position, bytes_eq, length-append, length-set}
 use Rattle.std.specs.List.{AllByRecursion, list_any, position_or_len}
 use borrow.Author.Tests.{ltb-true, ltb-false, leb-false, eq-eqb}
 use Rattle.std.proofs.lemmas.List.{length-map}
-use Rattle.std.proofs.lemmas.List.Sums.{sum_by-append, sum_by-cons}
+use Rattle.std.proofs.lemmas.List.Sums.{sum_by-cons}
 use Rattle.nc_base.specs.declared.errors.ScriptKind.{ScriptKind}
 use Rattle.nc_base.specs.declared.errors.ScriptKind.TheVariants as kind
 use Rattle.nc_base.specs.declared.errors.LimitName.TheVariants as limit
@@ -13,7 +13,7 @@ use Rattle.nc_base.specs.declared.header.Attr.{Attr}
 use Rattle.nc_base.specs.declared.header.Var.{Var}
 use Rattle.nc_base.specs.declared.request.Values.{Values}
 use Rattle.serial_spec.specs.Limits.{most_dims, most_dims_of_var, most_vars}
-use Rattle.serial_spec.specs.Lawful.{most_values}
+use Rattle.serial_spec.specs.Lawful.{most_values, attr_values, is_whole_attr}
 use Rattle.serial_spec.specs.ExternalForm.{size_of}
 use Rattle.serial_spec.specs.Request.{count_of}
 use Rattle.serial_spec.specs.HeaderGrammar.{fits_count, is_type, is_writable_dim, is_writable_attr}
@@ -22,19 +22,19 @@ use Rattle.script_spec.specs.ScriptWords.{Word, is_name}
 use Rattle.script_spec.specs.ScriptSteps.{refuse_if, or_fault, reads_as, name, ended}
 use Rattle.script_spec.specs.ScriptValues.{values}
 use Rattle.script_spec.specs.ScriptDefinitions.{type_of, is_among, length_limit, length_of_text, is_unlimited, dim_names, dim_line, var_head, name_list, dim_ids, is_record_dim, var_names, shape, var_line, Title, attr_of, attribute_name, attribute, external_bytes, same_title, with_attr_at}
-use Rattle.script_laws.proofs.ListLaws.{all_more, all_weaker, all_both, all_later, all_at, all_set, all_fail, both_true, found_all}
+use Rattle.script_laws.proofs.ListLaws.{all_more, all_weaker, all_both, all_later, all_at, all_set, all_fail, and_right, count_more, sum_set, sum_more, both_true, found_all}
 use Rattle.script_laws.proofs.StepLaws.{first_then, then_with, unless_refused, read_as}
 use Rattle.script_laws.proofs.WordLaws.{kept_if, name_short, named, type_read, length_read, small_fits, length_fits}
 use Rattle.script_laws.proofs.ValueLaws.{AreWithin, values_within, bytes_long}
 
 -- ---- a dimension
 
-abbrev pub FitsDim : ℕ → Dim → Type 0
-FitsDim version d = is_writable_dim version d ≡ true
+pub record FitsDim (version : ℕ) (d : Dim) : Type 0 where
+  pub writable : is_writable_dim version d ≡ true
+  pub short : d.len < length_limit version
 
 pub record NewDim (version : ℕ) (dims : List Dim) (d : Dim) : Type 0 where
   pub fits : FitsDim version d
-  pub short : d.len < length_limit version
   pub room : length dims < most_dims
   pub once : (is_unlimited d && list_any is_unlimited dims) ≡ false
 
@@ -42,7 +42,7 @@ dim_fits : (version : ℕ) (n : List ℕ) (len : ℕ) → is_name n ≡ true →
 dim_fits version n len good short =
     let name_fits : fits_count version (length n) ≡ true = small_fits version (length n) (let h = name_short n good in omega arith) in
     let len_fits = length_fits version len short in
-    both_true _ _ (both_true _ _ name_fits len_fits.0) len_fits.1
+    record { writable = both_true _ _ (both_true _ _ name_fits len_fits.0) len_fits.1; short = short }
 
 pub dim_read : (version : ℕ) (dims : List Dim) (ws : List Word) → IfOk (dim_line version dims ws) (NewDim version dims)
 dim_read version dims ws =
@@ -54,7 +54,7 @@ dim_read version dims ws =
     (read_as (length_of_text version) kind.BadNumber n.1 (λ m. m < length_limit version) (length_read version)) (λ len short.
     then_with (refuse_if (len.0 == 0 && list_any is_unlimited dims) kind.BadShape) _ _ (λ _. (len.0 == 0 && list_any is_unlimited dims) ≡ false)
     (unless_refused _ _ _ (λ e. e)) (λ _ once.
-    first_then (ended len.1) _ _ (λ _ _. record { fits = dim_fits version n.0 len.0 good short; short = short; room = room; once = once }))))))
+    first_then (ended len.1) _ _ (λ _ _. record { fits = dim_fits version n.0 len.0 good short; room = room; once = once }))))))
 
 -- ---- one unlimited dimension at most
 
@@ -74,9 +74,7 @@ at_most_one false c n h f e = omega arith
 pub one_more : (dims : List Dim) (d : Dim) → count_by is_unlimited dims ≤ 1 → (is_unlimited d && list_any is_unlimited dims) ≡ false → count_by is_unlimited (dims ++ d ∷ []) ≤ 1
 one_more dims d h once =
     let more = at_most_one (is_unlimited d) (list_any is_unlimited dims) (count_by is_unlimited dims) h (λ e. count_none is_unlimited dims e) once in
-    let long : count_by is_unlimited (dims ++ d ∷ []) ≡ count_by is_unlimited dims + cond (is_unlimited d) 1 0 =
-    sum_by-append (λ (x : Dim). cond (is_unlimited x) 1 0) dims (d ∷ []) ∙ omega arith in
-    omega arith
+    omega (arith, count_more is_unlimited dims d)
 
 -- ---- an attribute
 
@@ -89,6 +87,10 @@ attr_fits version n t vs good typed few =
     let count_fits : fits_count version (count_of vs) ≡ true = small_fits version (count_of vs) few in
     let whole : (length (external_bytes t vs) == count_of vs * size_of t) ≡ true = eq-eqb _ _ (bytes_long t vs) in
     both_true _ _ (both_true _ _ (both_true _ _ name_fits typed) count_fits) whole
+
+pub attr_whole : (version : ℕ) (a : Attr) → FitsAttr version a → is_whole_attr a ≡ true
+attr_whole version a h =
+    and_right (fits_count version (length a.name) && is_type version a.kind && fits_count version a.count) (length a.bytes == a.count * size_of a.kind) h
 
 title_named : (titles : List Title) (owner : List ℕ) (ws : List Word) → IfOk (attribute_name titles owner ws) (λ r. is_name r.0 ≡ true)
 title_named titles owner ws =
@@ -195,6 +197,7 @@ head_read version names ws =
     (unless_refused _ _ (length names < most_vars) (λ e. leb-false _ _ e)) (λ _ room. record { typed = typed; good = good; room = room }))))
 
 pub record NewVar (version lines : ℕ) (dims : List Dim) (vars : List Var) (v : Var) : Type 0 where
+  pub none : attr_values v.attrs ≡ 0
   pub fits : FitsVar version lines dims v
   pub room : length vars < most_vars
 
@@ -204,6 +207,7 @@ var_read version lines dims vars ws =
     then_with (shape dims v.1) _ _ (λ r. FitsShape dims r.0) (shaped dims v.1) (λ ids fits.
     first_then (ended ids.1) _ _ (λ _ _.
     record {
+      none = refl;
       fits = record {
         named = small_fits version (length v.0.1) (let h = name_short v.0.1 head.good in omega arith);
         typed = head.typed;
@@ -250,3 +254,17 @@ length-placed k a vars = by_place (slice_get vars k)
     by_place : (o : Option Var) → length (elim o as (λ _. List Var) [ None ↦ vars | Some v ↦ slice_set vars k (record v { attrs = v.attrs ++ a ∷ [] }) ]) ≡ length vars
     by_place None = refl
     by_place (Some v) = length-set vars k (record v { attrs = v.attrs ++ a ∷ [] })
+
+-- the values of all attributes of the variables
+pub values_placed : (k : ℕ) (a : Attr) (vars : List Var) → sum (map (λ (v : Var). attr_values v.attrs) (with_attr_at k a vars)) ≤ sum (map (λ (v : Var). attr_values v.attrs) vars) + a.count
+values_placed k a vars = by_place (slice_get vars k) (λ v e. e)
+  where
+    grown : (v : Var) → slice_get vars k ≡ Some v
+        → sum (map (λ (w : Var). attr_values w.attrs) (slice_set vars k (record v { attrs = v.attrs ++ a ∷ [] }))) ≤ sum (map (λ (w : Var). attr_values w.attrs) vars) + a.count
+    grown v e = sum_set (λ (w : Var). attr_values w.attrs) vars k a.count v (record v { attrs = v.attrs ++ a ∷ [] }) e (omega (arith, sum_more (λ (b : Attr). b.count) v.attrs a))
+
+    by_place : (o : Option Var) → ((v : Var) → o ≡ Some v → slice_get vars k ≡ Some v)
+        → sum (map (λ (w : Var). attr_values w.attrs) (elim o as (λ _. List Var) [ None ↦ vars | Some v ↦ slice_set vars k (record v { attrs = v.attrs ++ a ∷ [] }) ]))
+        ≤ sum (map (λ (w : Var). attr_values w.attrs) vars) + a.count
+    by_place None f = omega arith
+    by_place (Some v) f = grown v (f v refl)

@@ -68,7 +68,7 @@ names_fit version d v f =
 
 parts_fit : (version : ℕ) (d : Defined) → FitsDefined version most_lines d → has_writable_parts (header_of version d) ≡ true
 parts_fit version d f =
-    let dims = list_fits version most_dims (is_writable_dim version) d.dims f.few_dims (omega arith) (all_pass (is_writable_dim version) (FitsDim version) (λ x g. g) d.dims f.dims) in
+    let dims = list_fits version most_dims (is_writable_dim version) d.dims f.few_dims (omega arith) (all_pass (is_writable_dim version) (FitsDim version) (λ x g. g.writable) d.dims f.dims) in
     let attrs = list_fits version most_lines (is_writable_attr version) d.attrs f.few_attrs (omega arith) (attrs_fit version d.attrs f.attrs) in
     let vars = all_pass (has_writable_names (header_of version d)) (FitsVar version most_lines d.dims) (names_fit version d) d.vars f.vars in
     both_true _ _ (both_true _ _ dims attrs) vars

@@ -9,7 +9,7 @@ use Rattle.script_laws.proofs.WordLaws.{InRange}
 use Rattle.script_laws.proofs.DefinedLaws.{FitHints}
 use Rattle.script_laws.proofs.RunLaws.{or_default, header_aligned, var_aligned}
 
-within_range : (low high unit n : ℕ) → InRange low high unit n → is_within low high n ≡ true
+pub within_range : (low high unit n : ℕ) → InRange low high unit n → is_within low high n ≡ true
 within_range low high unit n f = both_true _ _ (le-leb low n f.at_least) (le-leb n high f.at_most)
 
 aligned : (n : ℕ) → InRange 4 1048576 4 n → is_alignment n ≡ true

@@ -3,8 +3,14 @@ pub mod ListLaws
 pub mod WordLaws
 pub mod ValueLaws
 pub mod DimLaws
+pub mod AddedLaws
 pub mod DefinedLaws
+pub mod CallValueLaws
+pub mod CallLaws
+pub mod CalledLaws
+pub mod AgreeLaws
 pub mod ReadLaws
 pub mod RunLaws
-pub mod HintLaws
 pub mod HeaderLaws
+pub mod HintLaws
+pub mod LawfulLaws

@@ -1,6 +1,7 @@
 -- Lists whose elements all are of one kind.
-use Rattle.std.proofs.Common.{◌≡◌, ℕ, zero, suc, List, [], ◌∷◌, ◌++◌, drop, map, Bool, true, false, not, ◌||◌, ◌&&◌, Option, Some, None, IfSome, slice_get, slice_set, option_map, refl, sym, subst}
+use Rattle.std.proofs.Common.{◌≡◌, ℕ, zero, suc, ◌+◌, ◌≤◌, cond, sum, count_by, ap, arith, List, [], ◌∷◌, ◌++◌, drop, map, Bool, true, false, not, ◌||◌, ◌&&◌, Option, Some, None, IfSome, slice_get, slice_set, option_map, refl, sym, subst}
 use Rattle.std.specs.List.{AllByRecursion, list_any, list_all}
+use Rattle.std.proofs.lemmas.List.Sums.{sum_by-cons, sum_by_push}
 use Rattle.script_spec.specs.ScriptWords.{all_some}
 
 pub some_same : {A : Type 0} (x y : A) → Some x ≡ Some y → x ≡ y
@@ -30,15 +31,15 @@ pub is_true : (b : Bool) → not b ≡ false → b ≡ true
 is_true true e = refl
 is_true false e = sym e
 
-or_left : (a b : Bool) → (a || b) ≡ false → a ≡ false
+pub or_left : (a b : Bool) → (a || b) ≡ false → a ≡ false
 or_left true b h = cc
 or_left false b h = refl
 
-or_right : (a b : Bool) → (a || b) ≡ false → b ≡ false
+pub or_right : (a b : Bool) → (a || b) ≡ false → b ≡ false
 or_right true b h = cc
 or_right false b h = h
 
-both_false : (a b : Bool) → a ≡ false → b ≡ false → (a || b) ≡ false
+pub both_false : (a b : Bool) → a ≡ false → b ≡ false → (a || b) ≡ false
 both_false true b p q = p
 both_false false b p q = q
 
@@ -98,3 +99,21 @@ found_first P (Some x) os f h = some_more P x (all_some os) (f x refl) h
 pub found_all : {A B : Type 0} (P : A → Type 0) (f : B → Option A) → ((b : B) (x : A) → f b ≡ Some x → P x) → (bs : List B) → IfSome (all_some (map f bs)) (λ xs. AllByRecursion P xs)
 found_all P f h [] = tt
 found_all P f h (b ∷ bs) = found_first P (f b) (map f bs) (h b) (found_all P f h bs)
+
+-- ---- sums
+
+pub count_more : {A : Type 0} (p : A → Bool) (xs : List A) (x : A) → count_by p (xs ++ x ∷ []) ≡ count_by p xs + cond (p x) 1 0
+count_more p xs x = sum_by_push (λ y. cond (p y) 1 0) xs x
+
+pub sum_cons : {A : Type 0} (f : A → ℕ) (x : A) (xs : List A) → sum (map f (x ∷ xs)) ≡ f x + sum (map f xs)
+sum_cons f x xs = sum_by-cons (λ n. n) (f x) (map f xs)
+
+pub sum_more : {A : Type 0} (f : A → ℕ) (xs : List A) (x : A) → sum (map f (xs ++ x ∷ [])) ≡ sum (map f xs) + f x
+sum_more f [] x = omega arith
+sum_more f (y ∷ ys) x = omega (arith, sum_cons f y (ys ++ x ∷ []), sum_cons f y ys, sum_more f ys x)
+
+-- one of them changes, by so much at most
+pub sum_set : {A : Type 0} (f : A → ℕ) (xs : List A) (k n : ℕ) (x y : A) → slice_get xs k ≡ Some x → f y ≤ f x + n → sum (map f (slice_set xs k y)) ≤ sum (map f xs) + n
+sum_set f [] k n x y e h = absurd (cc)
+sum_set f (z ∷ zs) zero n x y e h = omega (arith, sum_cons f y zs, sum_cons f z zs, ap f (some_same z x e))
+sum_set f (z ∷ zs) (suc k) n x y e h = omega (arith, sum_cons f z (slice_set zs k y), sum_cons f z zs, sum_set f zs k n x y e h)

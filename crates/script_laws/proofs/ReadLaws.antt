@@ -1,28 +1,24 @@
 -- A whole script that is read.
-use Rattle.std.proofs.Common.{◌≡◌, ◌∙◌, ℕ, suc, ◌+◌, ◌≤◌, List, [], ◌∷◌, ◌++◌, length, take, Bool, true, false, cond, not, ◌&&◌, Option, Some, None, Result, Ok, Err, IfOk, IfSome, refl, subst, arith, nat_lt, nat_le, ◌==◌, bytes_eq, codes, length-append, length-set}
+use Rattle.std.proofs.Common.{◌≡◌, ℕ, suc, ◌+◌, ◌≤◌, List, [], ◌∷◌, length, take, Bool, true, false, cond, not, ◌&&◌, Option, Some, None, Result, Ok, Err, IfOk, IfSome, refl, subst, arith, nat_lt, nat_le, ◌==◌, bytes_eq, codes, length-append}
 use Rattle.std.specs.Str.Lossy.{utf8_valid_len}
 use Rattle.std.specs.List.{enumerate_from}
 use Rattle.std.proofs.lemmas.List.FromFn.{length-enumerate_from}
-use Rattle.std.proofs.lemmas.List.{length-replicate}
 use borrow.Author.Tests.{ltb-false}
-use Rattle.nc_base.specs.declared.errors.ScriptKind.{ScriptKind}
 use Rattle.nc_base.specs.declared.errors.ScriptKind.TheVariants as kind
 use Rattle.nc_base.specs.declared.errors.ScriptErr.{ScriptErr}
 use Rattle.nc_base.specs.declared.request.Call.{Call}
 use Rattle.nc_base.specs.declared.script.Script.{Script}
 use Rattle.serial_spec.specs.HeaderGrammar.{is_version}
+use Rattle.serial_spec.specs.Lawful.{agree}
 use Rattle.script_spec.specs.ScriptWords.{Word, Line, text_lines, significant, significant_of, line_of, words, is_comment, is_word, size_of_text}
 use Rattle.script_spec.specs.ScriptSteps.{◌>>=◌, or_fault, bare, reads_as, ended, whole}
 use Rattle.script_spec.specs.ScriptDefinitions.{Known, nothing_known, known_after}
-use Rattle.script_spec.specs.ScriptCalls.{Called, calls_of, rank_of_text, call_line, called_after}
-use Rattle.script_spec.specs.ScriptGrammar.{at_line, version_of_text, version_line, head, data_line, definition_step, definitions, call_step, data_part, finish, script_of, no_calls, script_of_lines, most_bytes, most_lines, newlines, is_mismatch, too_many_lines, within_lines, script_of_utf8, script_of_text, Reads}
-use Rattle.script_laws.proofs.StepLaws.{first_then, then_with, ok_then, by_test, if_read, found, read_as, whole_line}
+use Rattle.script_spec.specs.ScriptGrammar.{at_line, version_of_text, version_line, head, data_line, definition_step, definitions, data_part, finish, script_of, no_calls, script_of_lines, most_bytes, most_lines, newlines, is_mismatch, too_many_lines, within_lines, script_of_utf8, script_of_text, Reads}
+use Rattle.script_laws.proofs.StepLaws.{first_then, then_with, ok_then, by_test, if_read, found, read_as, whole_line, at_line_kept}
 use Rattle.script_laws.proofs.WordLaws.{InRange, kept_if}
+use Rattle.script_laws.proofs.CalledLaws.{FitsCalled, calls_read, no_calls_fit}
+use Rattle.script_laws.proofs.AgreeLaws.{finish_agreed}
 use Rattle.script_laws.proofs.DefinedLaws.{FitsKnown, nothing_known_fits, later_known, known_more}
-
-at_line_kept : {A : Type 0} (n : ℕ) (r : Result A ScriptKind) (P : A → Type 0) → IfOk r P → IfOk (at_line n r) P
-at_line_kept n (Ok x) P h = h
-at_line_kept n (Err e) P h = tt
 
 -- ---- the head
 
@@ -75,6 +71,7 @@ step_kept version lines known w ws f =
 pub record FitsDefinitions (version most : ℕ) (r : ℕ × (Known × List Line)) : Type 0 where
   pub known : FitsKnown version most r.1.0
   pub ranks : InRange 1 64 1 r.0
+  pub rest : length r.1.1 ≤ most
 
 definitions_kept : (past version lines most : ℕ) (known : Known) (ls : List Line) → lines + length ls ≤ most → FitsKnown version lines known
     → IfOk (definitions past version known ls) (FitsDefinitions version most)
@@ -86,36 +83,8 @@ definitions_kept past version lines most known (l ∷ ls) h f =
   where
     by_ranks : (s : Option ℕ × Known) (o : Option ℕ) → IfSome o (InRange 1 64 1) → FitsKnown version (suc lines) s.1 → IfOk (definitions past version s.1 ls) (FitsDefinitions version most)
         → IfOk (elim o as (λ _. Result (ℕ × (Known × List Line)) ScriptErr) [ Some ranks ↦ Ok (ranks, (s.1, ls)) | None ↦ definitions past version s.1 ls ]) (FitsDefinitions version most)
-    by_ranks s (Some ranks) r k rest = record { known = later_known version (suc lines) most (omega arith) s.1 k; ranks = r }
+    by_ranks s (Some ranks) r k rest = record { known = later_known version (suc lines) most (omega arith) s.1 k; ranks = r; rest = omega arith }
     by_ranks s None r k rest = rest
-
--- ---- the calls
-
-call_kept : (ranks : ℕ) (d : Called) (w : Word) (ws : List Word) → length d.calls ≡ ranks → IfOk (call_step d w ws) (λ s. length s.1.calls ≡ ranks)
-call_kept ranks d w ws h =
-    first_then (bare w) _ _ (λ first _.
-    by_test (bytes_eq first (codes "end")) _ _ HasCalls (λ _. whole_line {A = Bool × Called} (true, d) ws HasCalls h) (λ _. of_call first))
-  where
-    HasCalls : Bool × Called → Type 0
-    HasCalls s = length s.1.calls ≡ ranks
-
-    of_call : (first : List ℕ) → IfOk {T = Bool × Called} (called_after d first ws >>= λ more. Ok (false, more)) (λ s. length s.1.calls ≡ ranks)
-    of_call first = then_with (called_after d first ws) _ _ (λ m. length m.calls ≡ ranks)
-        (first_then (rank_of_text (length d.calls) first) _ _ (λ r _.
-        first_then (call_line d r ws) _ _ (λ c _. length-set d.calls r (calls_of r d.calls ++ c ∷ []) ∙ h)))
-        (λ m e. e)
-
-calls_kept : (past ranks : ℕ) (d : Called) (ls : List Line) → length d.calls ≡ ranks → IfOk (data_part past d ls) (λ r. length r.1.0.calls ≡ ranks)
-calls_kept past ranks d [] h = tt
-calls_kept past ranks d (l ∷ ls) h =
-    ok_then (at_line l.number (call_step d l.first l.rest)) _ (λ r. length r.1.0.calls ≡ ranks) (λ s. length s.1.calls ≡ ranks)
-    (at_line_kept l.number _ (λ s. length s.1.calls ≡ ranks) (call_kept ranks d l.first l.rest h))
-    (λ s e. by_end s s.0 e (calls_kept past ranks s.1 ls e))
-  where
-    by_end : (s : Bool × Called) (b : Bool) → length s.1.calls ≡ ranks → IfOk (data_part past s.1 ls) (λ r. length r.1.0.calls ≡ ranks)
-        → IfOk (elim b as (λ _. Result (ℕ × (Called × List Line)) ScriptErr) [ true ↦ Ok (l.number, (s.1, ls)) | false ↦ data_part past s.1 ls ]) (λ r. length r.1.0.calls ≡ ranks)
-    by_end s true e rest = e
-    by_end s false e rest = rest
 
 -- ---- the whole
 
@@ -124,7 +93,9 @@ pub record FitsParts (most version size : ℕ) (found : Known) (called : List (L
   pub head : IsHead version
   pub known : FitsKnown version most found
   pub ranks : InRange 1 64 1 size
-  pub calls : length called ≡ size
+  pub values : ℕ
+  pub calls : FitsCalled size most found.values (record { calls = called; values = values })
+  pub agreed : agree called ≡ true
 
 lines_kept : (past most : ℕ) (ls : List Line) (P : Script → Type 0) → length ls ≤ most
     → ((version ranks : ℕ) (known : Known) (calls : List (List Call)) → FitsParts most version ranks known calls → P (script_of version ranks known calls))
@@ -134,10 +105,17 @@ lines_kept past most (l ∷ ls) P h f =
     then_with (at_line l.number (head l.first l.rest)) _ _ IsHead (at_line_kept l.number _ IsHead (head_read l.first l.rest)) (λ version good.
     then_with (definitions past version nothing_known ls) _ _ (FitsDefinitions version most)
     (definitions_kept past version 0 most nothing_known ls (omega arith) (nothing_known_fits version 0)) (λ d fits.
-    then_with (data_part past (no_calls d.0 d.1.0) d.1.1) _ _ (λ r. length r.1.0.calls ≡ d.0)
-    (calls_kept past d.0 (no_calls d.0 d.1.0) d.1.1 (length-replicate d.0 [])) (λ c same.
-    first_then (finish c.0 c.1.0.calls c.1.1) _ _ (λ _ _.
-    f version d.0 d.1.0 c.1.0.calls (record { head = good; known = fits.known; ranks = fits.ranks; calls = same })))))
+    then_with (data_part past (no_calls d.0 d.1.0) d.1.1) _ _ (λ r. FitsCalled d.0 most d.1.0.values r.1.0)
+    (calls_read past d.0 d.1.0.values 0 most (no_calls d.0 d.1.0) d.1.1 (let rest = fits.rest in omega arith) (no_calls_fit d.0 d.1.0.values 0 fits.known.few)) (λ c called.
+    first_then (finish c.0 c.1.0.calls c.1.1) _ _ (λ u ended_well.
+    f version d.0 d.1.0 c.1.0.calls (record {
+      head = good;
+      known = fits.known;
+      ranks = fits.ranks;
+      values = c.1.0.values;
+      calls = called;
+      agreed = finish_agreed c.0 c.1.0.calls c.1.1 u ended_well;
+    })))))
 
 -- ---- the lines of a text
 

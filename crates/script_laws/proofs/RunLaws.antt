@@ -10,7 +10,7 @@ use Rattle.script_laws.proofs.DefinedLaws.{FitHints}
 use Rattle.script_laws.proofs.ReadLaws.{read_script}
 
 pub read_ranks : (text : List ℕ) (s : Script) → Reads text s → length s.calls ≡ s.ranks
-read_ranks text s = read_script text s (λ t. length t.calls ≡ t.ranks) (λ version ranks known calls parts. parts.calls)
+read_ranks text s = read_script text s (λ t. length t.calls ≡ t.ranks) (λ version ranks known calls parts. parts.calls.ranks)
 
 -- a hint, or its default
 pub or_default : (o : Option ℕ) (default : ℕ) (P : ℕ → Type 0) → ((n : ℕ) → o ≡ Some n → P n) → P default → P (unwrap_or o default)

@@ -3,6 +3,7 @@ use Rattle.std.proofs.Common.{◌≡◌, ℕ, List, Bool, true, false, Option, S
 use Rattle.nc_base.specs.declared.errors.ScriptKind.{ScriptKind}
 use Rattle.script_spec.specs.ScriptWords.{Word}
 use Rattle.script_spec.specs.ScriptSteps.{◌>>=◌, refuse_if, or_fault, reads_as, next, ended, whole}
+use Rattle.script_spec.specs.ScriptGrammar.{at_line}
 
 pub first_then : {A B E : Type 0} (m : Result A E) (f : A → Result B E) (P : B → Type 0) → ((x : A) → m ≡ Ok x → IfOk (f x) P) → IfOk (m >>= f) P
 first_then (Ok x) f P h = h x refl
@@ -26,10 +27,6 @@ by_test false p q P f g = g refl
 pub if_read : {A E : Type 0} (r : Result A E) (P : A → Type 0) (x : A) → r ≡ Ok x → IfOk r P → P x
 if_read {A} {E} r P x e h = let Q : Result A E → Type 0 = λ s. IfOk s P in subst Q e h
 
-pub not_refused : (b : Bool) (e : ScriptKind) (u : Unit {0}) → refuse_if b e ≡ Ok u → b ≡ false
-not_refused true e u h = absurd (cc)
-not_refused false e u h = refl
-
 pub unless_refused : (b : Bool) (e : ScriptKind) (P : Type 0) → (b ≡ false → P) → IfOk (refuse_if b e) (λ _. P)
 unless_refused true e P f = tt
 unless_refused false e P f = f refl
@@ -44,3 +41,7 @@ read_as f e ws P h =
 
 pub whole_line : {A : Type 0} (x : A) (ws : List Word) (P : A → Type 0) → P x → IfOk (whole (x, ws)) P
 whole_line x ws P h = first_then (ended ws) _ _ (λ _ _. h)
+
+pub at_line_kept : {A : Type 0} (n : ℕ) (r : Result A ScriptKind) (P : A → Type 0) → IfOk r P → IfOk (at_line n r) P
+at_line_kept n (Ok x) P h = h
+at_line_kept n (Err e) P h = tt

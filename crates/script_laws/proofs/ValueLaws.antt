@@ -55,7 +55,7 @@ numbers_long t n ws =
     first_then (refuse_if (not (is_term t n (last_number a.0 b.0 n))) kind.BadNumber) _ _ (λ _ _.
     first_then (ended b.1) _ _ (λ _ _. length-map-range_with_len _ 0 n))))
 
-patterns_long : (t : Option NcType) (n : ℕ) (ws : List Word) → IfOk (patterns_between t n ws) (λ ns. length ns ≡ n)
+pub patterns_long : (t : Option NcType) (n : ℕ) (ws : List Word) → IfOk (patterns_between t n ws) (λ ns. length ns ≡ n)
 patterns_long t n ws =
     first_then (pattern_term t n ws) _ _ (λ a _.
     first_then (reads_as bits_of_text kind.BadNumber a.1) _ _ (λ b _.
@@ -66,7 +66,7 @@ patterns_long t n ws =
 abbrev pub AreWithin : ℕ → Values → Type 0
 AreWithin before vs = before + count_of vs ≤ most_values
 
-patterns_count : (ns : List ℕ) → count_of (pattern_values ns) ≡ length ns
+pub patterns_count : (ns : List ℕ) → count_of (pattern_values ns) ≡ length ns
 patterns_count [] = refl
 patterns_count (n ∷ ns) = refl
 

@@ -1,0 +1,140 @@
+-- The ranks of a script agree on the kinds of their collective calls.
+use Rattle.std.proofs.Common.{◌≡◌, ◌∙◌, ◌≤◌, ◌<◌, ℕ, zero, suc, ◌+◌, List, [], ◌∷◌, length, map, Bool, true, false, cond, not, Option, Some, None, Result, Ok, Err, refl, sym, ap, subst, arith, find, position, is_some, option_map, ◌==◌, nat_lt, bytes_eq, eqb-true, ltb-false, eq-or-lt_of_le, ◌⊎◌, inl, inr, true≢false}
+use Rattle.std.specs.List.{AllByRecursion, list_all, range_with_len, position_or_len, prefix_len}
+use Rattle.std.proofs.lemmas.Slice.Eq.{bytes_eq-Decides}
+use Rattle.nc_base.specs.declared.errors.ScriptErr.{ScriptErr}
+use Rattle.nc_base.specs.declared.errors.ScriptKind.{ScriptKind}
+use Rattle.nc_base.specs.declared.errors.ScriptKind.TheVariants as kind
+use Rattle.nc_base.specs.declared.request.Call.{Call}
+use Rattle.nc_base.specs.declared.step.MeetKind.{MeetKind}
+use Rattle.nc_base.specs.declared.step.MeetKind.TheVariants as meets
+use Rattle.serial_spec.specs.History.{kinds, kind_number}
+use Rattle.serial_spec.specs.Lawful.{kind_numbers, agree}
+use Rattle.script_spec.specs.ScriptWords.{Line}
+use Rattle.script_spec.specs.ScriptCalls.{kind_at, differs_at, is_difference, first_difference, mismatch}
+use Rattle.script_spec.specs.ScriptGrammar.{finish}
+use Rattle.script_laws.proofs.ListLaws.{some_same, all_weaker, both_true}
+
+no_fault : (o : Option ScriptKind) (n : ℕ) (u : Unit {0}) → elim o as (λ _. Result (Unit {0}) ScriptErr) [ None ↦ Ok tt | Some e ↦ Err (record { line = n; kind = e }) ] ≡ Ok u → o ≡ None
+no_fault None n u h = refl
+no_fault (Some e) n u h = absurd (cc)
+
+finished : (n : ℕ) (calls : List (List Call)) (ls : List Line) (u : Unit {0}) → finish n calls ls ≡ Ok u → mismatch (map (λ own. kinds own) calls) ≡ None
+finished n calls (l ∷ ls) u h = absurd (cc)
+finished n calls [] u h = no_fault (mismatch (map (λ own. kinds own) calls)) n u h
+
+-- ---- no difference
+
+none_mapped : {A B : Type 0} (f : A → B) (o : Option A) → option_map f o ≡ None → o ≡ None
+none_mapped f None h = refl
+none_mapped f (Some x) h = absurd (cc)
+
+-- what is not found passes nowhere
+find_none : (p : ℕ → Bool) (from len k : ℕ) → find p (range_with_len from len) ≡ None → from ≤ k → k < from + len → p k ≡ false
+find_none p from zero k h low high = absurd (omega arith)
+find_none p from (suc len) k h low high = by_first (p from) refl (eq-or-lt_of_le low) h (λ g l. find_none p (from + 1) len k g l (omega arith))
+  where
+    by_first : (b : Bool) → p from ≡ b → (from ≡ k) ⊎ (from < k) → cond b (Some from) (find p (range_with_len (from + 1) len)) ≡ None
+        → (find p (range_with_len (from + 1) len) ≡ None → from + 1 ≤ k → p k ≡ false) → p k ≡ false
+    by_first true e place g rest = absurd (cc)
+    by_first false e (inl same) g rest = subst (λ (i : ℕ). p i ≡ false) same e
+    by_first false e (inr less) g rest = rest g (omega arith)
+
+find_passes : {A : Type 0} (p : A → Bool) (xs : List A) (x : A) → find p xs ≡ Some x → p x ≡ true
+find_passes p [] x h = absurd (cc)
+find_passes {A} p (y ∷ ys) x h = by_first (p y) refl h (λ g. find_passes p ys x g)
+  where
+    by_first : (b : Bool) → p y ≡ b → cond b (Some y) (find p ys) ≡ Some x → (find p ys ≡ Some x → p x ≡ true) → p x ≡ true
+    by_first true e g rest = subst (λ (z : A). p z ≡ true) (some_same y x g) e
+    by_first false e g rest = rest g
+
+not_some : {A : Type 0} (o : Option A) → is_some o ≡ false → o ≡ None
+not_some None h = refl
+not_some (Some x) h = absurd (cc)
+
+no_difference : (ranks : List (List MeetKind)) (first : List MeetKind) → first_difference ranks first ≡ None → find (is_difference ranks first) (range_with_len 0 (length first + 1)) ≡ None
+no_difference ranks first h =
+    by_found (find (is_difference ranks first) (range_with_len 0 (length first + 1))) (λ k e. find_passes (is_difference ranks first) (range_with_len 0 (length first + 1)) k e) h
+  where
+    by_found : (o : Option ℕ) → ((k : ℕ) → o ≡ Some k → is_difference ranks first k ≡ true)
+        → elim o as (λ _. Option (ℕ × ℕ)) [ None ↦ None | Some k ↦ option_map (λ r. (k, r)) (differs_at ranks first k) ] ≡ None → o ≡ None
+    by_found None f g = refl
+    by_found (Some k) f g =
+        let there : is_difference ranks first k ≡ true = f k refl in
+        let none : is_difference ranks first k ≡ false = ap is_some (none_mapped (λ r. (k, r)) (differs_at ranks first k) g) in
+        absurd (true≢false (sym there ∙ none))
+
+-- ---- no rank differs
+
+prefix_all : {A : Type 0} (q : A → Bool) (xs : List A) → length xs ≤ prefix_len q xs → AllByRecursion (λ x. q x ≡ true) xs
+prefix_all q [] h = tt
+prefix_all {A} q (x ∷ xs) h = by_first (q x) refl h (λ g. prefix_all q xs g)
+  where
+    by_first : (b : Bool) → q x ≡ b → suc (length xs) ≤ cond b (1 + prefix_len q xs) 0 → (length xs ≤ prefix_len q xs → AllByRecursion (λ y. q y ≡ true) xs)
+        → AllByRecursion (λ y. q y ≡ true) (x ∷ xs)
+    by_first true e g rest = (e, rest (omega arith))
+    by_first false e g rest = absurd (omega arith)
+
+not_less : (b : Bool) (n : ℕ) → cond b (Some n) None ≡ None → b ≡ false
+not_less true n h = absurd (cc)
+not_less false n h = refl
+
+position_none : {A : Type 0} (p : A → Bool) (xs : List A) → position p xs ≡ None → AllByRecursion (λ x. not (p x) ≡ true) xs
+position_none p xs h = prefix_all (λ x. not (p x)) xs (ltb-false _ _ (not_less (nat_lt (position_or_len p xs) (length xs)) (position_or_len p xs) h))
+
+no_not : (b : Bool) → not (not b) ≡ true → b ≡ true
+no_not true h = refl
+no_not false h = h
+
+-- the rank has the k-th kind of the first
+abbrev SameAt : List MeetKind → ℕ → List MeetKind → Type 0
+SameAt first k own = kind_at k own ≡ kind_at k first
+
+all_same_at : (ranks : List (List MeetKind)) (first : List MeetKind) (k : ℕ) → differs_at ranks first k ≡ None → AllByRecursion (SameAt first k) ranks
+all_same_at ranks first k h =
+    all_weaker (λ own. not (not (kind_at k own == kind_at k first)) ≡ true) (SameAt first k) (λ own e. eqb-true (kind_at k own) (kind_at k first) (no_not (kind_at k own == kind_at k first) e)) ranks
+    (position_none (λ own. not (kind_at k own == kind_at k first)) ranks h)
+
+all_swapped : {A : Type 0} (P : ℕ → A → Type 0) (n : ℕ) (xs : List A) → ((k : ℕ) → k ≤ n → AllByRecursion (P k) xs) → AllByRecursion (λ x. (k : ℕ) → k ≤ n → P k x) xs
+all_swapped P n [] h = tt
+all_swapped P n (x ∷ xs) h = (λ k l. (h k l).0, all_swapped P n xs (λ k l. (h k l).1))
+
+-- ---- the same kinds
+
+some_number : (x : MeetKind) → 1 ≤ kind_number (Some x)
+some_number meets.Put = omega arith
+some_number meets.Get = omega arith
+some_number meets.Wait = omega arith
+some_number meets.Begin = omega arith
+some_number meets.End = omega arith
+some_number meets.Sync = omega arith
+
+abbrev numbers : List MeetKind → List ℕ
+numbers own = map (λ k. kind_number (Some k)) own
+
+same_numbers : (own first : List MeetKind) → ((k : ℕ) → k ≤ length first → SameAt first k own) → numbers own ≡ numbers first
+same_numbers [] [] h = refl
+same_numbers [] (y ∷ ys) h = let e : 0 ≡ kind_number (Some y) = h 0 (omega arith) in absurd (omega (arith, some_number y))
+same_numbers (x ∷ xs) [] h = let e : kind_number (Some x) ≡ 0 = h 0 (omega arith) in absurd (omega (arith, some_number x))
+same_numbers (x ∷ xs) (y ∷ ys) h =
+    ap (λ (n : ℕ). n ∷ numbers xs) (h 0 (omega arith)) ∙ ap (λ (ns : List ℕ). kind_number (Some y) ∷ ns) (same_numbers xs ys (λ k l. h (suc k) (omega arith)))
+
+mapped_pass : (test : List Call → Bool) (Q : List MeetKind → Type 0) → ((own : List Call) → Q (kinds own) → test own ≡ true) → (calls : List (List Call))
+    → AllByRecursion Q (map (λ own. kinds own) calls) → list_all test calls ≡ true
+mapped_pass test Q f [] h = refl
+mapped_pass test Q f (own ∷ calls) h = both_true (test own) (list_all test calls) (f own h.0) (mapped_pass test Q f calls h.1)
+
+pub agreed : (calls : List (List Call)) → mismatch (map (λ own. kinds own) calls) ≡ None → agree calls ≡ true
+agreed [] h = refl
+agreed (own ∷ others) h =
+    let ranks : List (List MeetKind) = kinds own ∷ map (λ o. kinds o) others in
+    let none = none_mapped (λ (d : ℕ × ℕ). kind.Mismatch d.0 0 d.1) (first_difference ranks (kinds own)) h in
+    let nowhere = no_difference ranks (kinds own) none in
+    let same : AllByRecursion (λ o. (k : ℕ) → k ≤ length (kinds own) → SameAt (kinds own) k o) ranks =
+    all_swapped (SameAt (kinds own)) (length (kinds own)) ranks (λ k l.
+    all_same_at ranks (kinds own) k (not_some (differs_at ranks (kinds own) k) (find_none (is_difference ranks (kinds own)) 0 (length (kinds own) + 1) k nowhere (omega arith) (omega arith)))) in
+    mapped_pass (λ o. bytes_eq (kind_numbers o) (kind_numbers own)) (λ o. (k : ℕ) → k ≤ length (kinds own) → SameAt (kinds own) k o)
+    (λ o p. (bytes_eq-Decides (kind_numbers o) (kind_numbers own)).1 (same_numbers (kinds o) (kinds own) p)) others same.1
+
+pub finish_agreed : (n : ℕ) (calls : List (List Call)) (ls : List Line) (u : Unit {0}) → finish n calls ls ≡ Ok u → agree calls ≡ true
+finish_agreed n calls ls u h = agreed calls (finished n calls ls u h)

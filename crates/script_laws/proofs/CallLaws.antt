@@ -1,0 +1,222 @@
+-- The calls of a script, each as it is read.
+use Rattle.std.proofs.Common.{◌≡◌, ℕ, zero, suc, ◌+◌, ◌^◌, ◌<◌, ◌≤◌, List, [], ◌∷◌, ◌++◌, length, Bool, true, false, cond, not, Option, Some, None, Result, Err, IfOk, IfSome, refl, subst, arith, nat_lt, nat_le, ◌==◌, find, map, bytes_eq, codes, option_and_then, length-append, lt-ltb, le-leb, ltb-false, eq-eqb}
+use Rattle.std.specs.List.{AllByRecursion, list_all}
+use Rattle.std.proofs.lemmas.Result.{IfOk-weaker}
+use Rattle.nc_base.specs.declared.errors.ScriptKind.{ScriptKind}
+use Rattle.nc_base.specs.declared.errors.ScriptKind.TheVariants as kind
+use Rattle.nc_base.specs.declared.errors.LimitName.TheVariants as limit
+use Rattle.nc_base.specs.declared.request.Values.{Values}
+use Rattle.nc_base.specs.declared.request.Values.TheVariants.{Numbers}
+use Rattle.nc_base.specs.declared.request.Form.{Form}
+use Rattle.nc_base.specs.declared.request.Form.TheVariants as form
+use Rattle.nc_base.specs.declared.request.Part.{Part}
+use Rattle.nc_base.specs.declared.request.PostKind.{PostKind}
+use Rattle.nc_base.specs.declared.request.PostKind.TheVariants.{Iput, Iget, Bput}
+use Rattle.nc_base.specs.declared.request.Call.{Call}
+use Rattle.nc_base.specs.declared.request.Call.TheVariants as call
+use Rattle.serial_spec.specs.Request.{count_of}
+use Rattle.serial_spec.specs.Lawful.{most_values, most_parts, is_empty, is_size, are_sizes, is_part, has_lists_of, is_given, is_post_of, is_lawful_call, values_in_call}
+use Rattle.script_spec.specs.ScriptWords.{Word, size_of_text, between_brackets, parts, all_some, list_of_text}
+use Rattle.script_spec.specs.ScriptSteps.{refuse_if, or_fault, reads_as, size, list, name, ended, whole}
+use Rattle.script_spec.specs.ScriptValues.{values}
+use Rattle.script_spec.specs.ScriptCalls.{after_prefix, form_and_all, form_of_text, given_of, given_parts, part, part_list, many_regions, region, id_of_text, choice, id_of_post, posted, put_call, get_call, post_values, is_posted, new_id, post_call, fill_call, attach_call, inquiry, lone_calls, lone_call, plain_call, post_of_text, call_of}
+use Rattle.script_laws.proofs.ListLaws.{both_true, all_more, all_pass, found_all}
+use Rattle.script_laws.proofs.StepLaws.{first_then, then_with, ok_then, by_test, unless_refused, read_as, whole_line}
+use Rattle.script_laws.proofs.WordLaws.{size_read}
+use Rattle.script_laws.proofs.CallValueLaws.{FitsValues, call_values_read}
+
+-- ---- sizes and lists of them
+
+size_word : (ws : List Word) → IfOk (size ws) (λ r. r.0 < 2 ^ 63)
+size_word ws = read_as size_of_text kind.BadNumber ws (λ n. n < 2 ^ 63) size_read
+
+if_some : {A : Type 0} (o : Option A) (x : A) (P : A → Type 0) → o ≡ Some x → IfSome o P → P x
+if_some {A} o x P e h = let Q : Option A → Type 0 = λ s. IfSome s P in subst Q e h
+
+sizes_read : (w : List ℕ) (ns : List ℕ) → list_of_text w ≡ Some ns → are_sizes ns ≡ true
+sizes_read w ns h = by_inside (between_brackets w) h
+  where
+    by_inside : (o : Option (List ℕ)) → option_and_then (λ inside. all_some (map size_of_text (parts inside))) o ≡ Some ns → are_sizes ns ≡ true
+    by_inside None e = absurd (cc)
+    by_inside (Some inside) e =
+        all_pass is_size (λ n. n < 2 ^ 63) (λ n small. lt-ltb n (2 ^ 63) small) ns
+        (if_some (all_some (map size_of_text (parts inside))) ns (λ xs. AllByRecursion (λ n. n < 2 ^ 63) xs) e (found_all (λ n. n < 2 ^ 63) size_of_text size_read (parts inside)))
+
+list_word : (ws : List Word) → IfOk (list ws) (λ r. are_sizes r.0 ≡ true)
+list_word ws = read_as list_of_text kind.BadNumber ws (λ ns. are_sizes ns ≡ true) sizes_read
+
+-- ---- regions
+
+given_fits : (f : Form) (s c d m : List ℕ) → has_lists_of f (given_of f s c d m) ≡ true → are_sizes s ≡ true → are_sizes c ≡ true → are_sizes d ≡ true → are_sizes m ≡ true
+    → is_given (given_of f s c d m) ≡ true
+given_fits f s c d m lists starts counts strides steps =
+    both_true _ _ (both_true _ _ (both_true _ _ (both_true _ _ (both_true _ _ (both_true _ _ lists starts) counts) strides) steps) refl) refl
+
+part_read : (ws : List Word) → IfOk (part ws) (λ r. is_part r.0 ≡ true)
+part_read ws =
+    then_with (list ws) _ _ (λ r. are_sizes r.0 ≡ true) (list_word ws) (λ s starts.
+    then_with (list s.1) _ _ (λ r. are_sizes r.0 ≡ true) (list_word s.1) (λ c counts. both_true _ _ starts counts))
+
+record AreParts (n : ℕ) (ps : List Part) : Type 0 where
+  good : AllByRecursion (λ p. is_part p ≡ true) ps
+  long : length ps ≡ n
+
+part_list_read : (n total : ℕ) (found : List Part) (ws : List Word) → length found + n ≡ total → AllByRecursion (λ p. is_part p ≡ true) found
+    → IfOk (part_list n found ws) (λ r. AreParts total r.0)
+part_list_read zero total found ws e h = record { good = h; long = omega arith }
+part_list_read (suc n) total found ws e h =
+    ok_then (part ws) (λ p. part_list n (found ++ p.0 ∷ []) p.1) _ (λ r. is_part r.0 ≡ true) (part_read ws) (λ p good.
+    part_list_read n total (found ++ p.0 ∷ []) p.1 (omega (arith, length-append found (p.0 ∷ []))) (all_more (λ q. is_part q ≡ true) found p.0 h good))
+
+some_parts : (ps : List Part) (n : ℕ) → length ps ≡ n → (n == 0) ≡ false → not (is_empty ps) ≡ true
+some_parts [] n e h = subst (λ (m : ℕ). (m == 0) ≡ false → false ≡ true) e (λ k. absurd (cc)) h
+some_parts (p ∷ ps) n e h = refl
+
+parts_fit : (ps : List Part) (n : ℕ) → AreParts n ps → (n == 0) ≡ false → n ≤ most_parts → is_given (given_parts ps) ≡ true
+parts_fit ps n all some few =
+    let lists : not (is_empty ps) ≡ true = some_parts ps n all.long some in
+    let each : list_all is_part ps ≡ true = all_pass is_part (λ p. is_part p ≡ true) (λ p h. h) ps all.good in
+    let most : nat_le (length ps) most_parts ≡ true = le-leb (length ps) most_parts (let long = all.long in omega arith) in
+    both_true _ _ (both_true _ _ (both_true _ _ (both_true _ _ (both_true _ _ (both_true _ _ lists refl) refl) refl) refl) each) most
+
+many_read : (ws : List Word) → IfOk (many_regions ws) (λ r. is_given r.0 ≡ true)
+many_read ws =
+    first_then (size ws) _ _ (λ n _.
+    then_with (refuse_if (n.0 == 0) kind.BadNumber) _ _ (λ _. (n.0 == 0) ≡ false) (unless_refused (n.0 == 0) kind.BadNumber _ (λ e. e)) (λ _ some.
+    then_with (refuse_if (nat_lt most_parts n.0) (kind.Limit limit.Parts)) _ _ (λ _. n.0 ≤ most_parts)
+    (unless_refused (nat_lt most_parts n.0) (kind.Limit limit.Parts) (n.0 ≤ most_parts) (λ e. ltb-false _ _ e)) (λ _ few.
+    then_with (part_list n.0 [] n.1) _ _ (λ r. AreParts n.0 r.0) (part_list_read n.0 n.0 [] n.1 (omega arith) tt) (λ p all. parts_fit p.0 n.0 all some few))))
+
+region_read : (f : Form) (ws : List Word) → IfOk (region f ws) (λ r. is_given r.0 ≡ true)
+region_read form.Var ws = refl
+region_read form.Var1 ws =
+    then_with (list ws) _ _ (λ r. are_sizes r.0 ≡ true) (list_word ws) (λ s starts. given_fits form.Var1 s.0 [] [] [] refl starts refl refl refl)
+region_read form.Vara ws =
+    then_with (list ws) _ _ (λ r. are_sizes r.0 ≡ true) (list_word ws) (λ s starts.
+    then_with (list s.1) _ _ (λ r. are_sizes r.0 ≡ true) (list_word s.1) (λ c counts. given_fits form.Vara s.0 c.0 [] [] refl starts counts refl refl))
+region_read form.Vars ws =
+    then_with (list ws) _ _ (λ r. are_sizes r.0 ≡ true) (list_word ws) (λ s starts.
+    then_with (list s.1) _ _ (λ r. are_sizes r.0 ≡ true) (list_word s.1) (λ c counts.
+    then_with (list c.1) _ _ (λ r. are_sizes r.0 ≡ true) (list_word c.1) (λ d strides. given_fits form.Vars s.0 c.0 d.0 [] refl starts counts strides refl)))
+region_read form.Varm ws =
+    then_with (list ws) _ _ (λ r. are_sizes r.0 ≡ true) (list_word ws) (λ s starts.
+    then_with (list s.1) _ _ (λ r. are_sizes r.0 ≡ true) (list_word s.1) (λ c counts.
+    then_with (list c.1) _ _ (λ r. are_sizes r.0 ≡ true) (list_word c.1) (λ d strides.
+    then_with (list d.1) _ _ (λ r. are_sizes r.0 ≡ true) (list_word d.1) (λ m steps. given_fits form.Varm s.0 c.0 d.0 m.0 refl starts counts strides steps))))
+region_read form.Varn ws = many_read ws
+
+-- ---- calls
+
+-- a call of rank r, one of so many, after its own calls and so many values
+pub record FitsCall (ranks r before : ℕ) (own : List Call) (c : Call) : Type 0 where
+  pub lawful : is_lawful_call ranks r c ≡ true
+  pub few : before + values_in_call c ≤ most_values
+  pub fresh : IfSome (id_of_post c) (λ id. is_posted id (posted own) ≡ false)
+
+put_read : (ranks r before : ℕ) (own : List Call) (all : Bool) (f : Form) (ws : List Word) → before ≤ most_values → IfOk (put_call all f before ws) (FitsCall ranks r before own)
+put_read ranks r before own all f ws h =
+    first_then (name ws) _ _ (λ v _.
+    then_with (region f v.1) _ _ (λ g. is_given g.0 ≡ true) (region_read f v.1) (λ g good.
+    then_with (values None before g.1) _ _ (FitsValues before) (call_values_read before g.1 h) (λ vs fits.
+    record { lawful = both_true _ _ good fits.lawful; few = fits.few; fresh = tt })))
+
+get_read : (ranks r before : ℕ) (own : List Call) (all : Bool) (f : Form) (ws : List Word) → before ≤ most_values → IfOk (get_call all f ws) (FitsCall ranks r before own)
+get_read ranks r before own all f ws h =
+    first_then (name ws) _ _ (λ v _.
+    then_with (region f v.1) _ _ (λ g. is_given g.0 ≡ true) (region_read f v.1) (λ g good.
+    first_then (ended g.1) _ _ (λ _ _. record { lawful = good; few = omega arith; fresh = tt })))
+
+record FitsPost (k : PostKind) (before : ℕ) (vs : Values) : Type 0 where
+  lawful : is_post_of k vs ≡ true
+  few : before + count_of vs ≤ most_values
+
+post_values_read : (k : PostKind) (before : ℕ) (ws : List Word) → before ≤ most_values → IfOk (post_values k before ws) (FitsPost k before)
+post_values_read Iget before ws h = whole_line (Numbers []) ws (FitsPost Iget before) (record { lawful = refl; few = omega arith })
+post_values_read Iput before ws h = IfOk-weaker (values None before ws) (FitsValues before) (FitsPost Iput before) (λ vs f. record { lawful = f.lawful; few = f.few }) (call_values_read before ws h)
+post_values_read Bput before ws h = IfOk-weaker (values None before ws) (FitsValues before) (FitsPost Bput before) (λ vs f. record { lawful = f.lawful; few = f.few }) (call_values_read before ws h)
+
+id_read : (ids : List ℕ) (ws : List Word) → IfOk (new_id ids ws) (λ r. is_posted r.0 ids ≡ false)
+id_read ids ws =
+    first_then (reads_as id_of_text kind.BadNumber ws) _ _ (λ id _.
+    then_with (refuse_if (is_posted id.0 ids) kind.TwiceNamed) _ _ (λ _. is_posted id.0 ids ≡ false) (unless_refused (is_posted id.0 ids) kind.TwiceNamed _ (λ e. e)) (λ _ e. e))
+
+post_read : (ranks r before : ℕ) (own : List Call) (k : PostKind) (f : Form) (ws : List Word) → before ≤ most_values → IfOk (post_call k (posted own) f before ws) (FitsCall ranks r before own)
+post_read ranks r before own k f ws h =
+    then_with (new_id (posted own) ws) _ _ (λ id. is_posted id.0 (posted own) ≡ false) (id_read (posted own) ws) (λ id new.
+    first_then (name id.1) _ _ (λ v _.
+    then_with (region f v.1) _ _ (λ g. is_given g.0 ≡ true) (region_read f v.1) (λ g good.
+    then_with (post_values k before g.1) _ _ (FitsPost k before) (post_values_read k before g.1 h) (λ vs fits.
+    record { lawful = both_true _ _ good fits.lawful; few = fits.few; fresh = new }))))
+
+fill_read : (ranks r before : ℕ) (own : List Call) (ws : List Word) → before ≤ most_values → IfOk (fill_call ranks r ws) (FitsCall ranks r before own)
+fill_read ranks r before own ws h =
+    first_then (name ws) _ _ (λ v _.
+    then_with (size v.1) _ _ (λ n. n.0 < 2 ^ 63) (size_word v.1) (λ n small.
+    first_then (ended n.1) _ _ (λ _ _.
+    record { lawful = both_true _ _ (both_true _ _ (lt-ltb n.0 (2 ^ 63) small) (eq-eqb r r refl)) (eq-eqb ranks ranks refl); few = omega arith; fresh = tt })))
+
+attach_read : (ranks r before : ℕ) (own : List Call) (ws : List Word) → before ≤ most_values → IfOk (attach_call ws) (FitsCall ranks r before own)
+attach_read ranks r before own ws h =
+    then_with (size ws) _ _ (λ n. n.0 < 2 ^ 63) (size_word ws) (λ n small.
+    whole_line (call.Attach n.0) n.1 (FitsCall ranks r before own) (record { lawful = lt-ltb n.0 (2 ^ 63) small; few = omega arith; fresh = tt }))
+
+inquiry_read : (ranks r before : ℕ) (own : List Call) (ws : List Word) → before ≤ most_values → IfOk (inquiry ws) (FitsCall ranks r before own)
+inquiry_read ranks r before own ws h =
+    first_then (name ws) _ _ (λ n _. whole_line (call.InqDim n.0) n.1 (FitsCall ranks r before own) (record { lawful = refl; few = omega arith; fresh = tt }))
+
+found_one : {A : Type 0} (test : A → Bool) (P : A → Type 0) (xs : List A) → AllByRecursion P xs → IfSome (find test xs) P
+found_one test P [] h = tt
+found_one {A} test P (x ∷ xs) h = by_first (test x) (found_one test P xs h.1)
+  where
+    by_first : (b : Bool) → IfSome (find test xs) P → IfSome (cond b (Some x) (find test xs)) P
+    by_first true rest = h.0
+    by_first false rest = rest
+
+lone_read : (ranks r before : ℕ) (own : List Call) (w : List ℕ) (ws : List Word) → before ≤ most_values → IfOk (lone_call w ws) (FitsCall ranks r before own)
+lone_read ranks r before own w ws h =
+    by_found (find (λ (c : List ℕ × Call). bytes_eq w c.0) lone_calls)
+    (found_one (λ (c : List ℕ × Call). bytes_eq w c.0) (λ c. FitsCall ranks r before own c.1) lone_calls (detach, (begin, (end, (sync, tt)))))
+  where
+    detach : FitsCall ranks r before own call.Detach
+    detach = record { lawful = refl; few = omega arith; fresh = tt }
+
+    begin : FitsCall ranks r before own call.BeginIndep
+    begin = record { lawful = refl; few = omega arith; fresh = tt }
+
+    end : FitsCall ranks r before own call.EndIndep
+    end = record { lawful = refl; few = omega arith; fresh = tt }
+
+    sync : FitsCall ranks r before own call.SyncRecords
+    sync = record { lawful = refl; few = omega arith; fresh = tt }
+
+    by_found : (o : Option (List ℕ × Call)) → IfSome o (λ c. FitsCall ranks r before own c.1)
+        → IfOk (elim o as (λ _. Result Call ScriptKind) [ None ↦ Err kind.UnknownWord | Some c ↦ whole (c.1, ws) ]) (FitsCall ranks r before own)
+    by_found None f = tt
+    by_found (Some c) f = whole_line c.1 ws (FitsCall ranks r before own) f
+
+plain_read : (ranks r before : ℕ) (own : List Call) (w : List ℕ) (ws : List Word) → before ≤ most_values → IfOk (plain_call ranks r w ws) (FitsCall ranks r before own)
+plain_read ranks r before own w ws h =
+    by_test (bytes_eq w (codes "wait")) _ _ P (λ _. first_then (choice ws) _ _ (λ c _. record { lawful = refl; few = omega arith; fresh = tt })) (λ _.
+    by_test (bytes_eq w (codes "wait_all")) _ _ P (λ _. first_then (choice ws) _ _ (λ c _. record { lawful = refl; few = omega arith; fresh = tt })) (λ _.
+    by_test (bytes_eq w (codes "cancel")) _ _ P (λ _. first_then (choice ws) _ _ (λ c _. record { lawful = refl; few = omega arith; fresh = tt })) (λ _.
+    by_test (bytes_eq w (codes "buffer_attach")) _ _ P (λ _. attach_read ranks r before own ws h) (λ _.
+    by_test (bytes_eq w (codes "inq_dimlen")) _ _ P (λ _. inquiry_read ranks r before own ws h) (λ _.
+    by_test (bytes_eq w (codes "fill_var_rec")) _ _ P (λ _. fill_read ranks r before own ws h) (λ _. lone_read ranks r before own w ws h))))))
+  where
+    P : Call → Type 0
+    P = FitsCall ranks r before own
+
+by_some : {A B E : Type 0} (o : Option A) (f : A → Result B E) (q : Result B E) (P : B → Type 0) → ((x : A) → IfOk (f x) P) → IfOk q P
+    → IfOk (elim o as (λ _. Result B E) [ Some x ↦ f x | None ↦ q ]) P
+by_some None f q P g h = h
+by_some (Some x) f q P g h = g x
+
+pub call_read : (ranks r before : ℕ) (own : List Call) (w : List ℕ) (ws : List Word) → before ≤ most_values → IfOk (call_of ranks r own before w ws) (FitsCall ranks r before own)
+call_read ranks r before own w ws h =
+    by_some (after_prefix (codes "put_") w) _ _ P (λ rest. first_then (or_fault kind.UnknownWord (form_and_all rest)) _ _ (λ f _. put_read ranks r before own f.1 f.0 ws h))
+    (by_some (after_prefix (codes "get_") w) _ _ P (λ rest. first_then (or_fault kind.UnknownWord (form_and_all rest)) _ _ (λ f _. get_read ranks r before own f.1 f.0 ws h))
+    (by_some (post_of_text w) _ _ P (λ k. first_then (or_fault kind.UnknownWord (form_of_text k.1)) _ _ (λ f _. post_read ranks r before own k.0 f ws h))
+    (plain_read ranks r before own w ws h)))
+  where
+    P : Call → Type 0
+    P = FitsCall ranks r before own
