@@ -6,7 +6,6 @@ use Rattle.std.specs.List.{list_any, range_with_len}
 use Rattle.nc_base.specs.declared.errors.ScriptKind.{ScriptKind}
 use Rattle.nc_base.specs.declared.errors.ScriptKind.TheVariants as kind
 use Rattle.nc_base.specs.declared.errors.LimitName.TheVariants as limit
-use Rattle.nc_base.specs.declared.header.Var.{Var}
 use Rattle.nc_base.specs.declared.request.Values.{Values}
 use Rattle.nc_base.specs.declared.request.Values.TheVariants.{Numbers}
 use Rattle.nc_base.specs.declared.request.Form.{Form}
@@ -20,7 +19,7 @@ use Rattle.nc_base.specs.declared.request.Choice.TheVariants.{Every, Listed}
 use Rattle.nc_base.specs.declared.request.Call.{Call}
 use Rattle.nc_base.specs.declared.request.Call.TheVariants as call
 use Rattle.nc_base.specs.declared.step.MeetKind.{MeetKind}
-use Rattle.serial_spec.specs.History.{kinds, kind_number}
+use Rattle.serial_spec.specs.History.{kind_number}
 use Rattle.serial_spec.specs.Lawful.{values_in_call, most_parts}
 use Rattle.script_spec.specs.Texts.{form_word}
 use Rattle.script_spec.specs.ScriptWords.{Word, is_word, begins_rank, digits_value, below, size_of_text, parts}

@@ -1,5 +1,5 @@
 -- Steps from word to word of a line of a script: each gives what it says and the words after it, or its fault. (own)
-use Rattle.std.specs.Prelude.{ℕ, ◌-◌, List, [], ◌∷◌, Bool, if◌then◌else◌, Option, Some, None, Result, Ok, Err}
+use Rattle.std.specs.Prelude.{ℕ, List, [], ◌∷◌, Bool, if◌then◌else◌, Option, Some, None, Result, Ok, Err}
 use Rattle.nc_base.specs.declared.errors.ScriptKind.{ScriptKind}
 use Rattle.nc_base.specs.declared.errors.ScriptKind.TheVariants as kind
 use Rattle.script_spec.specs.ScriptWords.{Word, Plain, Quoted, Broken, size_of_text, is_name, list_of_text}

@@ -16,7 +16,7 @@ use Rattle.serial_spec.specs.ExternalForm.{Class, class_of, fits}
 use Rattle.serial_spec.specs.Limits.{most_elements}
 use Rattle.serial_spec.specs.Lawful.{most_values}
 use Rattle.script_spec.specs.ScriptWords.{Word, Plain, Quoted, Broken, number_of_text, bits_of_text}
-use Rattle.script_spec.specs.ScriptSteps.{◌>>=◌, refuse_if, or_fault, bare, reads_as, size, list, ended}
+use Rattle.script_spec.specs.ScriptSteps.{◌>>=◌, refuse_if, or_fault, bare, reads_as, size, ended}
 
 -- ---- values of a call, or of an attribute of a type; some have come before
 
