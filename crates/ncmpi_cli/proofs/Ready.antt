@@ -2,6 +2,7 @@
 use Rattle.std.proofs.Common.{◌≡◌, ℕ, ◌≤◌, Bool, true, false, not, ◌&&◌, List, [], ◌∷◌, length, Option, Some, None, refl, sym, ap, subst, ◌∙◌, arith}
 use Rattle.std.specs.Prelude.{IfErr, IfOk, OnOk, IfSome, Result, Ok, Err, ◌==◌}
 use Rattle.std.specs.List.{list_all}
+use Rattle.std.specs.Result.{IsErrAnd}
 use Rattle.nc_base.specs.declared.errors.HeaderErr.{HeaderErr}
 use Rattle.nc_base.specs.declared.header.Header as head
 use Rattle.nc_base.specs.declared.request.Call.{Call}
@@ -26,7 +27,7 @@ use Rattle.ncmpi_cli.specs.declared.stop.Stop.TheVariants as stops
 use Rattle.ncmpi_cli.proofs.Ran.{plain-under}
 use Rattle.ncmpi_cli.proofs.Serial.{built-one}
 
-false-true : (b : Bool) → b ≡ false → b ≡ true → ⊥
+pub false-true : (b : Bool) → b ≡ false → b ≡ true → ⊥
 false-true b e f = clash (sym e ∙ f)
   where
     clash : false ≡ true → ⊥
@@ -154,3 +155,9 @@ pub all-long : (len : ℕ) (result : Result head.Header Stop) → IfOk result (�
     → IfOk result (λ header. end_of header (header_len header) 0 ≤ len)
 all-long len (Ok header) h = let less = end_grows header (header_len header) 0 header.records (omega arith) in omega (arith, less, h)
 all-long len (Err stop) h = tt
+
+pub unlaid : {T Q : Type 0} (left : Option (List ℕ)) (script : script_type.Script) (result : Result T Stop) (err : Stop) → IfSome left (λ text. Reads text script)
+    → IsErrAnd result (λ stop. stop ≡ err) → (status_of err ≡ 4 → script.fresh ≡ true → Q)
+    → IfErr result (λ stop. status_of stop ≡ 4 → IfSome left (λ text. (s : script_type.Script) → Reads text s → s.fresh ≡ true → Q))
+unlaid left script (Ok x) err r e h = tt
+unlaid left script (Err stop) err r e h = λ s. of_any left script r (λ f. h (ap status_of (sym e) ∙ s) f)

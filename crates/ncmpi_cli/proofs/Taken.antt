@@ -38,7 +38,7 @@ read_is_short text script r = by_length (nat_lt most_bytes (length text)) refl
     by_length : (b : Bool) → nat_lt most_bytes (length text) ≡ b → length text ≤ most_bytes
     by_length true e = absurd (clash (sym (long_is text (ltb-true most_bytes (length text) e)) ∙ r))
       where
-        clash : Err {A = Script} too_long ≡ Ok script → ⊥
+        clash : ◌≡◌ {A = Result Script ScriptErr} (Err too_long) (Ok script) → ⊥
         clash x = cc
     by_length false e = ltb-false most_bytes (length text) e
 

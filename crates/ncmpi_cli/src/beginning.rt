@@ -48,10 +48,12 @@ pub(crate) fn begin<S: Source, D: Disk>(
     ensures usage { IsErrOf result Stop.Usage ↔ (is_form (texts words.now) ≡ false) }
     ensures refused { IfErr result (λ stop. status_of stop ≡ 3 → IfSome (S.left source.old) (λ text. refusal text ≡ line_of stop)) }
     ensures bad { IfErr result (λ stop. status_of stop ≡ 4 → (script : Script) × (Asks (S.left source.old) script × IfSome (line_of stop) (TellsDataset script (D.held disk.old)))) }
+    ensures asked { IfErr result (λ stop. status_of stop ≡ 7 → (script : Script) × Asks (S.left source.old) script) }
     ensures unlaid { IfErr result (λ stop. status_of stop ≡ 4 → IfSome (S.left source.old) (λ text. (s : Script) → Reads text s → s.fresh ≡ true → disk.new ≡ disk.old)) }
     ensures unchanged { IfErr result (λ stop. status_of stop ≡ 4 → D.held disk.new ≡ D.held disk.old) }
     ensures source { IsErrOf result Stop.Source → Rose (S.faults source.old) (S.faults source.new) }
     ensures disk { IsErrOf result Stop.Disk → Rose (D.faults disk.old) (D.faults disk.new) }
+    ensures later { D.faults disk.old ≤ D.faults disk.new }
     ensures not_taken { IsErrOf result Stop.Usage → source.new ≡ source.old }
     ensures not_started { IfErr result (λ stop. IsBeforeStart (status_of stop) → disk.new ≡ disk.old) }
 {
@@ -80,6 +82,7 @@ fn make_ready<D: Disk>(
     ensures unlaid { IfErr result (λ stop. status_of stop ≡ 4 → script.now.fresh ≡ true → disk.new ≡ disk.old) }
     ensures unchanged { IfErr result (λ stop. status_of stop ≡ 4 → D.held disk.new ≡ D.held disk.old) }
     ensures disk { IsErrOf result Stop.Disk → Rose (D.faults disk.old) (D.faults disk.new) }
+    ensures later { D.faults disk.old ≤ D.faults disk.new }
     ensures only { IfErr result IsOfDataset }
 {
     if script.fresh {

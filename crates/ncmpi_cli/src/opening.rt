@@ -27,6 +27,7 @@ pub(crate) fn open<D: Disk>(alloc: Global, disk: &mut D, name: &str) -> Result<H
     ensures header { (e : HeaderErr) → result ≡ Err (Stop.Header e) → IfSome (D.held disk.old) (λ file. HasFault (front file) e) }
     ensures unchanged { (e : HeaderErr) → result ≡ Err (Stop.Header e) → D.held disk.new ≡ D.held disk.old }
     ensures disk { IsErrOf result Stop.Disk → Rose (D.faults disk.old) (D.faults disk.new) }
+    ensures later { D.faults disk.old ≤ D.faults disk.new }
     ensures only { IfErr result IsOfOpening }
 {
     let bytes = first_bytes(alloc, disk, name)?;
