@@ -11,6 +11,7 @@ use Rattle.nc_outside.specs.Cause.{Rose}
 use Rattle.script_spec.specs.ScriptGrammar.{Reads, script_of_text}
 use Rattle.script_spec.specs.Texts.{script_line}
 use Rattle.serial_spec.specs.HeaderGrammar.{HasFault}
+use Rattle.serial_spec.specs.Lawful.{most_calls}
 use Rattle.serial_spec.specs.Redefinition.{layout_fault}
 use Rattle.ncmpi_cli.specs.Built.{is_built}
 use Rattle.ncmpi_cli.specs.Headline.{align_of, Asks, AsksFor, front, IsBadDataset, IsFaultless, IsRight, IsWrong, refusal, TellsDataset}
@@ -65,8 +66,8 @@ tells-right script held line t r = by_fresh script.fresh refl
     of_header None e f n = absurd n
     of_header (Some file) e f n = n e f
     by_fresh : (b : Bool) → script.fresh ≡ b → ⊥
-    by_fresh true f = let c = t.created f in of_layout c.0 c.1 (r.created f)
-    by_fresh false f = let o = t.opened f in of_header held o.0 o.1 (r.opened f)
+    by_fresh true f = let c = t.created f in of_layout c.0 c.1.0 (r.created f)
+    by_fresh false f = let o = t.opened f in of_header held o.0 o.1.0 (r.opened f)
 
 -- what has no fault is not wrong
 faultless-wrong : (script : Script) (held : Option (List ℕ)) → IsFaultless script held → IsWrong script held → ⊥
@@ -97,8 +98,8 @@ four_line stops.Source s = absurd (omega (arith, s))
 four_line stops.Disk s = absurd (omega (arith, s))
 four_line stops.Memory s = absurd (omega (arith, s))
 
-told-in : {P : List ℕ → Type 0} (o : Option (List ℕ)) (line : List ℕ) → o ≡ Some line → IfSome o P → P line
-told-in {P} o line e p = subst (λ (x : Option (List ℕ)). IfSome x P) e p
+told-in : (P : List ℕ → Type 0) (o : Option (List ℕ)) (line : List ℕ) → o ≡ Some line → IfSome o P → P line
+told-in P o line e p = subst (λ (x : Option (List ℕ)). IfSome x P) e p
 
 pub dataset : {Gives : List ℕ → Type 0} (left held : Option (List ℕ)) (stop : Stop) (status : ℕ) → (status ≡ status_of stop) ⊎ (status ≡ 8)
     → (status_of stop ≡ 4 → (script : Script) × (Asks left script × IfSome (line_of stop) (TellsDataset script held)))
@@ -109,7 +110,7 @@ dataset left held stop status (inl e) bad gives s =
     let own : status_of stop ≡ 4 = omega (arith, e, s) in
     let line = four_line stop own in
     let told = bad own in
-    (line.0, (record { script = told.0; asks = told.1.0; tells = told-in (line_of stop) line.0 line.1 told.1.1 }, told-in (line_of stop) line.0 line.1 (gives e)))
+    (line.0, (record { script = told.0; asks = told.1.0; tells = told-in _ (line_of stop) line.0 line.1 told.1.1 }, told-in _ (line_of stop) line.0 line.1 (gives e)))
 
 -- a script with a fault is refused
 pub refused : (left held : Option (List ℕ)) (stop : Stop) (status : ℕ) → (status ≡ status_of stop) ⊎ (status ≡ 8)
@@ -148,7 +149,7 @@ wants_memory (Some text) held stop status (inl e) u s k r d a = by_stop stop ref
         let told = d x in
         let line = four_line stop x in
         let same : told.0 ≡ a.0 = same_script text told.0 a.0 told.1.0.reads a.1.reads in
-        tells-right a.0 held line.0 (subst (λ (z : Script). TellsDataset z held line.0) same (told-in (line_of stop) line.0 line.1 told.1.1)) a.2
+        tells-right a.0 held line.0 (subst (λ (z : Script). TellsDataset z held line.0) same (told-in _ (line_of stop) line.0 line.1 told.1.1)) a.2
     by_stop : (other : Stop) → stop ≡ other → (status ≡ 0) ⊎ (status ≡ 8)
     by_stop stops.Usage x = absurd (u x)
     by_stop (stops.Script f) x = absurd (refused-asks text a.0 stop a.1 (ap status_of x) (r (ap status_of x)))
@@ -174,6 +175,6 @@ rose_later before middle now h r = omega (arith, h, r)
 -- a rank makes no more calls than a script may have
 pub few_calls : (text : List ℕ) (script : Script) (calls : List Call) → Reads text script → script.calls ≡ calls ∷ [] → length calls ≤ 2 ^ 20
 few_calls text script calls r e =
-    let all = leb-true _ _ (right _ _ (left _ _ (left _ _ (read_lawful text script r)))) in
-    let one : sum (map (λ (own : List Call). length own) script.calls) ≡ length calls + 0 = ap (λ (x : List (List Call)). sum (map (λ (own : List Call). length own) x)) e in
+    let all = leb-true (sum (map (λ (own : List Call). length own) script.calls)) most_calls (right _ _ (left _ _ (left _ _ (read_lawful text script r)))) in
+    let one : sum (map (λ (own : List Call). length own) script.calls) ≡ 0 + length calls = ap (λ (x : List (List Call)). sum (map (λ (own : List Call). length own) x)) e in
     omega (arith, all, one)
