@@ -10,8 +10,11 @@ use Rattle.vara_extents.specs.Joined.{joined_to, joined, spans, IsNotNext, IsJoi
 
 -- ---- one extent before joined ones
 
+abbrev pub extent : ℕ → ℕ → Extent
+extent at len = record { at = at; len = len }
+
 abbrev pub lengthened : Extent → ℕ → Extent
-lengthened e n = record { at = e.at; len = e.len + n }
+lengthened e n = extent e.at (e.len + n)
 
 -- where the first begins at the end, and where it does not
 pub join_next : (e d : Extent) (es : List Extent) → d.at ≡ e.at + e.len → joined_to e (d ∷ es) ≡ lengthened e d.len ∷ es
@@ -29,8 +32,8 @@ join_first e (c ∷ es) = by_case (cases_eq c.at (e.at + e.len))
     by_case (inl h) = (lengthened e c.len, es, join_next e c es h, refl, omega arith)
     by_case (inr h) = (e, c ∷ es, join_apart e c es h, refl, omega arith)
 
-same_extent : (a b m n : ℕ) → a ≡ b → m ≡ n → record { at = a; len = m } ≡ record { at = b; len = n }
-same_extent a b m n h k = λ i. record { at = h i; len = k i }
+same_extent : (a b m n : ℕ) → a ≡ b → m ≡ n → extent a m ≡ extent b n
+same_extent a b m n h k = λ i. extent (h i) (k i)
 
 -- an extent before one that begins at its end, which is joined to others
 pub join_two : (e d : Extent) (es : List Extent) → d.at ≡ e.at + e.len → joined_to e (joined_to d es) ≡ joined_to (lengthened e d.len) es
@@ -52,9 +55,9 @@ join_two e d (c ∷ es) h = by_case (cases_eq c.at (d.at + d.len))
 pub join_far : (e d : Extent) (es : List Extent) → (d.at ≡ e.at + e.len → ⊥) → joined_to e (joined_to d es) ≡ e ∷ joined_to d es
 join_far e d es h =
     let first = join_first d es in
-    ap (λ (ds : List Extent). joined_to e ds) first.2.2.0
-    ∙ join_apart e first.0 first.2.0 (λ k. h (sym first.2.2.1 ∙ k))
-    ∙ ap (λ (ds : List Extent). e ∷ ds) (sym first.2.2.0)
+    ap (λ (ds : List Extent). joined_to e ds) first.2
+    ∙ join_apart e first.0 first.1 (λ k. h (sym first.3 ∙ k))
+    ∙ ap (λ (ds : List Extent). e ∷ ds) (sym first.2)
 
 -- ---- elements one after another
 
@@ -64,11 +67,11 @@ drop_at (y ∷ xs) zero x h = let same : y ≡ x = cc in ap (λ z. z ∷ xs) sam
 drop_at (y ∷ xs) (suc k) x h = drop_at xs k x h
 
 -- so many extents of one length, the first at this place and each next one where the one before it ends
-pub run_joined : (es : List Extent) (len k n at : ℕ) → ((i : ℕ) → i < suc n → slice_get es (k + i) ≡ Some (record { at = at + i * len; len = len }))
-    → joined (drop k es) ≡ joined_to (record { at = at; len = suc n * len }) (joined (drop (k + suc n) es))
+pub run_joined : (es : List Extent) (len k n at : ℕ) → ((i : ℕ) → i < suc n → slice_get es (k + i) ≡ Some (extent (at + i * len) len))
+    → joined (drop k es) ≡ joined_to (extent at (suc n * len)) (joined (drop (k + suc n) es))
 run_joined es len k zero at h =
-    ap joined (drop_at es k (record { at = at; len = len }) (ap (λ (m : ℕ). slice_get es m) (omega arith) ∙ h 0 (omega arith) ∙ ap Some (same_extent (at + 0 * len) at len len (omega arith) refl)))
-    ∙ (λ i. joined_to (record { at = at; len = one i }) (joined (drop (next i) es)))
+    ap joined (drop_at es k (extent at len) (ap (λ (m : ℕ). slice_get es m) (omega arith) ∙ h 0 (omega arith) ∙ ap Some (same_extent (at + 0 * len) at len len (omega arith) refl)))
+    ∙ (λ i. joined_to (extent at (one i)) (joined (drop (next i) es)))
   where
     one : len ≡ suc zero * len
     one = omega arith
@@ -76,12 +79,12 @@ run_joined es len k zero at h =
     next : suc k ≡ k + suc zero
     next = omega arith
 run_joined es len k (suc n) at h =
-    ap joined (drop_at es k (record { at = at; len = len }) (ap (λ (m : ℕ). slice_get es m) (omega arith) ∙ h 0 (omega arith) ∙ ap Some (same_extent (at + 0 * len) at len len (omega arith) refl)))
-    ∙ ap (λ (es : List Extent). joined_to (record { at = at; len = len }) es)
+    ap joined (drop_at es k (extent at len) (ap (λ (m : ℕ). slice_get es m) (omega arith) ∙ h 0 (omega arith) ∙ ap Some (same_extent (at + 0 * len) at len len (omega arith) refl)))
+    ∙ ap (λ (es : List Extent). joined_to (extent at len) es)
     (run_joined es len (suc k) n (at + len) (λ i l.
     ap (λ (m : ℕ). slice_get es m) (omega arith) ∙ h (suc i) (omega arith) ∙ ap Some (same_extent (at + suc i * len) (at + len + i * len) len len (omega arith) refl)))
-    ∙ join_two (record { at = at; len = len }) (record { at = at + len; len = suc n * len }) (joined (drop (suc k + suc n) es)) refl
-    ∙ (λ i. joined_to (record { at = at; len = more i }) (joined (drop (next i) es)))
+    ∙ join_two (extent at len) (extent (at + len) (suc n * len)) (joined (drop (suc k + suc n) es)) refl
+    ∙ (λ i. joined_to (extent at (more i)) (joined (drop (next i) es)))
   where
     more : len + suc n * len ≡ suc (suc n) * len
     more = omega arith

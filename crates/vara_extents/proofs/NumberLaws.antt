@@ -77,4 +77,4 @@ run_is header v g (suc n) total k h is low =
     whole m e = lt_of_mul-lt-mul_right (suc n) (omega arith)
 
     fits : (i : ℕ) → i < suc n → (m : ℕ) → total ≡ m * suc n → k * suc n + i < total
-    fits i l m e = let rows = mul-le (k + 1) (suc n) m (suc n) (whole m e) (omega arith) in omega arith
+    fits i l m e = let less = whole m e in let rows = mul-le (k + 1) (suc n) m (suc n) (omega arith) (omega arith) in omega arith

@@ -56,8 +56,8 @@ same_factor : (i j t : ℕ) → 1 ≤ t → i * t ≡ j * t → i ≡ j
 same_factor i j t h e = by_order (cases_lt i j) (cases_lt j i)
   where
     by_order : (i < j) ⊎ (j ≤ i) → (j < i) ⊎ (i ≤ j) → i ≡ j
-    by_order (inl l) m = let less = mul-lt-mul_of_pos_right {k = t} l h in absurd (omega arith)
-    by_order (inr l) (inl m) = let less = mul-lt-mul_of_pos_right {k = t} m h in absurd (omega arith)
+    by_order (inl l) m = let less = mul-lt-mul_of_pos_right {m = i} {n = j} {k = t} l (omega arith) in absurd (omega arith)
+    by_order (inr l) (inl m) = let less = mul-lt-mul_of_pos_right {m = j} {n = i} {k = t} m (omega arith) in absurd (omega arith)
     by_order (inr l) (inr m) = omega arith
 
 some_stride : (t : ℕ) → eqb t 0 ≡ false → 1 ≤ t
@@ -102,8 +102,8 @@ module _ (header : Header) (k : ℕ) (v : Var) (g : Region) (sound : is_sound he
       let second = in_block (λ y. range_with_len y size) size (λ y. range_long y size) (places header v g) (j / size) (j % size) x (mod_below j size some)
       (ap (λ (m : ℕ). slice_get (flat_map (λ y. range_with_len y size) (places header v g)) m) (div-add-mod' j size) ∙ e) in
       sym (div-add-mod' i size)
-      ∙ two (i / size) (i % size) (j / size) (j % size) first.0 second.0 first.1.0 second.1.0 (mod_below i size some) (mod_below j size some)
-      (sym (range_at first.0 size (i % size) x first.1.1) ∙ range_at second.0 size (j % size) x second.1.1)
+      ∙ two (i / size) (i % size) (j / size) (j % size) first.0 second.0 first.1 second.1 (mod_below i size some) (mod_below j size some)
+      (sym (range_at first.0 size (i % size) x first.2) ∙ range_at second.0 size (j % size) x second.2)
       ∙ div-add-mod' j size
     where
       number : (q a : ℕ) → slice_get (places header v g) q ≡ Some a → q < product g.count

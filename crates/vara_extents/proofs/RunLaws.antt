@@ -30,7 +30,7 @@ in_block : (run m q i : ℕ) → i < run → 1 ≤ m → InBlock run m q i (q / 
 in_block run m q i l h =
     let whole = div-add-mod' q m in
     let low = mod_below q m h in
-    let rows = mul-le (q % m + 1) run m run low (omega arith) in
+    let rows = mul-le (q % m + 1) run m run (omega arith) (omega arith) in
     record { is = sym whole; low = low; fits = omega arith }
 
 kept_at : (f : ℕ → ℕ) (s t step size run m q i : ℕ) (a b : ℕ) → InBlock run m q i a b → f (b * run + i) ≡ f (b * run) + i * size → (total : ℕ) → total ≡ m * run
@@ -73,7 +73,7 @@ merged_at f n s t step size total q i h e one below none =
     let there : q * (n * total) + i ≡ i = omega arith in
     let low : i % total < total = mod_below i total h.some in
     let rest : f (i % total) ≡ f 0 + i % total * size = ap f (omega arith) ∙ h.follow 0 (i % total) low (omega arith) ∙ ap (λ (x : ℕ). f x + i % total * size) (omega arith) in
-    let rows : i / total * t ≡ i / total = only (i / total) (block_below i total n below) one in
+    let rows : i / total * t ≡ i / total = only (i / total) (block_below below) one in
     let begin : (s + (q * (n * total)) / total * t) * step + f ((q * (n * total)) % total) ≡ s * step + f 0 =
     ap (λ (x : ℕ). (s + x / total * t) * step + f (x % total)) zero_begin ∙ at_zero in
     let moved : (s + (q * (n * total) + i) / total * t) * step + f ((q * (n * total) + i) % total) ≡ (s + i / total * t) * step + f (i % total) =
@@ -87,8 +87,8 @@ merged_at f n s t step size total q i h e one below none =
     only a l (inl k) = let none : a ≡ 0 = omega arith in ap (λ (x : ℕ). x * t) none ∙ omega arith
     only a l (inr k) = ap (λ (x : ℕ). a * x) k ∙ omega arith
 
-    block_below : (i total n : ℕ) → i < n * total → i / total < n
-    block_below i total n l = div_below i total n h.some l
+    block_below : i < n * total → i / total < n
+    block_below l = div_below i total n (omega (arith, h.some)) l
 
     at_zero : (s + 0 / total * t) * step + f (0 % total) ≡ s * step + f 0
     at_zero =

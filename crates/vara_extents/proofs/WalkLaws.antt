@@ -32,7 +32,7 @@ inside_of : (e : Extents) (k run total : ℕ) → IsReady e → AreRuns (λ k. p
     → total ≡ product e.region.now.count → total ≡ e.runs * run → k < e.runs → IsInside e.header.now e.var.now e.region.now run k
 inside_of e k zero total h r same is l = let some = r.some in absurd (omega arith)
 inside_of e k (suc m) total h r same is l =
-    let rows = mul-le (k + 1) (suc m) e.runs (suc m) l (omega arith) in
+    let rows = mul-le (k + 1) (suc m) e.runs (suc m) (omega arith) (omega arith) in
     let last : k * suc m + m < total = omega arith in
     let ok = h.accepted.2 in
     let small = accepted_small e.header.now e.var.now e.region.now (passed e.header.now e.var.now e.region.now ok.0 ok.1 (accepted_var e.header.now h.accepted.0 e.var.now e.region.now h.accepted.1 ok)).large in

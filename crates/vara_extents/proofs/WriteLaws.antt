@@ -2,9 +2,9 @@
 use Rattle.std.proofs.Common.{◌≡◌, ℕ, zero, suc, ◌+◌, ◌-◌, ◌*◌, ◌<◌, ◌≤◌, ◌⊎◌, inl, inr, refl, sym, ap, ◌∙◌, List, [], ◌∷◌, ◌++◌, length, map, take, drop, get_or, max, arith}
 use Rattle.std.specs.Prelude.{fold}
 use Rattle.std.proofs.lemmas.Bool.{cases_eq, cases_lt}
-use Rattle.std.proofs.lemmas.List.{places, drop-drop, length-append, get_or_append_left, get_or-append_right}
+use Rattle.std.proofs.lemmas.List.{drop-drop, length-append, get_or_append_left, get_or-append_right}
 use Rattle.std.proofs.Math.Seq.{take-add}
-use Rattle.std.proofs.lemmas.Grind.{same_number_lists}
+use Rattle.std.proofs.lemmas.Grind.{common_steps, same_number_lists}
 use Rattle.nc_base.specs.declared.header.Header.{Header}
 use Rattle.nc_base.specs.declared.header.Var.{Var}
 use Rattle.nc_base.specs.declared.plan.Extent.{Extent}
@@ -21,7 +21,7 @@ use Rattle.vara_extents.proofs.JoinLaws.{lengthened, join_next, join_apart}
 use Rattle.vara_extents.proofs.NumberLaws.{length-places}
 
 length-written : (file : List ℕ) (x : ℕ) (b : List ℕ) → length (written file x b) ≡ max (length file) (x + length b)
-length-written file x b = grind (arith, places)
+length-written file x b = grind (arith, common_steps)
 
 -- two writes one after another, the second where the first ends
 pub written_two : (file : List ℕ) (x : ℕ) (a b : List ℕ) → written (written file x a) (x + length a) b ≡ written file x (a ++ b)
@@ -71,7 +71,7 @@ cut_to file bytes e [] h = refl
 cut_to file bytes e (d ∷ es) h = by_case (cases_eq d.at (e.at + e.len))
   where
     first : length (take e.len bytes) ≡ e.len
-    first = grind (arith, places)
+    first = grind (arith, common_steps)
 
     by_case : (d.at ≡ e.at + e.len) ⊎ (d.at ≡ e.at + e.len → ⊥) → write_cells file (cut_by (joined_to e (d ∷ es)) bytes) ≡ write_cells file (cut_by (e ∷ d ∷ es) bytes)
     by_case (inl k) =
@@ -86,7 +86,7 @@ pub cut_joined : (file bytes : List ℕ) (es : List Extent) → bytes_in es ≤ 
 cut_joined file bytes [] h = refl
 cut_joined file bytes (e ∷ es) h =
     let same = bytes_in_joined es in
-    let rest : length (drop e.len bytes) ≡ length bytes - e.len = grind (arith, places) in
+    let rest : length (drop e.len bytes) ≡ length bytes - e.len = grind (arith, common_steps) in
     cut_to file bytes e (joined es) (omega arith)
     ∙ cut_joined (written file e.at (take e.len bytes)) (drop e.len bytes) es (omega arith)
 

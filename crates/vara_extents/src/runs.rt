@@ -60,7 +60,8 @@ fn fixed_place(header: &Header, var: &Var, region: &Region, number: u64) -> u64
     let starts = region.start.as_slice();
     let counts = region.count.as_slice();
     let strides = region.stride.as_slice();
-    var.begin + row(header, ids, starts, counts, strides, number, 0) * size_of(var.kind)
+    let rows = row(header, ids, starts, counts, strides, number, 0);
+    var.begin + rows * size_of(var.kind)
 }
 
 /// The first byte of the element of a record variable that has this number.
