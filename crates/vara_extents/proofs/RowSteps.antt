@@ -7,10 +7,12 @@ use Rattle.std.proofs.Math.Nat.{mul-le-mul_left}
 use Rattle.std.proofs.lemmas.Bool.{eqb-true, eqb-false}
 use Rattle.nc_base.specs.declared.header.Header.{Header}
 use Rattle.nc_base.specs.declared.header.Var.{Var}
+use Rattle.nc_base.specs.declared.header.NcType.{NcType}
+use Rattle.nc_base.specs.declared.header.NcType.TheVariants.{Byte, Char, Short, Int, Float, Double, UByte, UShort, UInt, Int64, UInt64}
 use Rattle.nc_base.specs.declared.request.Region.{Region}
 use Rattle.serial_spec.specs.ExternalForm.{size_of}
 use Rattle.serial_spec.specs.Layout.{product, length_of, recsize, is_record, starts_with_zero, without_record}
-use Rattle.serial_spec.specs.Place.{row, place, record_of, within_record, IsIndex, IsElement}
+use Rattle.serial_spec.specs.Place.{row, place, record_of, within_record, HasRecord, IsIndex, IsElement}
 use Rattle.serial_spec.specs.Request.{index_at}
 use Rattle.var_layout.proofs.ElementPlaces.{product_pos, index_fixed, index_record, place_fixed, place_record}
 use Rattle.var_layout.specs.Capped.{capped}
@@ -204,13 +206,13 @@ record_place_is header v g number e r =
     ∙ sym (place_record header v (index_of g number) e)
 
 -- an element of a record variable, where a block of a record has `inner` elements of the region
-pub record RecordStep (header : Header) (v : Var) (g : Region) (number inner : ℕ) : Type 0 where
-  pub small : product (rest g.count) ≤ 2 ^ 20
+pub record RecordStep (header : Header) (v : Var) (g : Region) (number inner : ℕ) (ids starts counts strides : List ℕ) : Type 0 where
+  pub small : product (rest counts) ≤ 2 ^ 20
   pub some : 1 ≤ inner
-  pub valid : IsIndex (lengths_of header (rest v.dims)) (index_at (rest g.start) (rest g.stride) (coordinates_of (rest g.count) (number % inner)))
-  pub number_low : number % inner < product (rest g.count)
-  pub whole : v.begin + (get_or g.start 0 0 + number / inner * get_or g.stride 0 0) * recsize header
-      + row_of header (rest v.dims) (rest g.start) (rest g.count) (rest g.stride) (number % inner) * size_of v.kind ≡ place header v (index_of g number)
+  pub valid : IsIndex (lengths_of header (rest ids)) (index_at (rest starts) (rest strides) (coordinates_of (rest counts) (number % inner)))
+  pub number_low : number % inner < product (rest counts)
+  pub whole : v.begin + (get_or starts 0 0 + number / inner * get_or strides 0 0) * recsize header
+      + row_of header (rest ids) (rest starts) (rest counts) (rest strides) (number % inner) * size_of v.kind ≡ place header v (index_of g number)
 
 inner_small : (counts : List ℕ) (number : ℕ) → 1 ≤ length counts → number < product counts → product counts ≤ 2 ^ 20 → (1 ≤ product (rest counts)) × (product (rest counts) ≤ 2 ^ 20)
 inner_small [] number a b c = absurd (omega arith)
@@ -220,16 +222,17 @@ inner_small (n ∷ counts) number a b c =
     let same = ap product (rest_is n counts) in
     (omega (arith, some.1), omega arith)
 
-pub record_step : (header : Header) (v : Var) (g : Region) (number inner : ℕ) → is_record header v ≡ true
+record_step_of : (header : Header) (v : Var) (g : Region) (number inner : ℕ) → is_record header v ≡ true
     → 1 ≤ length v.dims → 1 ≤ length g.start → 1 ≤ length g.count → 1 ≤ length g.stride
-    → IsElement header v (index_of g number) → number < product g.count → product g.count ≤ 2 ^ 20 → inner ≡ capped (product (rest g.count)) → RecordStep header v g number inner
-record_step header v g number inner e a b c d valid below small is =
+    → IsElement header v (index_of g number) → number < product g.count → product g.count ≤ 2 ^ 20 → inner ≡ capped (product (rest g.count))
+    → RecordStep header v g number inner v.dims g.start g.count g.stride
+record_step_of header v g number inner e a b c d valid below small is =
     let r = record_row header v.dims g.start g.count g.stride number e a b c d in
     let size = inner_small g.count number c below small in
     let top = size.1 in
     let same : product (rest g.count) ≡ inner = omega arith in
     let own = (index_record header v (index_of g number) e valid).1 in
-    subst (λ (m : ℕ). RecordStep header v g number m) same
+    subst (λ (m : ℕ). RecordStep header v g number m v.dims g.start g.count g.stride) same
     (record {
       small = size.1;
       some = size.0;
@@ -238,6 +241,29 @@ record_step header v g number inner e a b c d valid below small is =
       number_low = mod_below number (product (rest g.count)) size.0;
       whole = record_place_is header v g number e r;
     })
+
+pub record_step : (header : Header) (v : Var) (g : Region) (number inner : ℕ) (ids starts counts strides : List ℕ) → ids ≡ v.dims → starts ≡ g.start → counts ≡ g.count → strides ≡ g.stride
+    → is_record header v ≡ true → 1 ≤ length ids → 1 ≤ length starts → 1 ≤ length counts → 1 ≤ length strides
+    → IsElement header v (index_of g number) → number < product g.count → product g.count ≤ 2 ^ 20 → inner ≡ capped (product (rest counts))
+    → RecordStep header v g number inner ids starts counts strides
+record_step header v g number inner ids starts counts strides p q r t e a b c d valid below small is =
+    let P : List ℕ → List ℕ → List ℕ → List ℕ → Type 0 = λ w x y z.
+        1 ≤ length w → 1 ≤ length x → 1 ≤ length y → 1 ≤ length z → inner ≡ capped (product (rest y)) → RecordStep header v g number inner w x y z in
+    (subst (λ (l : List ℕ). P l starts counts strides) (sym p)
+    (subst (λ (l : List ℕ). P v.dims l counts strides) (sym q)
+    (subst (λ (l : List ℕ). P v.dims g.start l strides) (sym r)
+    (subst (λ (l : List ℕ). P v.dims g.start g.count l) (sym t)
+    (λ a b c d is. record_step_of header v g number inner e a b c d valid below small is)))))
+    a b c d is
+
+no_record : (starts counts strides : List ℕ) (number : ℕ) → length counts < 1 → HasRecord (index_at starts strides (coordinates_of counts number)) → ⊥
+no_record [] counts strides number l h = h
+no_record (s ∷ starts) [] [] number l h = h
+no_record (s ∷ starts) [] (t ∷ strides) number l h = h
+no_record (s ∷ starts) (n ∷ counts) strides number l h = omega arith
+
+pub no_record_counts : (header : Header) (v : Var) (g : Region) (number : ℕ) → is_record header v ≡ true → length g.count < 1 → IsElement header v (index_of g number) → ⊥
+no_record_counts header v g number e l valid = no_record g.start g.count g.stride number l (index_record header v (index_of g number) e valid).0
 
 -- ---- runs of a variable
 
@@ -289,3 +315,39 @@ record_merged header v g run e a l c d some h all touching one =
     (ap (λ (r : ℕ). get_or g.count 0 0 * r) (sym all))
     (merged (λ k. v.begin + row_of header (rest v.dims) (rest g.start) (rest g.count) (rest g.stride) k * size_of v.kind) (get_or g.count 0 0) (get_or g.start 0 0) (get_or g.stride 0 0) (recsize header) (size_of v.kind)
     (product (rest g.count)) inner (ap (λ (r : ℕ). r * size_of v.kind) (sym all) ∙ sym touching) (inr one) (some_first g.count (rest g.count) (get_or g.count 0 0) (split g.count c) some)))
+
+-- the same of equal lists
+pub same_have : (header : Header) (run : ℕ) (ids counts strides ids' counts' strides' : List ℕ) → ids ≡ ids' → counts ≡ counts' → strides ≡ strides'
+    → HaveRuns header ids counts strides run → HaveRuns header ids' counts' strides' run
+same_have header run ids counts strides ids' counts' strides' a b c h =
+    subst (λ (x : List ℕ). HaveRuns header x counts' strides' run) a
+    (subst (λ (x : List ℕ). HaveRuns header ids x strides' run) b
+    (subst (λ (x : List ℕ). HaveRuns header ids counts x run) c h))
+
+pub same_have_rests : (header : Header) (run : ℕ) (ids counts strides ids' counts' strides' : List ℕ) → ids ≡ ids' → counts ≡ counts' → strides ≡ strides'
+    → HaveRuns header (rest ids) (rest counts) (rest strides) run → HaveRuns header (rest ids') (rest counts') (rest strides') run
+same_have_rests header run ids counts strides ids' counts' strides' a b c h =
+    same_have header run (rest ids) (rest counts) (rest strides) (rest ids') (rest counts') (rest strides') (ap rest a) (ap rest b) (ap rest c) h
+
+-- a run is no longer than all elements
+pub run_low : (header : Header) (ids counts strides : List ℕ) (run : ℕ) → HaveRuns header ids counts strides run → 1 ≤ product counts → run ≤ product counts
+run_low header ids counts strides run h some =
+    let own = h ids refl in
+    parts_low own.parts.0 own.parts.1
+  where
+    parts_low : (m : ℕ) → product counts ≡ m * run → run ≤ product counts
+    parts_low zero e = absurd (omega arith)
+    parts_low (suc m) e = omega arith
+
+pub size_low : (kind : NcType) → size_of kind ≤ 8
+size_low Byte = omega arith
+size_low Char = omega arith
+size_low Short = omega arith
+size_low Int = omega arith
+size_low Float = omega arith
+size_low Double = omega arith
+size_low UByte = omega arith
+size_low UShort = omega arith
+size_low UInt = omega arith
+size_low Int64 = omega arith
+size_low UInt64 = omega arith

@@ -5,7 +5,6 @@ ghost use Rattle.serial_spec.specs.Layout as layout;
 ghost use Rattle.serial_spec.specs.Layout.{product};
 ghost use Rattle.serial_spec.specs.Place as spec;
 ghost use Rattle.serial_spec.specs.Place.{IsIndex, IsElement};
-ghost use Rattle.serial_spec.specs.RegionCheck.{other_shape};
 ghost use Rattle.serial_spec.specs.Request.{index_at};
 ghost use Rattle.vara_extents.specs.Numbered.{coordinates_of, index_of, lengths_of, row_of, AreRuns};
 
@@ -68,6 +67,7 @@ fn fixed_place(header: &Header, var: &Var, region: &Region, number: u64) -> u64
 fn record_place(header: &Header, var: &Var, region: &Region, recsize: u64, number: u64) -> u64
     requires record_variable { layout.is_record header.now var.now ≡ true }
     requires recsize { recsize ≡ layout.recsize header.now }
+    requires wide { 1 ≤ recsize }
     requires valid { IsElement header.now var.now (index_of region.now number) }
     requires number { number < product region.now.count }
     requires small { product region.now.count ≤ 2 ^ 20 }
@@ -101,6 +101,7 @@ pub(crate) fn place_of(
     number: u64,
 ) -> u64
     requires recsize { recsize ≡ layout.recsize header.now }
+    requires wide { layout.is_record header.now var.now ≡ true → 1 ≤ recsize }
     requires valid { IsElement header.now var.now (index_of region.now number) }
     requires number { number < product region.now.count }
     requires small { product region.now.count ≤ 2 ^ 20 }
@@ -171,7 +172,9 @@ fn record_run(header: &Header, var: &Var, region: &Region, recsize: u64) -> u64
     requires recsize { recsize ≡ layout.recsize header.now }
     requires some { 1 ≤ product region.now.count }
     requires small { product region.now.count ≤ 2 ^ 20 }
-    requires shape { other_shape (length var.now.dims) region.now ≡ false }
+    requires starts { length region.now.start ≡ length var.now.dims }
+    requires counts { length region.now.count ≡ length var.now.dims }
+    requires strides { length region.now.stride ≡ length var.now.dims }
     ensures { AreRuns (λ k. spec.place header.now var.now (index_of region.now k)) (external.size_of var.now.kind) result (product region.now.count) }
 {
     let [_, ids @ ..] = var.dims.as_slice() else {
@@ -197,7 +200,9 @@ pub(crate) fn run_of(header: &Header, var: &Var, region: &Region, recsize: u64) 
     requires recsize { recsize ≡ layout.recsize header.now }
     requires some { 1 ≤ product region.now.count }
     requires small { product region.now.count ≤ 2 ^ 20 }
-    requires shape { other_shape (length var.now.dims) region.now ≡ false }
+    requires starts { length region.now.start ≡ length var.now.dims }
+    requires counts { length region.now.count ≡ length var.now.dims }
+    requires strides { length region.now.stride ≡ length var.now.dims }
     ensures { AreRuns (λ k. spec.place header.now var.now (index_of region.now k)) (external.size_of var.now.kind) result (product region.now.count) }
 {
     if is_record(header, var) {

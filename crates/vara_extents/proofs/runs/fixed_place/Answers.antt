@@ -7,19 +7,19 @@ use Rattle.vara_extents.specs.Numbered.{row_of}
 use Rattle.vara_extents.proofs.RowSteps.{same_row, same_valid, fixed_valid, fixed_is}
 use Rattle.vara_extents.proofs.runs.fixed_place.Goals as goal
 
-pub row-requires-clause-valid : goal.row-requires-clause-valid
-row-requires-clause-valid c =
+pub row-rows-requires-clause-valid : goal.row-rows-requires-clause-valid
+row-rows-requires-clause-valid c =
     same_valid c.args.header.now c.args.number _ _ _ _ c.args.var.now.dims c.args.region.now.start c.args.region.now.count c.args.region.now.stride
     c.as_slice-ids.ensures c.as_slice-starts.ensures c.as_slice-counts.ensures c.as_slice-strides.ensures (fixed_valid c.args.header.now c.args.var.now _ c.requires.fixed c.requires.valid)
 
-pub row-requires-clause-number : goal.row-requires-clause-number
-row-requires-clause-number c = omega (arith, ap product c.as_slice-counts.ensures, c.requires.number)
+pub row-rows-requires-clause-number : goal.row-rows-requires-clause-number
+row-rows-requires-clause-number c = omega (arith, ap product c.as_slice-counts.ensures, c.requires.number)
 
-pub row-requires-clause-small : goal.row-requires-clause-small
-row-requires-clause-small c = omega (arith, ap product c.as_slice-counts.ensures, c.requires.small)
+pub row-rows-requires-clause-small : goal.row-rows-requires-clause-small
+row-rows-requires-clause-small c = omega (arith, ap product c.as_slice-counts.ensures, c.requires.small)
 
-pub row-requires-clause-below : goal.row-requires-clause-below
-row-requires-clause-below c =
+pub row-rows-requires-clause-below : goal.row-rows-requires-clause-below
+row-rows-requires-clause-below c =
     let same = same_row c.args.header.now c.args.number _ _ _ _ c.args.var.now.dims c.args.region.now.start c.args.region.now.count c.args.region.now.stride
     c.as_slice-ids.ensures c.as_slice-starts.ensures c.as_slice-counts.ensures c.as_slice-strides.ensures in
     let is = fixed_is c.args.header.now c.args.var.now c.args.region.now c.args.number c.requires.fixed in
