@@ -214,7 +214,7 @@ pub record RecordStep (header : Header) (v : Var) (g : Region) (number inner : �
   pub whole : v.begin + (get_or starts 0 0 + number / inner * get_or strides 0 0) * recsize header
       + row_of header (rest ids) (rest starts) (rest counts) (rest strides) (number % inner) * size_of v.kind ≡ place header v (index_of g number)
 
-inner_small : (counts : List ℕ) (number : ℕ) → 1 ≤ length counts → number < product counts → product counts ≤ 2 ^ 20 → (1 ≤ product (rest counts)) × (product (rest counts) ≤ 2 ^ 20)
+pub inner_small : (counts : List ℕ) (number : ℕ) → 1 ≤ length counts → number < product counts → product counts ≤ 2 ^ 20 → (1 ≤ product (rest counts)) × (product (rest counts) ≤ 2 ^ 20)
 inner_small [] number a b c = absurd (omega arith)
 inner_small (n ∷ counts) number a b c =
     let some = some_block n (product counts) number b in
@@ -248,7 +248,7 @@ pub record_step : (header : Header) (v : Var) (g : Region) (number inner : ℕ) 
     → RecordStep header v g number inner ids starts counts strides
 record_step header v g number inner ids starts counts strides p q r t e a b c d valid below small is =
     let P : List ℕ → List ℕ → List ℕ → List ℕ → Type 0 = λ w x y z.
-        1 ≤ length w → 1 ≤ length x → 1 ≤ length y → 1 ≤ length z → inner ≡ capped (product (rest y)) → RecordStep header v g number inner w x y z in
+    1 ≤ length w → 1 ≤ length x → 1 ≤ length y → 1 ≤ length z → inner ≡ capped (product (rest y)) → RecordStep header v g number inner w x y z in
     (subst (λ (l : List ℕ). P l starts counts strides) (sym p)
     (subst (λ (l : List ℕ). P v.dims l counts strides) (sym q)
     (subst (λ (l : List ℕ). P v.dims g.start l strides) (sym r)

@@ -15,77 +15,77 @@ returns-in_default-as_slice-2 c =
 pub overflow_mul-record : goal.overflow_mul-record
 overflow_mul-record c =
     let step = record_step c.args.header.now c.args.var.now c.args.region.now c.args.number c.element_count-inner.result c.as_slice.result.now c.as_slice-2.result.now c.as_slice-3.result.now c.as_slice-4.result.now
-        c.as_slice.ensures c.as_slice-2.ensures c.as_slice-3.ensures c.as_slice-4.ensures c.requires.record_variable c.in-len1-up.len_at_least c.in-len1-up-as_slice.len_at_least
-        c.in-len1-up-as_slice-2.len_at_least c.in-len1-up-as_slice-3.len_at_least c.requires.valid c.requires.number c.requires.small c.element_count-inner.ensures in
-    let record : ℕ = get_or c.as_slice-2.result.now 0 0 + c.args.number / c.element_count-inner.result * get_or c.as_slice-4.result.now 0 0 in
-    let wide = mul-le-mul_left record c.requires.wide in
-    let sized = ap (λ (n : ℕ). record * n) c.requires.recsize in
+    c.as_slice.ensures c.as_slice-2.ensures c.as_slice-3.ensures c.as_slice-4.ensures c.requires.record_variable c.in-len1-up.len_at_least c.in-len1-up-as_slice.len_at_least
+    c.in-len1-up-as_slice-2.len_at_least c.in-len1-up-as_slice-3.len_at_least c.requires.valid c.requires.number c.requires.small c.element_count-inner.ensures in
+    let before : ℕ = get_or c.as_slice-2.result.now 0 0 + c.args.number / c.element_count-inner.result * get_or c.as_slice-4.result.now 0 0 in
+    let wide = mul-le-mul_left before c.requires.wide in
+    let sized = ap (λ (n : ℕ). before * n) c.requires.recsize in
     omega (arith, step.whole, wide, sized, c.requires.below)
 
 pub overflow_add-record : goal.overflow_add-record
 overflow_add-record c =
     let step = record_step c.args.header.now c.args.var.now c.args.region.now c.args.number c.element_count-inner.result c.as_slice.result.now c.as_slice-2.result.now c.as_slice-3.result.now c.as_slice-4.result.now
-        c.as_slice.ensures c.as_slice-2.ensures c.as_slice-3.ensures c.as_slice-4.ensures c.requires.record_variable c.in-len1-up.len_at_least c.in-len1-up-as_slice.len_at_least
-        c.in-len1-up-as_slice-2.len_at_least c.in-len1-up-as_slice-3.len_at_least c.requires.valid c.requires.number c.requires.small c.element_count-inner.ensures in
-    let record : ℕ = get_or c.as_slice-2.result.now 0 0 + c.args.number / c.element_count-inner.result * get_or c.as_slice-4.result.now 0 0 in
-    let wide = mul-le-mul_left record c.requires.wide in
-    let sized = ap (λ (n : ℕ). record * n) c.requires.recsize in
+    c.as_slice.ensures c.as_slice-2.ensures c.as_slice-3.ensures c.as_slice-4.ensures c.requires.record_variable c.in-len1-up.len_at_least c.in-len1-up-as_slice.len_at_least
+    c.in-len1-up-as_slice-2.len_at_least c.in-len1-up-as_slice-3.len_at_least c.requires.valid c.requires.number c.requires.small c.element_count-inner.ensures in
+    let before : ℕ = get_or c.as_slice-2.result.now 0 0 + c.args.number / c.element_count-inner.result * get_or c.as_slice-4.result.now 0 0 in
+    let wide = mul-le-mul_left before c.requires.wide in
+    let sized = ap (λ (n : ℕ). before * n) c.requires.recsize in
     omega (arith, step.whole, wide, sized, c.requires.below)
 
 pub row-rows-requires-clause-valid : goal.row-rows-requires-clause-valid
 row-rows-requires-clause-valid c =
     let step = record_step c.args.header.now c.args.var.now c.args.region.now c.args.number c.element_count-inner.result c.as_slice.result.now c.as_slice-2.result.now c.as_slice-3.result.now c.as_slice-4.result.now
-        c.as_slice.ensures c.as_slice-2.ensures c.as_slice-3.ensures c.as_slice-4.ensures c.requires.record_variable c.in-len1-up.len_at_least c.in-len1-up-as_slice.len_at_least
-        c.in-len1-up-as_slice-2.len_at_least c.in-len1-up-as_slice-3.len_at_least c.requires.valid c.requires.number c.requires.small c.element_count-inner.ensures in
+    c.as_slice.ensures c.as_slice-2.ensures c.as_slice-3.ensures c.as_slice-4.ensures c.requires.record_variable c.in-len1-up.len_at_least c.in-len1-up-as_slice.len_at_least
+    c.in-len1-up-as_slice-2.len_at_least c.in-len1-up-as_slice-3.len_at_least c.requires.valid c.requires.number c.requires.small c.element_count-inner.ensures in
     step.valid
 
 pub row-rows-requires-clause-number : goal.row-rows-requires-clause-number
 row-rows-requires-clause-number c =
     let step = record_step c.args.header.now c.args.var.now c.args.region.now c.args.number c.element_count-inner.result c.as_slice.result.now c.as_slice-2.result.now c.as_slice-3.result.now c.as_slice-4.result.now
-        c.as_slice.ensures c.as_slice-2.ensures c.as_slice-3.ensures c.as_slice-4.ensures c.requires.record_variable c.in-len1-up.len_at_least c.in-len1-up-as_slice.len_at_least
-        c.in-len1-up-as_slice-2.len_at_least c.in-len1-up-as_slice-3.len_at_least c.requires.valid c.requires.number c.requires.small c.element_count-inner.ensures in
+    c.as_slice.ensures c.as_slice-2.ensures c.as_slice-3.ensures c.as_slice-4.ensures c.requires.record_variable c.in-len1-up.len_at_least c.in-len1-up-as_slice.len_at_least
+    c.in-len1-up-as_slice-2.len_at_least c.in-len1-up-as_slice-3.len_at_least c.requires.valid c.requires.number c.requires.small c.element_count-inner.ensures in
     step.number_low
 
 pub row-rows-requires-clause-small : goal.row-rows-requires-clause-small
 row-rows-requires-clause-small c =
     let step = record_step c.args.header.now c.args.var.now c.args.region.now c.args.number c.element_count-inner.result c.as_slice.result.now c.as_slice-2.result.now c.as_slice-3.result.now c.as_slice-4.result.now
-        c.as_slice.ensures c.as_slice-2.ensures c.as_slice-3.ensures c.as_slice-4.ensures c.requires.record_variable c.in-len1-up.len_at_least c.in-len1-up-as_slice.len_at_least
-        c.in-len1-up-as_slice-2.len_at_least c.in-len1-up-as_slice-3.len_at_least c.requires.valid c.requires.number c.requires.small c.element_count-inner.ensures in
+    c.as_slice.ensures c.as_slice-2.ensures c.as_slice-3.ensures c.as_slice-4.ensures c.requires.record_variable c.in-len1-up.len_at_least c.in-len1-up-as_slice.len_at_least
+    c.in-len1-up-as_slice-2.len_at_least c.in-len1-up-as_slice-3.len_at_least c.requires.valid c.requires.number c.requires.small c.element_count-inner.ensures in
     step.small
 
 pub row-rows-requires-clause-below : goal.row-rows-requires-clause-below
 row-rows-requires-clause-below c =
     let step = record_step c.args.header.now c.args.var.now c.args.region.now c.args.number c.element_count-inner.result c.as_slice.result.now c.as_slice-2.result.now c.as_slice-3.result.now c.as_slice-4.result.now
-        c.as_slice.ensures c.as_slice-2.ensures c.as_slice-3.ensures c.as_slice-4.ensures c.requires.record_variable c.in-len1-up.len_at_least c.in-len1-up-as_slice.len_at_least
-        c.in-len1-up-as_slice-2.len_at_least c.in-len1-up-as_slice-3.len_at_least c.requires.valid c.requires.number c.requires.small c.element_count-inner.ensures in
+    c.as_slice.ensures c.as_slice-2.ensures c.as_slice-3.ensures c.as_slice-4.ensures c.requires.record_variable c.in-len1-up.len_at_least c.in-len1-up-as_slice.len_at_least
+    c.in-len1-up-as_slice-2.len_at_least c.in-len1-up-as_slice-3.len_at_least c.requires.valid c.requires.number c.requires.small c.element_count-inner.ensures in
     let row : ℕ = row_of c.args.header.now (rest c.as_slice.result.now) (rest c.as_slice-2.result.now) (rest c.as_slice-3.result.now) (rest c.as_slice-4.result.now) (c.args.number % c.element_count-inner.result) in
     omega (arith, step.whole, row_below_bytes row c.args.var.now.kind, c.requires.below)
 
 pub overflow_mul-result : goal.overflow_mul-result
 overflow_mul-result c =
     let step = record_step c.args.header.now c.args.var.now c.args.region.now c.args.number c.element_count-inner.result c.as_slice.result.now c.as_slice-2.result.now c.as_slice-3.result.now c.as_slice-4.result.now
-        c.as_slice.ensures c.as_slice-2.ensures c.as_slice-3.ensures c.as_slice-4.ensures c.requires.record_variable c.in-len1-up.len_at_least c.in-len1-up-as_slice.len_at_least
-        c.in-len1-up-as_slice-2.len_at_least c.in-len1-up-as_slice-3.len_at_least c.requires.valid c.requires.number c.requires.small c.element_count-inner.ensures in
-    let record : ℕ = get_or c.as_slice-2.result.now 0 0 + c.args.number / c.element_count-inner.result * get_or c.as_slice-4.result.now 0 0 in
-    let wide = mul-le-mul_left record c.requires.wide in
-    let sized = ap (λ (n : ℕ). record * n) c.requires.recsize in
+    c.as_slice.ensures c.as_slice-2.ensures c.as_slice-3.ensures c.as_slice-4.ensures c.requires.record_variable c.in-len1-up.len_at_least c.in-len1-up-as_slice.len_at_least
+    c.in-len1-up-as_slice-2.len_at_least c.in-len1-up-as_slice-3.len_at_least c.requires.valid c.requires.number c.requires.small c.element_count-inner.ensures in
+    let before : ℕ = get_or c.as_slice-2.result.now 0 0 + c.args.number / c.element_count-inner.result * get_or c.as_slice-4.result.now 0 0 in
+    let wide = mul-le-mul_left before c.requires.wide in
+    let sized = ap (λ (n : ℕ). before * n) c.requires.recsize in
     omega (arith, step.whole, sized, c.requires.below)
 
 pub overflow_add-result : goal.overflow_add-result
 overflow_add-result c =
     let step = record_step c.args.header.now c.args.var.now c.args.region.now c.args.number c.element_count-inner.result c.as_slice.result.now c.as_slice-2.result.now c.as_slice-3.result.now c.as_slice-4.result.now
-        c.as_slice.ensures c.as_slice-2.ensures c.as_slice-3.ensures c.as_slice-4.ensures c.requires.record_variable c.in-len1-up.len_at_least c.in-len1-up-as_slice.len_at_least
-        c.in-len1-up-as_slice-2.len_at_least c.in-len1-up-as_slice-3.len_at_least c.requires.valid c.requires.number c.requires.small c.element_count-inner.ensures in
-    let record : ℕ = get_or c.as_slice-2.result.now 0 0 + c.args.number / c.element_count-inner.result * get_or c.as_slice-4.result.now 0 0 in
-    let wide = mul-le-mul_left record c.requires.wide in
-    let sized = ap (λ (n : ℕ). record * n) c.requires.recsize in
+    c.as_slice.ensures c.as_slice-2.ensures c.as_slice-3.ensures c.as_slice-4.ensures c.requires.record_variable c.in-len1-up.len_at_least c.in-len1-up-as_slice.len_at_least
+    c.in-len1-up-as_slice-2.len_at_least c.in-len1-up-as_slice-3.len_at_least c.requires.valid c.requires.number c.requires.small c.element_count-inner.ensures in
+    let before : ℕ = get_or c.as_slice-2.result.now 0 0 + c.args.number / c.element_count-inner.result * get_or c.as_slice-4.result.now 0 0 in
+    let wide = mul-le-mul_left before c.requires.wide in
+    let sized = ap (λ (n : ℕ). before * n) c.requires.recsize in
     omega (arith, step.whole, sized, c.requires.below)
 
 pub overflow_mul-result-2 : goal.overflow_mul-result-2
 overflow_mul-result-2 c =
     let step = record_step c.args.header.now c.args.var.now c.args.region.now c.args.number c.element_count-inner.result c.as_slice.result.now c.as_slice-2.result.now c.as_slice-3.result.now c.as_slice-4.result.now
-        c.as_slice.ensures c.as_slice-2.ensures c.as_slice-3.ensures c.as_slice-4.ensures c.requires.record_variable c.in-len1-up.len_at_least c.in-len1-up-as_slice.len_at_least
-        c.in-len1-up-as_slice-2.len_at_least c.in-len1-up-as_slice-3.len_at_least c.requires.valid c.requires.number c.requires.small c.element_count-inner.ensures in
+    c.as_slice.ensures c.as_slice-2.ensures c.as_slice-3.ensures c.as_slice-4.ensures c.requires.record_variable c.in-len1-up.len_at_least c.in-len1-up-as_slice.len_at_least
+    c.in-len1-up-as_slice-2.len_at_least c.in-len1-up-as_slice-3.len_at_least c.requires.valid c.requires.number c.requires.small c.element_count-inner.ensures in
     let row : ℕ = row_of c.args.header.now (rest c.as_slice.result.now) (rest c.as_slice-2.result.now) (rest c.as_slice-3.result.now) (rest c.as_slice-4.result.now) (c.args.number % c.element_count-inner.result) in
     let rows : c.row-rows.result ≡ row = omega (arith, c.row-rows.ensures) in
     let bytes : c.row-rows.result * c.size_of.result ≡ row * size_of c.args.var.now.kind = (λ i. rows i * c.size_of.ensures i) in
@@ -94,11 +94,11 @@ overflow_mul-result-2 c =
 pub overflow_add-result-2 : goal.overflow_add-result-2
 overflow_add-result-2 c =
     let step = record_step c.args.header.now c.args.var.now c.args.region.now c.args.number c.element_count-inner.result c.as_slice.result.now c.as_slice-2.result.now c.as_slice-3.result.now c.as_slice-4.result.now
-        c.as_slice.ensures c.as_slice-2.ensures c.as_slice-3.ensures c.as_slice-4.ensures c.requires.record_variable c.in-len1-up.len_at_least c.in-len1-up-as_slice.len_at_least
-        c.in-len1-up-as_slice-2.len_at_least c.in-len1-up-as_slice-3.len_at_least c.requires.valid c.requires.number c.requires.small c.element_count-inner.ensures in
-    let record : ℕ = get_or c.as_slice-2.result.now 0 0 + c.args.number / c.element_count-inner.result * get_or c.as_slice-4.result.now 0 0 in
-    let wide = mul-le-mul_left record c.requires.wide in
-    let sized = ap (λ (n : ℕ). record * n) c.requires.recsize in
+    c.as_slice.ensures c.as_slice-2.ensures c.as_slice-3.ensures c.as_slice-4.ensures c.requires.record_variable c.in-len1-up.len_at_least c.in-len1-up-as_slice.len_at_least
+    c.in-len1-up-as_slice-2.len_at_least c.in-len1-up-as_slice-3.len_at_least c.requires.valid c.requires.number c.requires.small c.element_count-inner.ensures in
+    let before : ℕ = get_or c.as_slice-2.result.now 0 0 + c.args.number / c.element_count-inner.result * get_or c.as_slice-4.result.now 0 0 in
+    let wide = mul-le-mul_left before c.requires.wide in
+    let sized = ap (λ (n : ℕ). before * n) c.requires.recsize in
     let row : ℕ = row_of c.args.header.now (rest c.as_slice.result.now) (rest c.as_slice-2.result.now) (rest c.as_slice-3.result.now) (rest c.as_slice-4.result.now) (c.args.number % c.element_count-inner.result) in
     let rows : c.row-rows.result ≡ row = omega (arith, c.row-rows.ensures) in
     let bytes : c.row-rows.result * c.size_of.result ≡ row * size_of c.args.var.now.kind = (λ i. rows i * c.size_of.ensures i) in
@@ -107,11 +107,11 @@ overflow_add-result-2 c =
 pub returns : goal.returns
 returns c =
     let step = record_step c.args.header.now c.args.var.now c.args.region.now c.args.number c.element_count-inner.result c.as_slice.result.now c.as_slice-2.result.now c.as_slice-3.result.now c.as_slice-4.result.now
-        c.as_slice.ensures c.as_slice-2.ensures c.as_slice-3.ensures c.as_slice-4.ensures c.requires.record_variable c.in-len1-up.len_at_least c.in-len1-up-as_slice.len_at_least
-        c.in-len1-up-as_slice-2.len_at_least c.in-len1-up-as_slice-3.len_at_least c.requires.valid c.requires.number c.requires.small c.element_count-inner.ensures in
-    let record : ℕ = get_or c.as_slice-2.result.now 0 0 + c.args.number / c.element_count-inner.result * get_or c.as_slice-4.result.now 0 0 in
-    let wide = mul-le-mul_left record c.requires.wide in
-    let sized = ap (λ (n : ℕ). record * n) c.requires.recsize in
+    c.as_slice.ensures c.as_slice-2.ensures c.as_slice-3.ensures c.as_slice-4.ensures c.requires.record_variable c.in-len1-up.len_at_least c.in-len1-up-as_slice.len_at_least
+    c.in-len1-up-as_slice-2.len_at_least c.in-len1-up-as_slice-3.len_at_least c.requires.valid c.requires.number c.requires.small c.element_count-inner.ensures in
+    let before : ℕ = get_or c.as_slice-2.result.now 0 0 + c.args.number / c.element_count-inner.result * get_or c.as_slice-4.result.now 0 0 in
+    let wide = mul-le-mul_left before c.requires.wide in
+    let sized = ap (λ (n : ℕ). before * n) c.requires.recsize in
     let row : ℕ = row_of c.args.header.now (rest c.as_slice.result.now) (rest c.as_slice-2.result.now) (rest c.as_slice-3.result.now) (rest c.as_slice-4.result.now) (c.args.number % c.element_count-inner.result) in
     let rows : c.row-rows.result ≡ row = omega (arith, c.row-rows.ensures) in
     let bytes : c.row-rows.result * c.size_of.result ≡ row * size_of c.args.var.now.kind = (λ i. rows i * c.size_of.ensures i) in
