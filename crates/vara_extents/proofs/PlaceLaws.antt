@@ -3,6 +3,7 @@ use Rattle.std.proofs.Common.{◌≡◌, ℕ, zero, suc, ◌+◌, ◌*◌, ◌^�
 use Rattle.std.specs.Prelude.{slice_get}
 use Rattle.std.specs.List.{AllByRecursion}
 use Rattle.std.proofs.lemmas.Bool.{or_parts, leb-false, ltb-false}
+use Rattle.std.proofs.lemmas.Nat.{mul-le}
 use Rattle.nc_base.specs.declared.header.Header.{Header}
 use Rattle.nc_base.specs.declared.header.Var.{Var}
 use Rattle.nc_base.specs.declared.plan.Extent.{Extent}
@@ -10,15 +11,16 @@ use Rattle.nc_base.specs.declared.request.Region.{Region}
 use Rattle.nc_base.specs.declared.answer.Code.TheVariants as code
 use Rattle.serial_spec.specs.ExternalForm.{size_of}
 use Rattle.serial_spec.specs.HeaderGrammar.{is_sound, header_len}
-use Rattle.serial_spec.specs.Layout.{product, end_of}
+use Rattle.serial_spec.specs.Layout.{product, end_of, inner_lengths, is_record, recsize}
 use Rattle.serial_spec.specs.Limits.{most_elements, record_limit, file_limit}
-use Rattle.serial_spec.specs.Place.{place, IsElement, IsElementBelow}
+use Rattle.serial_spec.specs.Place.{place, within_record, IsElement, IsElementBelow}
 use Rattle.serial_spec.specs.Records.{records_of}
 use Rattle.serial_spec.specs.RegionCheck.{check_some, check_var, is_too_large, last_position}
 use Rattle.serial_spec.specs.Request.{elements, places}
 use Rattle.serial_spec.proofs.AcceptLaws.{accepted_elements, all_map, all_same}
+use Rattle.serial_spec.proofs.ApartLaws.{slab_fits}
 use Rattle.serial_spec.proofs.RoomLaws.{element_inside}
-use Rattle.var_layout.proofs.ElementPlaces.{size_pos}
+use Rattle.var_layout.proofs.ElementPlaces.{index_record, product_pos, size_pos}
 use Rattle.vara_extents.specs.Accepted.{IsAccepted}
 use Rattle.vara_extents.specs.Joined.{element_extents, extents_of}
 use Rattle.vara_extents.specs.Numbered.{index_of}
@@ -68,6 +70,13 @@ accepted_place header k v g n sound is h below =
     let small = accepted_small header v g (passed header v g h.0 h.1 ok).large in
     record { element = own.0; before_end = end; low = omega (arith, small.ends, end) }
 
+-- a record has bytes, where it has an element
+pub wide_records : (header : Header) (k : ℕ) (v : Var) (index : List ℕ) → slice_get header.vars k ≡ Some v → is_record header v ≡ true → IsElement header v index → 1 ≤ recsize header
+wide_records header k v index there e h =
+    let some = product_pos (inner_lengths header v) (within_record index) (index_record header v index e h).1 in
+    let bytes = mul-le 1 1 (product (inner_lengths header v)) (size_of v.kind) some (size_pos v.kind) in
+    omega (arith, bytes, slab_fits header k v there e)
+
 -- ---- extents
 
 pub extents_inside : (header : Header) (first k : ℕ) (v : Var) (g : Region) → is_sound header ≡ true → slice_get header.vars k ≡ Some v → IsAccepted header k g
@@ -87,3 +96,6 @@ extents_some header v g = joined_some (element_extents header v g) (each (places
     each : (xs : List ℕ) → AreSome (map (λ x. record { at = x; len = size_of v.kind }) xs)
     each [] = tt
     each (x ∷ xs) = (size_pos v.kind, each xs)
+
+pub small_of : (header : Header) (k : ℕ) (v : Var) (g : Region) → slice_get header.vars k ≡ Some v → IsAccepted header k g → IsSmall header v g
+small_of header k v g is h = accepted_small header v g (passed header v g h.0 h.1 (accepted_var header k v g is h)).large

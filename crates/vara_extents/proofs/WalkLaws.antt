@@ -10,7 +10,7 @@ use Rattle.nc_base.specs.declared.header.Var.{Var}
 use Rattle.nc_base.specs.declared.plan.Extent.{Extent}
 use Rattle.nc_base.specs.declared.request.Region.{Region}
 use Rattle.serial_spec.specs.ExternalForm.{size_of}
-use Rattle.serial_spec.specs.Layout.{product}
+use Rattle.serial_spec.specs.Layout.{product, recsize, is_record}
 use Rattle.serial_spec.specs.Place.{place}
 use Rattle.vara_extents.specs.declared.walk.Extents.{Extents}
 use Rattle.vara_extents.specs.Joined.{element_extents, extents_of, joined, joined_to}
@@ -18,7 +18,7 @@ use Rattle.vara_extents.specs.Left.{extents_from, extents_left, IsReady}
 use Rattle.vara_extents.specs.Numbered.{index_of, AreRuns}
 use Rattle.vara_extents.proofs.AcceptedLaws.{passed}
 use Rattle.vara_extents.proofs.NumberLaws.{length-element_extents, run_is}
-use Rattle.vara_extents.proofs.PlaceLaws.{IsPlaced, IsSmall, accepted_place, accepted_small, accepted_var}
+use Rattle.vara_extents.proofs.PlaceLaws.{IsPlaced, IsSmall, accepted_place, accepted_small, accepted_var, wide_records}
 
 -- ---- one run
 
@@ -27,6 +27,7 @@ pub record IsInside (header : Header) (v : Var) (g : Region) (run k : ℕ) : Typ
   pub small : product g.count ≤ 2 ^ 20
   pub placed : IsPlaced header v g (k * run)
   pub low : place header v (index_of g (k * run)) + run * size_of v.kind ≤ 2 ^ 62
+  pub wide : is_record header v ≡ true → 1 ≤ recsize header
 
 inside_of : (e : Extents) (k run total : ℕ) → IsReady e → AreRuns (λ k. place e.header.now e.var.now (index_of e.region.now k)) (size_of e.var.now.kind) run total
     → total ≡ product e.region.now.count → total ≡ e.runs * run → k < e.runs → IsInside e.header.now e.var.now e.region.now run k
@@ -39,11 +40,13 @@ inside_of e k (suc m) total h r same is l =
     let end = accepted_place e.header.now h.accepted.0 e.var.now e.region.now (k * suc m + m) h.sound h.accepted.1 ok (omega arith) in
     let at = r.follow k m (omega arith) last in
     let low = end.low in
+    let first = accepted_place e.header.now h.accepted.0 e.var.now e.region.now (k * suc m) h.sound h.accepted.1 ok (omega arith) in
     record {
       number = omega arith;
       small = small.elements;
-      placed = accepted_place e.header.now h.accepted.0 e.var.now e.region.now (k * suc m) h.sound h.accepted.1 ok (omega arith);
+      placed = first;
       low = omega (arith, at, low);
+      wide = λ is. wide_records e.header.now h.accepted.0 e.var.now (index_of e.region.now (k * suc m)) h.accepted.1 is first.element;
     }
 
 pub inside : (e : Extents) (k : ℕ) → IsReady e → k < e.runs → IsInside e.header.now e.var.now e.region.now e.run k
@@ -69,7 +72,10 @@ none_left e k h l =
 -- ---- a walk that begins
 
 pub all_left : (e : Extents) → e.given ≡ 0 → extents_left e ≡ extents_of e.header.now e.var.now e.region.now
-all_left e h = ap (λ (k : ℕ). joined (drop k (element_extents e.header.now e.var.now e.region.now))) (ap (λ (n : ℕ). n * e.run) h ∙ omega arith)
+all_left e h =
+    let same = ap (λ (n : ℕ). n * e.run) h in
+    let none : e.given * e.run ≡ 0 = omega arith in
+    ap (λ (k : ℕ). joined (drop k (element_extents e.header.now e.var.now e.region.now))) none
 
 pub whole_runs : (f : ℕ → ℕ) (size run total : ℕ) → AreRuns f size run total → total ≡ total / run * run
 whole_runs f size run total h =
