@@ -22,6 +22,5 @@ pub use std_sink::StdSink;
 pub use std_source::StdSource;
 pub use top::{Outcome, ncrun};
 
-
 #[cfg(test)]
 mod tests;

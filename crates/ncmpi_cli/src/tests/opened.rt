@@ -144,13 +144,25 @@ const FAULTY: [(Run, Want); 5] = [
     ),
     (
         Run {
-            held: &[WIDE_MAGIC, WIDE_STREAM, WIDE_FRONT, WIDE_REST, WIDE_UNWRITTEN],
+            held: &[
+                WIDE_MAGIC,
+                WIDE_STREAM,
+                WIDE_FRONT,
+                WIDE_REST,
+                WIDE_UNWRITTEN,
+            ],
             ..OPEN
         },
         Want {
             status: 4,
             given: b"ncrun: header has a streaming record count\n",
-            held: &[WIDE_MAGIC, WIDE_STREAM, WIDE_FRONT, WIDE_REST, WIDE_UNWRITTEN],
+            held: &[
+                WIDE_MAGIC,
+                WIDE_STREAM,
+                WIDE_FRONT,
+                WIDE_REST,
+                WIDE_UNWRITTEN,
+            ],
         },
     ),
 ];

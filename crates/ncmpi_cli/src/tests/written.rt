@@ -1,6 +1,6 @@
 // Datasets that are created.
 use crate::tests::files::{
-    A_64, A_FRONT, AT_512, AT_80, B, ROOM, TWO_PUT, UNWRITTEN, WIDE_COUNT, WIDE_FRONT, WIDE_MAGIC,
+    A_64, A_FRONT, AT_80, AT_512, B, ROOM, TWO_PUT, UNWRITTEN, WIDE_COUNT, WIDE_FRONT, WIDE_MAGIC,
     WIDE_REST, WIDE_UNWRITTEN,
 };
 use crate::tests::{PLAIN, Run, Want, all_end};
@@ -136,7 +136,13 @@ const VERSIONS: [(Run, Want); 3] = [
         Want {
             status: 0,
             given: CDF_5_TEXT,
-            held: &[WIDE_MAGIC, WIDE_COUNT, WIDE_FRONT, WIDE_REST, WIDE_UNWRITTEN],
+            held: &[
+                WIDE_MAGIC,
+                WIDE_COUNT,
+                WIDE_FRONT,
+                WIDE_REST,
+                WIDE_UNWRITTEN,
+            ],
         },
     ),
 ];
