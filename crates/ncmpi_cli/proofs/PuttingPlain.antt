@@ -79,7 +79,7 @@ greatest_below : (a n : ℕ) → greatest (map (λ m. m + 1) (range_with_len a n
 greatest_below a zero = omega arith
 greatest_below a (suc n) = let rest = greatest_below (a + 1) n in omega arith
 
-few_elements : (header : Header) (v : Var) (g : Region) → is_too_large header v g ≡ false → product g.count ≤ most_elements
+pub few_elements : (header : Header) (v : Var) (g : Region) → is_too_large header v g ≡ false → product g.count ≤ most_elements
 few_elements header v g h =
     let a = or_parts (ltb most_elements (product g.count) || (not g.packed && ltb 0 (product g.count) && leb most_elements (last_position g.count g.imap)) || leb (record_limit header.version) (records_of header v g))
     (leb file_limit (end_of header (header_len header) (records_of header v g))) h in

@@ -18,7 +18,7 @@ use nc_base::{Call, Given, Header, Region, Values};
 use nc_outside::{Disk, DiskErr};
 use std::alloc::Global;
 use var_layout::find_var;
-use vara_extents::widen;
+use vara_extents::{Extents, widen};
 
 /// Does a plain call.
 pub(crate) fn put_call<D: Disk>(
@@ -98,6 +98,11 @@ fn write_region<D: Disk>(
     ensures len { D.len disk.new ≡ D.len disk.old }
     ensures cause { HasDiskCause (D.faults disk.old) (D.faults disk.new) result }
 {
-    let _bytes = bytes.len();
-    Err(DiskErr::Memory)
+    let mut from = 0;
+    for extent in Extents::new(header, var, region) {
+        let end = from + extent.len as usize;
+        disk.write_at(alloc, extent.at, &bytes[from..end])?;
+        from = end;
+    }
+    Ok(())
 }
