@@ -116,6 +116,7 @@ tells held bytes (Err stop) err e f why s r = by_cause why
   where
     same : Header e ≡ stop_of_header err
     same = cc
+
     by_cause : (err ≡ fault.Memory) ⊎ HasFault bytes err → IfSome held (λ file. HasFault (headline.front file) e)
     by_cause (inl m) = absurd (no_memory err e same m)
     by_cause (inr h) = of_fault held bytes e f (subst (λ (x : HeaderErr). HasFault bytes x) (same_header err e same) h)

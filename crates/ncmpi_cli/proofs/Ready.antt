@@ -1,6 +1,6 @@
 -- A dataset that is ready for the ranks.
-use Rattle.std.proofs.Common.{◌≡◌, ℕ, ◌≤◌, Bool, true, false, not, ◌&&◌, List, [], ◌∷◌, length, Option, Some, None, refl, sym, ap, subst, ◌∙◌, arith}
-use Rattle.std.specs.Prelude.{IfErr, IfOk, OnOk, IfSome, Result, Ok, Err, ◌==◌}
+use Rattle.std.proofs.Common.{◌≡◌, ℕ, ◌≤◌, Bool, true, false, not, ◌&&◌, List, [], ◌∷◌, Option, Some, None, refl, sym, ap, ◌∙◌, arith}
+use Rattle.std.specs.Prelude.{IfErr, IfOk, OnOk, IfSome, Result, Ok, Err}
 use Rattle.std.specs.List.{list_all}
 use Rattle.std.specs.Result.{IsErrAnd}
 use Rattle.nc_base.specs.declared.errors.HeaderErr.{HeaderErr}
@@ -19,7 +19,7 @@ use Rattle.serial_spec.proofs.SpellingLaws.{left}
 use Rattle.serial_spec.specs.Lawful.{is_empty}
 use Rattle.script_spec.specs.ScriptGrammar.{Reads}
 use Rattle.ncmpi_cli.specs.Built.{is_built, is_built_for, is_plain, may_do}
-use Rattle.ncmpi_cli.specs.Headline.{align_of, created_header, front, IsFaultless, IsHeaderOf, IsReady, TellsDataset}
+use Rattle.ncmpi_cli.specs.Headline.{align_of, created_header, front, IsReady, TellsDataset}
 use Rattle.ncmpi_cli.specs.Opening.{IsOfOpening, IsOpened}
 use Rattle.ncmpi_cli.specs.Stops.{line_of, status_of}
 use Rattle.ncmpi_cli.specs.declared.stop.Stop.{Stop}

@@ -1,5 +1,5 @@
 -- A text that is refused, and one that is read.
-use Rattle.std.proofs.Common.{◌≡◌, ℕ, ◌<◌, ◌≤◌, Bool, true, false, List, [], ◌++◌, length, Option, Some, None, inl, inr, ◌⊎◌, refl, sym, ap, subst, ◌∙◌, arith}
+use Rattle.std.proofs.Common.{◌≡◌, ℕ, ◌<◌, ◌≤◌, Bool, true, false, List, [], length, Option, Some, None, inl, inr, ◌⊎◌, refl, sym, ap, ◌∙◌, arith}
 use Rattle.std.specs.Prelude.{IfSome, Result, Ok, Err}
 use Rattle.std.proofs.lemmas.Bool.{cases_lt}
 use Rattle.nc_base.specs.declared.errors.ScriptKind.{ScriptKind}
@@ -14,7 +14,7 @@ use Rattle.ncmpi_cli.specs.Headline.{Asks, refusal}
 use Rattle.ncmpi_cli.specs.Stops.{line_of, not_built_line, status_of, stop_of_kind, stop_of_script}
 use Rattle.ncmpi_cli.specs.declared.stop.Stop.{Stop}
 use Rattle.ncmpi_cli.specs.declared.stop.Stop.TheVariants as stops
-use Rattle.ncmpi_cli.proofs.Taken.{long_text, read_is_short, whole_text}
+use Rattle.ncmpi_cli.proofs.Taken.{long_text, whole_text}
 
 -- the line that refuses a text, by what is read of it
 abbrev line_for : Result Script ScriptErr → Option (List ℕ)

@@ -1,14 +1,14 @@
 -- What the top call tells, by how a run ended.
-use Rattle.std.proofs.Common.{◌≡◌, ℕ, ◌+◌, ◌-◌, ◌^◌, ◌≤◌, min, Bool, true, false, List, [], ◌∷◌, length, Option, Some, None, inl, inr, ◌⊎◌, refl, sym, ap, subst, ◌∙◌, arith}
+use Rattle.std.proofs.Common.{◌≡◌, ℕ, ◌+◌, ◌^◌, ◌≤◌, Bool, true, false, List, [], ◌∷◌, length, Option, Some, None, inl, inr, ◌⊎◌, refl, sym, ap, subst, ◌∙◌, arith}
 use Rattle.std.proofs.lemmas.Bool.{leb-true}
-use Rattle.std.specs.Prelude.{map, sum, IfSome, IsSomeAnd, Result, Ok, Err, is_some, IsErrOf}
+use Rattle.std.specs.Prelude.{map, sum, IfSome, IsSomeAnd, Result, Ok, Err, is_some}
 use Rattle.nc_base.specs.declared.errors.HeaderErr.{HeaderErr}
 use Rattle.nc_base.specs.declared.errors.LayoutErr.{LayoutErr}
 use Rattle.nc_base.specs.declared.errors.ScriptErr.{ScriptErr}
 use Rattle.nc_base.specs.declared.request.Call.{Call}
 use Rattle.nc_base.specs.declared.script.Script.{Script}
 use Rattle.nc_outside.specs.Cause.{Rose}
-use Rattle.script_spec.specs.ScriptGrammar.{Reads, script_of_text}
+use Rattle.script_spec.specs.ScriptGrammar.{Reads}
 use Rattle.script_spec.specs.Texts.{script_line}
 use Rattle.serial_spec.specs.HeaderGrammar.{HasFault}
 use Rattle.serial_spec.specs.Lawful.{most_calls}
@@ -62,9 +62,11 @@ tells-right script held line t r = by_fresh script.fresh refl
       where
         clash : Some e ≡ None → ⊥
         clash x = cc
+
     of_header : (h : Option (List ℕ)) (e : HeaderErr) → IfSome h (λ file. HasFault (front file) e) → IsSomeAnd h (λ file. (x : HeaderErr) → HasFault (front file) x → ⊥) → ⊥
     of_header None e f n = absurd n
     of_header (Some file) e f n = n e f
+
     by_fresh : (b : Bool) → script.fresh ≡ b → ⊥
     by_fresh true f = let c = t.created f in of_layout c.0 c.1.0 (r.created f)
     by_fresh false f = let o = t.opened f in of_header held o.0 o.1.0 (r.opened f)
@@ -78,9 +80,11 @@ faultless-wrong script held n w = by_fresh script.fresh refl
       where
         clash : Some e ≡ None → ⊥
         clash x = cc
+
     of_header : (h : Option (List ℕ)) → IfSome h (λ file. (x : HeaderErr) → HasFault (front file) x → ⊥) → IsSomeAnd h (λ file. (e : HeaderErr) × HasFault (front file) e) → ⊥
     of_header None f g = absurd g
     of_header (Some file) f g = f g.0 g.1
+
     by_fresh : (b : Bool) → script.fresh ≡ b → ⊥
     by_fresh true f = let c = w.created f in of_layout c.0 c.1 (n.created f)
     by_fresh false f = of_header held (n.opened f) (w.opened f)
@@ -124,6 +128,7 @@ refused (Some text) held stop status (inl e) u s d k r = by_stop stop refl
   where
     none-some : (script : Script) → Asks (Some text) script → ⊥
     none-some script a = false-true (is_some (refusal text)) (ap (λ (o : Option (List ℕ)). is_some o) (not_refused text script a.reads a.built)) r
+
     by_stop : (other : Stop) → stop ≡ other → (status ≡ 3) ⊎ (status ≡ 8)
     by_stop stops.Usage x = absurd (u x)
     by_stop (stops.Script f) x = inl (e ∙ ap status_of x)
@@ -150,6 +155,7 @@ wants_memory (Some text) held stop status (inl e) u s k r d a = by_stop stop ref
         let line = four_line stop x in
         let same : told.0 ≡ a.0 = same_script text told.0 a.0 told.1.0.reads a.1.reads in
         tells-right a.0 held line.0 (subst (λ (z : Script). TellsDataset z held line.0) same (told-in _ (line_of stop) line.0 line.1 told.1.1)) a.2
+
     by_stop : (other : Stop) → stop ≡ other → (status ≡ 0) ⊎ (status ≡ 8)
     by_stop stops.Usage x = absurd (u x)
     by_stop (stops.Script f) x = absurd (refused-asks text a.0 stop a.1 (ap status_of x) (r (ap status_of x)))

@@ -1,5 +1,5 @@
 -- What a run that ended well did, what refuses a script or a dataset, and what each status leaves.
-use Rattle.std.specs.Prelude.{ℕ, ◌^◌, ◌≡◌, ◌⊎◌, Bool, true, false, List, [], take, Option, Some, None, Ok, Err, IfSome, IsSomeAnd}
+use Rattle.std.specs.Prelude.{ℕ, ◌^◌, ◌≡◌, ◌⊎◌, true, false, List, [], take, Option, Some, None, Ok, Err, IfSome, IsSomeAnd}
 use Rattle.nc_base.specs.declared.errors.HeaderErr.{HeaderErr}
 use Rattle.nc_base.specs.declared.errors.LayoutErr.{LayoutErr}
 use Rattle.nc_base.specs.declared.header.Header.{Header}

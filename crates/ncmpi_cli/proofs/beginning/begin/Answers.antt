@@ -1,4 +1,3 @@
-use Rattle.std.proofs.Common.{◌≡◌}
 use Rattle.ncmpi_cli.proofs.Ready.{unlaid}
 use Rattle.ncmpi_cli.proofs.beginning.begin.Goals as goal
 

@@ -1,4 +1,4 @@
-use Rattle.std.proofs.Common.{◌≡◌, ◌<◌, ◌≤◌, ◌^◌, true, sym, subst, arith}
+use Rattle.std.proofs.Common.{◌≡◌, true, sym, subst, arith}
 use Rattle.nc_base.specs.declared.header.Header.{Header}
 use Rattle.var_layout.specs.Unplaced.{has_writable_parts, is_unplaced}
 use Rattle.script_laws.proofs.HeaderLaws.{read_unplaced, read_writable}

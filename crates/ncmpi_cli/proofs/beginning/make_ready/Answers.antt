@@ -1,4 +1,3 @@
-use Rattle.std.proofs.Common.{◌≡◌, true}
 use Rattle.ncmpi_cli.proofs.Created.{sound_written}
 use Rattle.ncmpi_cli.proofs.Ready.{all-long, all-plain, all-ready, bad-opened, ready-created, ready-plain}
 use Rattle.ncmpi_cli.proofs.beginning.make_ready.Goals as goal

@@ -1,4 +1,4 @@
-use Rattle.std.proofs.Common.{◌≡◌, ◌≤◌, ◌-◌, ℕ, List, true, refl, arith, ◌∙◌, ap, sym}
+use Rattle.std.proofs.Common.{◌≡◌, ◌-◌, ℕ, List, refl, arith, ◌∙◌, ap}
 use Rattle.nc_outside.specs.Told.{after}
 use Rattle.serial_spec.specs.File.{written}
 use Rattle.serial_spec.specs.Layout.{end_of}

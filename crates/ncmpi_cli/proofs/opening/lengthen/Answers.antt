@@ -1,4 +1,4 @@
-use Rattle.std.proofs.Common.{◌≤◌, arith}
+use Rattle.std.proofs.Common.{arith}
 use Rattle.var_layout.proofs.ElementPlaces.{sound_end}
 use Rattle.ncmpi_cli.proofs.opening.lengthen.Goals as goal
 

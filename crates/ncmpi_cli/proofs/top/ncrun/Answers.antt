@@ -41,9 +41,9 @@ returns-in-None-clause-ok g c = λ ended.
     let run = c.run_calls-end.ensures in
     let order : c.finish.result.order ≡ meetings (length c.own_calls.result.now) = c.finish.ensures.order ∙ run.order c.in-None.is in
     let lines : run_text script header end.order end.answers end.pending ≡ run_text script header c.finish.result.order (all_ok (length c.own_calls.result.now) ∷ []) (0 ∷ []) =
-        ap (λ (x : List (List Answer)). run_text script header end.order x end.pending) (run.answers c.in-None.is)
-        ∙ ap (λ (x : List ℕ). run_text script header end.order (all_ok (length c.own_calls.result.now) ∷ []) x) (run.pending c.in-None.is)
-        ∙ ap (λ (x : List Mark). run_text script header x (all_ok (length c.own_calls.result.now) ∷ []) (0 ∷ [])) (sym c.finish.ensures.order) in
+    ap (λ (x : List (List Answer)). run_text script header end.order x end.pending) (run.answers c.in-None.is)
+    ∙ ap (λ (x : List ℕ). run_text script header end.order (all_ok (length c.own_calls.result.now) ∷ []) x) (run.pending c.in-None.is)
+    ∙ ap (λ (x : List Mark). run_text script header x (all_ok (length c.own_calls.result.now) ∷ []) (0 ∷ [])) (sym c.finish.ensures.order) in
     record {
       text = run_text script header end.order end.answers end.pending;
       ran = ran script header c.own_calls.result.now _ _ _ (g.D.Disk.held c.begin.new.disk) _ c.finish.result.order (run_text script header end.order end.answers end.pending)
@@ -63,9 +63,9 @@ returns-in-None-clause-front g c = λ ended.
     let run = c.run_calls-end.ensures in
     let order : c.finish.result.order ≡ meetings (length c.own_calls.result.now) = c.finish.ensures.order ∙ run.order c.in-None.is in
     let lines : run_text script header end.order end.answers end.pending ≡ run_text script header c.finish.result.order (all_ok (length c.own_calls.result.now) ∷ []) (0 ∷ []) =
-        ap (λ (x : List (List Answer)). run_text script header end.order x end.pending) (run.answers c.in-None.is)
-        ∙ ap (λ (x : List ℕ). run_text script header end.order (all_ok (length c.own_calls.result.now) ∷ []) x) (run.pending c.in-None.is)
-        ∙ ap (λ (x : List Mark). run_text script header x (all_ok (length c.own_calls.result.now) ∷ []) (0 ∷ [])) (sym c.finish.ensures.order) in
+    ap (λ (x : List (List Answer)). run_text script header end.order x end.pending) (run.answers c.in-None.is)
+    ∙ ap (λ (x : List ℕ). run_text script header end.order (all_ok (length c.own_calls.result.now) ∷ []) x) (run.pending c.in-None.is)
+    ∙ ap (λ (x : List Mark). run_text script header x (all_ok (length c.own_calls.result.now) ∷ []) (0 ∷ [])) (sym c.finish.ensures.order) in
     let given = c.finish.ensures.front ended in
     record {
       text = run_text script header end.order end.answers end.pending;
