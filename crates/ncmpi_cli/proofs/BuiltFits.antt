@@ -15,7 +15,7 @@ use Rattle.serial_spec.specs.Request.{value_at}
 use Rattle.type_external.specs.Refusals.{kinds_refusal, range_if, refusal, value_refusal}
 use Rattle.imap_extents.proofs.PositionLaws.{range_more}
 
-pub right_code : (c : Code) → is_ok_code c ≡ true → c ≡ code.Ok
+right_code : (c : Code) → is_ok_code c ≡ true → c ≡ code.Ok
 right_code code.Ok h = refl
 right_code c h = absurd (cc)
 

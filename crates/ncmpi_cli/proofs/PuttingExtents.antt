@@ -28,7 +28,7 @@ use Rattle.vara_extents.proofs.AcceptedLaws.{passed}
 use Rattle.vara_extents.proofs.NumberLaws.{length-places}
 use Rattle.vara_extents.proofs.PlaceLaws.{extents_inside}
 use Rattle.vara_extents.proofs.WriteLaws.{bytes_in, bytes_in_joined, extents_put}
-use Rattle.ncmpi_cli.proofs.PuttingPlain.{few_elements}
+use Rattle.ncmpi_cli.proofs.PuttingPlain.{few_elements, of_some}
 
 pub some_weaker : {A : Type 0} (P Q : A → Type 0) (o : Option A) → ((x : A) → o ≡ Some x → P x → Q x) → IfSome o P → IfSome o Q
 some_weaker P Q None f h = tt
@@ -102,12 +102,20 @@ pub record IsFirst (e : Extent) (from len : ℕ) (bytes : List ℕ) : Type 0 whe
   pub there : from + e.len ≤ length bytes
   pub inside : e.at + e.len ≤ len
 
-pub first_left : (left es : List Extent) (e : Extent) (from len : ℕ) (bytes : List ℕ) (held whole : Option (List ℕ)) → left ≡ e ∷ es → IsLeft left from len bytes held whole
+first_left : (left es : List Extent) (e : Extent) (from len : ℕ) (bytes : List ℕ) (held whole : Option (List ℕ)) → left ≡ e ∷ es → IsLeft left from len bytes held whole
     → IsFirst e from len bytes
 first_left left es e from len bytes held whole is h =
     let count : bytes_in left ≡ e.len + bytes_in es = ap bytes_in is in
     let all : AreInside len (e ∷ es) = subst (AreInside len) is h.inside in
     record { small = h.small; there = omega (arith, h.room, count); inside = all.0 }
+
+-- the same, where the variable is that of an accepted region
+pub first_of : (header : Header) (k : ℕ) (g : Region) (left es : List Extent) (e : Extent) (from len : ℕ) (bytes : List ℕ) (held before : Option (List ℕ)) → check header k g 0 Put ≡ code.Ok
+    → left ≡ e ∷ es → IfSome (slice_get header.vars k) (λ v. IsLeft left from len bytes held (after (put header v g bytes) before)) → IsFirst e from len bytes
+first_of header k g left es e from len bytes held before ok is h =
+    let there = there_is header k g ok in
+    first_left left es e from len bytes held (after (put header there.0 g bytes) before) is
+    (of_some (λ v. IsLeft left from len bytes held (after (put header v g bytes) before)) (slice_get header.vars k) there.0 there.1 h)
 
 -- it is written, and the others are left
 pub next_left : (left es : List Extent) (e : Extent) (from end len long : ℕ) (bytes part : List ℕ) (held now whole : Option (List ℕ)) → left ≡ e ∷ es → IsLeft left from len bytes held whole

@@ -1,7 +1,5 @@
 -- One call more.
-use Rattle.std.proofs.Common.{◌≡◌, ℕ, zero, suc, ◌+◌, ◌<◌, refl, sym, ap, ◌∙◌, List, [], ◌∷◌, ◌++◌, length, get_or, take, Bool, true, Option, Some, None, arith}
-use Rattle.std.specs.List.{list_all}
-use Rattle.std.proofs.lemmas.Bool.{and_parts}
+use Rattle.std.proofs.Common.{◌≡◌, ℕ, ◌+◌, ◌<◌, refl, sym, ap, ◌∙◌, List, [], ◌∷◌, ◌++◌, length, get_or, take, Option, Some, None, arith}
 use Rattle.std.proofs.lemmas.List.FromFn.{map-range_with_len_more}
 use Rattle.std.proofs.lemmas.List.Sums.{fold_more}
 use Rattle.nc_base.specs.declared.header.Header.{Header}
@@ -10,11 +8,7 @@ use Rattle.nc_base.specs.declared.step.Mark.TheVariants.{Meet}
 use Rattle.nc_outside.specs.Told.{after}
 use Rattle.ncmpi_cli.specs.Plain.{after_call, after_calls, meetings}
 
-pub passes_at : {A : Type 0} (test : A → Bool) (xs : List A) (i : ℕ) (d : A) → list_all test xs ≡ true → i < length xs → test (get_or xs i d) ≡ true
-passes_at test [] i d h k = absurd (omega arith)
-passes_at test (x ∷ xs) zero d h k = (and_parts (test x) (list_all test xs) h).0
-passes_at test (x ∷ xs) (suc i) d h k = passes_at test xs i d (and_parts (test x) (list_all test xs) h).1 (omega arith)
-
+-- the marks of one meeting more
 pub one_meeting : (k : ℕ) → meetings k ++ Meet k ∷ [] ≡ meetings (k + 1)
 one_meeting k = sym (map-range_with_len_more (λ n. Meet n) 0 k k (omega arith))
 

@@ -9,7 +9,7 @@ use Rattle.serial_spec.specs.Layout.{is_record, product}
 use Rattle.serial_spec.specs.Request.{put}
 use Rattle.vara_extents.specs.Joined.{extents_of}
 use Rattle.vara_extents.specs.Left.{extents_left}
-use Rattle.ncmpi_cli.proofs.PuttingExtents.{IsLeft, all_left, cause_later, first_left, next_left, none_left, some_weaker, there_is}
+use Rattle.ncmpi_cli.proofs.PuttingExtents.{IsLeft, all_left, cause_later, first_of, next_left, none_left, some_weaker, there_is}
 use Rattle.ncmpi_cli.proofs.PuttingPlain.{if_is, of_some}
 use Rattle.ncmpi_cli.proofs.putting.write_region.Goals as goal
 
@@ -38,29 +38,20 @@ loop-extent-init g c =
 
 pub overflow_add-end : goal.overflow_add-end
 overflow_add-end g c =
-    let there = there_is c.args.header.now c.args.var c.args.region.now c.requires.accepted in
-    let first = first_left (extents_left c.loop-extent.extent-iterator) (extents_left c.next.new.self) c.in-Some.extent c.loop-extent.from (g.D.Disk.len c.loop-extent.disk) c.args.bytes.now
-    (g.D.Disk.held c.loop-extent.disk) (after (put c.args.header.now there.0 c.args.region.now c.args.bytes.now) (g.D.Disk.held c.args.disk.now)) c.in-Some.ensures.steps
-    (of_some (λ v. IsLeft (extents_left c.loop-extent.extent-iterator) c.loop-extent.from (g.D.Disk.len c.loop-extent.disk) c.args.bytes.now (g.D.Disk.held c.loop-extent.disk)
-    (after (put c.args.header.now v c.args.region.now c.args.bytes.now) (g.D.Disk.held c.args.disk.now))) (slice_get c.args.header.now.vars c.args.var) there.0 there.1 c.loop-extent.invariant.left) in
+    let first = first_of c.args.header.now c.args.var c.args.region.now (extents_left c.loop-extent.extent-iterator) (extents_left c.next.new.self) c.in-Some.extent c.loop-extent.from
+    (g.D.Disk.len c.loop-extent.disk) c.args.bytes.now (g.D.Disk.held c.loop-extent.disk) (g.D.Disk.held c.args.disk.now) c.requires.accepted c.in-Some.ensures.steps c.loop-extent.invariant.left in
     omega (arith, first.small, first.there)
 
 pub slice_bounds-write_at-end : goal.slice_bounds-write_at-end
 slice_bounds-write_at-end g c =
-    let there = there_is c.args.header.now c.args.var c.args.region.now c.requires.accepted in
-    let first = first_left (extents_left c.loop-extent.extent-iterator) (extents_left c.next.new.self) c.in-Some.extent c.loop-extent.from (g.D.Disk.len c.loop-extent.disk) c.args.bytes.now
-    (g.D.Disk.held c.loop-extent.disk) (after (put c.args.header.now there.0 c.args.region.now c.args.bytes.now) (g.D.Disk.held c.args.disk.now)) c.in-Some.ensures.steps
-    (of_some (λ v. IsLeft (extents_left c.loop-extent.extent-iterator) c.loop-extent.from (g.D.Disk.len c.loop-extent.disk) c.args.bytes.now (g.D.Disk.held c.loop-extent.disk)
-    (after (put c.args.header.now v c.args.region.now c.args.bytes.now) (g.D.Disk.held c.args.disk.now))) (slice_get c.args.header.now.vars c.args.var) there.0 there.1 c.loop-extent.invariant.left) in
+    let first = first_of c.args.header.now c.args.var c.args.region.now (extents_left c.loop-extent.extent-iterator) (extents_left c.next.new.self) c.in-Some.extent c.loop-extent.from
+    (g.D.Disk.len c.loop-extent.disk) c.args.bytes.now (g.D.Disk.held c.loop-extent.disk) (g.D.Disk.held c.args.disk.now) c.requires.accepted c.in-Some.ensures.steps c.loop-extent.invariant.left in
     first.there
 
 pub write_at-requires-clause-high : goal.write_at-requires-clause-high
 write_at-requires-clause-high g c =
-    let there = there_is c.args.header.now c.args.var c.args.region.now c.requires.accepted in
-    let first = first_left (extents_left c.loop-extent.extent-iterator) (extents_left c.next.new.self) c.in-Some.extent c.loop-extent.from (g.D.Disk.len c.loop-extent.disk) c.args.bytes.now
-    (g.D.Disk.held c.loop-extent.disk) (after (put c.args.header.now there.0 c.args.region.now c.args.bytes.now) (g.D.Disk.held c.args.disk.now)) c.in-Some.ensures.steps
-    (of_some (λ v. IsLeft (extents_left c.loop-extent.extent-iterator) c.loop-extent.from (g.D.Disk.len c.loop-extent.disk) c.args.bytes.now (g.D.Disk.held c.loop-extent.disk)
-    (after (put c.args.header.now v c.args.region.now c.args.bytes.now) (g.D.Disk.held c.args.disk.now))) (slice_get c.args.header.now.vars c.args.var) there.0 there.1 c.loop-extent.invariant.left) in
+    let first = first_of c.args.header.now c.args.var c.args.region.now (extents_left c.loop-extent.extent-iterator) (extents_left c.next.new.self) c.in-Some.extent c.loop-extent.from
+    (g.D.Disk.len c.loop-extent.disk) c.args.bytes.now (g.D.Disk.held c.loop-extent.disk) (g.D.Disk.held c.args.disk.now) c.requires.accepted c.in-Some.ensures.steps c.loop-extent.invariant.left in
     let long = length-take (c.loop-extent.from + c.in-Some.extent.len - c.loop-extent.from) (drop c.loop-extent.from c.args.bytes.now) in
     omega (arith, first.inside, long)
 
