@@ -1,8 +1,7 @@
-pub mod Thin
 pub mod Limits
-pub mod OnePut
 pub mod Words
-pub mod Headline
+pub mod Built
+pub mod Plain
 pub mod Stops
-pub mod Says
-pub mod Reading
+pub mod Headline
+pub mod Opening

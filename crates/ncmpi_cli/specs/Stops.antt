@@ -1,12 +1,17 @@
 -- What each early end becomes.
 use Rattle.std.specs.Prelude.{ℕ, ◌==◌, List, Option, Some, None, codes, if◌then◌else◌}
+use Rattle.nc_base.specs.declared.errors.HeaderErr.{HeaderErr}
+use Rattle.nc_base.specs.declared.errors.HeaderErr.TheVariants as header
+use Rattle.nc_base.specs.declared.errors.ScriptErr.{ScriptErr}
+use Rattle.nc_base.specs.declared.errors.ScriptKind.{ScriptKind}
+use Rattle.nc_base.specs.declared.errors.ScriptKind.TheVariants as kind
 use Rattle.nc_outside.specs.declared.disk.DiskErr.{DiskErr}
 use Rattle.nc_outside.specs.declared.disk.DiskErr.TheVariants as disk
-use Rattle.script_spec.specs.Texts.{disk_line, text_line, usage_line}
+use Rattle.script_spec.specs.Texts.{disk_line, header_line, layout_line, script_line, text_line, usage_line}
 use Rattle.ncmpi_cli.specs.declared.streams.TakeErr.{TakeErr}
 use Rattle.ncmpi_cli.specs.declared.streams.TakeErr.TheVariants as take
 use Rattle.ncmpi_cli.specs.declared.stop.Stop.{Stop}
-use Rattle.ncmpi_cli.specs.declared.stop.Stop.TheVariants.{Usage, NotBuilt, Source, Disk, Memory}
+use Rattle.ncmpi_cli.specs.declared.stop.Stop.TheVariants.{Usage, Script, NotBuilt, Header, Layout, Source, Disk, Memory}
 
 abbrev pub stop_of_disk : DiskErr → Stop
 stop_of_disk disk.Failed = Disk
@@ -14,28 +19,73 @@ stop_of_disk disk.Memory = Memory
 
 abbrev pub stop_of_take : TakeErr → Stop
 stop_of_take take.Fault = Source
-stop_of_take take.TooLong = NotBuilt
 stop_of_take take.Memory = Memory
 
-abbrev pub status_number : Stop → ℕ
-status_number Usage = 2
-status_number NotBuilt = 3
-status_number Source = 5
-status_number Disk = 7
-status_number Memory = 8
+abbrev pub stop_of_header : HeaderErr → Stop
+stop_of_header header.Memory = Memory
+stop_of_header e = Header e
 
--- the line of a text that is not built
+abbrev pub stop_of_kind : ScriptErr → ScriptKind → Stop
+stop_of_kind e kind.Memory = Memory
+stop_of_kind e _ = Script e
+
+abbrev pub stop_of_script : ScriptErr → Stop
+stop_of_script e = stop_of_kind e e.kind
+
+abbrev pub status_of : Stop → ℕ
+status_of Usage = 2
+status_of (Script e) = 3
+status_of NotBuilt = 3
+status_of (Header e) = 4
+status_of (Layout e) = 4
+status_of Source = 5
+status_of Disk = 7
+status_of Memory = 8
+
+-- the line of a script that is not built
 abbrev pub not_built_line : List ℕ
 not_built_line = text_line (codes "ncrun: script line 1: not built")
 
 -- the line that tells a stop
 abbrev pub line_of : Stop → Option (List ℕ)
 line_of Usage = Some usage_line
+line_of (Script e) = Some (script_line e)
 line_of NotBuilt = Some not_built_line
-line_of Disk = Some disk_line
+line_of (Header e) = Some (header_line e)
+line_of (Layout e) = Some (layout_line e)
 line_of Source = None
+line_of Disk = Some disk_line
 line_of Memory = None
 
--- the line that goes with a status
+-- the line of a status that has one line
 abbrev pub line_of_status : ℕ → Option (List ℕ)
-line_of_status status = if status == 2 then line_of Usage else (if status == 3 then line_of NotBuilt else (if status == 7 then line_of Disk else None))
+line_of_status status = if status == 2 then Some usage_line else (if status == 7 then Some disk_line else None)
+
+-- the line of a stop that has always the same one
+abbrev pub fixed_line_of : Stop → Option (List ℕ)
+fixed_line_of Usage = Some usage_line
+fixed_line_of NotBuilt = Some not_built_line
+fixed_line_of Disk = Some disk_line
+fixed_line_of _ = None
+
+-- taking the script ends early by these alone
+abbrev pub IsOfTaking : Stop → Type 0
+IsOfTaking (Script e) = Unit {0}
+IsOfTaking NotBuilt = Unit {0}
+IsOfTaking Source = Unit {0}
+IsOfTaking Memory = Unit {0}
+IsOfTaking _ = ⊥
+
+-- laying out ends early by these alone
+abbrev pub IsOfLayout : Stop → Type 0
+IsOfLayout (Layout e) = Unit {0}
+IsOfLayout Memory = Unit {0}
+IsOfLayout _ = ⊥
+
+-- making the dataset ready ends early by these alone
+abbrev pub IsOfDataset : Stop → Type 0
+IsOfDataset (Header e) = Unit {0}
+IsOfDataset (Layout e) = Unit {0}
+IsOfDataset Disk = Unit {0}
+IsOfDataset Memory = Unit {0}
+IsOfDataset _ = ⊥

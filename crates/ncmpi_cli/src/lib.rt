@@ -1,18 +1,23 @@
 //! The program's top call, and the real source, sink and disk for it.
 #![tactic(auto)]
 
-mod dataset;
+mod beginning;
+mod built;
+mod creating;
+mod ending;
 mod file_disk;
-mod one_put;
-mod reading;
+mod opening;
+mod putting;
+mod running;
 mod std_sink;
 mod std_source;
 mod stop;
 mod streams;
-mod texts;
+mod taking;
 mod top;
 
 pub use file_disk::FileDisk;
+pub use printed_text::{offsets_text, run_text};
 pub use std_sink::StdSink;
 pub use std_source::StdSource;
 pub use top::{Outcome, ncrun};

@@ -1,19 +1,22 @@
 // Why a run ends early.
-ghost use Rattle.std.specs.Prelude.{◌≡◌};
-ghost use Rattle.nc_outside.specs.declared.disk.DiskErr.{DiskErr};
-ghost use Rattle.ncmpi_cli.specs.declared.streams.TakeErr.{TakeErr};
-ghost use Rattle.ncmpi_cli.specs.declared.stop.Stop.TheVariants.{Memory};
-ghost use Rattle.ncmpi_cli.specs.Stops.{stop_of_disk, stop_of_take, status_number, line_of};
+ghost use Rattle.std.specs.Prelude.{◌≡◌, None, IfOk, IsOk};
 ghost use Rattle.std.specs.Option.{option_map};
+ghost use Rattle.ncmpi_cli.specs.declared.stop.Stop.TheVariants.{Layout, Memory};
+ghost use Rattle.ncmpi_cli.specs.Stops.{fixed_line_of, line_of, status_of, stop_of_disk, stop_of_header, stop_of_script, stop_of_take};
 
 use crate::streams::TakeErr;
+use nc_base::{Blob, HeaderErr, LayoutErr, ScriptErr, ScriptKind};
 use nc_outside::DiskErr;
-use std::alloc::AllocError;
+use printed_text::{disk_line, header_line, layout_line, script_line, usage_line};
+use std::alloc::{AllocError, Global};
 
 #[derive(Clone, Copy, Debug, PartialEq, Eq)]
 pub(crate) enum Stop {
     Usage,
+    Script(ScriptErr),
     NotBuilt,
+    Header(HeaderErr),
+    Layout(LayoutErr),
     Source,
     Disk,
     Memory,
@@ -41,9 +44,27 @@ impl From<TakeErr> for Stop {
     fn from(e: TakeErr) -> Self {
         match e {
             TakeErr::Fault => Stop::Source,
-            TakeErr::TooLong => Stop::NotBuilt,
             TakeErr::Memory => Stop::Memory,
         }
+    }
+}
+
+impl From<ScriptErr> for Stop {
+    ghost from_gives = { λ e stop. stop ≡ stop_of_script e };
+
+    fn from(e: ScriptErr) -> Self {
+        match e.kind {
+            ScriptKind::Memory => Stop::Memory,
+            _ => Stop::Script(e),
+        }
+    }
+}
+
+impl From<LayoutErr> for Stop {
+    ghost from_gives = { λ e stop. stop ≡ Layout e };
+
+    fn from(e: LayoutErr) -> Self {
+        Stop::Layout(e)
     }
 }
 
@@ -58,31 +79,55 @@ impl From<DiskErr> for Stop {
     }
 }
 
+impl From<HeaderErr> for Stop {
+    ghost from_gives = { λ e stop. stop ≡ stop_of_header e };
+
+    fn from(e: HeaderErr) -> Self {
+        match e {
+            HeaderErr::Memory => Stop::Memory,
+            _ => Stop::Header(e),
+        }
+    }
+}
+
 impl Stop {
     /// The status that the program ends with.
     pub(crate) fn status(self) -> u8
-        ensures { result ≡ status_number self }
+        ensures { result ≡ status_of self }
     {
         match self {
             Stop::Usage => 2,
-            Stop::NotBuilt => 3,
+            Stop::Script(_) | Stop::NotBuilt => 3,
+            Stop::Header(_) | Stop::Layout(_) => 4,
             Stop::Source => 5,
             Stop::Disk => 7,
             Stop::Memory => 8,
         }
     }
 
-    /// The line that tells it, where one does.
-    pub(crate) fn line(self) -> Option<&'static [u8]>
-        ensures { option_map (λ line. line.now) result ≡ line_of self }
+    /// The line that tells it, where that is always the same.
+    pub(crate) fn fixed_line(self) -> Option<&'static [u8]>
+        ensures { option_map (λ line. line.now) result ≡ fixed_line_of self }
     {
         match self {
-            Stop::Usage => Some(
-                b"ncrun: usage: ncrun [--offsets] [--generate SEED [--size N]] [--watch N] DATASET\n",
-            ),
+            Stop::Usage => Some(usage_line()),
             Stop::NotBuilt => Some(b"ncrun: script line 1: not built\n"),
-            Stop::Disk => Some(b"ncrun: disk fault\n"),
-            Stop::Source | Stop::Memory => None,
+            Stop::Disk => Some(disk_line()),
+            _ => None,
+        }
+    }
+
+    /// The line that tells it, where one is made for it.
+    pub(crate) fn made_line(self, alloc: Global) -> Result<Option<Blob>, nc_base::Memory>
+        requires { fixed_line_of self ≡ None }
+        ensures line { IfOk result (λ line. line ≡ line_of self) }
+        ensures none { line_of self ≡ None → IsOk result }
+    {
+        match self {
+            Stop::Script(e) => Ok(Some(script_line(alloc, &e)?)),
+            Stop::Header(e) => Ok(Some(header_line(alloc, &e)?)),
+            Stop::Layout(e) => Ok(Some(layout_line(alloc, &e)?)),
+            _ => Ok(None),
         }
     }
 }

@@ -1,4 +1,12 @@
 pub mod AcceptedLaws
 pub mod BoxLaws
 pub mod CountLaws
+pub mod JoinLaws
+pub mod NumberLaws
+pub mod OnceLaws
 pub mod PartLaws
+pub mod PlaceLaws
+pub mod RowSteps
+pub mod RunLaws
+pub mod WalkLaws
+pub mod WriteLaws

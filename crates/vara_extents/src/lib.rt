@@ -6,13 +6,18 @@
 
 mod causes;
 mod forms;
+mod laws;
 mod needs;
 mod parts;
+mod runs;
+mod walk;
 
 pub use causes::check;
 pub use forms::widen;
+pub use laws::{extents_law, writing_law};
 pub use needs::records_needed;
 pub use parts::check_parts;
+pub use walk::Extents;
 
 #[cfg(test)]
 mod tests;

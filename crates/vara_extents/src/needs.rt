@@ -1,5 +1,5 @@
 // What a region needs of memory and of the file.
-ghost use Rattle.std.specs.Prelude.{◌≡◌, ◌+◌, ◌-◌, ◌*◌, ◌<◌, ◌≤◌, ◌^◌, nat_le, false, length, slice_get, slice_index, IfSome};
+ghost use Rattle.std.specs.Prelude.{◌≡◌, ◌+◌, ◌-◌, ◌*◌, ◌<◌, ◌≤◌, ◌^◌, nat_le, false, length, slice_get, slice_index, IfSome, Some};
 ghost use Rattle.std.specs.Option.{option_copied};
 ghost use Rattle.serial_spec.specs.Layout as layout;
 ghost use Rattle.serial_spec.specs.Limits as limits;
@@ -124,6 +124,14 @@ pub fn records_needed(header: &Header, var: usize, region: &Region) -> u64
         None => 0,
         Some(var) => records(header, var, region),
     }
+}
+
+/// The variable at this place of the header's list, which has one there.
+pub(crate) fn variable_at(header: &Header, var: usize) -> &Var
+    requires { var < length header.now.vars }
+    ensures { slice_get header.now.vars var ≡ Some result.now }
+{
+    &header.vars.as_slice()[var]
 }
 
 /// The variable at this place of the header's list.

@@ -1,7 +1,10 @@
-use crate::{check, check_parts, widen};
+mod extents;
+mod parts;
+
+use crate::{check, widen};
 use nc_base::{
-    AttrList, CallErr, Code, Dim, DimList, Direction, Form, Given, Header, IdList, Memory, Name,
-    NcType, Part, PartList, Region, SizeList, Var, VarList,
+    AttrList, Code, Dim, DimList, Direction, Form, Given, Header, IdList, Memory, Name, NcType,
+    PartList, Region, SizeList, Var, VarList,
 };
 use std::alloc::Global;
 use std::test::Fail;
@@ -86,43 +89,5 @@ fn a_whole_variable_has_the_known_records(rt: HostRuntime) -> Result<(), Fail> {
     assert_eq!(rt; header.vars.len(), 1);
     let region = widen(alloc, &header, 0, &given, 3)?;
     assert!(rt; region == region_of(alloc, 0, 3, 1)?);
-    Ok(())
-}
-
-/// A call on two boxes of one dimension, each with its start and count.
-fn given_of(alloc: Global, boxes: [(u64, u64); 2]) -> Result<Given, Memory> {
-    let mut parts = PartList::new(alloc);
-    for (start, count) in boxes {
-        parts.push(Part {
-            start: one(alloc, start)?,
-            count: one(alloc, count)?,
-        })?;
-    }
-    Ok(Given {
-        form: Form::Varn,
-        start: SizeList::new(alloc),
-        count: SizeList::new(alloc),
-        stride: SizeList::new(alloc),
-        imap: SizeList::new(alloc),
-        parts,
-    })
-}
-
-#[test]
-fn causes_of_refusals_of_parts(rt: HostRuntime) -> Result<(), Fail> {
-    let alloc = rt.alloc();
-    let header = header_of(alloc, 2000000)?;
-    for (first, second, code) in [
-        ((0, 2), (2, 2), Code::Ok),
-        ((0, 3), (2, 2), Code::ESelf),
-        ((1999999, 2), (2000000, 1), Code::EEdge),
-        ((0, 1048576), (1048576, 1), Code::ETooLarge),
-    ] {
-        let given = given_of(alloc, [first, second])?;
-        match check_parts(alloc, &header, 0, &given, 0, Direction::Put) {
-            Ok(()) => assert!(rt; code == Code::Ok),
-            Err(refusal) => assert!(rt; refusal == CallErr::Code(code)),
-        }
-    }
     Ok(())
 }

@@ -1,0 +1,41 @@
+-- The file of a created dataset.
+use Rattle.std.proofs.Common.{◌≡◌, ℕ, ◌+◌, ◌-◌, ◌≤◌, List, [], ◌++◌, length, true, drop, replicate, Option, ap, ◌∙◌, arith}
+use Rattle.std.proofs.lemmas.List.{drop-replicate}
+use Rattle.nc_base.specs.declared.header.Header.{Header}
+use Rattle.nc_outside.specs.Told.{after}
+use Rattle.nc_outside.proofs.ToldLaws.{after-after}
+use Rattle.serial_spec.specs.File.{longer, written}
+use Rattle.serial_spec.specs.HeaderGrammar.{header_len, is_sound, is_writable}
+use Rattle.serial_spec.specs.Layout.{end_of}
+use Rattle.serial_spec.proofs.FileLaws.{written-front}
+use Rattle.serial_spec.proofs.SpellingLaws.{left}
+
+-- bytes at the front of zeros
+pub front-of-zeros : (bytes : List ℕ) (end : ℕ) → length bytes ≤ end → written (longer [] end) 0 bytes ≡ longer bytes end
+front-of-zeros bytes end long =
+    let rest : 0 + length bytes ≡ length bytes = omega arith in
+    written-front (longer [] end) 0 bytes
+    ∙ ap (λ (n : ℕ). bytes ++ drop n (longer [] end)) rest
+    ∙ ap (λ (t : List ℕ). bytes ++ t) (drop-replicate (length bytes) (end - 0) 0 ∙ ap (λ (n : ℕ). replicate n 0) plain)
+  where
+    plain : (end - 0) - length bytes ≡ end - length bytes
+    plain = omega arith
+
+-- emptied, grown and written
+pub created : (bytes : List ℕ) (end size place : ℕ) (old emptied grown new : Option (List ℕ)) → length bytes ≤ end → size ≡ end → place ≡ 0
+    → emptied ≡ after (λ _. []) old → grown ≡ after (λ file. longer file size) emptied → new ≡ after (λ file. written file place bytes) grown
+    → new ≡ after (λ _. longer bytes end) old
+created bytes end size place old emptied grown new long s p e g n =
+    n ∙ ap (λ (t : Option (List ℕ)). after (λ file. written file place bytes) t) (g ∙ ap (λ (t : Option (List ℕ)). after (λ file. longer file size) t) e)
+    ∙ ap (λ (t : Option (List ℕ)). after (λ file. written file place bytes) t) (after-after (λ file. longer file size) (λ _. []) old)
+    ∙ after-after (λ file. written file place bytes) (λ _. longer [] size) old
+    ∙ ap (λ (x : ℕ). after (λ _. written (longer [] size) x bytes) old) p
+    ∙ ap (λ (x : ℕ). after (λ _. written (longer [] x) 0 bytes) old) s
+    ∙ ap (λ (t : List ℕ). after (λ _. t) old) (front-of-zeros bytes end long)
+
+-- a file ends behind its header
+pub front_fits : (header : Header) (n : ℕ) → header_len header ≤ end_of header (header_len header) n
+front_fits header n = omega arith
+
+pub sound_written : (header : Header) → is_writable header ≡ true → is_sound header ≡ true
+sound_written header h = left _ _ (left _ _ (left _ _ (left _ _ h)))

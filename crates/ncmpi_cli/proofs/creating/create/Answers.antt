@@ -1,0 +1,25 @@
+use Rattle.std.proofs.Common.{◌≡◌, ◌-◌, ℕ, List, refl, arith, ◌∙◌, ap}
+use Rattle.nc_outside.specs.Told.{after}
+use Rattle.serial_spec.specs.File.{written}
+use Rattle.serial_spec.specs.Layout.{end_of}
+use Rattle.nc_base.specs.declared.header.Header.{Header}
+use Rattle.serial_spec.specs.HeaderGrammar.{canon, header_len}
+use Rattle.var_layout.proofs.ElementPlaces.{sound_end}
+use Rattle.ncmpi_cli.proofs.Created.{created, front_fits, sound_written}
+use Rattle.ncmpi_cli.proofs.creating.create.Goals as goal
+
+pub end_of-end-requires-clause-sound : goal.end_of-end-requires-clause-sound
+end_of-end-requires-clause-sound g c = sound_written c.args.header.now c.requires.writable
+
+pub end_of-end-requires-clause-below : goal.end_of-end-requires-clause-below
+end_of-end-requires-clause-below g c = sound_end c.args.header.now 0 (sound_written c.args.header.now c.requires.writable) (omega arith)
+
+pub returns-clause-bytes : goal.returns-clause-bytes
+returns-clause-bytes g c =
+    let h : Header = c.args.header.now in
+    let place : 0 - g.D.Disk.from c.grow.new.self ≡ 0 = omega arith in
+    created (canon h) (end_of h (header_len h) 0) (g.D.Disk.len c.grow.new.self) (0 - g.D.Disk.from c.grow.new.self)
+    (g.D.Disk.held c.args.disk.now) (g.D.Disk.held c.start.new.self) (g.D.Disk.held c.grow.new.self) (g.D.Disk.held c.write_at.new.self)
+    (front_fits h 0) (c.in_ok-grow.ensures.size ∙ c.end_of-end.ensures) place (c.in_ok-start.ensures.emptied refl).1 c.in_ok-grow.ensures.bytes
+    (c.in_ok-write_at.ensures.bytes
+    ∙ ap (λ (b : List ℕ). after (λ file. written file (0 - g.D.Disk.from c.grow.new.self) b) (g.D.Disk.held c.grow.new.self)) (c.as_slice.ensures ∙ c.in_ok-bytes.ensures))

@@ -1,0 +1,124 @@
+// What comes before the ranks: the words, the script and the dataset.
+ghost use Rattle.std.specs.Prelude.{◌≡◌, ◌↔◌, ◌≤◌, ◌∷◌, ℕ, List, [], true, false, is_some, IfOk, IfErr, OnOk, OnErr, IfSome, IsErrOf, Err, Some, None};
+ghost use Rattle.std.specs.List.{list_all};
+ghost use Rattle.nc_base.specs.declared.request.Call.{Call};
+ghost use Rattle.nc_outside.specs.Told.{after};
+ghost use Rattle.nc_outside.specs.Cause.{Rose};
+ghost use Rattle.serial_spec.specs.HeaderGrammar.{header_len, is_sound, is_writable};
+ghost use Rattle.serial_spec.specs.Layout.{end_of};
+ghost use Rattle.ncmpi_cli.specs.Built.{is_built, is_plain};
+ghost use Rattle.ncmpi_cli.specs.Headline.{align_of, Asks, created_header, IsBeforeStart, IsRead, IsReady, refusal, TellsDataset};
+ghost use Rattle.ncmpi_cli.specs.Stops.{IsOfDataset, IsOfLayout, line_of, status_of};
+ghost use Rattle.nc_base.specs.declared.errors.LayoutErr.{LayoutErr};
+ghost use Rattle.nc_base.specs.declared.script.Script.{Script};
+ghost use Rattle.script_spec.specs.ScriptGrammar.{Reads};
+ghost use Rattle.serial_spec.specs.Redefinition.{layout_fault};
+ghost use Rattle.ncmpi_cli.specs.Words.{texts, is_form};
+
+use crate::creating::create;
+use crate::opening::open;
+use crate::stop::Stop;
+use crate::taking::take_script;
+use nc_base::{Align, Header, Script};
+use nc_outside::{Disk, Source};
+use std::alloc::Global;
+use var_layout::lay_out;
+
+/// A script, and the header of its dataset, which is ready for the ranks.
+#[derive(Debug, Drop)]
+pub(crate) struct Begun {
+    pub(crate) script: Script,
+    pub(crate) header: Header,
+}
+
+/// Reads the script, and makes its dataset ready.
+pub(crate) fn begin<S: Source, D: Disk>(
+    alloc: Global,
+    words: &[&str],
+    source: &mut S,
+    disk: &mut D,
+) -> Result<Begun, Stop>
+    ensures asks { IfOk result (λ b. Asks (S.left source.old) b.script) }
+    ensures read { IfOk result (λ b. IsRead b.script) }
+    ensures taken { OnOk result (S.left source.new ≡ after (λ _. []) (S.left source.old)) }
+    ensures ready { IfOk result (λ b. IsReady b.script b.header (D.held disk.old) (D.held disk.new)) }
+    ensures from { OnOk result (D.from disk.new ≡ 0) }
+    ensures len { IfOk result (λ b. end_of b.header (header_len b.header) 0 ≤ D.len disk.new) }
+    ensures plain { IfOk result (λ b. (calls : List Call) → b.script.calls ≡ calls ∷ [] → list_all (is_plain b.header) calls ≡ true) }
+    ensures usage { IsErrOf result Stop.Usage ↔ (is_form (texts words.now) ≡ false) }
+    ensures refused { IfErr result (λ stop. status_of stop ≡ 3 → IfSome (S.left source.old) (λ text. refusal text ≡ line_of stop)) }
+    ensures bad { IfErr result (λ stop. status_of stop ≡ 4 → (script : Script) × (Asks (S.left source.old) script × IfSome (line_of stop) (TellsDataset script (D.held disk.old)))) }
+    ensures asked { IfErr result (λ stop. status_of stop ≡ 7 → (script : Script) × Asks (S.left source.old) script) }
+    ensures unlaid { IfErr result (λ stop. status_of stop ≡ 4 → IfSome (S.left source.old) (λ text. (s : Script) → Reads text s → s.fresh ≡ true → disk.new ≡ disk.old)) }
+    ensures unchanged { IfErr result (λ stop. status_of stop ≡ 4 → D.held disk.new ≡ D.held disk.old) }
+    ensures source { IsErrOf result Stop.Source → Rose (S.faults source.old) (S.faults source.new) }
+    ensures disk { IsErrOf result Stop.Disk → Rose (D.faults disk.old) (D.faults disk.new) }
+    ensures later { D.faults disk.old ≤ D.faults disk.new }
+    ensures not_taken { IsErrOf result Stop.Usage → source.new ≡ source.old }
+    ensures not_started { IfErr result (λ stop. IsBeforeStart (status_of stop) → disk.new ≡ disk.old) }
+{
+    let Some(name) = dataset_of(words) else {
+        return Err(Stop::Usage);
+    };
+    let script = take_script(alloc, source)?;
+    let header = make_ready(alloc, disk, name, &script)?;
+    Ok(Begun { script, header })
+}
+
+// Makes the dataset of the script ready for the ranks.
+fn make_ready<D: Disk>(
+    alloc: Global,
+    disk: &mut D,
+    name: &str,
+    script: &Script,
+) -> Result<Header, Stop>
+    requires read { IsRead script.now }
+    requires built { is_built script.now ≡ true }
+    ensures ready { IfOk result (λ header. IsReady script.now header (D.held disk.old) (D.held disk.new)) }
+    ensures from { OnOk result (D.from disk.new ≡ 0) }
+    ensures len { IfOk result (λ header. end_of header (header_len header) 0 ≤ D.len disk.new) }
+    ensures plain { IfOk result (λ header. (calls : List Call) → script.now.calls ≡ calls ∷ [] → list_all (is_plain header) calls ≡ true) }
+    ensures bad { IfErr result (λ stop. status_of stop ≡ 4 → IfSome (line_of stop) (TellsDataset script.now (D.held disk.old))) }
+    ensures unlaid { IfErr result (λ stop. status_of stop ≡ 4 → script.now.fresh ≡ true → disk.new ≡ disk.old) }
+    ensures unchanged { IfErr result (λ stop. status_of stop ≡ 4 → D.held disk.new ≡ D.held disk.old) }
+    ensures disk { IsErrOf result Stop.Disk → Rose (D.faults disk.old) (D.faults disk.new) }
+    ensures later { D.faults disk.old ≤ D.faults disk.new }
+    ensures only { IfErr result IsOfDataset }
+{
+    if script.fresh {
+        let header = laid_out(alloc, script)?;
+        create(alloc, disk, name, &header)?;
+        Ok(header)
+    } else {
+        open(alloc, disk, name)
+    }
+}
+
+// The header of the dataset that the script creates.
+fn laid_out(alloc: Global, script: &Script) -> Result<Header, Stop>
+    requires read { IsRead script.now }
+    requires fresh { script.now.fresh ≡ true }
+    ensures header { IfOk result (λ header. header ≡ created_header script.now) }
+    ensures writable { IfOk result (λ header. is_writable header ≡ true) }
+    ensures faultless { OnOk result (layout_fault script.now.header (align_of script.now.hints) ≡ None) }
+    ensures refused { (e : LayoutErr) → result ≡ Err (Stop.Layout e) → layout_fault script.now.header (align_of script.now.hints) ≡ Some e }
+    ensures only { IfErr result IsOfLayout }
+{
+    let mut header = script.header.clone(alloc)?;
+    let align = Align {
+        header: script.hints.header_align,
+        var: script.hints.var_align,
+    };
+    lay_out(&mut header, &align)?;
+    Ok(header)
+}
+
+// The dataset's word, where the words are of the form.
+fn dataset_of<'a>(words: &[&'a str]) -> Option<&'a str>
+    ensures { is_some result ≡ is_form (texts words.now) }
+{
+    match words {
+        [word] if !word.as_bytes().starts_with(b"-") => Some(*word),
+        _ => None,
+    }
+}

@@ -1,0 +1,120 @@
+// Runs that are refused, or that something outside fails.
+use crate::tests::{OLD, PLAIN, Run, Want, all_end, ends};
+use std::test::*;
+
+const PUT: &[u8] =
+    b"create 1\nranks 1\ndim x 4\nvar int v [x]\ndata\n0 put_vara_all v [1] [2] 5 -1\nend\n";
+
+const USAGE: &[u8] =
+    b"ncrun: usage: ncrun [--offsets] [--generate SEED [--size N]] [--watch N] DATASET\n";
+
+#[test]
+fn words_of_no_form_are_answered_with_the_usage(rt: HostRuntime) -> Result<(), Fail> {
+    let run = Run {
+        script: PUT,
+        ..PLAIN
+    };
+    let want = Want {
+        status: 2,
+        given: USAGE,
+        held: OLD,
+    };
+    ends(&rt, rt.alloc(), &[], &run, &want)?;
+    ends(&rt, rt.alloc(), &["-d.nc"], &run, &want)?;
+    ends(&rt, rt.alloc(), &["d.nc", "e.nc"], &run, &want)
+}
+
+const NOT_BUILT: &[u8] = b"ncrun: script line 1: not built\n";
+
+// The first fault of a script and its line; a script without a fault that is not built comes after every fault.
+const REFUSED: [(&[u8], &[u8]); 8] = [
+    (
+        b"create 1\nranks 2\ndim x 4\nvar int v [x]\ndata\n0 iput_var1 0 v [0] 9\n0 wait_all all\nend\n",
+        b"ncrun: script line 8: ranks 0 and 1 differ at collective call 0\n",
+    ),
+    (
+        b"create 1\nranks 2\ndim x 4\nvar int v [x]\ndata\n0 put_vara_all v [0] [2] 1 2\n1 put_vara_all v [2] [2] 3 4\n",
+        b"ncrun: script line 8: no end\n",
+    ),
+    (
+        b"create 1\nranks 2\ndim x 4\nvar int v [x]\ndata\n0 put_vara_all v [0] [2] 1 2\n1 put_vara_all v [2] [2] 3 4\nend\nx\n",
+        b"ncrun: script line 9: text after end\n",
+    ),
+    (
+        b"create 1\nranks 2\ndim x 4\nvar int v [x]\ndata\n0 put_vara_all v [0] [2] 1 2\n1 put_vara_all v [2] [2] 3 4\nend\n",
+        NOT_BUILT,
+    ),
+    (
+        b"create 1\nranks 1\ndim x 4\nvar int v [x]\ndata\n0 put_vara_all v [3] [2] 1 2\nend\n",
+        NOT_BUILT,
+    ),
+    (
+        b"create 1\nranks 1\ndim x 4\nvar short v [x]\ndata\n0 put_vara_all v [0] [1] 40000\nend\n",
+        NOT_BUILT,
+    ),
+    (b"open\nranks 1\ndata\n0 get_var_all v\nend\n", NOT_BUILT),
+    (b"create 1\nranks 1\nfill\ndata\nend\n", NOT_BUILT),
+];
+
+#[test]
+fn a_script_that_is_refused_leaves_the_dataset(rt: HostRuntime) -> Result<(), Fail> {
+    for (script, given) in &REFUSED {
+        let run = Run { script, ..PLAIN };
+        let want = Want {
+            status: 3,
+            given,
+            held: OLD,
+        };
+        ends(&rt, rt.alloc(), &["d.nc"], &run, &want)?;
+    }
+    Ok(())
+}
+
+// A variable of 2400000000 bytes passes what a CDF-1 variable may have; the dataset is not started.
+#[test]
+fn a_layout_with_a_fault_is_told(rt: HostRuntime) -> Result<(), Fail> {
+    let run = Run {
+        script: b"create 1\nranks 1\ndim x 600000000\nvar int v [x]\ndata\nend\n",
+        ..PLAIN
+    };
+    let want = Want {
+        status: 4,
+        given: b"ncrun: variable 0 is too large\n",
+        held: OLD,
+    };
+    all_end(&rt, rt.alloc(), &[(run, want)])
+}
+
+const OUTSIDE: [(Run, Want); 2] = [
+    // The disk refuses to grow over byte 90, and has been emptied.
+    (
+        Run {
+            script: PUT,
+            growth: Some(90),
+            ..PLAIN
+        },
+        Want {
+            status: 7,
+            given: b"ncrun: disk fault\n",
+            held: &[],
+        },
+    ),
+    // The source fails before it was told to have ended.
+    (
+        Run {
+            script: PUT,
+            takes: &[1],
+            ..PLAIN
+        },
+        Want {
+            status: 5,
+            given: b"",
+            held: OLD,
+        },
+    ),
+];
+
+#[test]
+fn faults_of_disk_and_source_are_told_apart(rt: HostRuntime) -> Result<(), Fail> {
+    all_end(&rt, rt.alloc(), &OUTSIDE)
+}

@@ -1,0 +1,80 @@
+-- The element with a number.
+use Rattle.std.proofs.Common.{◌≡◌, ℕ, zero, suc, ◌+◌, ◌*◌, ◌/◌, ◌%◌, ◌<◌, ◌≤◌, refl, sym, ap, subst, ◌∙◌, List, [], ◌∷◌, length, map, drop, Some, arith}
+use Rattle.std.specs.Prelude.{slice_get}
+use Rattle.std.specs.List.{AllByRecursion}
+use Rattle.std.proofs.lemmas.Nat.{div-add-mod', div_below, mod_below, mul-le}
+use Rattle.std.proofs.Math.Nat.{lt_of_mul-lt-mul_right}
+use Rattle.nc_base.specs.declared.header.Header.{Header}
+use Rattle.nc_base.specs.declared.header.Var.{Var}
+use Rattle.nc_base.specs.declared.plan.Extent.{Extent}
+use Rattle.nc_base.specs.declared.request.Region.{Region}
+use Rattle.serial_spec.specs.ExternalForm.{size_of}
+use Rattle.serial_spec.specs.Layout.{product}
+use Rattle.serial_spec.specs.Place.{row, place, IsIndex}
+use Rattle.serial_spec.specs.Request.{coordinates, index_at, elements, places}
+use Rattle.serial_spec.proofs.ElementLaws.{get_map, map_long, length-coordinates, coordinates_at}
+use Rattle.vara_extents.specs.Joined.{element_extents, joined, joined_to}
+use Rattle.vara_extents.specs.Numbered.{coordinates_of, index_of, AreRuns}
+use Rattle.vara_extents.proofs.JoinLaws.{run_joined}
+
+some_counts : (n p k : ℕ) → k < n * p → 1 ≤ p
+some_counts n zero k h = absurd (omega arith)
+some_counts n (suc p) k h = omega arith
+
+pub numbered_index : (counts : List ℕ) (k : ℕ) → k < product counts → IsIndex counts (coordinates_of counts k)
+numbered_index [] k h = tt
+numbered_index (n ∷ counts) k h =
+    let some = some_counts n (product counts) k h in
+    (div_below k (product counts) n some h, numbered_index counts (k % product counts) (mod_below k (product counts) some))
+
+pub numbered_row : (counts : List ℕ) (k : ℕ) → k < product counts → row counts (coordinates_of counts k) ≡ k
+numbered_row [] k h = omega arith
+numbered_row (n ∷ counts) k h =
+    let some = some_counts n (product counts) k h in
+    ap (λ (r : ℕ). k / product counts * product counts + r) (numbered_row counts (k % product counts) (mod_below k (product counts) some))
+    ∙ div-add-mod' k (product counts)
+
+pub numbered_at : (counts : List ℕ) (k : ℕ) → k < product counts → slice_get (coordinates counts) k ≡ Some (coordinates_of counts k)
+numbered_at counts k h =
+    ap (λ (m : ℕ). slice_get (coordinates counts) m) (sym (numbered_row counts k h)) ∙ coordinates_at counts (coordinates_of counts k) (numbered_index counts k h)
+
+pub element_at : (g : Region) (k : ℕ) → k < product g.count → slice_get (elements g) k ≡ Some (index_of g k)
+element_at g k h = get_map (λ c. index_at g.start g.stride c) (coordinates g.count) k (coordinates_of g.count k) (numbered_at g.count k h)
+
+pub place_at : (header : Header) (v : Var) (g : Region) (k : ℕ) → k < product g.count → slice_get (places header v g) k ≡ Some (place header v (index_of g k))
+place_at header v g k h = get_map (λ i. place header v i) (elements g) k (index_of g k) (element_at g k h)
+
+pub extent_at : (header : Header) (v : Var) (g : Region) (k : ℕ) → k < product g.count
+    → slice_get (element_extents header v g) k ≡ Some (record { at = place header v (index_of g k); len = size_of v.kind })
+extent_at header v g k h = get_map (λ x. record { at = x; len = size_of v.kind }) (places header v g) k (place header v (index_of g k)) (place_at header v g k h)
+
+pub length-places : (header : Header) (v : Var) (g : Region) → length (places header v g) ≡ product g.count
+length-places header v g =
+    map_long (λ i. place header v i) (elements g) ∙ map_long (λ c. index_at g.start g.stride c) (coordinates g.count) ∙ length-coordinates g.count
+
+pub length-element_extents : (header : Header) (v : Var) (g : Region) → length (element_extents header v g) ≡ product g.count
+length-element_extents header v g = map_long (λ x. record { at = x; len = size_of v.kind }) (places header v g) ∙ length-places header v g
+
+pub all_at : {A : Type 0} (P : A → Type 0) (xs : List A) (k : ℕ) (x : A) → AllByRecursion P xs → slice_get xs k ≡ Some x → P x
+all_at P [] k x h e = absurd cc
+all_at P (y ∷ xs) zero x h e = let same : y ≡ x = cc in subst P same h.0
+all_at P (y ∷ xs) (suc k) x h e = all_at P xs k x h.1 e
+
+-- ---- the elements of a run are one extent
+
+pub run_is : (header : Header) (v : Var) (g : Region) (run total k : ℕ) → AreRuns (λ k. place header v (index_of g k)) (size_of v.kind) run total → total ≡ product g.count
+    → k * run < total
+    → joined (drop (k * run) (element_extents header v g))
+    ≡ joined_to (record { at = place header v (index_of g (k * run)); len = run * size_of v.kind }) (joined (drop (k * run + run) (element_extents header v g)))
+run_is header v g zero total k h is low = let some = h.some in absurd (omega arith)
+run_is header v g (suc n) total k h is low =
+    run_joined (element_extents header v g) (size_of v.kind) (k * suc n) n (place header v (index_of g (k * suc n))) (λ i l.
+    let below : k * suc n + i < total = fits i l h.parts.0 h.parts.1 in
+    extent_at header v g (k * suc n + i) (omega arith)
+    ∙ ap (λ (x : ℕ). Some (record { at = x; len = size_of v.kind })) (h.follow k i l below))
+  where
+    whole : (m : ℕ) → total ≡ m * suc n → k < m
+    whole m e = lt_of_mul-lt-mul_right (suc n) (omega arith)
+
+    fits : (i : ℕ) → i < suc n → (m : ℕ) → total ≡ m * suc n → k * suc n + i < total
+    fits i l m e = let less = whole m e in let rows = mul-le (k + 1) (suc n) m (suc n) (omega arith) (omega arith) in omega arith

@@ -1,0 +1,153 @@
+-- No byte of an accepted region stands twice.
+use Rattle.std.proofs.Common.{◌≡◌, ℕ, zero, suc, ◌+◌, ◌*◌, ◌/◌, ◌%◌, ◌<◌, ◌≤◌, ◌⊎◌, inl, inr, refl, sym, ap, subst, ◌∙◌, List, [], ◌∷◌, ◌++◌, length, map, Bool, true, false, eqb, Option, Some, None, arith}
+use Rattle.std.specs.Prelude.{slice_get, flat_map}
+use Rattle.std.specs.List.{range_with_len, list_any}
+use Rattle.std.proofs.lemmas.Bool.{or_parts, eqb-false, cases_eq, cases_lt}
+use Rattle.std.proofs.lemmas.Nat.{div-add-mod', mod_below, mul-le}
+use Rattle.std.proofs.lemmas.Option.{slice_get_within, same_Some, none-some}
+use Rattle.std.proofs.Math.Nat.{mul-lt-mul_of_pos_right}
+use Rattle.nc_base.specs.declared.header.Header.{Header}
+use Rattle.nc_base.specs.declared.header.Var.{Var}
+use Rattle.nc_base.specs.declared.plan.Post.{Post}
+use Rattle.nc_base.specs.declared.request.Region.{Region}
+use Rattle.serial_spec.specs.ExternalForm.{size_of}
+use Rattle.serial_spec.specs.HeaderGrammar.{is_sound}
+use Rattle.serial_spec.specs.Layout.{product}
+use Rattle.serial_spec.specs.Place.{row, place, IsIndex, AreApart}
+use Rattle.serial_spec.specs.Request.{index_at, places}
+use Rattle.serial_spec.specs.SharedByte.{bytes_of, bytes_of_some}
+use Rattle.serial_spec.proofs.AcceptLaws as accept
+use Rattle.serial_spec.proofs.ApartLaws.{elements_apart}
+use Rattle.serial_spec.proofs.ElementLaws.{get_left, get_right}
+use Rattle.var_layout.proofs.ElementPlaces.{size_pos}
+use Rattle.vara_extents.specs.Accepted.{IsAccepted}
+use Rattle.vara_extents.specs.Joined.{extents_of, element_extents, spans, IsOnce}
+use Rattle.vara_extents.specs.Numbered.{coordinates_of, index_of}
+use Rattle.vara_extents.proofs.AcceptedLaws.{passed}
+use Rattle.vara_extents.proofs.JoinLaws.{joined_spans}
+use Rattle.vara_extents.proofs.NumberLaws.{numbered_index, numbered_row, place_at, length-places}
+use Rattle.vara_extents.proofs.PlaceLaws.{accepted_var, accepted_place}
+
+-- ---- blocks of one length
+
+-- place r of block q
+pub in_block : {A B : Type 0} (f : A → List B) (p : ℕ) → ((x : A) → length (f x) ≡ p) → (xs : List A) (q r : ℕ) (b : B) → r < p → slice_get (flat_map f xs) (q * p + r) ≡ Some b
+    → (x : A) × (slice_get xs q ≡ Some x) × (slice_get (f x) r ≡ Some b)
+in_block f p l [] q r b h e = absurd cc
+in_block f p l (x ∷ xs) zero r b h e =
+    let long : length (f x) ≡ p = l x in
+    (x, refl, sym (get_left (f x) (flat_map f xs) r (omega arith)) ∙ ap (λ (m : ℕ). slice_get (flat_map f (x ∷ xs)) m) (omega arith) ∙ e)
+in_block f p l (x ∷ xs) (suc q) r b h e =
+    let long : length (f x) ≡ p = l x in
+    in_block f p l xs q r b h (sym (get_right (f x) (flat_map f xs) (q * p + r) (suc q * p + r) (omega arith)) ∙ e)
+
+range_long : (a n : ℕ) → length (range_with_len a n) ≡ n
+range_long a zero = refl
+range_long a (suc n) = ap suc (range_long (a + 1) n)
+
+range_at : (a n r b : ℕ) → slice_get (range_with_len a n) r ≡ Some b → b ≡ a + r
+range_at a zero r b e = absurd cc
+range_at a (suc n) zero b e = let same : a ≡ b = cc in omega arith
+range_at a (suc n) (suc r) b e = let later = range_at (a + 1) n r b e in omega arith
+
+-- ---- elements with other numbers are other elements
+
+same_factor : (i j t : ℕ) → 1 ≤ t → i * t ≡ j * t → i ≡ j
+same_factor i j t h e = by_order (cases_lt i j) (cases_lt j i)
+  where
+    by_order : (i < j) ⊎ (j ≤ i) → (j < i) ⊎ (i ≤ j) → i ≡ j
+    by_order (inl l) m = let less = mul-lt-mul_of_pos_right {m = i} {n = j} {k = t} l (omega arith) in absurd (omega arith)
+    by_order (inr l) (inl m) = let less = mul-lt-mul_of_pos_right {m = j} {n = i} {k = t} m (omega arith) in absurd (omega arith)
+    by_order (inr l) (inr m) = omega arith
+
+some_stride : (t : ℕ) → eqb t 0 ≡ false → 1 ≤ t
+some_stride zero e = absurd (eqb-false 0 0 e refl)
+some_stride (suc t) e = omega arith
+
+same_coordinates : (counts starts strides c d : List ℕ) → length starts ≡ length counts → length strides ≡ length counts → list_any (λ t. eqb t 0) strides ≡ false
+    → IsIndex counts c → IsIndex counts d → index_at starts strides c ≡ index_at starts strides d → c ≡ d
+same_coordinates [] starts strides [] [] a b s h k e = refl
+same_coordinates [] starts strides (i ∷ c) d a b s h k e = absurd h
+same_coordinates [] starts strides [] (j ∷ d) a b s h k e = absurd k
+same_coordinates (n ∷ counts) [] strides c d a b s h k e = absurd (omega arith)
+same_coordinates (n ∷ counts) (x ∷ starts) [] c d a b s h k e = absurd (omega arith)
+same_coordinates (n ∷ counts) (x ∷ starts) (t ∷ strides) [] d a b s h k e = absurd h
+same_coordinates (n ∷ counts) (x ∷ starts) (t ∷ strides) (i ∷ c) [] a b s h k e = absurd k
+same_coordinates (n ∷ counts) (x ∷ starts) (t ∷ strides) (i ∷ c) (j ∷ d) a b s h k e =
+    let some = or_parts (eqb t 0) (list_any (λ t. eqb t 0) strides) s in
+    let first : x + i * t ≡ x + j * t = cc in
+    let later : index_at starts strides c ≡ index_at starts strides d = cc in
+    let here = same_factor i j t (some_stride t some.0) (omega arith) in
+    let rest = same_coordinates counts starts strides c d (omega arith) (omega arith) some.1 h.1 k.1 later in
+    (λ z. here z ∷ rest z)
+
+-- ---- the bytes of an accepted region
+
+module _ (header : Header) (k : ℕ) (v : Var) (g : Region) (sound : is_sound header ≡ true) (there : slice_get header.vars k ≡ Some v) (ok : IsAccepted header k g) where
+  own : (m n : ℕ) → m < product g.count → n < product g.count → index_of g m ≡ index_of g n → m ≡ n
+  own m n l h e =
+      let a = accept.accepted header v g ok.0 ok.1 (accepted_var header k v g there ok) in
+      let p = passed header v g ok.0 ok.1 (accepted_var header k v g there ok) in
+      let starts : length g.start ≡ length g.count = a.starts ∙ sym a.counts in
+      let strides : length g.stride ≡ length g.count = a.strides ∙ sym a.counts in
+      let same = same_coordinates g.count g.start g.stride (coordinates_of g.count m) (coordinates_of g.count n) starts strides p.stride (numbered_index g.count m l) (numbered_index g.count n h) e in
+      sym (numbered_row g.count m l) ∙ ap (λ (c : List ℕ). row g.count c) same ∙ numbered_row g.count n h
+
+  pub bytes_once : IsOnce (flat_map (λ x. range_with_len x (size_of v.kind)) (places header v g))
+  bytes_once i j x d e =
+      let size = size_of v.kind in
+      let some : 1 ≤ size_of v.kind = size_pos v.kind in
+      let first = in_block (λ y. range_with_len y size) size (λ y. range_long y size) (places header v g) (i / size) (i % size) x (mod_below i size some)
+      (ap (λ (m : ℕ). slice_get (flat_map (λ y. range_with_len y size) (places header v g)) m) (div-add-mod' i size) ∙ d) in
+      let second = in_block (λ y. range_with_len y size) size (λ y. range_long y size) (places header v g) (j / size) (j % size) x (mod_below j size some)
+      (ap (λ (m : ℕ). slice_get (flat_map (λ y. range_with_len y size) (places header v g)) m) (div-add-mod' j size) ∙ e) in
+      sym (div-add-mod' i size)
+      ∙ two (i / size) (i % size) (j / size) (j % size) first.0 second.0 first.1 second.1 (mod_below i size some) (mod_below j size some)
+      (sym (range_at first.0 size (i % size) x first.2) ∙ range_at second.0 size (j % size) x second.2)
+      ∙ div-add-mod' j size
+    where
+      number : (q a : ℕ) → slice_get (places header v g) q ≡ Some a → q < product g.count
+      number q a s = let low = slice_get_within (places header v g) q a s in omega (arith, low, length-places header v g)
+
+      at : (q a : ℕ) → slice_get (places header v g) q ≡ Some a → place header v (index_of g q) ≡ a
+      at q a s = same_Some _ _ (sym (place_at header v g q (number q a s)) ∙ s)
+
+      two : (q r p s a b : ℕ) → slice_get (places header v g) q ≡ Some a → slice_get (places header v g) p ≡ Some b → r < size_of v.kind → s < size_of v.kind → a + r ≡ b + s
+          → q * size_of v.kind + r ≡ p * size_of v.kind + s
+      two q r p s a b f h l m same = by_case (cases_eq q p)
+        where
+          by_case : (q ≡ p) ⊎ (q ≡ p → ⊥) → q * size_of v.kind + r ≡ p * size_of v.kind + s
+          by_case (inl w) =
+              let one : a ≡ b = same_Some a b (sym f ∙ ap (λ (n : ℕ). slice_get (places header v g) n) w ∙ h) in
+              let rest : r ≡ s = omega arith in
+              (λ z. w z * size_of v.kind + rest z)
+          by_case (inr w) =
+              let x = accepted_place header k v g q sound there ok (number q a f) in
+              let y = accepted_place header k v g p sound there ok (number p b h) in
+              let apart = elements_apart header k k v v (index_of g q) (index_of g p) sound there there x.element y.element
+              (λ z. w (own q p (number q a f) (number p b h) z.1)) in
+              absurd (clash (at q a f) (at p b h) apart)
+            where
+              clash : place header v (index_of g q) ≡ a → place header v (index_of g p) ≡ b
+                  → AreApart (place header v (index_of g q)) (size_of v.kind) (place header v (index_of g p)) (size_of v.kind) → ⊥
+              clash c d (inl z) = omega arith
+              clash c d (inr z) = omega arith
+
+-- ---- in words of extents and of posts
+
+pub spans_are : (header : Header) (v : Var) (g : Region) → spans (extents_of header v g) ≡ flat_map (λ x. range_with_len x (size_of v.kind)) (places header v g)
+spans_are header v g = joined_spans (element_extents header v g) ∙ each (places header v g)
+  where
+    each : (xs : List ℕ) → spans (map (λ x. record { at = x; len = size_of v.kind }) xs) ≡ flat_map (λ x. range_with_len x (size_of v.kind)) xs
+    each [] = refl
+    each (x ∷ xs) = ap (λ (ys : List ℕ). range_with_len x (size_of v.kind) ++ ys) (each xs)
+
+pub spans_once : (header : Header) (k : ℕ) (v : Var) (g : Region) → is_sound header ≡ true → slice_get header.vars k ≡ Some v → IsAccepted header k g → IsOnce (spans (extents_of header v g))
+spans_once header k v g sound there ok = subst IsOnce (sym (spans_are header v g)) (bytes_once header k v g sound there ok)
+
+pub post_once : (header : Header) (post : Post) → is_sound header ≡ true → IsAccepted header post.var post.region → IsOnce (bytes_of header post)
+post_once header post sound ok = by_var (slice_get header.vars post.var) refl
+  where
+    by_var : (o : Option Var) → slice_get header.vars post.var ≡ o → IsOnce (bytes_of_some header o post)
+    by_var None e = λ i j x d f. absurd cc
+    by_var (Some v) e = bytes_once header post.var v post.region sound e ok

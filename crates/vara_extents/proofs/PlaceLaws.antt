@@ -1,0 +1,101 @@
+-- Where the elements of an accepted region lie.
+use Rattle.std.proofs.Common.{◌≡◌, ℕ, zero, suc, ◌+◌, ◌*◌, ◌^◌, ◌<◌, ◌≤◌, refl, sym, ap, ◌∙◌, List, [], ◌∷◌, length, map, Bool, true, false, not, ltb, leb, ◌||◌, ◌&&◌, Option, Some, None, arith}
+use Rattle.std.specs.Prelude.{slice_get}
+use Rattle.std.specs.List.{AllByRecursion}
+use Rattle.std.proofs.lemmas.Bool.{or_parts, leb-false, ltb-false}
+use Rattle.std.proofs.lemmas.Nat.{mul-le}
+use Rattle.nc_base.specs.declared.header.Header.{Header}
+use Rattle.nc_base.specs.declared.header.Var.{Var}
+use Rattle.nc_base.specs.declared.plan.Extent.{Extent}
+use Rattle.nc_base.specs.declared.request.Region.{Region}
+use Rattle.nc_base.specs.declared.answer.Code.TheVariants as code
+use Rattle.serial_spec.specs.ExternalForm.{size_of}
+use Rattle.serial_spec.specs.HeaderGrammar.{is_sound, header_len}
+use Rattle.serial_spec.specs.Layout.{product, end_of, inner_lengths, is_record, recsize}
+use Rattle.serial_spec.specs.Limits.{most_elements, record_limit, file_limit}
+use Rattle.serial_spec.specs.Place.{place, within_record, IsElement, IsElementBelow}
+use Rattle.serial_spec.specs.Records.{records_of}
+use Rattle.serial_spec.specs.RegionCheck.{check_some, check_var, is_too_large, last_position}
+use Rattle.serial_spec.specs.Request.{elements, places}
+use Rattle.serial_spec.proofs.AcceptLaws.{accepted_elements, all_map, all_same}
+use Rattle.serial_spec.proofs.ApartLaws.{slab_fits}
+use Rattle.serial_spec.proofs.RoomLaws.{element_inside}
+use Rattle.var_layout.proofs.ElementPlaces.{index_record, product_pos, size_pos}
+use Rattle.vara_extents.specs.Accepted.{IsAccepted}
+use Rattle.vara_extents.specs.Joined.{element_extents, extents_of}
+use Rattle.vara_extents.specs.Numbered.{index_of}
+use Rattle.vara_extents.proofs.AcceptedLaws.{Passes, passed}
+use Rattle.vara_extents.proofs.JoinLaws.{AreSome, EndBy, joined_some, joined_end}
+use Rattle.vara_extents.proofs.NumberLaws.{element_at, all_at}
+
+-- the variable of an accepted region is there
+pub accepted_there : (header : Header) (k : ℕ) (g : Region) → IsAccepted header k g → k < length header.vars
+accepted_there header k g h = by_var header.vars k (h.2)
+  where
+    by_var : (vars : List Var) (k : ℕ) → check_some header (slice_get vars k) g h.0 h.1 ≡ code.Ok → k < length vars
+    by_var [] k e = absurd cc
+    by_var (v ∷ vars) zero e = omega arith
+    by_var (v ∷ vars) (suc k) e = let l = by_var vars k e in omega arith
+
+pub accepted_var : (header : Header) (k : ℕ) (v : Var) (g : Region) → slice_get header.vars k ≡ Some v → (h : IsAccepted header k g) → check_var header v g h.0 h.1 ≡ code.Ok
+accepted_var header k v g is h = ap (λ (o : Option Var). check_some header o g h.0 h.1) (sym is) ∙ h.2
+
+-- what an accepted region's size is
+pub record IsSmall (header : Header) (v : Var) (g : Region) : Type 0 where
+  pub elements : product g.count ≤ 2 ^ 20
+  pub ends : end_of header (header_len header) (records_of header v g) < 2 ^ 62
+
+pub accepted_small : (header : Header) (v : Var) (g : Region) → is_too_large header v g ≡ false → IsSmall header v g
+accepted_small header v g h =
+    let a = or_parts (ltb most_elements (product g.count) || (not g.packed && ltb 0 (product g.count) && leb most_elements (last_position g.count g.imap)) || leb (record_limit header.version) (records_of header v g))
+    (leb file_limit (end_of header (header_len header) (records_of header v g))) h in
+    let b = or_parts (ltb most_elements (product g.count) || (not g.packed && ltb 0 (product g.count) && leb most_elements (last_position g.count g.imap)))
+    (leb (record_limit header.version) (records_of header v g)) a.0 in
+    let c = or_parts (ltb most_elements (product g.count)) (not g.packed && ltb 0 (product g.count) && leb most_elements (last_position g.count g.imap)) b.0 in
+    record { elements = ltb-false most_elements (product g.count) c.0; ends = leb-false file_limit (end_of header (header_len header) (records_of header v g)) a.1 }
+
+-- element n of an accepted region
+pub record IsPlaced (header : Header) (v : Var) (g : Region) (n : ℕ) : Type 0 where
+  pub element : IsElement header v (index_of g n)
+  pub before_end : place header v (index_of g n) + size_of v.kind ≤ end_of header (header_len header) (records_of header v g)
+  pub low : place header v (index_of g n) + size_of v.kind < 2 ^ 62
+
+pub accepted_place : (header : Header) (k : ℕ) (v : Var) (g : Region) (n : ℕ) → is_sound header ≡ true → slice_get header.vars k ≡ Some v → IsAccepted header k g
+    → n < product g.count → IsPlaced header v g n
+accepted_place header k v g n sound is h below =
+    let ok = accepted_var header k v g is h in
+    let all = accepted_elements header k v g h.0 h.1 sound is ok in
+    let own : IsElementBelow header v (records_of header v g) (index_of g n) = all_at (IsElementBelow header v (records_of header v g)) (elements g) n (index_of g n) all (element_at g n below) in
+    let end = element_inside header (header_len header) (records_of header v g) k v (index_of g n) is own in
+    let small = accepted_small header v g (passed header v g h.0 h.1 ok).large in
+    record { element = own.0; before_end = end; low = omega (arith, small.ends, end) }
+
+-- a record has bytes, where it has an element
+pub wide_records : (header : Header) (k : ℕ) (v : Var) (index : List ℕ) → slice_get header.vars k ≡ Some v → is_record header v ≡ true → IsElement header v index → 1 ≤ recsize header
+wide_records header k v index there e h =
+    let some = product_pos (inner_lengths header v) (within_record index) (index_record header v index e h).1 in
+    let bytes = mul-le 1 1 (product (inner_lengths header v)) (size_of v.kind) some (size_pos v.kind) in
+    omega (arith, bytes, slab_fits header k v there e)
+
+-- ---- extents
+
+pub extents_inside : (header : Header) (first k : ℕ) (v : Var) (g : Region) → is_sound header ≡ true → slice_get header.vars k ≡ Some v → IsAccepted header k g
+    → EndBy (end_of header first (records_of header v g)) (extents_of header v g)
+extents_inside header first k v g sound is h =
+    let n = end_of header first (records_of header v g) in
+    joined_end n (element_extents header v g)
+    (all_map (λ (e : Extent). e.at + e.len ≤ n) (λ x. record { at = x; len = size_of v.kind }) (places header v g)
+    (all_map (λ x. x + size_of v.kind ≤ n) (λ i. place header v i) (elements g)
+    (all_same (IsElementBelow header v (records_of header v g)) (λ i. place header v i + size_of v.kind ≤ n)
+    (λ i b. element_inside header first (records_of header v g) k v i is b) (elements g)
+    (accepted_elements header k v g h.0 h.1 sound is (accepted_var header k v g is h)))))
+
+pub extents_some : (header : Header) (v : Var) (g : Region) → AreSome (extents_of header v g)
+extents_some header v g = joined_some (element_extents header v g) (each (places header v g))
+  where
+    each : (xs : List ℕ) → AreSome (map (λ x. record { at = x; len = size_of v.kind }) xs)
+    each [] = tt
+    each (x ∷ xs) = (size_pos v.kind, each xs)
+
+pub small_of : (header : Header) (k : ℕ) (v : Var) (g : Region) → slice_get header.vars k ≡ Some v → IsAccepted header k g → IsSmall header v g
+small_of header k v g is h = accepted_small header v g (passed header v g h.0 h.1 (accepted_var header k v g is h)).large

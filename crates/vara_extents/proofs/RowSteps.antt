@@ -1,0 +1,353 @@
+-- Rows and runs of elements by their numbers, one dimension more.
+use Rattle.std.proofs.Common.{◌≡◌, ℕ, zero, suc, ◌+◌, ◌-◌, ◌*◌, ◌/◌, ◌%◌, ◌^◌, ◌<◌, ◌≤◌, ◌⊎◌, inl, inr, refl, sym, ap, subst, ◌∙◌, List, [], ◌∷◌, length, map, take, drop, get_or, Bool, true, false, arith}
+use Rattle.std.specs.Prelude.{slice_get}
+use Rattle.std.proofs.lemmas.List.{take_rest}
+use Rattle.std.proofs.lemmas.Nat.{mod_below, mul-le}
+use Rattle.std.proofs.Math.Nat.{mul-le-mul_left}
+use Rattle.std.proofs.lemmas.Bool.{eqb-true, eqb-false}
+use Rattle.nc_base.specs.declared.header.Header.{Header}
+use Rattle.nc_base.specs.declared.header.Var.{Var}
+use Rattle.nc_base.specs.declared.header.NcType.{NcType}
+use Rattle.nc_base.specs.declared.header.NcType.TheVariants.{Byte, Char, Short, Int, Float, Double, UByte, UShort, UInt, Int64, UInt64}
+use Rattle.nc_base.specs.declared.request.Region.{Region}
+use Rattle.serial_spec.specs.ExternalForm.{size_of}
+use Rattle.serial_spec.specs.Layout.{product, length_of, recsize, is_record, starts_with_zero, without_record}
+use Rattle.serial_spec.specs.Place.{row, place, record_of, within_record, HasRecord, IsIndex, IsElement}
+use Rattle.serial_spec.specs.Request.{index_at}
+use Rattle.var_layout.proofs.ElementPlaces.{product_pos, index_fixed, index_record, place_fixed, place_record}
+use Rattle.var_layout.specs.Capped.{capped}
+use Rattle.vara_extents.specs.Numbered.{coordinates_of, index_of, lengths_of, row_of, AreRuns}
+use Rattle.vara_extents.proofs.RunLaws.{kept, merged, same_runs, sized}
+
+-- the list after its first entry, as a pattern takes it
+abbrev pub rest : List ℕ → List ℕ
+rest xs = take (length xs - 1) (drop 1 xs)
+
+pub rest_is : (x : ℕ) (xs : List ℕ) → rest (x ∷ xs) ≡ xs
+rest_is x xs = take_rest (x ∷ xs) 1
+
+split : (xs : List ℕ) → 1 ≤ length xs → xs ≡ get_or xs 0 0 ∷ rest xs
+split [] h = absurd (omega arith)
+split (x ∷ xs) h = ap (λ (ys : List ℕ). x ∷ ys) (sym (rest_is x xs))
+
+-- ---- rows
+
+abbrev IsValid : Header → List ℕ → List ℕ → List ℕ → List ℕ → ℕ → Type 0
+IsValid header ids starts counts strides number = IsIndex (lengths_of header ids) (index_at starts strides (coordinates_of counts number)) × (number < product counts) × (product counts ≤ 2 ^ 20)
+
+-- what is left of a row after its first dimension, of that length, where a block of the others has `inner` elements
+pub record RowStep (header : Header) (ids starts counts strides : List ℕ) (number before inner len s t : ℕ) (ids' starts' counts' strides' : List ℕ) : Type 0 where
+  pub small : product counts' ≤ 2 ^ 20
+  pub some : 1 ≤ inner
+  pub valid : IsIndex (lengths_of header ids') (index_at starts' strides' (coordinates_of counts' (number % inner)))
+  pub number_low : number % inner < product counts'
+  pub whole : (before * len + (s + number / inner * t)) * product (lengths_of header ids') + row_of header ids' starts' counts' strides' (number % inner)
+      ≡ before * product (lengths_of header ids) + row_of header ids starts counts strides number
+  pub rows : before * len + (s + number / inner * t) ≤ before * product (lengths_of header ids) + row_of header ids starts counts strides number
+
+some_block : (n p k : ℕ) → k < n * p → (1 ≤ n) × (1 ≤ p)
+some_block zero p k h = absurd (omega arith)
+some_block (suc n) zero k h = absurd (omega arith)
+some_block (suc n) (suc p) k h = (omega arith, omega arith)
+
+step_of : (header : Header) (number before id s n t : ℕ) (ids starts counts strides : List ℕ) → IsValid header (id ∷ ids) (s ∷ starts) (n ∷ counts) (t ∷ strides) number
+    → RowStep header (id ∷ ids) (s ∷ starts) (n ∷ counts) (t ∷ strides) number before (product counts) (length_of (slice_get header.dims id)) s t ids starts counts strides
+step_of header number before id s n t ids starts counts strides h =
+    let some = some_block n (product counts) number h.1 in
+    let less = mul-le 1 (product counts) n (product counts) some.0 (omega arith) in
+    let low = mod_below number (product counts) some.1 in
+    let inner = product_pos (lengths_of header ids) (index_at starts strides (coordinates_of counts (number % product counts))) h.0.1 in
+    let rows : ℕ = before * length_of (slice_get header.dims id) + (s + number / product counts * t) in
+    let more = mul-le-mul_left rows inner in
+    let top = h.2 in
+    record {
+      small = omega arith;
+      some = some.1;
+      valid = h.0.1;
+      number_low = low;
+      whole = omega arith;
+      rows = omega arith;
+    }
+
+step_at : (header : Header) (ids starts counts strides : List ℕ) (number before id s n t : ℕ) (ids' starts' counts' strides' : List ℕ)
+    → ids ≡ id ∷ ids' → starts ≡ s ∷ starts' → counts ≡ n ∷ counts' → strides ≡ t ∷ strides' → IsValid header ids starts counts strides number
+    → RowStep header ids starts counts strides number before (product counts') (length_of (slice_get header.dims id)) s t ids' starts' counts' strides'
+step_at header ids starts counts strides number before id s n t ids' starts' counts' strides' e f g h valid =
+    let P : List ℕ → List ℕ → List ℕ → List ℕ → Type 0 = λ a b c d.
+    IsValid header a b c d number → RowStep header a b c d number before (product counts') (length_of (slice_get header.dims id)) s t ids' starts' counts' strides' in
+    (subst (λ (x : List ℕ). P x starts counts strides) (sym e)
+    (subst (λ (x : List ℕ). P (id ∷ ids') x counts strides) (sym f)
+    (subst (λ (x : List ℕ). P (id ∷ ids') (s ∷ starts') x strides) (sym g)
+    (subst (λ (x : List ℕ). P (id ∷ ids') (s ∷ starts') (n ∷ counts') x) (sym h)
+    (step_of header number before id s n t ids' starts' counts' strides')))))
+    valid
+
+pub row_step : (header : Header) (ids starts counts strides : List ℕ) (number before inner len : ℕ) → 1 ≤ length ids → 1 ≤ length starts → 1 ≤ length counts → 1 ≤ length strides
+    → IsIndex (lengths_of header ids) (index_at starts strides (coordinates_of counts number)) → number < product counts → product counts ≤ 2 ^ 20
+    → inner ≡ capped (product (rest counts)) → len ≡ length_of (slice_get header.dims (get_or ids 0 0))
+    → RowStep header ids starts counts strides number before inner len (get_or starts 0 0) (get_or strides 0 0) (rest ids) (rest starts) (rest counts) (rest strides)
+row_step header ids starts counts strides number before inner len a b c d valid below small is_inner is_len =
+    let step = step_at header ids starts counts strides number before (get_or ids 0 0) (get_or starts 0 0) (get_or counts 0 0) (get_or strides 0 0) (rest ids) (rest starts) (rest counts) (rest strides)
+    (split ids a) (split starts b) (split counts c) (split strides d) (valid, below, small) in
+    let top = step.small in
+    let same : product (rest counts) ≡ inner = omega arith in
+    subst (λ (m : ℕ). RowStep header ids starts counts strides number before m len (get_or starts 0 0) (get_or strides 0 0) (rest ids) (rest starts) (rest counts) (rest strides)) same
+    (subst (λ (m : ℕ). RowStep header ids starts counts strides number before (product (rest counts)) m (get_or starts 0 0) (get_or strides 0 0) (rest ids) (rest starts) (rest counts) (rest strides)) (sym is_len) step)
+
+pub no_counts : (header : Header) (ids starts counts strides : List ℕ) (number : ℕ) → 1 ≤ length ids → length counts < 1
+    → IsIndex (lengths_of header ids) (index_at starts strides (coordinates_of counts number)) → ⊥
+no_counts header [] starts counts strides number a b valid = omega arith
+no_counts header (id ∷ ids) [] [] strides number a b valid = valid
+no_counts header (id ∷ ids) (s ∷ starts) [] [] number a b valid = valid
+no_counts header (id ∷ ids) (s ∷ starts) [] (t ∷ strides) number a b valid = valid
+no_counts header (id ∷ ids) starts (n ∷ counts) strides number a b valid = omega arith
+
+-- ---- runs
+
+-- the runs of every region with these counts and strides
+abbrev pub HaveRuns : Header → List ℕ → List ℕ → List ℕ → ℕ → Type 0
+HaveRuns header ids counts strides run =
+    (starts : List ℕ) → length starts ≡ length ids → AreRuns (row_of header ids starts counts strides) 1 run (product counts)
+
+runs_kept : (header : Header) (id n t run : ℕ) (ids counts strides : List ℕ) → HaveRuns header ids counts strides run → HaveRuns header (id ∷ ids) (n ∷ counts) (t ∷ strides) run
+runs_kept header id n t run ids counts strides h [] l = absurd (omega arith)
+runs_kept header id n t run ids counts strides h (s ∷ starts) l =
+    kept (row_of header ids starts counts strides) n s t (product (lengths_of header ids)) 1 run (product counts) (h starts (omega arith))
+
+runs_merged : (header : Header) (id n t run : ℕ) (ids counts strides : List ℕ) → HaveRuns header ids counts strides run → run ≡ product counts → product counts ≡ product (lengths_of header ids)
+    → (n ≡ 1) ⊎ (t ≡ 1) → 1 ≤ n → HaveRuns header (id ∷ ids) (n ∷ counts) (t ∷ strides) (n * run)
+runs_merged header id n t run ids counts strides h all whole one some [] l = absurd (omega arith)
+runs_merged header id n t run ids counts strides h all whole one some (s ∷ starts) l =
+    let inner = subst (λ (r : ℕ). AreRuns (row_of header ids starts counts strides) 1 r (product counts)) all (h starts (omega arith)) in
+    subst (λ (r : ℕ). AreRuns (row_of header (id ∷ ids) (s ∷ starts) (n ∷ counts) (t ∷ strides)) 1 r (n * product counts)) (ap (λ (r : ℕ). n * r) (sym all))
+    (merged (row_of header ids starts counts strides) n s t (product (lengths_of header ids)) 1 (product counts) inner (omega (arith, whole)) one some)
+
+some_first : (counts counts' : List ℕ) (n : ℕ) → counts ≡ n ∷ counts' → 1 ≤ product counts → 1 ≤ n
+some_first counts counts' zero e h = let none = ap product e in absurd (omega arith)
+some_first counts counts' (suc n) e h = omega arith
+
+moved_runs : (header : Header) (run id n t : ℕ) (ids counts strides ids' counts' strides' : List ℕ) → ids ≡ id ∷ ids' → counts ≡ n ∷ counts' → strides ≡ t ∷ strides'
+    → HaveRuns header (id ∷ ids') (n ∷ counts') (t ∷ strides') run → HaveRuns header ids counts strides run
+moved_runs header run id n t ids counts strides ids' counts' strides' a b c h =
+    subst (λ (x : List ℕ). HaveRuns header x counts strides run) (sym a)
+    (subst (λ (x : List ℕ). HaveRuns header (id ∷ ids') x strides run) (sym b)
+    (subst (λ (x : List ℕ). HaveRuns header (id ∷ ids') (n ∷ counts') x run) (sym c) h))
+
+pub inner_kept : (header : Header) (ids counts strides : List ℕ) (run : ℕ) → 1 ≤ length ids → 1 ≤ length counts → 1 ≤ length strides
+    → HaveRuns header (rest ids) (rest counts) (rest strides) run → HaveRuns header ids counts strides run
+inner_kept header ids counts strides run a b c h =
+    moved_runs header run (get_or ids 0 0) (get_or counts 0 0) (get_or strides 0 0) ids counts strides (rest ids) (rest counts) (rest strides) (split ids a) (split counts b) (split strides c)
+    (runs_kept header (get_or ids 0 0) (get_or counts 0 0) (get_or strides 0 0) run (rest ids) (rest counts) (rest strides) h)
+
+pub inner_merged : (header : Header) (ids counts strides : List ℕ) (run : ℕ) → 1 ≤ length ids → 1 ≤ length counts → 1 ≤ length strides → 1 ≤ product counts
+    → HaveRuns header (rest ids) (rest counts) (rest strides) run → (run ≡ product (rest counts)) × (product (rest counts) ≡ product (lengths_of header (rest ids)))
+    → (get_or counts 0 0 ≡ 1) ⊎ (get_or strides 0 0 ≡ 1) → HaveRuns header ids counts strides (get_or counts 0 0 * run)
+inner_merged header ids counts strides run a b c some h whole one =
+    moved_runs header (get_or counts 0 0 * run) (get_or ids 0 0) (get_or counts 0 0) (get_or strides 0 0) ids counts strides (rest ids) (rest counts) (rest strides) (split ids a) (split counts b) (split strides c)
+    (runs_merged header (get_or ids 0 0) (get_or counts 0 0) (get_or strides 0 0) run (rest ids) (rest counts) (rest strides) h whole.0 whole.1 one
+    (some_first counts (rest counts) (get_or counts 0 0) (split counts b) some))
+
+-- ---- a variable's places, by its rows
+
+-- the same of equal lists
+pub same_row : (header : Header) (number : ℕ) (ids starts counts strides ids' starts' counts' strides' : List ℕ) → ids ≡ ids' → starts ≡ starts' → counts ≡ counts' → strides ≡ strides'
+    → row_of header ids starts counts strides number ≡ row_of header ids' starts' counts' strides' number
+same_row header number ids starts counts strides ids' starts' counts' strides' a b c d = (λ i. row_of header (a i) (b i) (c i) (d i) number)
+
+pub same_valid : (header : Header) (number : ℕ) (ids starts counts strides ids' starts' counts' strides' : List ℕ) → ids ≡ ids' → starts ≡ starts' → counts ≡ counts' → strides ≡ strides'
+    → IsIndex (lengths_of header ids') (index_at starts' strides' (coordinates_of counts' number)) → IsIndex (lengths_of header ids) (index_at starts strides (coordinates_of counts number))
+same_valid header number ids starts counts strides ids' starts' counts' strides' a b c d valid =
+    subst (λ (x : List ℕ). IsIndex (lengths_of header x) (index_at starts strides (coordinates_of counts number))) (sym a)
+    (subst (λ (x : List ℕ). IsIndex (lengths_of header ids') (index_at x strides (coordinates_of counts number))) (sym b)
+    (subst (λ (x : List ℕ). IsIndex (lengths_of header ids') (index_at starts' strides (coordinates_of x number))) (sym c)
+    (subst (λ (x : List ℕ). IsIndex (lengths_of header ids') (index_at starts' x (coordinates_of counts' number))) (sym d) valid)))
+
+fixed_lengths : (ls : List ℕ) → starts_with_zero ls ≡ false → without_record ls ≡ ls
+fixed_lengths [] h = refl
+fixed_lengths (zero ∷ ls) h = absurd (eqb-false 0 0 h refl)
+fixed_lengths (suc n ∷ ls) h = refl
+
+record_lengths : (l : ℕ) (ls : List ℕ) → starts_with_zero (l ∷ ls) ≡ true → without_record (l ∷ ls) ≡ ls
+record_lengths zero ls h = refl
+record_lengths (suc n) ls h = let none = eqb-true (suc n) 0 h in absurd (omega arith)
+
+pub fixed_valid : (header : Header) (v : Var) (index : List ℕ) → is_record header v ≡ false → IsElement header v index → IsIndex (lengths_of header v.dims) index
+fixed_valid header v index e h = subst (λ (ls : List ℕ). IsIndex ls index) (fixed_lengths (lengths_of header v.dims) e) (index_fixed header v index e h)
+
+pub fixed_is : (header : Header) (v : Var) (g : Region) (number : ℕ) → is_record header v ≡ false
+    → v.begin + row_of header v.dims g.start g.count g.stride number * size_of v.kind ≡ place header v (index_of g number)
+fixed_is header v g number e =
+    ap (λ (ls : List ℕ). v.begin + row ls (index_of g number) * size_of v.kind) (sym (fixed_lengths (lengths_of header v.dims) e)) ∙ sym (place_fixed header v (index_of g number) e)
+
+-- the record of an element and its place in the record
+record RecordRow (header : Header) (dims starts counts strides : List ℕ) (number : ℕ) : Type 0 where
+  record_is : record_of (index_at starts strides (coordinates_of counts number)) ≡ get_or starts 0 0 + number / product (rest counts) * get_or strides 0 0
+  index_is : within_record (index_at starts strides (coordinates_of counts number)) ≡ index_at (rest starts) (rest strides) (coordinates_of (rest counts) (number % product (rest counts)))
+  lengths_are : without_record (lengths_of header dims) ≡ lengths_of header (rest dims)
+
+record_row : (header : Header) (dims starts counts strides : List ℕ) (number : ℕ) → starts_with_zero (lengths_of header dims) ≡ true
+    → 1 ≤ length dims → 1 ≤ length starts → 1 ≤ length counts → 1 ≤ length strides → RecordRow header dims starts counts strides number
+record_row header [] starts counts strides number e a b c d = absurd (omega arith)
+record_row header (id ∷ dims) [] counts strides number e a b c d = absurd (omega arith)
+record_row header (id ∷ dims) (s ∷ starts) [] strides number e a b c d = absurd (omega arith)
+record_row header (id ∷ dims) (s ∷ starts) (n ∷ counts) [] number e a b c d = absurd (omega arith)
+record_row header (id ∷ dims) (s ∷ starts) (n ∷ counts) (t ∷ strides) number e a b c d = record {
+  record_is = ap (λ (xs : List ℕ). s + number / product xs * t) (sym (rest_is n counts));
+  index_is = (λ i. index_at (sym (rest_is s starts) i) (sym (rest_is t strides) i) (coordinates_of (sym (rest_is n counts) i) (number % product (sym (rest_is n counts) i))));
+  lengths_are = record_lengths (length_of (slice_get header.dims id)) (lengths_of header dims) e ∙ ap (λ (xs : List ℕ). lengths_of header xs) (sym (rest_is id dims));
+}
+
+-- the place by the record and by the row
+record_place_is : (header : Header) (v : Var) (g : Region) (number : ℕ) → is_record header v ≡ true → RecordRow header v.dims g.start g.count g.stride number
+    → v.begin + (get_or g.start 0 0 + number / product (rest g.count) * get_or g.stride 0 0) * recsize header
+    + row_of header (rest v.dims) (rest g.start) (rest g.count) (rest g.stride) (number % product (rest g.count)) * size_of v.kind ≡ place header v (index_of g number)
+record_place_is header v g number e r =
+    (λ i. v.begin + sym r.record_is i * recsize header + row (sym r.lengths_are i) (sym r.index_is i) * size_of v.kind)
+    ∙ sym (place_record header v (index_of g number) e)
+
+-- an element of a record variable, where a block of a record has `inner` elements of the region
+pub record RecordStep (header : Header) (v : Var) (g : Region) (number inner : ℕ) (ids starts counts strides : List ℕ) : Type 0 where
+  pub small : product (rest counts) ≤ 2 ^ 20
+  pub some : 1 ≤ inner
+  pub valid : IsIndex (lengths_of header (rest ids)) (index_at (rest starts) (rest strides) (coordinates_of (rest counts) (number % inner)))
+  pub number_low : number % inner < product (rest counts)
+  pub whole : v.begin + (get_or starts 0 0 + number / inner * get_or strides 0 0) * recsize header
+      + row_of header (rest ids) (rest starts) (rest counts) (rest strides) (number % inner) * size_of v.kind ≡ place header v (index_of g number)
+
+pub inner_small : (counts : List ℕ) (number : ℕ) → 1 ≤ length counts → number < product counts → product counts ≤ 2 ^ 20 → (1 ≤ product (rest counts)) × (product (rest counts) ≤ 2 ^ 20)
+inner_small [] number a b c = absurd (omega arith)
+inner_small (n ∷ counts) number a b c =
+    let some = some_block n (product counts) number b in
+    let less = mul-le 1 (product counts) n (product counts) some.0 (omega arith) in
+    let same = ap product (rest_is n counts) in
+    (omega (arith, some.1), omega arith)
+
+record_step_of : (header : Header) (v : Var) (g : Region) (number inner : ℕ) → is_record header v ≡ true
+    → 1 ≤ length v.dims → 1 ≤ length g.start → 1 ≤ length g.count → 1 ≤ length g.stride
+    → IsElement header v (index_of g number) → number < product g.count → product g.count ≤ 2 ^ 20 → inner ≡ capped (product (rest g.count))
+    → RecordStep header v g number inner v.dims g.start g.count g.stride
+record_step_of header v g number inner e a b c d valid below small is =
+    let r = record_row header v.dims g.start g.count g.stride number e a b c d in
+    let size = inner_small g.count number c below small in
+    let top = size.1 in
+    let same : product (rest g.count) ≡ inner = omega arith in
+    let own = (index_record header v (index_of g number) e valid).1 in
+    subst (λ (m : ℕ). RecordStep header v g number m v.dims g.start g.count g.stride) same
+    (record {
+      small = size.1;
+      some = size.0;
+      valid = subst (λ (ls : List ℕ). IsIndex ls (index_at (rest g.start) (rest g.stride) (coordinates_of (rest g.count) (number % product (rest g.count))))) r.lengths_are
+          (subst (λ (i : List ℕ). IsIndex (without_record (lengths_of header v.dims)) i) r.index_is own);
+      number_low = mod_below number (product (rest g.count)) size.0;
+      whole = record_place_is header v g number e r;
+    })
+
+pub record_step : (header : Header) (v : Var) (g : Region) (number inner : ℕ) (ids starts counts strides : List ℕ) → ids ≡ v.dims → starts ≡ g.start → counts ≡ g.count → strides ≡ g.stride
+    → is_record header v ≡ true → 1 ≤ length ids → 1 ≤ length starts → 1 ≤ length counts → 1 ≤ length strides
+    → IsElement header v (index_of g number) → number < product g.count → product g.count ≤ 2 ^ 20 → inner ≡ capped (product (rest counts))
+    → RecordStep header v g number inner ids starts counts strides
+record_step header v g number inner ids starts counts strides p q r t e a b c d valid below small is =
+    let P : List ℕ → List ℕ → List ℕ → List ℕ → Type 0 = λ w x y z.
+    1 ≤ length w → 1 ≤ length x → 1 ≤ length y → 1 ≤ length z → inner ≡ capped (product (rest y)) → RecordStep header v g number inner w x y z in
+    (subst (λ (l : List ℕ). P l starts counts strides) (sym p)
+    (subst (λ (l : List ℕ). P v.dims l counts strides) (sym q)
+    (subst (λ (l : List ℕ). P v.dims g.start l strides) (sym r)
+    (subst (λ (l : List ℕ). P v.dims g.start g.count l) (sym t)
+    (λ a b c d is. record_step_of header v g number inner e a b c d valid below small is)))))
+    a b c d is
+
+no_record : (starts counts strides : List ℕ) (number : ℕ) → length counts < 1 → HasRecord (index_at starts strides (coordinates_of counts number)) → ⊥
+no_record [] counts strides number l h = h
+no_record (s ∷ starts) [] [] number l h = h
+no_record (s ∷ starts) [] (t ∷ strides) number l h = h
+no_record (s ∷ starts) (n ∷ counts) strides number l h = omega arith
+
+pub no_record_counts : (header : Header) (v : Var) (g : Region) (number : ℕ) → is_record header v ≡ true → length g.count < 1 → IsElement header v (index_of g number) → ⊥
+no_record_counts header v g number e l valid = no_record g.start g.count g.stride number l (index_record header v (index_of g number) e valid).0
+
+-- ---- runs of a variable
+
+pub fixed_runs : (header : Header) (v : Var) (g : Region) (run : ℕ) → is_record header v ≡ false → length g.start ≡ length v.dims → HaveRuns header v.dims g.count g.stride run
+    → AreRuns (λ k. place header v (index_of g k)) (size_of v.kind) run (product g.count)
+fixed_runs header v g run e l h =
+    same_runs (λ k. v.begin + row_of header v.dims g.start g.count g.stride k * size_of v.kind) (λ k. place header v (index_of g k)) (size_of v.kind) run (product g.count)
+    (λ k. fixed_is header v g k e) (sized (row_of header v.dims g.start g.count g.stride) v.begin (size_of v.kind) run (product g.count) (h g.start l))
+
+-- the inner runs of a record variable, by its records
+by_records : (header : Header) (v : Var) (g : Region) (run : ℕ) → is_record header v ≡ true → 1 ≤ length v.dims → 1 ≤ length g.start → 1 ≤ length g.count → 1 ≤ length g.stride
+    → AreRuns (λ k. (get_or g.start 0 0 + k / product (rest g.count) * get_or g.stride 0 0) * recsize header
+    + (v.begin + row_of header (rest v.dims) (rest g.start) (rest g.count) (rest g.stride) (k % product (rest g.count)) * size_of v.kind)) (size_of v.kind) run (get_or g.count 0 0 * product (rest g.count))
+    → AreRuns (λ k. place header v (index_of g k)) (size_of v.kind) run (product g.count)
+by_records header v g run e a b c d h =
+    subst (λ (n : ℕ). AreRuns (λ k. place header v (index_of g k)) (size_of v.kind) run n) (sym (ap product (split g.count c)))
+    (same_runs _ (λ k. place header v (index_of g k)) (size_of v.kind) run (get_or g.count 0 0 * product (rest g.count))
+    (λ k. turned v.begin _ _ ∙ record_place_is header v g k e (record_row header v.dims g.start g.count g.stride k e a b c d)) h)
+  where
+    turned : (x y z : ℕ) → y + (x + z) ≡ x + y + z
+    turned x y z = omega arith
+
+inner_bytes : (header : Header) (v : Var) (g : Region) (run : ℕ) → length (rest g.start) ≡ length (rest v.dims) → HaveRuns header (rest v.dims) (rest g.count) (rest g.stride) run
+    → AreRuns (λ k. v.begin + row_of header (rest v.dims) (rest g.start) (rest g.count) (rest g.stride) k * size_of v.kind) (size_of v.kind) run (product (rest g.count))
+inner_bytes header v g run l h = sized (row_of header (rest v.dims) (rest g.start) (rest g.count) (rest g.stride)) v.begin (size_of v.kind) run (product (rest g.count)) (h (rest g.start) l)
+
+same_rests : (xs ys : List ℕ) → length xs ≡ length ys → length (rest xs) ≡ length (rest ys)
+same_rests [] [] h = refl
+same_rests [] (y ∷ ys) h = absurd (omega arith)
+same_rests (x ∷ xs) [] h = absurd (omega arith)
+same_rests (x ∷ xs) (y ∷ ys) h = ap (λ (zs : List ℕ). length zs) (rest_is x xs) ∙ omega arith ∙ sym (ap (λ (zs : List ℕ). length zs) (rest_is y ys))
+
+pub record_kept : (header : Header) (v : Var) (g : Region) (run : ℕ) → is_record header v ≡ true → 1 ≤ length v.dims → length g.start ≡ length v.dims → 1 ≤ length g.count → 1 ≤ length g.stride
+    → HaveRuns header (rest v.dims) (rest g.count) (rest g.stride) run → AreRuns (λ k. place header v (index_of g k)) (size_of v.kind) run (product g.count)
+record_kept header v g run e a l c d h =
+    by_records header v g run e a (omega arith) c d
+    (kept (λ k. v.begin + row_of header (rest v.dims) (rest g.start) (rest g.count) (rest g.stride) k * size_of v.kind) (get_or g.count 0 0) (get_or g.start 0 0) (get_or g.stride 0 0) (recsize header) (size_of v.kind)
+    run (product (rest g.count)) (inner_bytes header v g run (same_rests g.start v.dims l) h))
+
+pub record_merged : (header : Header) (v : Var) (g : Region) (run : ℕ) → is_record header v ≡ true → 1 ≤ length v.dims → length g.start ≡ length v.dims → 1 ≤ length g.count → 1 ≤ length g.stride
+    → 1 ≤ product g.count → HaveRuns header (rest v.dims) (rest g.count) (rest g.stride) run → run ≡ product (rest g.count) → recsize header ≡ run * size_of v.kind → get_or g.stride 0 0 ≡ 1
+    → AreRuns (λ k. place header v (index_of g k)) (size_of v.kind) (get_or g.count 0 0 * run) (product g.count)
+record_merged header v g run e a l c d some h all touching one =
+    let inner = subst (λ (r : ℕ). AreRuns (λ k. v.begin + row_of header (rest v.dims) (rest g.start) (rest g.count) (rest g.stride) k * size_of v.kind) (size_of v.kind) r (product (rest g.count))) all
+    (inner_bytes header v g run (same_rests g.start v.dims l) h) in
+    by_records header v g (get_or g.count 0 0 * run) e a (omega arith) c d
+    (subst (λ (r : ℕ). AreRuns (λ k. (get_or g.start 0 0 + k / product (rest g.count) * get_or g.stride 0 0) * recsize header
+    + (v.begin + row_of header (rest v.dims) (rest g.start) (rest g.count) (rest g.stride) (k % product (rest g.count)) * size_of v.kind)) (size_of v.kind) r (get_or g.count 0 0 * product (rest g.count)))
+    (ap (λ (r : ℕ). get_or g.count 0 0 * r) (sym all))
+    (merged (λ k. v.begin + row_of header (rest v.dims) (rest g.start) (rest g.count) (rest g.stride) k * size_of v.kind) (get_or g.count 0 0) (get_or g.start 0 0) (get_or g.stride 0 0) (recsize header) (size_of v.kind)
+    (product (rest g.count)) inner (ap (λ (r : ℕ). r * size_of v.kind) (sym all) ∙ sym touching) (inr one) (some_first g.count (rest g.count) (get_or g.count 0 0) (split g.count c) some)))
+
+-- the same of equal lists
+pub same_have : (header : Header) (run : ℕ) (ids counts strides ids' counts' strides' : List ℕ) → ids ≡ ids' → counts ≡ counts' → strides ≡ strides'
+    → HaveRuns header ids counts strides run → HaveRuns header ids' counts' strides' run
+same_have header run ids counts strides ids' counts' strides' a b c h =
+    subst (λ (x : List ℕ). HaveRuns header x counts' strides' run) a
+    (subst (λ (x : List ℕ). HaveRuns header ids x strides' run) b
+    (subst (λ (x : List ℕ). HaveRuns header ids counts x run) c h))
+
+pub same_have_rests : (header : Header) (run : ℕ) (ids counts strides ids' counts' strides' : List ℕ) → ids ≡ ids' → counts ≡ counts' → strides ≡ strides'
+    → HaveRuns header (rest ids) (rest counts) (rest strides) run → HaveRuns header (rest ids') (rest counts') (rest strides') run
+same_have_rests header run ids counts strides ids' counts' strides' a b c h =
+    same_have header run (rest ids) (rest counts) (rest strides) (rest ids') (rest counts') (rest strides') (ap rest a) (ap rest b) (ap rest c) h
+
+-- a run is no longer than all elements
+pub run_low : (header : Header) (ids counts strides : List ℕ) (run : ℕ) → HaveRuns header ids counts strides run → 1 ≤ product counts → run ≤ product counts
+run_low header ids counts strides run h some =
+    let own = h ids refl in
+    parts_low own.parts.0 own.parts.1
+  where
+    parts_low : (m : ℕ) → product counts ≡ m * run → run ≤ product counts
+    parts_low zero e = absurd (omega arith)
+    parts_low (suc m) e = omega arith
+
+pub size_low : (kind : NcType) → size_of kind ≤ 8
+size_low Byte = omega arith
+size_low Char = omega arith
+size_low Short = omega arith
+size_low Int = omega arith
+size_low Float = omega arith
+size_low Double = omega arith
+size_low UByte = omega arith
+size_low UShort = omega arith
+size_low UInt = omega arith
+size_low Int64 = omega arith
+size_low UInt64 = omega arith

@@ -1,0 +1,39 @@
+-- The runs of a record, and those of records that touch.
+use Rattle.std.proofs.Common.{◌*◌, ◌^◌, ℕ, List, length, get_or, ap, sym, subst, ◌∙◌, arith}
+use Rattle.std.proofs.lemmas.Nat.{mul-le}
+use Rattle.serial_spec.specs.ExternalForm.{size_of}
+use Rattle.serial_spec.specs.Layout.{product}
+use Rattle.serial_spec.specs.Place.{place}
+use Rattle.vara_extents.specs.Numbered.{index_of, AreRuns}
+use Rattle.vara_extents.proofs.RowSteps.{rest, inner_small, record_kept, record_merged, same_have_rests, run_low, size_low}
+use Rattle.vara_extents.proofs.runs.record_run.Goals as goal
+
+pub overflow_mul-touching : goal.overflow_mul-touching
+overflow_mul-touching c =
+    let counts = ap product c.as_slice-2.ensures in
+    let inner = inner_small c.as_slice-2.result.now 0 c.in-len1-up-as_slice.len_at_least (omega (arith, counts, c.requires.some)) (omega (arith, counts, c.requires.small)) in
+    let run = run_low c.args.header.now (rest c.as_slice.result.now) (rest c.as_slice-2.result.now) (rest c.as_slice-3.result.now) c.inner_run-inner.result.elements c.inner_run-inner.ensures.runs inner.0 in
+    let size = size_low c.args.var.now.kind in
+    let most = mul-le c.inner_run-inner.result.elements c.size_of.result (2 ^ 20) 8 (omega (arith, run, inner.1)) (omega (arith, size, c.size_of.ensures)) in
+    omega (arith, most)
+
+pub returns-then-touching : goal.returns-then-touching
+returns-then-touching c =
+    let run = c.inner_run-inner.result.elements in
+    let place_at : ℕ → ℕ = λ k. place c.args.header.now c.args.var.now (index_of c.args.region.now k) in
+    subst (λ (l : List ℕ). AreRuns place_at (size_of c.args.var.now.kind) (get_or l 0 0 * run) (product c.args.region.now.count)) (sym c.as_slice-2.ensures)
+    (record_merged c.args.header.now c.args.var.now c.args.region.now run c.requires.record_variable (omega (arith, ap length c.as_slice.ensures, c.in-len1-up.len_at_least))
+    c.requires.starts (omega (arith, ap length c.as_slice-2.ensures, c.in-len1-up-as_slice.len_at_least)) (omega (arith, ap length c.as_slice-3.ensures, c.in-len1-up-as_slice-2.len_at_least))
+    c.requires.some
+    (same_have_rests c.args.header.now run c.as_slice.result.now c.as_slice-2.result.now c.as_slice-3.result.now c.args.var.now.dims c.args.region.now.count c.args.region.now.stride
+    c.as_slice.ensures c.as_slice-2.ensures c.as_slice-3.ensures c.inner_run-inner.ensures.runs)
+    ((c.inner_run-inner.ensures.whole c.if-inner.true).0 ∙ ap (λ (l : List ℕ). product (rest l)) c.as_slice-2.ensures)
+    (sym c.requires.recsize ∙ c.if-touching.true ∙ ap (λ (n : ℕ). run * n) c.size_of.ensures)
+    (sym (ap (λ (l : List ℕ). get_or l 0 0) c.as_slice-3.ensures) ∙ c.if-stride-eq1.true))
+
+pub returns-else-inner : goal.returns-else-inner
+returns-else-inner c =
+    record_kept c.args.header.now c.args.var.now c.args.region.now c.inner_run-inner.result.elements c.requires.record_variable (omega (arith, ap length c.as_slice.ensures, c.in-len1-up.len_at_least))
+    c.requires.starts (omega (arith, ap length c.as_slice-2.ensures, c.in-len1-up-as_slice.len_at_least)) (omega (arith, ap length c.as_slice-3.ensures, c.in-len1-up-as_slice-2.len_at_least))
+    (same_have_rests c.args.header.now c.inner_run-inner.result.elements c.as_slice.result.now c.as_slice-2.result.now c.as_slice-3.result.now c.args.var.now.dims c.args.region.now.count c.args.region.now.stride
+    c.as_slice.ensures c.as_slice-2.ensures c.as_slice-3.ensures c.inner_run-inner.ensures.runs)

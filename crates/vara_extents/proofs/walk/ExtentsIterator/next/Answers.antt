@@ -1,0 +1,25 @@
+-- The next extent is the first of those left.
+use Rattle.std.proofs.Common.{arith}
+use Rattle.vara_extents.specs.Left.{extents_left, IsReady}
+use Rattle.vara_extents.proofs.WalkLaws.{none_left, goes_on}
+use Rattle.vara_extents.proofs.walk.ExtentsIterator.next.Goals as goal
+
+pub returns-then-self-clause-steps : goal.returns-then-self-clause-steps
+returns-then-self-clause-steps c =
+    let none = none_left c.args.self.now c.args.self.now.given c.requires c.if-self.true in
+    (none, none)
+
+pub returns-clause-steps : goal.returns-clause-steps
+returns-clause-steps c = c.front-front.ensures.extent
+
+pub returns-clause-goes : goal.returns-clause-goes
+returns-clause-goes c =
+    goes_on extents_left IsReady _ _ c.front-front.result.extent c.front-front.ensures.extent
+    (record {
+      sound = c.requires.sound;
+      accepted = c.requires.accepted;
+      recsize = c.requires.recsize;
+      follow = c.requires.follow;
+      runs = c.requires.runs;
+      given = c.front-front.ensures.runs;
+    })
