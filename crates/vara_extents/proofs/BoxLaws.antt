@@ -1,5 +1,5 @@
 -- Two boxes share an element exactly where their ranges meet in each dimension.
-use Rattle.std.proofs.Common.{◌≡◌, ℕ, zero, suc, ◌+◌, ◌*◌, ◌<◌, ◌≤◌, ◌∙◌, ap, sym, refl, inl, inr, ◌⊎◌, List, [], ◌∷◌, ◌++◌, length, map, Bool, true, false, ltb, leb, eqb, ◌||◌, ◌&&◌, max, min, replicate, arith}
+use Rattle.std.proofs.Common.{◌≡◌, ℕ, zero, suc, ◌+◌, ◌*◌, ◌<◌, ◌≤◌, ◌∙◌, ap, sym, refl, inl, inr, ◌⊎◌, List, [], ◌∷◌, length, map, Bool, true, false, ltb, leb, eqb, ◌||◌, ◌&&◌, max, min, replicate, arith}
 use Rattle.std.specs.Prelude.{flat_map, bytes_eq}
 use Rattle.std.specs.List.{list_any, range_with_len}
 use Rattle.std.proofs.lemmas.Bool.{ltb-true, lt-ltb, leb-true, le-leb, eqb-true, eq-eqb, and_parts, and_from, or_cases, or_left, or_right, cases_lt, cases_eq}

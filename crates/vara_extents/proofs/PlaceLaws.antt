@@ -1,7 +1,6 @@
 -- Where the elements of an accepted region lie.
-use Rattle.std.proofs.Common.{◌≡◌, ℕ, zero, suc, ◌+◌, ◌*◌, ◌^◌, ◌<◌, ◌≤◌, refl, sym, ap, ◌∙◌, List, [], ◌∷◌, length, map, Bool, true, false, not, ltb, leb, ◌||◌, ◌&&◌, Option, Some, None, arith}
+use Rattle.std.proofs.Common.{◌≡◌, ℕ, zero, suc, ◌+◌, ◌^◌, ◌<◌, ◌≤◌, sym, ap, ◌∙◌, List, [], ◌∷◌, length, map, true, false, not, ltb, leb, ◌||◌, ◌&&◌, Option, Some, arith}
 use Rattle.std.specs.Prelude.{slice_get}
-use Rattle.std.specs.List.{AllByRecursion}
 use Rattle.std.proofs.lemmas.Bool.{or_parts, leb-false, ltb-false}
 use Rattle.std.proofs.lemmas.Nat.{mul-le}
 use Rattle.nc_base.specs.declared.header.Header.{Header}
@@ -24,7 +23,7 @@ use Rattle.var_layout.proofs.ElementPlaces.{index_record, product_pos, size_pos}
 use Rattle.vara_extents.specs.Accepted.{IsAccepted}
 use Rattle.vara_extents.specs.Joined.{element_extents, extents_of}
 use Rattle.vara_extents.specs.Numbered.{index_of}
-use Rattle.vara_extents.proofs.AcceptedLaws.{Passes, passed}
+use Rattle.vara_extents.proofs.AcceptedLaws.{passed}
 use Rattle.vara_extents.proofs.JoinLaws.{AreSome, EndBy, joined_some, joined_end}
 use Rattle.vara_extents.proofs.NumberLaws.{element_at, all_at}
 

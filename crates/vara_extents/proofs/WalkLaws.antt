@@ -1,6 +1,5 @@
 -- The extents that are left, one run after another.
-use Rattle.std.proofs.Common.{◌≡◌, ℕ, zero, suc, ◌+◌, ◌-◌, ◌*◌, ◌/◌, ◌^◌, ◌<◌, ◌≤◌, refl, sym, ap, subst, ◌∙◌, List, [], ◌∷◌, length, drop, true, Option, Some, arith}
-use Rattle.std.specs.Prelude.{slice_get}
+use Rattle.std.proofs.Common.{◌≡◌, ℕ, zero, suc, ◌+◌, ◌*◌, ◌/◌, ◌^◌, ◌<◌, ◌≤◌, refl, sym, ap, ◌∙◌, List, [], ◌∷◌, length, drop, true, Some, arith}
 use Rattle.std.specs.Iterator.{MakesProgress, item_count}
 use Rattle.std.proofs.lemmas.List.{drop_all}
 use Rattle.std.proofs.lemmas.Nat.{mul-le}
@@ -18,7 +17,7 @@ use Rattle.vara_extents.specs.Left.{extents_from, extents_left, IsReady}
 use Rattle.vara_extents.specs.Numbered.{index_of, AreRuns}
 use Rattle.vara_extents.proofs.AcceptedLaws.{passed}
 use Rattle.vara_extents.proofs.NumberLaws.{length-element_extents, run_is}
-use Rattle.vara_extents.proofs.PlaceLaws.{IsPlaced, IsSmall, accepted_place, accepted_small, accepted_var, wide_records}
+use Rattle.vara_extents.proofs.PlaceLaws.{IsPlaced, accepted_place, accepted_small, accepted_var, wide_records}
 
 -- ---- one run
 

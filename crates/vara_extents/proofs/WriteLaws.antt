@@ -1,6 +1,5 @@
 -- Writing extent by extent is writing element by element.
-use Rattle.std.proofs.Common.{◌≡◌, ℕ, zero, suc, ◌+◌, ◌-◌, ◌*◌, ◌<◌, ◌≤◌, ◌⊎◌, inl, inr, refl, sym, ap, ◌∙◌, List, [], ◌∷◌, ◌++◌, length, map, take, drop, get_or, max, arith}
-use Rattle.std.specs.Prelude.{fold}
+use Rattle.std.proofs.Common.{◌≡◌, ℕ, ◌+◌, ◌-◌, ◌*◌, ◌<◌, ◌≤◌, ◌⊎◌, inl, inr, refl, sym, ap, ◌∙◌, List, [], ◌∷◌, ◌++◌, length, map, take, drop, get_or, max, arith}
 use Rattle.std.proofs.lemmas.Bool.{cases_eq, cases_lt}
 use Rattle.std.proofs.lemmas.List.{drop-drop, length-append, get_or_append_left, get_or-append_right}
 use Rattle.std.proofs.Math.Seq.{take-add}
@@ -10,14 +9,14 @@ use Rattle.nc_base.specs.declared.header.Var.{Var}
 use Rattle.nc_base.specs.declared.plan.Extent.{Extent}
 use Rattle.nc_base.specs.declared.request.Region.{Region}
 use Rattle.serial_spec.specs.ExternalForm.{size_of}
-use Rattle.serial_spec.specs.File.{written, longer, at}
+use Rattle.serial_spec.specs.File.{written, at}
 use Rattle.serial_spec.specs.Layout.{product}
 use Rattle.serial_spec.specs.Request.{cells, places, put}
 use Rattle.serial_spec.specs.Said.{Cell, write_cells}
 use Rattle.serial_spec.proofs.FileLaws.{at-written_before, at-written_after}
 use Rattle.serial_spec.proofs.SaidLaws.{at-written_inside}
 use Rattle.vara_extents.specs.Joined.{joined_to, joined, element_extents, extents_of, cut_by}
-use Rattle.vara_extents.proofs.JoinLaws.{lengthened, join_next, join_apart}
+use Rattle.vara_extents.proofs.JoinLaws.{join_next, join_apart}
 use Rattle.vara_extents.proofs.NumberLaws.{length-places}
 
 length-written : (file : List ℕ) (x : ℕ) (b : List ℕ) → length (written file x b) ≡ max (length file) (x + length b)

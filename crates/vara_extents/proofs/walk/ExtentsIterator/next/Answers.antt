@@ -1,5 +1,4 @@
 -- The next extent is the first of those left.
-use Rattle.std.proofs.Common.{arith}
 use Rattle.vara_extents.specs.Left.{extents_left, IsReady}
 use Rattle.vara_extents.proofs.WalkLaws.{none_left, goes_on}
 use Rattle.vara_extents.proofs.walk.ExtentsIterator.next.Goals as goal
