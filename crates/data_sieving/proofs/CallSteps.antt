@@ -41,9 +41,10 @@ take_past a b m =
 
 -- what was begun of the next calls is a beginning of the plan
 pub done_begun : (plan calls rest : List DiskCall) (old mid now : Option (List DiskCall)) → HasDone plan (calls ++ rest) old mid → IsBegun calls mid now → IsBegun plan old now
-done_begun plan calls rest old mid now h b =
-    (length h.done + min b.0 (length calls),
-     b.1 ∙ ap (λ (m : Option (List DiskCall)). option_map (λ (c : List DiskCall). c ++ take b.0 calls) m) h.told ∙ by_old old)
+done_begun plan calls rest old mid now h b = (
+  length h.done + min b.0 (length calls),
+  b.1 ∙ ap (λ (m : Option (List DiskCall)). option_map (λ (c : List DiskCall). c ++ take b.0 calls) m) h.told ∙ by_old old,
+)
   where
     least : min b.0 (length calls) ≤ length calls
     least = omega arith

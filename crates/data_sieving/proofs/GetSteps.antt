@@ -10,7 +10,7 @@ use Rattle.nc_base.specs.declared.plan.Owned.{Owned}
 use Rattle.file_domains.specs.declared.walk.Window.{Window}
 use Rattle.serial_spec.specs.File.{at, read, written}
 use Rattle.serial_spec.specs.Said.{Cell, said_at, said_by, Says, IsOneValued, write_cells, IsWithin}
-use Rattle.overlay_laws.specs.Entries.{In}
+use Rattle.overlay_laws.specs.Entries.{In, got_cell}
 use Rattle.overlay_laws.proofs.SaidLaws.{no_none_some, write_long, same_said, said_is, said_in_any_order, same_hit}
 use Rattle.overlay_laws.proofs.WindowLaws.{append_within}
 use Rattle.overlay_laws.proofs.EntryLaws.{says_left, says_right, says_cases}
@@ -115,7 +115,7 @@ got_says : (base : ℕ) (file : List ℕ) (lo hi : ℕ) (os : List Owned) (y v :
 got_says base file lo hi [] y v on h = absurd h
 got_says base file lo hi (o ∷ os) y v on h =
     elim (says_cases (enumerate_from (part_in lo hi o).from (read file ((part_in lo hi o).extent.at - base) (part_in lo hi o).extent.len))
-        (said_by (parts_got base file lo hi os)) y v h) [
+    (said_by (parts_got base file lo hi os)) y v h) [
       | inl g ↦ read_more base file lo hi (o ∷ []) (o ∷ os) y v (λ q m. elim m [ inl e ↦ inl e | inr n ↦ absurd n ]) (one_read base file lo hi o y v (on o (inl refl)) g)
       | inr g ↦ read_more base file lo hi os (o ∷ os) y v (λ q m. inr m) (got_says base file lo hi os y v (λ q m. on q (inr m)) g)
     ]
@@ -171,8 +171,8 @@ read_once base file lo hi os on once y v u h k =
     let r = got_says base file lo hi os y v on h in
     let s = got_says base file lo hi os y u on k in
     let same = once y r.place s.place
-        (subst (λ (z : ℕ). Says (places_of os) z r.place) r.from (place_said os r.by r.place r.inside r.begin r.end))
-        (subst (λ (z : ℕ). Says (places_of os) z s.place) s.from (place_said os s.by s.place s.inside s.begin s.end)) in
+    (subst (λ (z : ℕ). Says (places_of os) z r.place) r.from (place_said os r.by r.place r.inside r.begin r.end))
+    (subst (λ (z : ℕ). Says (places_of os) z s.place) s.from (place_said os s.by s.place s.inside s.begin s.end)) in
     sym r.byte ∙ ap (λ (z : ℕ). at file (z - base)) same ∙ s.byte
 
 -- ---- the entries of a slot
@@ -218,9 +218,9 @@ slot_said base file k list left place size w begun later stop y on once p n =
         elim (in_either p.front left r (subst (λ (q : List Owned). In q r) p.joined m)) [
           | inl g ↦ (let f = p.ended r g in absurd (omega arith))
           | inr g ↦ elim (in_either begun n.begun.rest r (subst (λ (q : List Owned). In q r) n.begun.joined g)) [
-              | inl i ↦ i
-              | inr i ↦ (let f = n.begun.later r i in absurd (omega arith))
-            ]
+            | inl i ↦ i
+            | inr i ↦ (let f = n.begun.later r i in absurd (omega arith))
+          ]
         ]
 
     in_window : (x v : ℕ) (r : IsRead base file 0 stop (of_slot k list) x v) → place ≤ r.place → IsRead base file w.hull.at (w.hull.at + w.hull.len) (of_slot k begun) x v
@@ -273,7 +273,7 @@ slot_said base file k list left place size w begun later stop y on once p n =
         → Says (said_by (parts_got base file 0 stop (of_slot k list))) x v
     back x v h =
         elim (says_cases (said_by (parts_got base file 0 place (of_slot k list))) (said_by (parts_got base file w.hull.at (w.hull.at + w.hull.len) (of_slot k begun))) x v
-            (subst (λ ps. Says ps x v) joined h)) [
+        (subst (λ ps. Says ps x v) joined h)) [
           | inl g ↦ says_got base file 0 stop (of_slot k list) x v slot_on (grown (got_says base file 0 place (of_slot k list) x v slot_on g))
           | inr g ↦ says_got base file 0 stop (of_slot k list) x v slot_on
               (widened (got_says base file w.hull.at (w.hull.at + w.hull.len) (of_slot k begun) x v begun_on g))
@@ -324,7 +324,7 @@ got_step base file list left place size w begun later stop old mid now on once f
     h k
     ∙ ap (λ (b : List ℕ). write_cells b (parts_got base file w.hull.at (w.hull.at + w.hull.len) (of_slot k begun))) (g k)
     ∙ sym (fold-append (λ f cell. written f cell.0 cell.1) (blob_at old k) (parts_got base file 0 place (of_slot k list))
-        (parts_got base file w.hull.at (w.hull.at + w.hull.len) (of_slot k begun)))
+    (parts_got base file w.hull.at (w.hull.at + w.hull.len) (of_slot k begun)))
     ∙ same_said (parts_got base file 0 place (of_slot k list) ++ parts_got base file w.hull.at (w.hull.at + w.hull.len) (of_slot k begun))
     (parts_got base file 0 stop (of_slot k list)) (blob_at old k)
     (append_within (parts_got base file 0 place (of_slot k list)) (parts_got base file w.hull.at (w.hull.at + w.hull.len) (of_slot k begun)) (length (blob_at old k))
@@ -349,7 +349,7 @@ got_begin base file list blobs on fit k =
     same_said [] (parts_got base file 0 0 (of_slot k list)) (blob_at blobs k) tt
     (parts_within base file 0 0 (length (blob_at blobs k)) (of_slot k list) (fit_slot k blobs list fit))
     (λ y. sym (said_none (said_by (parts_got base file 0 0 (of_slot k list))) y
-        (λ v h. let r = got_says base file 0 0 (of_slot k list) y v (λ o m. on o (in_slot k list o m).0) h in let l = r.high in absurd (omega arith))))
+    (λ v h. let r = got_says base file 0 0 (of_slot k list) y v (λ o m. on o (in_slot k list o m).0) h in let l = r.high in absurd (omega arith))))
 
 whole_part : (place : ℕ) (o : Owned) → o.extent.at + o.extent.len ≤ place → part_in 0 place o ≡ o
 whole_part place o h =
@@ -447,9 +447,10 @@ collected_more lo hi buf old mid now list i o d l e room is h k = by_slot (o.slo
 
 pub collected_long : (lo hi : ℕ) (buf : List ℕ) (mid now : List (List ℕ)) (o : Owned) → o.slot < length mid → o.from + o.extent.len ≤ length (blob_at mid o.slot)
     → now ≡ set mid o.slot (written (blob_at mid o.slot) (buffer_cell lo hi buf o).0 (buffer_cell lo hi buf o).1) → AreAsLong mid now
-collected_long lo hi buf mid now o room fit is =
-    (ap (λ (bs : List (List ℕ)). length bs) is ∙ length-set mid o.slot (written (blob_at mid o.slot) (buffer_cell lo hi buf o).0 (buffer_cell lo hi buf o).1),
-     (λ k. by_slot k (o.slot == k) refl))
+collected_long lo hi buf mid now o room fit is = (
+  ap (λ (bs : List (List ℕ)). length bs) is ∙ length-set mid o.slot (written (blob_at mid o.slot) (buffer_cell lo hi buf o).0 (buffer_cell lo hi buf o).1),
+  (λ k. by_slot k (o.slot == k) refl),
+)
   where
     by_slot : (k : ℕ) (t : Bool) → (o.slot == k) ≡ t → length (blob_at now k) ≡ length (blob_at mid k)
     by_slot k true f =
@@ -524,3 +525,10 @@ pub got_none : (held : Option (List ℕ)) (base n : ℕ) (list : List Owned) (bl
     → IfSome held (λ file. HasGotPart 0 0 base file list blobs blobs)
 got_none held base n list blobs on fit =
     told_all held (λ file. HasGotPart 0 0 base file list blobs blobs) (λ file. got_begin base file list blobs (λ o m. (on o m).0) fit)
+
+-- what is read of a file that begins at 0
+pub got_whole : (file : List ℕ) (list : List Owned) → got_cells 0 file list ≡ map (λ o. got_cell file o) list
+got_whole file [] = refl
+got_whole file (o ∷ list) =
+    let place : o.extent.at - 0 ≡ o.extent.at = omega arith in
+    λ i. (o.from, read file (place i) o.extent.len) ∷ got_whole file list i

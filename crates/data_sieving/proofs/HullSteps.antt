@@ -45,15 +45,15 @@ scan at stop end next count solid more_solid whole seen more o e apart filled be
   high = (let l = h.high in omega arith);
   some = λ g. some_by (nat_lt 0 count) refl;
   reach = λ p m. elim (more_in seen more o p e m) [
-      | inl g ↦ (let r = h.reach p g in omega arith)
-      | inr g ↦ subst (λ (z : Owned). min stop (z.extent.at + z.extent.len) ≤ next) g (omega arith)
-    ];
+    | inl g ↦ (let r = h.reach p g in omega arith)
+    | inr g ↦ subst (λ (z : Owned). min stop (z.extent.at + z.extent.len) ≤ next) g (omega arith)
+  ];
   last = λ l. last_by l (nat_lt end (min (o.extent.at + o.extent.len) stop)) refl;
   full = λ s x l m. full_by s x l m (nat_lt x end) refl;
   hole = λ s. elim (breaks s) [
-      | inl g ↦ (let r = h.hole g in let m = r.2 in (r.0, r.1, omega arith, r.3))
-      | inr g ↦ (end, h.low, omega arith, (λ c. gap g c))
-    ];
+    | inl g ↦ (let r = h.hole g in let m = r.2 in (r.0, r.1, omega arith, r.3))
+    | inr g ↦ (end, h.low, omega arith, (λ c. gap g c))
+  ];
 }
   where
     some_by : (t : Bool) → nat_lt 0 count ≡ t → at < next

@@ -9,3 +9,4 @@ pub mod ReachSteps
 pub mod GetSteps
 pub mod NextSteps
 pub mod LoopSteps
+pub mod TwoEntries

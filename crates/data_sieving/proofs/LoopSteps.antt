@@ -102,7 +102,7 @@ put_more held mid now posts list left place size w begun later stop base here n 
     (λ file. write_cells file (moved_down base (clips w.hull.at (w.hull.at + w.hull.len) (put_cells posts begun))))
     (λ file. file_to base stop (put_cells posts list) file) told
     (λ file long. file_step (source_of posts) list left place size w begun later stop base n file p k (are_cells posts list base n on)
-        (hull_low list left place size w begun later stop base n on p k) (hull_high list left place size w begun later stop base n on p k) long)
+    (hull_low list left place size w begun later stop base n on p k) (hull_high list left place size w begun later stop base n on p k) long)
     e
     (subst (λ (b : ℕ). now ≡ after (λ file. write_cells file (moved_down b (clips w.hull.at (w.hull.at + w.hull.len) (put_cells posts begun)))) mid) same f)
 
@@ -116,7 +116,7 @@ put_refused held mid now posts list left place size w begun later stop base here
     (λ file. write_cells file (moved_down base (clips w.hull.at (w.hull.at + w.hull.len) (put_cells posts begun))))
     (λ file. file_to base stop (put_cells posts list) file) (λ file. write_cells file (moved_down base (put_cells posts list))) told
     (λ file long. file_step (source_of posts) list left place size w begun later stop base n file p k (are_cells posts list base n on)
-        (hull_low list left place size w begun later stop base n on p k) (hull_high list left place size w begun later stop base n on p k) long)
+    (hull_low list left place size w begun later stop base n on p k) (hull_high list left place size w begun later stop base n on p k) long)
     (λ file long. mixed_to base place n (put_cells posts list) file (are_cells posts list base n on) long)
     (λ file long. mixed_to base stop n (put_cells posts list) file (are_cells posts list base n on) long)
     e

@@ -62,9 +62,11 @@ said_of : (source : Source) (list : List Owned) (x : ℕ) (o : Owned) → AreFou
     → HasPlace (entry_cells source list) x
 said_of source [] x o f m l h = absurd m
 said_of source (p ∷ list) x o f (inr m) l h =
-    let r = said_of source list x o f.1 m l h in
-    (r.0, said_append (enumerate_from p.extent.at (take p.extent.len (drop p.from (source p.rank p.slot)))) (said_by (entry_cells source list)) x
-    ∙ first_counts (said_at (said_by (entry_cells source list)) x) _ r.0 r.1)
+    let r = said_of source list x o f.1 m l h in (
+      r.0,
+      said_append (enumerate_from p.extent.at (take p.extent.len (drop p.from (source p.rank p.slot)))) (said_by (entry_cells source list)) x
+          ∙ first_counts (said_at (said_by (entry_cells source list)) x) _ r.0 r.1,
+    )
 said_of source (p ∷ list) x o f (inl e) l h = by_rest (said_at (said_by (entry_cells source list)) x) refl
   where
     low : p.extent.at ≤ x
@@ -77,14 +79,17 @@ said_of source (p ∷ list) x o f (inl e) l h = by_rest (said_at (said_by (entry
         omega (arith, length-take p.extent.len (drop p.from (source p.rank p.slot)), length-drop p.from (source p.rank p.slot))
 
     by_rest : (r : Option ℕ) → said_at (said_by (entry_cells source list)) x ≡ r → HasPlace (entry_cells source (p ∷ list)) x
-    by_rest (Some v) g =
-        (v, said_append (enumerate_from p.extent.at (take p.extent.len (drop p.from (source p.rank p.slot)))) (said_by (entry_cells source list)) x
-        ∙ first_counts (said_at (said_by (entry_cells source list)) x) _ v g)
-    by_rest None g =
-        (get_or (take p.extent.len (drop p.from (source p.rank p.slot))) (x - p.extent.at) 0,
-         said_append (enumerate_from p.extent.at (take p.extent.len (drop p.from (source p.rank p.slot)))) (said_by (entry_cells source list)) x
-         ∙ second_counts (said_at (said_by (entry_cells source list)) x) _ g
-         ∙ said_inside p.extent.at (take p.extent.len (drop p.from (source p.rank p.slot))) x 0 low high)
+    by_rest (Some v) g = (
+      v,
+      said_append (enumerate_from p.extent.at (take p.extent.len (drop p.from (source p.rank p.slot)))) (said_by (entry_cells source list)) x
+          ∙ first_counts (said_at (said_by (entry_cells source list)) x) _ v g,
+    )
+    by_rest None g = (
+      get_or (take p.extent.len (drop p.from (source p.rank p.slot))) (x - p.extent.at) 0,
+      said_append (enumerate_from p.extent.at (take p.extent.len (drop p.from (source p.rank p.slot)))) (said_by (entry_cells source list)) x
+          ∙ second_counts (said_at (said_by (entry_cells source list)) x) _ g
+          ∙ said_inside p.extent.at (take p.extent.len (drop p.from (source p.rank p.slot))) x 0 low high,
+    )
 
 -- a covered byte has a place in the cells of a window that has it
 pub covered_place : (source : Source) (list : List Owned) (lo hi x : ℕ) → AreFound source list → lo ≤ x → x < hi → IsCovered list x
@@ -246,7 +251,7 @@ pub file_step : (source : Source) (list left : List Owned) (place size : ℕ) (w
     ≡ file_to base stop (entry_cells source list) file
 file_step source list left place size w begun later stop base n file p k a low high e =
     sym (fold-append (λ f cell. written f cell.0 cell.1) file (moved_down base (clips base (max base place) (entry_cells source list)))
-        (moved_down base (clips w.hull.at (w.hull.at + w.hull.len) (entry_cells source begun))))
+    (moved_down base (clips w.hull.at (w.hull.at + w.hull.len) (entry_cells source begun))))
     ∙ ap (λ (cells : List Cell). write_cells file cells)
     (sym (map-append (λ (cell : Cell). let lowered : Cell = (cell.0 - base, cell.1) in lowered) (clips base (max base place) (entry_cells source list)) (clips w.hull.at (w.hull.at + w.hull.len) (entry_cells source begun))))
     ∙ same_said (moved_down base (clips base (max base place) (entry_cells source list) ++ clips w.hull.at (w.hull.at + w.hull.len) (entry_cells source begun)))
@@ -315,8 +320,8 @@ to_end source list left base place n file a e none p =
         none_past (max base place) (clips base (max base place) (entry_cells source list)) (i + base)
         (clips_within base (max base place) (entry_cells source list) (omega arith)) past
         ∙ sym (unsaid source list (i + base) (λ c.
-            let d = past_covered place list left (i + base) p (omega arith) c in
-            subst (λ (l : List Owned). In l d.by → ⊥) (sym none) (λ m. m) d.inside))
+        let d = past_covered place list left (i + base) p (omega arith) c in
+        subst (λ (l : List Owned). In l d.by → ⊥) (sym none) (λ m. m) d.inside))
 
 -- ---- a disk that may tell its bytes
 

@@ -122,8 +122,8 @@ next_told left place size w begun later stop l n =
     first =
         let s = n.hull.some in
         let b = begins (window_bytes left place size w) w.hull.at asc
-            (window_in left place size w begun later stop w.hull.at n (omega arith) (omega arith) (begun_covered stop left begun w.hull.at n.begun room n.first))
-            (λ x m. (in_window left place size w begun later stop x l n m).0) in
+        (window_in left place size w begun later stop w.hull.at n (omega arith) (omega arith) (begun_covered stop left begun w.hull.at n.begun room n.first))
+        (λ x m. (in_window left place size w begun later stop x l n m).0) in
         ap (λ (xs : List ℕ). first_of xs) b.1
 
     long : hull_len (window_bytes left place size w) ≡ w.hull.len
@@ -131,9 +131,9 @@ next_told left place size w begun later stop l n =
         let s = n.hull.some in
         let f = first in
         let most = last_most (window_bytes left place size w) (w.hull.at + w.hull.len - 1)
-            (window_in left place size w begun later stop (w.hull.at + w.hull.len - 1) n (omega arith) (omega arith) n.hull.last) in
+        (window_in left place size w begun later stop (w.hull.at + w.hull.len - 1) n (omega arith) (omega arith) n.hull.last) in
         let least = last_below (window_bytes left place size w) (w.hull.at + w.hull.len) (omega arith)
-            (λ x m. (in_window left place size w begun later stop x l n m).1) in
+        (λ x m. (in_window left place size w begun later stop x l n m).1) in
         omega arith
 
     solid : w.full ≡ true → window_bytes left place size w ≡ range_with_len w.hull.at w.hull.len
@@ -141,7 +141,7 @@ next_told left place size w begun later stop l n =
         same_ascending (window_bytes left place size w) (range_with_len w.hull.at w.hull.len) asc (range_ascends w.hull.at w.hull.len)
         (λ x m. let r = in_window left place size w begun later stop x l n m in in_range w.hull.at w.hull.len x r.0 r.1)
         (λ x m. let low = range_low w.hull.at w.hull.len x m in let high = range_high w.hull.at w.hull.len x m in
-            window_in left place size w begun later stop x n low high (n.hull.full t x low high))
+        window_in left place size w begun later stop x n low high (n.hull.full t x low high))
 
     by_full : (t : Bool) → w.full ≡ t → (length (window_bytes left place size w) == hull_len (window_bytes left place size w)) ≡ t
     by_full true f =
@@ -150,8 +150,8 @@ next_told left place size w begun later stop l n =
     by_full false f =
         let r = n.hull.hole f in
         let short = hole_short (window_bytes left place size w) w.hull.at (w.hull.at + w.hull.len) r.0 asc
-            (λ x m. let g = in_window left place size w begun later stop x l n m in (g.0, g.1)) r.1 r.2
-            (λ m. r.3 (in_window left place size w begun later stop r.0 l n m).2) in
+        (λ x m. let g = in_window left place size w begun later stop x l n m in (g.0, g.1)) r.1 r.2
+        (λ m. r.3 (in_window left place size w begun later stop r.0 l n m).2) in
         let is = long in
         eq_false_below (length (window_bytes left place size w)) (hull_len (window_bytes left place size w)) (omega arith)
 
@@ -177,19 +177,19 @@ rest_bytes left place size w begun later stop l n =
     same_ascending (filter (λ (y : ℕ). nat_le (w.hull.at + size) y) (bytes_from place left)) (bytes_from stop left)
     (filter_ascends (λ (y : ℕ). nat_le (w.hull.at + size) y) (bytes_from place left) (bytes_ascend place left)) (bytes_ascend stop left)
     (λ x m.
-        let r = filter_in (λ (y : ℕ). nat_le (w.hull.at + size) y) (bytes_from place left) x m in
-        let past = from_le (w.hull.at + size) x r.1 in
-        let b = from_byte place left x r.0 in
-        let is = n.ends in
-        byte_from stop left x (omega arith) b.1)
+    let r = filter_in (λ (y : ℕ). nat_le (w.hull.at + size) y) (bytes_from place left) x m in
+    let past = from_le (w.hull.at + size) x r.1 in
+    let b = from_byte place left x r.0 in
+    let is = n.ends in
+    byte_from stop left x (omega arith) b.1)
     (λ x m.
-        let b = from_byte stop left x m in
-        let past = b.0 in
-        let below = covered_below (2 ^ 62) left x l.ends b.1 in
-        let is = n.ends in
-        let low = n.from in
-        in_filter (λ (y : ℕ). nat_le (w.hull.at + size) y) (bytes_from place left) x (byte_from place left x (omega arith) b.1)
-        (le_true (w.hull.at + size) x (omega arith)))
+    let b = from_byte stop left x m in
+    let past = b.0 in
+    let below = covered_below (2 ^ 62) left x l.ends b.1 in
+    let is = n.ends in
+    let low = n.from in
+    in_filter (λ (y : ℕ). nat_le (w.hull.at + size) y) (bytes_from place left) x (byte_from place left x (omega arith) b.1)
+    (le_true (w.hull.at + size) x (omega arith)))
 
 -- a window ends past what was served before it
 pub goes_on : (left : List Owned) (place size : ℕ) (w : Window) (begun later : List Owned) (stop : ℕ) → IsNext left place size w begun later stop → place < stop

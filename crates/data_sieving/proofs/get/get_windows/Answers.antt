@@ -34,14 +34,14 @@ windows-init g c = record {
 pub read_window-requires-clause-low : goal.read_window-requires-clause-low
 read_window-requires-clause-low g c κs within =
     let low = hull_low c.args.list.now c.windows.walk.entries.now c.windows.walk.from c.windows.walk.size c.in-Some.next.window c.in-Some.next.entries.now
-        c.next_window.new.self.entries.now c.next_window.new.self.from (g.D.Disk.from c.args.disk.now) (g.D.Disk.len c.args.disk.now) c.requires.on_disk c.windows.invariant.past c.in-Some.ensures.next in
+    c.next_window.new.self.entries.now c.next_window.new.self.from (g.D.Disk.from c.args.disk.now) (g.D.Disk.len c.args.disk.now) c.requires.on_disk c.windows.invariant.past c.in-Some.ensures.next in
     let same = c.windows.invariant.from in
     omega arith
 
 pub read_window-requires-clause-high : goal.read_window-requires-clause-high
 read_window-requires-clause-high g c κs within =
     let high = hull_high c.args.list.now c.windows.walk.entries.now c.windows.walk.from c.windows.walk.size c.in-Some.next.window c.in-Some.next.entries.now
-        c.next_window.new.self.entries.now c.next_window.new.self.from (g.D.Disk.from c.args.disk.now) (g.D.Disk.len c.args.disk.now) c.requires.on_disk c.windows.invariant.past c.in-Some.ensures.next in
+    c.next_window.new.self.entries.now c.next_window.new.self.from (g.D.Disk.from c.args.disk.now) (g.D.Disk.len c.args.disk.now) c.requires.on_disk c.windows.invariant.past c.in-Some.ensures.next in
     let same = c.windows.invariant.from in
     let long = c.windows.invariant.len in
     omega arith
@@ -67,7 +67,7 @@ read_window-requires-clause-fit g c κs within = λ o m.
 pub windows-preserved : goal.windows-preserved
 windows-preserved g c =
     let further = goes_on c.windows.walk.entries.now c.windows.walk.from c.windows.walk.size c.in-Some.next.window c.in-Some.next.entries.now
-        c.next_window.new.self.entries.now c.next_window.new.self.from c.in-Some.ensures.next in
+    c.next_window.new.self.entries.now c.next_window.new.self.from c.in-Some.ensures.next in
     let later = c.in_ok-read_window.ensures.cause.later in
     let faults = c.windows.invariant.faults in
     record {
@@ -84,7 +84,7 @@ windows-preserved g c =
           c.requires.one_place c.requires.fit c.windows.invariant.past c.in-Some.ensures.next c.windows.invariant.got c.in_ok-read_window.ensures.read;
       long = as_long_twice c.args.blobs.now c.windows.blobs c.read_window.new.blobs c.windows.invariant.long c.in_ok-read_window.ensures.blobs;
       calls = subst (λ (n : ℕ). HasDone (flat_map loads (windows_of n c.args.list.now)) (flat_map loads (windows_from n c.next_window.new.self.from c.args.list.now))
-              (g.D.Disk.calls c.args.disk.now) (g.D.Disk.calls c.read_window.new.disk)) (sym c.in-Some.ensures.size)
+          (g.D.Disk.calls c.args.disk.now) (g.D.Disk.calls c.read_window.new.disk)) (sym c.in-Some.ensures.size)
           (loads_more c.args.list.now c.windows.walk.entries.now c.windows.walk.from c.windows.walk.size c.in-Some.next.window c.in-Some.next.entries.now
           c.next_window.new.self.entries.now c.next_window.new.self.from (flat_map loads (windows_of c.windows.walk.size c.args.list.now))
           (g.D.Disk.calls c.args.disk.now) (g.D.Disk.calls c.windows.disk) (g.D.Disk.calls c.read_window.new.disk)

@@ -9,14 +9,14 @@ pub cut-part-requires-clause-from : goal.cut-part-requires-clause-from
 cut-part-requires-clause-from c =
     let long = c.as_slice-bytes.type_inv.0 in
     let same = ap (λ (b : List ℕ). length b) (found_bytes c.args.puts.now c.as_slice.result.now c.args.entry.now c.index-as_slice-entry.result c.as_slice-bytes.result.now
-        c.requires.filled c.requires.found c.as_slice.ensures c.as_slice-bytes.ensures) in
+    c.requires.filled c.requires.found c.as_slice.ensures c.as_slice-bytes.ensures) in
     let room = c.requires.found in
     omega arith
 
 pub part_of-bytes-requires : goal.part_of-bytes-requires
 part_of-bytes-requires c =
     let same = ap (λ (b : List ℕ). length b) (found_bytes c.args.puts.now c.as_slice.result.now c.args.entry.now c.index-as_slice-entry.result c.as_slice-bytes.result.now
-        c.requires.filled c.requires.found c.as_slice.ensures c.as_slice-bytes.ensures) in
+    c.requires.filled c.requires.found c.as_slice.ensures c.as_slice-bytes.ensures) in
     let room = c.requires.found in
     let part = (part_high c.args.hull.at c.args.hull.len c.args.entry.now c.cut-part.result c.cut-part.ensures).2 in
     omega arith

@@ -31,14 +31,14 @@ windows-init g c = record {
 pub put_window-requires-clause-low : goal.put_window-requires-clause-low
 put_window-requires-clause-low g c κs within =
     let low = hull_low c.args.list.now c.windows.walk.entries.now c.windows.walk.from c.windows.walk.size c.in-Some.next.window c.in-Some.next.entries.now
-        c.next_window.new.self.entries.now c.next_window.new.self.from (g.D.Disk.from c.args.disk.now) (g.D.Disk.len c.args.disk.now) c.requires.on_disk c.windows.invariant.past c.in-Some.ensures.next in
+    c.next_window.new.self.entries.now c.next_window.new.self.from (g.D.Disk.from c.args.disk.now) (g.D.Disk.len c.args.disk.now) c.requires.on_disk c.windows.invariant.past c.in-Some.ensures.next in
     let same = c.windows.invariant.from in
     omega arith
 
 pub put_window-requires-clause-high : goal.put_window-requires-clause-high
 put_window-requires-clause-high g c κs within =
     let high = hull_high c.args.list.now c.windows.walk.entries.now c.windows.walk.from c.windows.walk.size c.in-Some.next.window c.in-Some.next.entries.now
-        c.next_window.new.self.entries.now c.next_window.new.self.from (g.D.Disk.from c.args.disk.now) (g.D.Disk.len c.args.disk.now) c.requires.on_disk c.windows.invariant.past c.in-Some.ensures.next in
+    c.next_window.new.self.entries.now c.next_window.new.self.from (g.D.Disk.from c.args.disk.now) (g.D.Disk.len c.args.disk.now) c.requires.on_disk c.windows.invariant.past c.in-Some.ensures.next in
     let same = c.windows.invariant.from in
     let long = c.windows.invariant.len in
     omega arith
@@ -70,7 +70,7 @@ put_window-requires-clause-whole g c κs within = λ t x l h.
 pub windows-preserved : goal.windows-preserved
 windows-preserved g c =
     let further = goes_on c.windows.walk.entries.now c.windows.walk.from c.windows.walk.size c.in-Some.next.window c.in-Some.next.entries.now
-        c.next_window.new.self.entries.now c.next_window.new.self.from c.in-Some.ensures.next in
+    c.next_window.new.self.entries.now c.next_window.new.self.from c.in-Some.ensures.next in
     let later = c.in_ok-put_window.ensures.cause.later in
     let faults = c.windows.invariant.faults in
     record {
@@ -85,7 +85,7 @@ windows-preserved g c =
           (g.D.Disk.from c.args.disk.now) (g.D.Disk.from c.windows.disk) (g.D.Disk.len c.args.disk.now) c.size-size.ensures.told c.requires.on_disk c.windows.invariant.from
           c.windows.invariant.past c.in-Some.ensures.next c.windows.invariant.bytes c.in_ok-put_window.ensures.bytes;
       calls = subst (λ (n : ℕ). HasDone (flat_map overlays (windows_of n c.args.list.now)) (flat_map overlays (windows_from n c.next_window.new.self.from c.args.list.now))
-              (g.D.Disk.calls c.args.disk.now) (g.D.Disk.calls c.put_window.new.disk)) (sym c.in-Some.ensures.size)
+          (g.D.Disk.calls c.args.disk.now) (g.D.Disk.calls c.put_window.new.disk)) (sym c.in-Some.ensures.size)
           (stores_more c.args.list.now c.windows.walk.entries.now c.windows.walk.from c.windows.walk.size c.in-Some.next.window c.in-Some.next.entries.now
           c.next_window.new.self.entries.now c.next_window.new.self.from (flat_map overlays (windows_of c.windows.walk.size c.args.list.now))
           (g.D.Disk.calls c.args.disk.now) (g.D.Disk.calls c.windows.disk) (g.D.Disk.calls c.put_window.new.disk)
