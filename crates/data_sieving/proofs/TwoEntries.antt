@@ -1,40 +1,16 @@
--- The conditions of sieving for a list of two entries.
+-- Conditions of sieving for a list of two entries.
 use Rattle.std.proofs.Common.{◌≡◌, ℕ, zero, suc, ◌+◌, ◌-◌, ◌<◌, ◌≤◌, inl, inr, refl, sym, ◌∙◌, ap, subst, List, [], ◌∷◌, length, slice_get, arith}
 use Rattle.std.specs.List.{enumerate_from, range_with_len}
 use Rattle.nc_base.specs.declared.plan.Owned.{Owned}
-use Rattle.nc_base.specs.declared.plan.Extent.{Extent}
 use Rattle.nc_base.specs.declared.plan.Post.{Post}
 use Rattle.overlay_laws.specs.Origins.{AreFound}
 use Rattle.serial_spec.specs.Said.{Says}
 use Rattle.overlay_laws.specs.Entries.{In}
-use Rattle.overlay_laws.specs.Lines.{extents, IsByPlace, EndBelow}
 use Rattle.overlay_laws.proofs.EntryLaws.{says_cases}
-use Rattle.data_sieving.specs.Sieving.{bytes_of_post, source_of, AreFilled, LieOn, FitBlobs, HaveOnePlace, places_of, of_slot, blob_at}
+use Rattle.data_sieving.specs.Sieving.{bytes_of_post, source_of, HaveOnePlace, places_of, of_slot}
 use Rattle.data_sieving.proofs.GetSteps.{in_slot}
 
-both : (P : Owned → Type 0) (a b : Owned) → P a → P b → (o : Owned) → In (a ∷ b ∷ []) o → P o
-both P a b h k o (inl e) = subst P e h
-both P a b h k o (inr (inl e)) = subst P e k
-both P a b h k o (inr (inr m)) = absurd m
-
-pub two_sorted : (a b : Owned) → a.extent.at ≤ b.extent.at → IsByPlace (extents (a ∷ b ∷ []))
-two_sorted a b h = ((λ d m. elim m [ inl e ↦ subst (λ (z : Extent). a.extent.at ≤ z.at) e h | inr n ↦ absurd n ]), (λ d m. absurd m), tt)
-
-pub two_ends : (a b : Owned) (n : ℕ) → a.extent.at + a.extent.len < n → b.extent.at + b.extent.len < n → EndBelow n (extents (a ∷ b ∷ []))
-two_ends a b n h k e (inl f) = subst (λ (z : Extent). z.at + z.len < n) f h
-two_ends a b n h k e (inr (inl f)) = subst (λ (z : Extent). z.at + z.len < n) f k
-two_ends a b n h k e (inr (inr m)) = absurd m
-
-pub two_filled : (a b : Owned) → 1 ≤ a.extent.len → 1 ≤ b.extent.len → AreFilled (a ∷ b ∷ [])
-two_filled a b h k = both (λ (o : Owned). 1 ≤ o.extent.len) a b h k
-
-pub two_lie : (a b : Owned) (from len : ℕ) → from ≤ a.extent.at → a.extent.at + a.extent.len ≤ from + len → from ≤ b.extent.at
-    → b.extent.at + b.extent.len ≤ from + len → LieOn from len (a ∷ b ∷ [])
-two_lie a b from len h k l m = both (λ (o : Owned). (from ≤ o.extent.at) × (o.extent.at + o.extent.len ≤ from + len)) a b (h, k) (l, m)
-
-two_fit : (a b : Owned) (blobs : List (List ℕ)) → a.from + a.extent.len ≤ length (blob_at blobs a.slot) → b.from + b.extent.len ≤ length (blob_at blobs b.slot)
-    → FitBlobs blobs (a ∷ b ∷ [])
-two_fit a b blobs h k = both (λ (o : Owned). o.from + o.extent.len ≤ length (blob_at blobs o.slot)) a b h k
+-- ---- the bytes of a put
 
 found_first : (posts : List Post) (o : Owned) (bytes : List ℕ) → o.slot ≡ 0 → bytes_of_post (slice_get posts 0) ≡ bytes → o.from + o.extent.len ≤ length bytes
     → o.from + o.extent.len ≤ length (source_of posts o.rank o.slot)
@@ -44,17 +20,6 @@ found_first posts o bytes e f h =
 pub two_found : (a b : Owned) (posts : List Post) (bytes : List ℕ) → bytes_of_post (slice_get posts 0) ≡ bytes → a.slot ≡ 0 → b.slot ≡ 0
     → a.from + a.extent.len ≤ length bytes → b.from + b.extent.len ≤ length bytes → AreFound (source_of posts) (a ∷ b ∷ [])
 two_found a b posts bytes e f g h k = (found_first posts a bytes f e h, (found_first posts b bytes g e k, tt))
-
-one_of_two : (blobs : List (List ℕ)) (n s : ℕ) → length (blob_at blobs 0) ≡ n → length (blob_at blobs 1) ≡ n → s ≤ 1 → length (blob_at blobs s) ≡ n
-one_of_two blobs n zero h k l = h
-one_of_two blobs n (suc zero) h k l = k
-one_of_two blobs n (suc (suc s)) h k l = absurd (omega arith)
-
-pub two_fit_in : (a b : Owned) (blobs : List (List ℕ)) (n : ℕ) → length (blob_at blobs 0) ≡ n → length (blob_at blobs 1) ≡ n → a.slot ≤ 1 → b.slot ≤ 1
-    → a.from + a.extent.len ≤ n → b.from + b.extent.len ≤ n → FitBlobs blobs (a ∷ b ∷ [])
-two_fit_in a b blobs n h k l m p q =
-    two_fit a b blobs (subst (λ (j : ℕ). a.from + a.extent.len ≤ j) (sym (one_of_two blobs n a.slot h k l)) p)
-    (subst (λ (j : ℕ). b.from + b.extent.len ≤ j) (sym (one_of_two blobs n b.slot h k m)) q)
 
 -- ---- where a blob's byte comes from
 

@@ -1,4 +1,4 @@
-ghost use Rattle.std.specs.Prelude.{◌≡◌, slice_get, length, IfOk};
+ghost use Rattle.std.specs.Prelude.{◌≡◌, ◌+◌, ◌*◌, ◌<◌, ◌≤◌, slice_get, length, IfOk};
 ghost use Rattle.data_sieving.specs.Sieving.{bytes_of_post, blob_at};
 
 use crate::{sieve_get, sieve_put};
@@ -77,25 +77,39 @@ fn put_two<R: Abort>(
     let from = disk.first_place();
     let len = disk.size();
     let count = bytes.len() as u64;
-    assert!(rt; from == 0 && 1 <= size && size <= 16);
+    assert!(rt; from == 0 && len < 1000 && 1 <= size && size <= 16);
     assert!(rt;
-        a.slot == 0
-            && a.extent.at < 1000
-            && 1 <= a.extent.len
-            && a.extent.len < 1000
-            && a.from < 1000
+        a.slot == 0 && 1 <= a.extent.len && a.extent.len < 1000 && a.extent.at <= b.extent.at
     );
-    assert!(rt;
-        b.slot == 0
-            && b.extent.at < 1000
-            && 1 <= b.extent.len
-            && b.extent.len < 1000
-            && b.from < 1000
-    );
-    assert!(rt; a.extent.at <= b.extent.at);
+    assert!(rt; b.slot == 0 && 1 <= b.extent.len && b.extent.len < 1000 && b.extent.at < 1000);
+    assert!(rt; a.from < 1000 && b.from < 1000);
     assert!(rt; a.extent.at + a.extent.len <= len && a.from + a.extent.len <= count);
     assert!(rt; b.extent.at + b.extent.len <= len && b.from + b.extent.len <= count);
-    Ok(sieve_put(alloc, disk, &[a, b], &puts, &mut buf[..size]))
+    Ok(put_both(alloc, disk, a, b, bytes, &puts, &mut buf[..size]))
+}
+
+fn put_both(
+    alloc: Global,
+    disk: &mut MemDisk,
+    a: Owned,
+    b: Owned,
+    bytes: &[u8],
+    puts: &PostList,
+    buf: &mut [u8],
+) -> Result<(), DiskErr>
+    requires begin { disk.old.from ≡ 0 }
+    requires small { length disk.old.bytes < 1000 }
+    requires slots { (a.slot ≡ 0) × (b.slot ≡ 0) }
+    requires filled { (1 ≤ a.extent.len) × (1 ≤ b.extent.len) }
+    requires order { a.extent.at ≤ b.extent.at }
+    requires a_end { a.extent.at + a.extent.len ≤ length disk.old.bytes }
+    requires b_end { b.extent.at + b.extent.len ≤ length disk.old.bytes }
+    requires post { bytes_of_post (slice_get puts.now 0) ≡ bytes.now }
+    requires a_found { a.from + a.extent.len ≤ length bytes.now }
+    requires b_found { b.from + b.extent.len ≤ length bytes.now }
+    requires buffer { 1 ≤ length buf.old }
+{
+    sieve_put(alloc, disk, &[a, b], puts, buf)
 }
 
 // Gets two entries into the blobs through a buffer of so many bytes.
@@ -111,19 +125,41 @@ fn get_two<R: Abort>(
     let mut buf = [0; 16];
     let from = disk.first_place();
     let len = disk.size();
-    assert!(rt; from == 0 && 1 <= size && size <= 16);
+    assert!(rt; from == 0 && len < 1000 && 1 <= size && size <= 16);
     assert!(rt;
-        a.slot == 0 && a.extent.at < 1000 && 1 <= a.extent.len && a.extent.len <= 8 && a.from < 1000
+        a.slot == 0 && 1 <= a.extent.len && a.extent.len < 1000 && a.extent.at <= b.extent.at
     );
-    assert!(rt;
-        b.slot <= 1 && b.extent.at < 1000 && 1 <= b.extent.len && b.extent.len <= 8 && b.from < 1000
-    );
-    assert!(rt; a.extent.at <= b.extent.at);
+    assert!(rt; b.slot <= 1 && 1 <= b.extent.len && b.extent.len < 1000 && b.extent.at < 1000);
+    assert!(rt; a.from < 1000 && b.from < 1000);
     assert!(rt; a.extent.at + a.extent.len <= len && a.from + a.extent.len <= 8);
     assert!(rt; b.extent.at + b.extent.len <= len && b.from + b.extent.len <= 8);
     assert!(rt; a.from + a.extent.len <= b.from + 1000 * u64::from(b.slot));
-    let end = sieve_get(alloc, disk, &[a, b], &mut buf[..size], &mut blobs);
+    let end = get_both(alloc, disk, a, b, &mut buf[..size], &mut blobs);
     Ok((end, blobs))
+}
+
+fn get_both(
+    alloc: Global,
+    disk: &mut MemDisk,
+    a: Owned,
+    b: Owned,
+    buf: &mut [u8],
+    into: &mut BlobList,
+) -> Result<(), DiskErr>
+    requires begin { disk.old.from ≡ 0 }
+    requires small { length disk.old.bytes < 1000 }
+    requires slots { (a.slot ≡ 0) × (b.slot ≤ 1) }
+    requires filled { (1 ≤ a.extent.len) × (1 ≤ b.extent.len) }
+    requires order { a.extent.at ≤ b.extent.at }
+    requires a_end { a.extent.at + a.extent.len ≤ length disk.old.bytes }
+    requires b_end { b.extent.at + b.extent.len ≤ length disk.old.bytes }
+    requires blobs { (length (blob_at into.old 0) ≡ 8) × (length (blob_at into.old 1) ≡ 8) }
+    requires a_fits { a.from + a.extent.len ≤ 8 }
+    requires b_fits { b.from + b.extent.len ≤ 8 }
+    requires apart { a.from + a.extent.len ≤ b.from + 1000 * b.slot }
+    requires buffer { 1 ≤ length buf.old }
+{
+    sieve_get(alloc, disk, &[a, b], buf, into)
 }
 
 fn has_calls<R: Abort>(

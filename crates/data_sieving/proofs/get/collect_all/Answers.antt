@@ -1,5 +1,5 @@
 -- Each entry's bytes lie in its blob.
-use Rattle.std.proofs.Common.{◌≡◌, ◌+◌, ◌<◌, ◌≤◌, ◌∙◌, refl, ap, sym, List, length, take, map, get_or, ℕ, arith}
+use Rattle.std.proofs.Common.{◌+◌, ◌∙◌, refl, ap, List, map, get_or}
 use Rattle.std.proofs.lemmas.List.{take_all}
 use Rattle.nc_base.specs.declared.plan.Owned.{Owned}
 use Rattle.serial_spec.specs.Said.{write_cells}

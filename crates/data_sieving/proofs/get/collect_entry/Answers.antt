@@ -1,5 +1,5 @@
 -- The part's bytes go into the blob of the entry's slot.
-use Rattle.std.proofs.Common.{◌≡◌, ◌+◌, ◌-◌, ◌<◌, ◌≤◌, ◌∙◌, List, length, ℕ, arith}
+use Rattle.std.proofs.Common.{◌+◌}
 use Rattle.data_sieving.proofs.GetSteps.{collected_entry}
 use Rattle.data_sieving.proofs.get.collect_entry.Goals as goal
 

@@ -1,5 +1,5 @@
 -- Each window brings the blobs' bytes up to its end.
-use Rattle.std.proofs.Common.{◌≡◌, ◌+◌, ◌-◌, ◌^◌, ◌<◌, ◌≤◌, ◌∙◌, refl, sym, ap, subst, List, length, ℕ, Option, arith}
+use Rattle.std.proofs.Common.{◌∙◌, refl, sym, ap, subst, List, length, ℕ, Option, arith}
 use Rattle.std.specs.Prelude.{flat_map}
 use Rattle.serial_spec.specs.DeviceCalls.{loads}
 use Rattle.nc_outside.specs.Told.{with_end}

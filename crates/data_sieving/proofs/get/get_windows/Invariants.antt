@@ -1,5 +1,5 @@
 -- The blobs have the entries' bytes up to a place, and the calls of the windows so far were made.
-use Rattle.std.proofs.Common.{◌≡◌, ℕ, ◌-◌, ◌^◌, ◌≤◌, length}
+use Rattle.std.proofs.Common.{◌≡◌, ◌-◌, ◌^◌, ◌≤◌, length}
 use Rattle.std.specs.Prelude.{flat_map, IfSome}
 use Rattle.serial_spec.specs.DeviceCalls.{loads}
 use Rattle.data_sieving.specs.Sieving.{windows_of, AreAsLong}

@@ -1,5 +1,4 @@
 -- The bytes that are copied are the file's.
-use Rattle.std.proofs.Common.{◌≡◌, ◌+◌, ◌≤◌, length, ℕ, arith}
 use Rattle.data_sieving.proofs.GetSteps.{collected_read}
 use Rattle.data_sieving.proofs.get.read_window.Goals as goal
 

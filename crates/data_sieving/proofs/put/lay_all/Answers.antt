@@ -1,12 +1,10 @@
 -- Each entry's bytes lie in its post.
-use Rattle.std.proofs.Common.{◌≡◌, ◌+◌, ◌<◌, ◌≤◌, ◌∙◌, ap, sym, List, length, take, map, get_or, ℕ, arith}
-use Rattle.std.proofs.lemmas.List.{take_all}
+use Rattle.std.proofs.Common.{get_or}
 use Rattle.nc_base.specs.declared.plan.Owned.{Owned}
-use Rattle.serial_spec.specs.Said.{write_cells}
 use Rattle.file_domains.proofs.CoverParts.{in_at}
 use Rattle.data_sieving.specs.Sieving.{source_of}
 use Rattle.data_sieving.proofs.SplitSteps.{entry_ends}
-use Rattle.data_sieving.proofs.PartSteps.{found_at, laid_cell, laid_more, laid_cells}
+use Rattle.data_sieving.proofs.PartSteps.{found_at}
 use Rattle.data_sieving.proofs.put.lay_all.Goals as goal
 
 abbrev none : Owned

@@ -1,6 +1,5 @@
 -- The part that is laid is the entry's cell in the hull.
-use Rattle.std.proofs.Common.{◌≡◌, ◌+◌, ◌-◌, ◌^◌, ◌<◌, ◌≤◌, ◌∙◌, ap, sym, List, length, get_or, ℕ, arith}
-use Rattle.nc_base.specs.declared.plan.Post.{Post}
+use Rattle.std.proofs.Common.{◌+◌, ap, List, length, ℕ, arith}
 use Rattle.data_sieving.specs.Sieving.{source_of}
 use Rattle.data_sieving.proofs.PartSteps.{found_bytes, laid_entry, part_high}
 use Rattle.data_sieving.proofs.put.lay_entry.Goals as goal

@@ -1,5 +1,5 @@
 -- The hull as it is written is the old one with the entries' bytes.
-use Rattle.std.proofs.Common.{◌≡◌, ◌+◌, ◌<◌, ◌≤◌, ◌∙◌, length, ℕ, rules, arith}
+use Rattle.std.proofs.Common.{◌≡◌, ◌+◌, length, rules, arith}
 use Rattle.std.proofs.lemmas.Grind.{common_steps}
 use Rattle.overlay_laws.specs.Windows.{clips}
 use Rattle.overlay_laws.proofs.WindowLaws.{clips_from, clips_within}

@@ -1,9 +1,8 @@
 -- Each window brings the entries' bytes up to its end.
-use Rattle.std.proofs.Common.{◌≡◌, ◌+◌, ◌-◌, ◌^◌, ◌<◌, ◌≤◌, ◌∙◌, refl, sym, ap, subst, List, length, ℕ, arith}
+use Rattle.std.proofs.Common.{◌+◌, ◌∙◌, refl, sym, ap, subst, length, ℕ, arith}
 use Rattle.std.specs.Prelude.{flat_map}
 use Rattle.serial_spec.specs.DeviceCalls.{overlays}
 use Rattle.nc_outside.specs.Told.{with_end}
-use Rattle.nc_base.specs.declared.step.DiskCall.{DiskCall}
 use Rattle.overlay_laws.specs.Changes.{IsBegun}
 use Rattle.aggregator_rounds.proofs.RoundLaws.{on_err}
 use Rattle.data_sieving.specs.Sieving.{source_of, windows_of}
@@ -11,8 +10,8 @@ use Rattle.data_sieving.specs.Serving.{HasDone, windows_from}
 use Rattle.data_sieving.proofs.CoveredBytes.{past_twice}
 use Rattle.data_sieving.proofs.WindowSteps.{goes_on}
 use Rattle.data_sieving.proofs.PutSteps.{covered_place}
-use Rattle.data_sieving.proofs.ReachSteps.{hull_low, hull_high, hull_end, hull_room, begun_ends, begun_filled, begun_found}
-use Rattle.data_sieving.proofs.LoopSteps.{walk_begin, walk_ready, nearer_end, calls_begin, stores_more, stores_begun, calls_end, put_begin, put_more, put_refused, put_end}
+use Rattle.data_sieving.proofs.ReachSteps.{hull_low, hull_high, hull_end, begun_ends, begun_filled, begun_found}
+use Rattle.data_sieving.proofs.LoopSteps.{walk_begin, walk_ready, calls_begin, stores_more, stores_begun, calls_end, put_begin, put_more, put_refused, put_end}
 use Rattle.data_sieving.proofs.put.sieve_put.Goals as goal
 
 pub windows-init : goal.windows-init

@@ -1,5 +1,5 @@
 -- The disk has the entries' bytes up to a place, and the calls of the windows so far were made.
-use Rattle.std.proofs.Common.{◌≡◌, ℕ, ◌-◌, ◌^◌, ◌≤◌, length}
+use Rattle.std.proofs.Common.{◌≡◌, ◌-◌, ◌^◌, ◌≤◌, length}
 use Rattle.std.specs.Prelude.{flat_map}
 use Rattle.nc_outside.specs.Told.{after}
 use Rattle.serial_spec.specs.DeviceCalls.{overlays}

@@ -1,5 +1,5 @@
 -- The entry that goes past the place is the first one.
-use Rattle.std.proofs.Common.{◌≡◌, ◌+◌, ◌^◌, ◌<◌, ◌≤◌, ◌∙◌, subst, sym, arith}
+use Rattle.std.proofs.Common.{arith}
 use Rattle.nc_base.specs.declared.plan.Owned.{Owned}
 use Rattle.data_sieving.proofs.SplitSteps.{entry_ends, ended_more, goes_past, none_after}
 use Rattle.data_sieving.proofs.walk.ended_by.Goals as goal

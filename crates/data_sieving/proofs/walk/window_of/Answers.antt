@@ -1,5 +1,5 @@
 -- Each entry makes the hull longer, or has a hole before it.
-use Rattle.std.proofs.Common.{◌≡◌, ◌+◌, ◌^◌, ◌<◌, ◌≤◌, ◌⊎◌, inl, inr, ◌∙◌, ap, sym, refl, max, min, true, false, get_or, arith, ℕ}
+use Rattle.std.proofs.Common.{inl, inr, ◌∙◌, ap, sym, refl, max, min, get_or, arith, ℕ}
 use Rattle.nc_base.specs.declared.plan.Owned.{Owned}
 use Rattle.data_sieving.proofs.SplitSteps.{entry_ends}
 use Rattle.data_sieving.proofs.HullSteps.{nothing_scanned, scanned_more, all_scanned}

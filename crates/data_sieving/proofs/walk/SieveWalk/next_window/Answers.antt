@@ -1,5 +1,5 @@
 -- The window is that of the entries that have begun before its end.
-use Rattle.std.proofs.Common.{◌≡◌, ◌+◌, ◌<◌, ◌≤◌, List, length, take, drop, subst, sym, arith}
+use Rattle.std.proofs.Common.{◌≤◌, List, length, subst, sym, arith}
 use Rattle.nc_base.specs.declared.plan.Owned.{Owned}
 use Rattle.overlay_laws.specs.Entries.{In}
 use Rattle.overlay_laws.specs.Lines.{extents, IsByPlace}
