@@ -1,0 +1,67 @@
+-- The calls that were done, and those that are left.
+use Rattle.std.proofs.Common.{◌≡◌, ℕ, ◌+◌, ◌<◌, ◌≤◌, refl, sym, ◌∙◌, ap, List, [], ◌∷◌, ◌++◌, length, take, drop, min, Option, Some, None, append_assoc, arith}
+use Rattle.std.proofs.lemmas.List.{append-nil, take_at, drop_at, take_min, take-append-le}
+use Rattle.std.proofs.Math.Seq.{take-add}
+use Rattle.std.specs.Prelude.{flat_map}
+use Rattle.std.specs.Option.{option_map}
+use Rattle.nc_base.specs.declared.step.DiskCall.{DiskCall}
+use Rattle.nc_outside.specs.Told.{with_end}
+use Rattle.overlay_laws.specs.Changes.{IsBegun}
+use Rattle.data_sieving.specs.Serving.{HasDone}
+
+ends_twice : (old : Option (List DiskCall)) (a b : List DiskCall) → with_end (with_end old a) b ≡ with_end old (a ++ b)
+ends_twice None a b = refl
+ends_twice (Some o) a b = ap Some (append_assoc o a b)
+
+no_end : (old : Option (List DiskCall)) → old ≡ with_end old []
+no_end None = refl
+no_end (Some o) = ap Some (sym (append-nil o))
+
+pub none_done : (plan rest : List DiskCall) (old : Option (List DiskCall)) → plan ≡ rest → HasDone plan rest old old
+none_done plan rest old e = record { done = []; told = no_end old; whole = e }
+
+pub done_more : (f : List ℕ → List DiskCall) (ws : List ℕ) (here later : List (List ℕ)) (plan calls : List DiskCall) (old mid now : Option (List DiskCall))
+    → here ≡ ws ∷ later → f ws ≡ calls → now ≡ with_end mid calls → HasDone plan (flat_map f here) old mid → HasDone plan (flat_map f later) old now
+done_more f ws here later plan calls old mid now e g k h = record {
+  done = h.done ++ calls;
+  told = k ∙ ap (λ (m : Option (List DiskCall)). with_end m calls) h.told ∙ ends_twice old h.done calls;
+  whole = h.whole ∙ ap (λ (r : List DiskCall). h.done ++ r) (ap (λ (l : List (List ℕ)). flat_map f l) e ∙ ap (λ (c : List DiskCall). c ++ flat_map f later) g)
+      ∙ sym (append_assoc h.done calls (flat_map f later));
+}
+
+pub all_done : (plan rest : List DiskCall) (old now : Option (List DiskCall)) → rest ≡ [] → HasDone plan rest old now → now ≡ with_end old plan
+all_done plan rest old now e h =
+    h.told ∙ ap (λ (c : List DiskCall). with_end old c) (sym (h.whole ∙ ap (λ (r : List DiskCall). h.done ++ r) e ∙ append-nil h.done))
+
+take_past : (a b : List DiskCall) (m : ℕ) → take (length a + m) (a ++ b) ≡ a ++ take m b
+take_past a b m =
+    take-add (length a) m (a ++ b)
+    ∙ ap (λ (l : List DiskCall). l ++ take m (drop (length a) (a ++ b))) (take_at a b (length a) refl)
+    ∙ ap (λ (l : List DiskCall). a ++ take m l) (drop_at a b (length a) refl)
+
+-- what was begun of the next calls is a beginning of the plan
+pub done_begun : (plan calls rest : List DiskCall) (old mid now : Option (List DiskCall)) → HasDone plan (calls ++ rest) old mid → IsBegun calls mid now → IsBegun plan old now
+done_begun plan calls rest old mid now h b = (
+  length h.done + min b.0 (length calls),
+  b.1 ∙ ap (λ (m : Option (List DiskCall)). option_map (λ (c : List DiskCall). c ++ take b.0 calls) m) h.told ∙ by_old old,
+)
+  where
+    least : min b.0 (length calls) ≤ length calls
+    least = omega arith
+
+    taken : take (length h.done + min b.0 (length calls)) plan ≡ h.done ++ take b.0 calls
+    taken =
+        ap (λ (l : List DiskCall). take (length h.done + min b.0 (length calls)) l) h.whole
+        ∙ take_past h.done (calls ++ rest) (min b.0 (length calls))
+        ∙ ap (λ (l : List DiskCall). h.done ++ l) (take-append-le (min b.0 (length calls)) calls rest least ∙ take_min b.0 calls)
+
+    by_old : (o : Option (List DiskCall)) → option_map (λ (c : List DiskCall). c ++ take b.0 calls) (with_end o h.done)
+        ≡ option_map (λ (c : List DiskCall). c ++ take (length h.done + min b.0 (length calls)) plan) o
+    by_old None = refl
+    by_old (Some o) = ap Some (append_assoc o h.done (take b.0 calls) ∙ ap (λ (l : List DiskCall). o ++ l) (sym taken))
+
+pub none_begun : (plan rest : List DiskCall) (old now : Option (List DiskCall)) → HasDone plan rest old now → IsBegun plan old now
+none_begun plan rest old now h = (length h.done, h.told ∙ ap (λ (c : List DiskCall). with_end old c) (sym taken))
+  where
+    taken : take (length h.done) plan ≡ h.done
+    taken = ap (λ (l : List DiskCall). take (length h.done) l) h.whole ∙ take_at h.done rest (length h.done) refl

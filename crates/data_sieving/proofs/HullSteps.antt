@@ -1,0 +1,136 @@
+-- The hull of entries, entry by entry.
+use Rattle.std.proofs.Common.{◌≡◌, ℕ, ◌+◌, ◌-◌, ◌<◌, ◌≤◌, ◌⊎◌, inl, inr, refl, sym, ◌∙◌, ap, subst, List, [], ◌∷◌, ◌++◌, length, take, get_or, Bool, true, false, min, max, Some, slice_get, arith}
+use Rattle.std.proofs.lemmas.List.{take_more, take_all}
+use Rattle.std.specs.Prelude.{nat_lt}
+use borrow.Author.Tests.{ltb-true, ltb-false}
+use Rattle.nc_base.specs.declared.plan.Owned.{Owned}
+use Rattle.file_domains.specs.declared.walk.Window.{Window}
+use Rattle.overlay_laws.specs.Entries.{In}
+use Rattle.overlay_laws.specs.Lines.{extents, IsByPlace}
+use Rattle.overlay_laws.proofs.HullLaws.{in_either, in_left, in_right}
+use Rattle.file_domains.proofs.CoverParts.{in_at, got_at}
+use Rattle.data_sieving.specs.Sieving.{AreFilled}
+use Rattle.data_sieving.specs.Serving.{IsCovered, IsHull}
+use Rattle.data_sieving.proofs.CoveredBytes.{covered_left}
+use Rattle.data_sieving.proofs.SplitSteps.{before_or_later}
+
+-- the entries seen so far reach up to a place, with a hole before it or not
+pub record Scanned (at stop end : ℕ) (solid : Bool) (whole seen : List Owned) (count : ℕ) : Type 0 where
+  pub low : at ≤ end
+  pub high : end ≤ stop
+  pub some : 0 < count → at < end
+  pub reach : (o : Owned) → In seen o → min stop (o.extent.at + o.extent.len) ≤ end
+  pub last : at < end → IsCovered seen (end - 1)
+  pub full : solid ≡ true → (x : ℕ) → at ≤ x → x < end → IsCovered seen x
+  pub hole : solid ≡ false → (x : ℕ) × (at ≤ x) × (x < end) × (IsCovered whole x → ⊥)
+
+more_in : (seen more : List Owned) (o p : Owned) → more ≡ seen ++ o ∷ [] → In more p → In seen p ⊎ (o ≡ p)
+more_in seen more o p e m =
+    elim (in_either seen (o ∷ []) p (subst (λ (l : List Owned). In l p) e m)) [ inl g ↦ inl g | inr g ↦ elim g [ inl f ↦ inr f | inr f ↦ absurd f ] ]
+
+more_seen : (seen more : List Owned) (o : Owned) (x : ℕ) → more ≡ seen ++ o ∷ [] → IsCovered seen x → IsCovered more x
+more_seen seen more o x e c = subst (λ (l : List Owned). IsCovered l x) (sym e) (covered_left seen (o ∷ []) x c)
+
+more_by : (seen more : List Owned) (o : Owned) (x : ℕ) → more ≡ seen ++ o ∷ [] → o.extent.at ≤ x → x < o.extent.at + o.extent.len → IsCovered more x
+more_by seen more o x e l h =
+    record { by = o; inside = subst (λ (l : List Owned). In l o) (sym e) (in_right seen (o ∷ []) o (inl refl)); low = l; high = h }
+
+scan : (at stop end next count : ℕ) (solid more_solid : Bool) (whole seen more : List Owned) (o : Owned) → more ≡ seen ++ o ∷ []
+    → ((p : Owned) → In whole p → In seen p ⊎ (o.extent.at ≤ p.extent.at)) → 1 ≤ o.extent.len → o.extent.at < stop
+    → (count ≡ 0 → at < o.extent.at + o.extent.len) → at < stop → next ≡ max end (min (o.extent.at + o.extent.len) stop)
+    → (more_solid ≡ true → (solid ≡ true) × (o.extent.at ≤ end)) → (more_solid ≡ false → (solid ≡ false) ⊎ (end < o.extent.at))
+    → Scanned at stop end solid whole seen count → Scanned at stop next more_solid whole more (count + 1)
+scan at stop end next count solid more_solid whole seen more o e apart filled begin first room n keeps breaks h = record {
+  low = (let l = h.low in omega arith);
+  high = (let l = h.high in omega arith);
+  some = λ g. some_by (nat_lt 0 count) refl;
+  reach = λ p m. elim (more_in seen more o p e m) [
+    | inl g ↦ (let r = h.reach p g in omega arith)
+    | inr g ↦ subst (λ (z : Owned). min stop (z.extent.at + z.extent.len) ≤ next) g (omega arith)
+  ];
+  last = λ l. last_by l (nat_lt end (min (o.extent.at + o.extent.len) stop)) refl;
+  full = λ s x l m. full_by s x l m (nat_lt x end) refl;
+  hole = λ s. elim (breaks s) [
+    | inl g ↦ (let r = h.hole g in let m = r.2 in (r.0, r.1, omega arith, r.3))
+    | inr g ↦ (end, h.low, omega arith, (λ c. gap g c))
+  ];
+}
+  where
+    some_by : (t : Bool) → nat_lt 0 count ≡ t → at < next
+    some_by true f = let l = h.some (ltb-true _ _ f) in omega arith
+    some_by false f =
+        let none : count ≤ 0 = ltb-false _ _ f in
+        let l = first (omega arith) in
+        omega arith
+
+    last_by : at < next → (t : Bool) → nat_lt end (min (o.extent.at + o.extent.len) stop) ≡ t → IsCovered more (next - 1)
+    last_by l true f =
+        let past : end < min (o.extent.at + o.extent.len) stop = ltb-true _ _ f in
+        more_by seen more o (next - 1) e (omega arith) (omega arith)
+    last_by l false f =
+        let within : min (o.extent.at + o.extent.len) stop ≤ end = ltb-false _ _ f in
+        let same : end ≡ next = omega arith in
+        more_seen seen more o (next - 1) e (subst (λ (k : ℕ). IsCovered seen (k - 1)) same (h.last (omega arith)))
+
+    full_by : more_solid ≡ true → (x : ℕ) → at ≤ x → x < next → (t : Bool) → nat_lt x end ≡ t → IsCovered more x
+    full_by s x l m true f = more_seen seen more o x e (h.full (keeps s).0 x l (ltb-true _ _ f))
+    full_by s x l m false f =
+        let past : end ≤ x = ltb-false _ _ f in
+        let begun = (keeps s).1 in
+        more_by seen more o x e (omega arith) (omega arith)
+
+    gap : end < o.extent.at → IsCovered whole end → ⊥
+    gap g c =
+        let low = c.low in
+        let high = c.high in
+        elim (apart c.by c.inside) [
+          | inl m ↦ (let r = h.reach c.by m in absurd (omega arith))
+          | inr m ↦ absurd (omega arith)
+        ]
+
+-- one entry more, which is the next of the list
+pub scanned_more : (at stop end next i : ℕ) (solid more_solid : Bool) (whole : List Owned) (o d : Owned) → i < length whole → o ≡ get_or whole i d
+    → IsByPlace (extents whole) → AreFilled whole → ((p : Owned) → In whole p → p.extent.at < stop)
+    → ((p : Owned) → slice_get whole 0 ≡ Some p → at < p.extent.at + p.extent.len) → at < stop
+    → next ≡ max end (min (o.extent.at + o.extent.len) stop)
+    → (more_solid ≡ true → (solid ≡ true) × (o.extent.at ≤ end)) → (more_solid ≡ false → (solid ≡ false) ⊎ (end < o.extent.at))
+    → Scanned at stop end solid whole (take i whole) i → Scanned at stop next more_solid whole (take (i + 1) whole) (i + 1)
+scanned_more at stop end next i solid more_solid whole o d l e sorted filled before first room n keeps breaks h =
+    scan at stop end next i solid more_solid whole (take i whole) (take (i + 1) whole) o
+    (take_more whole i d l ∙ ap (λ (p : Owned). take i whole ++ p ∷ []) (sym e))
+    (λ p m. subst (λ (q : Owned). In (take i whole) p ⊎ (q.extent.at ≤ p.extent.at)) (sym e) (before_or_later whole i d p l sorted m))
+    (filled o inside) (before o inside)
+    (λ z. first o (ap (λ (k : ℕ). slice_get whole k) (sym z) ∙ got_at whole i d l ∙ ap Some (sym e)))
+    room n keeps breaks h
+  where
+    inside : In whole o
+    inside = subst (λ (p : Owned). In whole p) (sym e) (in_at whole i d l)
+
+pub nothing_scanned : (at stop : ℕ) (whole : List Owned) → at < stop → Scanned at stop at true whole (take 0 whole) 0
+nothing_scanned at stop whole room = record {
+  low = omega arith;
+  high = omega arith;
+  some = λ g. absurd (omega arith);
+  reach = λ o m. absurd m;
+  last = λ g. absurd (omega arith);
+  full = λ s x l m. absurd (omega arith);
+  hole = λ s. cc;
+}
+
+pub all_scanned : (at stop end i : ℕ) (solid : Bool) (list : List Owned) (w : Window) → length list ≤ i → 1 ≤ i → Scanned at stop end solid list (take i list) i
+    → w.hull.at ≡ at → w.hull.len ≡ end - at → w.full ≡ solid → IsHull at stop list w
+all_scanned at stop end i solid list w l one h begin long is =
+    let seen : take i list ≡ list = take_all i list l in
+    let low = h.low in
+    let high = h.high in
+    let past = h.some one in
+    let same : end - 1 ≡ at + w.hull.len - 1 = omega arith in
+    record {
+      begin = begin;
+      some = omega arith;
+      short = omega arith;
+      each = λ x c m. (let r = h.reach c.by (subst (λ (s : List Owned). In s c.by) (sym seen) c.inside) in let g = c.high in omega arith);
+      last = subst (λ (s : List Owned). IsCovered s (at + w.hull.len - 1)) seen (subst (λ (k : ℕ). IsCovered (take i list) k) same (h.last past));
+      full = λ s x m g. subst (λ (r : List Owned). IsCovered r x) seen (h.full (sym is ∙ s) x m (omega arith));
+      hole = λ s. (let r = h.hole (sym is ∙ s) in let m = r.2 in (r.0, r.1, omega arith, r.3));
+    }

@@ -1,0 +1,12 @@
+pub mod CoveredBytes
+pub mod SplitSteps
+pub mod HullSteps
+pub mod WindowSteps
+pub mod CallSteps
+pub mod PutSteps
+pub mod PartSteps
+pub mod ReachSteps
+pub mod GetSteps
+pub mod NextSteps
+pub mod LoopSteps
+pub mod TwoEntries

@@ -1,0 +1,93 @@
+-- What holds of all entries holds of those of a window.
+use Rattle.std.proofs.Common.{◌≡◌, ℕ, ◌+◌, ◌-◌, ◌^◌, ◌<◌, ◌≤◌, inl, inr, refl, sym, ◌∙◌, ap, subst, List, [], ◌∷◌, ◌++◌, length, min, arith}
+use Rattle.nc_base.specs.declared.plan.Extent.{Extent}
+use Rattle.nc_base.specs.declared.plan.Owned.{Owned}
+use Rattle.file_domains.specs.declared.walk.Window.{Window}
+use Rattle.overlay_laws.specs.Entries.{In, Source}
+use Rattle.overlay_laws.specs.Origins.{AreFound}
+use Rattle.overlay_laws.specs.Lines.{extents, EndBelow}
+use Rattle.overlay_laws.proofs.HullLaws.{in_left, in_right}
+use Rattle.data_sieving.specs.Sieving.{AreFilled, LieOn}
+use Rattle.data_sieving.specs.Serving.{IsPast, AreLeft, AreBegun, IsNext}
+use Rattle.data_sieving.proofs.CoveredBytes.{in_extents}
+
+pub begun_in : (place stop : ℕ) (list left begun : List Owned) (o : Owned) → IsPast place list left → AreBegun stop left begun → In begun o → In list o
+begun_in place stop list left begun o p b m =
+    subst (λ (l : List Owned). In l o) (sym p.joined)
+    (in_right p.front left o (subst (λ (l : List Owned). In l o) (sym b.joined) (in_left begun b.rest o m)))
+
+pub left_in : (place : ℕ) (list left : List Owned) (o : Owned) → IsPast place list left → In left o → In list o
+left_in place list left o p m = subst (λ (l : List Owned). In l o) (sym p.joined) (in_right p.front left o m)
+
+-- ---- the hull
+
+pub hull_low : (list left : List Owned) (place size : ℕ) (w : Window) (begun later : List Owned) (stop from len : ℕ) → LieOn from len list → IsPast place list left
+    → IsNext left place size w begun later stop → from ≤ w.hull.at
+hull_low list left place size w begun later stop from len on p n =
+    let r = on n.first.by (left_in place list left n.first.by p n.first.inside) in
+    let low = r.0 in
+    let begin = n.first.low in
+    omega arith
+
+pub hull_high : (list left : List Owned) (place size : ℕ) (w : Window) (begun later : List Owned) (stop from len : ℕ) → LieOn from len list → IsPast place list left
+    → IsNext left place size w begun later stop → w.hull.at + w.hull.len ≤ from + len
+hull_high list left place size w begun later stop from len on p n =
+    let last = n.hull.last in
+    let r = on last.by (begun_in place stop list left begun last.by p n.begun last.inside) in
+    let high = r.1 in
+    let end = last.high in
+    let some = n.hull.some in
+    omega arith
+
+begun_extents : (stop : ℕ) (left begun : List Owned) (e : Extent) → AreBegun stop left begun → In (extents begun) e → In (extents left) e
+begun_extents stop left begun e b m = subst (λ (l : List Owned). In (extents l) e) (sym b.joined) (within begun b.rest e m)
+  where
+    within : (a r : List Owned) (d : Extent) → In (extents a) d → In (extents (a ++ r)) d
+    within [] r d h = absurd h
+    within (o ∷ a) r d (inl g) = inl g
+    within (o ∷ a) r d (inr h) = inr (within a r d h)
+
+pub begun_ends : (left : List Owned) (place size stop : ℕ) (begun : List Owned) → AreLeft left place size → AreBegun stop left begun → EndBelow (2 ^ 62) (extents begun)
+begun_ends left place size stop begun l b e m = l.ends e (begun_extents stop left begun e b m)
+
+pub begun_filled : (left : List Owned) (place size stop : ℕ) (begun : List Owned) → AreLeft left place size → AreBegun stop left begun → AreFilled begun
+begun_filled left place size stop begun l b o m = l.filled o (subst (λ (es : List Owned). In es o) (sym b.joined) (in_left begun b.rest o m))
+
+pub hull_end : (left : List Owned) (place size : ℕ) (w : Window) (begun later : List Owned) (stop : ℕ) → AreLeft left place size
+    → IsNext left place size w begun later stop → w.hull.at + w.hull.len < 2 ^ 62
+hull_end left place size w begun later stop l n =
+    let last = n.hull.last in
+    let below = begun_ends left place size stop begun l n.begun last.by.extent (in_extents begun last.by last.inside) in
+    let end = last.high in
+    let some = n.hull.some in
+    omega arith
+
+pub hull_room : (left : List Owned) (place size : ℕ) (w : Window) (begun later : List Owned) (stop : ℕ) → IsNext left place size w begun later stop → w.hull.len ≤ size
+hull_room left place size w begun later stop n =
+    let short = n.hull.short in
+    let is = n.ends in
+    omega arith
+
+-- a window begins below 2 ^ 62, and what was served before it ends there
+pub place_below : (left : List Owned) (place size : ℕ) (w : Window) (begun later : List Owned) (stop : ℕ) → AreLeft left place size
+    → IsNext left place size w begun later stop → place < 2 ^ 62
+place_below left place size w begun later stop l n =
+    let end = hull_end left place size w begun later stop l n in
+    let low = n.from in
+    omega arith
+
+-- ---- their bytes
+
+found_left : (source : Source) (a b : List Owned) → AreFound source (a ++ b) → AreFound source a
+found_left source [] b h = tt
+found_left source (o ∷ a) b h = (h.0, found_left source a b h.1)
+
+found_right : (source : Source) (a b : List Owned) → AreFound source (a ++ b) → AreFound source b
+found_right source [] b h = h
+found_right source (o ∷ a) b h = found_right source a b h.1
+
+pub begun_found : (source : Source) (list left : List Owned) (place stop : ℕ) (begun : List Owned) → AreFound source list → IsPast place list left → AreBegun stop left begun
+    → AreFound source begun
+begun_found source list left place stop begun f p b =
+    found_left source begun b.rest
+    (subst (λ (l : List Owned). AreFound source l) b.joined (found_right source p.front left (subst (λ (l : List Owned). AreFound source l) p.joined f)))

@@ -1,0 +1,226 @@
+-- The first window of what is left, as it is told and as one of the windows of sieving.
+use Rattle.std.proofs.Common.{◌≡◌, ℕ, suc, ◌+◌, ◌-◌, ◌^◌, ◌<◌, ◌≤◌, inl, inr, refl, sym, ◌∙◌, ap, subst, List, [], ◌∷◌, length, Bool, true, false, cond, min, arith}
+use Rattle.std.specs.Prelude.{filter, nat_lt, nat_le, ◌==◌}
+use Rattle.std.specs.List.{range_with_len}
+use borrow.Author.Tests.{ltb-true, ltb-false}
+use Rattle.nc_base.specs.declared.plan.Owned.{Owned}
+use Rattle.file_domains.specs.declared.walk.Window.{Window}
+use Rattle.serial_spec.specs.DeviceCalls.{in_order, first_of, last_of, hull_len, sieved, sieving_windows}
+use Rattle.overlay_laws.specs.Entries.{In, ranges}
+use Rattle.overlay_laws.specs.Hulls.{IsAscending}
+use Rattle.overlay_laws.specs.Walks.{told_of}
+use Rattle.overlay_laws.proofs.HullLaws.{filter_in, filter_ascends, filter_short, in_range, range_low, range_high, range_ascends, last_most, last_below}
+use Rattle.overlay_laws.proofs.WalkLaws.{lt_true, le_true, le_false, from_le, eq_true, eq_false_below, drop_first, filter_all, sieved_walked}
+use Rattle.overlay_laws.proofs.CoverLaws.{same_ascending, range_long}
+use Rattle.file_domains.proofs.WalkSteps.{walked_enough}
+use Rattle.aggregator_rounds.specs.Pieces.{told_window}
+use Rattle.data_sieving.specs.Sieving.{windows_of}
+use Rattle.data_sieving.specs.Serving.{IsCovered, IsPast, AreLeft, IsNext, bytes_from, windows_from}
+use Rattle.data_sieving.proofs.CoveredBytes.{in_extents, covered_below, in_filter, byte_from, from_byte, bytes_ascend, same_bytes, begins, past_covered, covered_past, past_twice, begun_covered, covered_begun}
+
+-- ---- how many numbers there are between two
+
+within_short : (xs : List ℕ) (a e : ℕ) → IsAscending xs → ((x : ℕ) → In xs x → (a ≤ x) × (x < e)) → length xs ≤ e - a
+within_short [] a e h k = omega arith
+within_short (x ∷ xs) a e h k =
+    let first = k x (inl refl) in
+    let low = first.0 in
+    let high = first.1 in
+    let rest = within_short xs (x + 1) e h.1 (λ y m. let l = h.0 y m in let r = k y (inr m) in let g = r.1 in (omega arith, omega arith)) in
+    omega arith
+
+hole_short : (xs : List ℕ) (a e y : ℕ) → IsAscending xs → ((x : ℕ) → In xs x → (a ≤ x) × (x < e)) → a ≤ y → y < e → (In xs y → ⊥) → length xs + 1 ≤ e - a
+hole_short [] a e y h k l m n = omega arith
+hole_short (x ∷ xs) a e y h k l m n =
+    by_test
+    (λ g. hole_short xs (x + 1) e y h.1 (λ z i. let low = h.0 z i in let r = k z (inr i) in let high = r.1 in (omega arith, omega arith)) (omega arith) m (λ i. n (inr i)))
+    (nat_lt y x) refl
+  where
+    after : (z : ℕ) → y < x → In (x ∷ xs) z → y + 1 ≤ z
+    after z g (inl e) = omega arith
+    after z g (inr i) = let low = h.0 z i in omega arith
+
+    apart : (t : Bool) → nat_lt x y ≡ t → x ≤ y → x < y
+    apart true f g = ltb-true _ _ f
+    apart false f g = let high : y ≤ x = ltb-false _ _ f in let same : x ≡ y = omega arith in absurd (n (inl same))
+
+    by_test : (x < y → length xs + 1 ≤ e - (x + 1)) → (t : Bool) → nat_lt y x ≡ t → length (x ∷ xs) + 1 ≤ e - a
+    by_test rest true f =
+        let g : y < x = ltb-true _ _ f in
+        let short = within_short (x ∷ xs) (y + 1) e h (λ z i. let r = k z i in (after z g i, r.1)) in
+        omega arith
+    by_test rest false f =
+        let low : x ≤ y = ltb-false _ _ f in
+        let past : x < y = apart (nat_lt x y) refl low in
+        let short = rest past in
+        let first = k x (inl refl) in
+        let begin = first.0 in
+        omega arith
+
+-- ---- the bytes of the window
+
+abbrev pub window_bytes : List Owned → ℕ → ℕ → Window → List ℕ
+window_bytes left place size w = filter (λ (y : ℕ). nat_lt y (w.hull.at + size)) (bytes_from place left)
+
+first_below : (left : List Owned) (place size : ℕ) (w : Window) (begun later : List Owned) (stop : ℕ) → AreLeft left place size
+    → IsNext left place size w begun later stop → w.hull.at < 2 ^ 62
+first_below left place size w begun later stop l n = covered_below (2 ^ 62) left w.hull.at l.ends n.first
+
+before_stop : (left : List Owned) (place size : ℕ) (w : Window) (begun later : List Owned) (stop x : ℕ) → AreLeft left place size
+    → IsNext left place size w begun later stop → IsCovered left x → x < w.hull.at + size → x < stop
+before_stop left place size w begun later stop x l n c h =
+    let below = covered_below (2 ^ 62) left x l.ends c in
+    let is = n.ends in
+    omega arith
+
+in_window : (left : List Owned) (place size : ℕ) (w : Window) (begun later : List Owned) (stop x : ℕ) → AreLeft left place size
+    → IsNext left place size w begun later stop → In (window_bytes left place size w) x
+    → (w.hull.at ≤ x) × (x < w.hull.at + w.hull.len) × IsCovered begun x
+in_window left place size w begun later stop x l n m =
+    let r = filter_in (λ (y : ℕ). nat_lt y (w.hull.at + size)) (bytes_from place left) x m in
+    let room : x < w.hull.at + size = ltb-true _ _ r.1 in
+    let b = from_byte place left x r.0 in
+    let before = before_stop left place size w begun later stop x l n b.1 room in
+    let c = begun_covered stop left begun x n.begun before b.1 in
+    (n.least x b.1 b.0, n.hull.each x c before, c)
+
+window_in : (left : List Owned) (place size : ℕ) (w : Window) (begun later : List Owned) (stop x : ℕ) → IsNext left place size w begun later stop
+    → w.hull.at ≤ x → x < w.hull.at + w.hull.len → IsCovered begun x → In (window_bytes left place size w) x
+window_in left place size w begun later stop x n h k c =
+    let short = n.hull.short in
+    let is = n.ends in
+    let low = n.from in
+    in_filter (λ (y : ℕ). nat_lt y (w.hull.at + size)) (bytes_from place left) x
+    (byte_from place left x (omega arith) (covered_begun stop left begun x n.begun c)) (lt_true x (w.hull.at + size) (omega arith))
+
+three : (a b c d : ℕ) (s t : Bool) → a ≡ c → b ≡ d → s ≡ t → ◌≡◌ {A = ℕ × ℕ × Bool} (a, b, s) (c, d, t)
+three a b c d s t p q r = λ i. (p i, q i, r i)
+
+begin_window : (left : List Owned) (place size : ℕ) (w : Window) (begun later : List Owned) (stop : ℕ) → AreLeft left place size
+    → IsNext left place size w begun later stop → (ys : List ℕ) × (bytes_from place left ≡ w.hull.at ∷ ys)
+begin_window left place size w begun later stop l n =
+    begins (bytes_from place left) w.hull.at (bytes_ascend place left) (byte_from place left w.hull.at n.from n.first)
+    (λ x m. let b = from_byte place left x m in n.least x b.1 b.0)
+
+-- what is told of the bytes of the window is its hull, and whether it has a hole
+pub next_told : (left : List Owned) (place size : ℕ) (w : Window) (begun later : List Owned) (stop : ℕ) → AreLeft left place size
+    → IsNext left place size w begun later stop → told_of (window_bytes left place size w) ≡ told_window w
+next_told left place size w begun later stop l n =
+    three (first_of (window_bytes left place size w)) (hull_len (window_bytes left place size w)) w.hull.at w.hull.len
+    (length (window_bytes left place size w) == hull_len (window_bytes left place size w)) w.full first long (by_full w.full refl)
+  where
+    asc : IsAscending (window_bytes left place size w)
+    asc = filter_ascends (λ (y : ℕ). nat_lt y (w.hull.at + size)) (bytes_from place left) (bytes_ascend place left)
+
+    some : 1 ≤ w.hull.len
+    some = n.hull.some
+
+    room : w.hull.at < stop
+    room = let short = n.hull.short in let s = n.hull.some in omega arith
+
+    first : first_of (window_bytes left place size w) ≡ w.hull.at
+    first =
+        let s = n.hull.some in
+        let b = begins (window_bytes left place size w) w.hull.at asc
+        (window_in left place size w begun later stop w.hull.at n (omega arith) (omega arith) (begun_covered stop left begun w.hull.at n.begun room n.first))
+        (λ x m. (in_window left place size w begun later stop x l n m).0) in
+        ap (λ (xs : List ℕ). first_of xs) b.1
+
+    long : hull_len (window_bytes left place size w) ≡ w.hull.len
+    long =
+        let s = n.hull.some in
+        let f = first in
+        let most = last_most (window_bytes left place size w) (w.hull.at + w.hull.len - 1)
+        (window_in left place size w begun later stop (w.hull.at + w.hull.len - 1) n (omega arith) (omega arith) n.hull.last) in
+        let least = last_below (window_bytes left place size w) (w.hull.at + w.hull.len) (omega arith)
+        (λ x m. (in_window left place size w begun later stop x l n m).1) in
+        omega arith
+
+    solid : w.full ≡ true → window_bytes left place size w ≡ range_with_len w.hull.at w.hull.len
+    solid t =
+        same_ascending (window_bytes left place size w) (range_with_len w.hull.at w.hull.len) asc (range_ascends w.hull.at w.hull.len)
+        (λ x m. let r = in_window left place size w begun later stop x l n m in in_range w.hull.at w.hull.len x r.0 r.1)
+        (λ x m. let low = range_low w.hull.at w.hull.len x m in let high = range_high w.hull.at w.hull.len x m in
+        window_in left place size w begun later stop x n low high (n.hull.full t x low high))
+
+    by_full : (t : Bool) → w.full ≡ t → (length (window_bytes left place size w) == hull_len (window_bytes left place size w)) ≡ t
+    by_full true f =
+        let all : length (window_bytes left place size w) ≡ w.hull.len = ap (λ (xs : List ℕ). length xs) (solid f) ∙ range_long w.hull.at w.hull.len in
+        eq_true (length (window_bytes left place size w)) (hull_len (window_bytes left place size w)) (all ∙ sym long)
+    by_full false f =
+        let r = n.hull.hole f in
+        let short = hole_short (window_bytes left place size w) w.hull.at (w.hull.at + w.hull.len) r.0 asc
+        (λ x m. let g = in_window left place size w begun later stop x l n m in (g.0, g.1)) r.1 r.2
+        (λ m. r.3 (in_window left place size w begun later stop r.0 l n m).2) in
+        let is = long in
+        eq_false_below (length (window_bytes left place size w)) (hull_len (window_bytes left place size w)) (omega arith)
+
+-- ---- the windows that are left
+
+enough : (f size : ℕ) (xs : List ℕ) → length xs ≤ f → sieved f size xs ≡ sieving_windows size xs
+enough f size xs h =
+    sieved_walked f size xs ∙ walked_enough (λ (x : ℕ). x + size) f (length xs) xs h (omega arith) ∙ sym (sieved_walked (length xs) size xs)
+
+sieve_first : (size a : ℕ) (ys xs : List ℕ) → 1 ≤ size → xs ≡ a ∷ ys
+    → sieving_windows size xs ≡ filter (λ (y : ℕ). nat_lt y (a + size)) xs ∷ sieving_windows size (filter (λ (y : ℕ). nat_le (a + size) y) xs)
+sieve_first size a ys xs h e =
+    subst (λ (l : List ℕ). sieving_windows size l ≡ filter (λ (y : ℕ). nat_lt y (a + size)) l ∷ sieving_windows size (filter (λ (y : ℕ). nat_le (a + size) y) l)) (sym e)
+    (ap (λ (r : List (List ℕ)). filter (λ (y : ℕ). nat_lt y (a + size)) (a ∷ ys) ∷ r)
+    (enough (length ys) size (filter (λ (y : ℕ). nat_le (a + size) y) ys) (filter_short (λ (y : ℕ). nat_le (a + size) y) ys)
+    ∙ ap (λ (b : List ℕ). sieving_windows size b)
+    (sym (drop_first a (filter (λ (y : ℕ). nat_le (a + size) y) ys) (nat_le (a + size) a) (le_false (a + size) a (omega arith))))))
+
+rest_bytes : (left : List Owned) (place size : ℕ) (w : Window) (begun later : List Owned) (stop : ℕ) → AreLeft left place size
+    → IsNext left place size w begun later stop
+    → filter (λ (y : ℕ). nat_le (w.hull.at + size) y) (bytes_from place left) ≡ bytes_from stop left
+rest_bytes left place size w begun later stop l n =
+    same_ascending (filter (λ (y : ℕ). nat_le (w.hull.at + size) y) (bytes_from place left)) (bytes_from stop left)
+    (filter_ascends (λ (y : ℕ). nat_le (w.hull.at + size) y) (bytes_from place left) (bytes_ascend place left)) (bytes_ascend stop left)
+    (λ x m.
+    let r = filter_in (λ (y : ℕ). nat_le (w.hull.at + size) y) (bytes_from place left) x m in
+    let past = from_le (w.hull.at + size) x r.1 in
+    let b = from_byte place left x r.0 in
+    let is = n.ends in
+    byte_from stop left x (omega arith) b.1)
+    (λ x m.
+    let b = from_byte stop left x m in
+    let past = b.0 in
+    let below = covered_below (2 ^ 62) left x l.ends b.1 in
+    let is = n.ends in
+    let low = n.from in
+    in_filter (λ (y : ℕ). nat_le (w.hull.at + size) y) (bytes_from place left) x (byte_from place left x (omega arith) b.1)
+    (le_true (w.hull.at + size) x (omega arith)))
+
+-- a window ends past what was served before it
+pub goes_on : (left : List Owned) (place size : ℕ) (w : Window) (begun later : List Owned) (stop : ℕ) → IsNext left place size w begun later stop → place < stop
+goes_on left place size w begun later stop n =
+    let low = n.from in
+    let some = n.hull.some in
+    let short = n.hull.short in
+    omega arith
+
+pub past_bytes : (place : ℕ) (list left : List Owned) (stop : ℕ) → place ≤ stop → IsPast place list left → bytes_from stop list ≡ bytes_from stop left
+past_bytes place list left stop h p =
+    same_bytes stop list left (λ x l c. past_covered place list left x p (omega arith) c) (λ x l c. covered_past place list left x p c)
+
+-- the first of the windows that are left, and the others
+pub windows_next : (list left : List Owned) (place size : ℕ) (w : Window) (begun later : List Owned) (stop : ℕ) → IsPast place list left
+    → AreLeft left place size → IsNext left place size w begun later stop
+    → windows_from size place list ≡ window_bytes left place size w ∷ windows_from size stop list
+windows_next list left place size w begun later stop p l n =
+    let b = begin_window left place size w begun later stop l n in
+    let further = goes_on left place size w begun later stop n in
+    ap (λ (xs : List ℕ). sieving_windows size xs) (past_bytes place list left place (omega arith) p)
+    ∙ sieve_first size w.hull.at b.0 (bytes_from place left) l.some b.1
+    ∙ ap (λ (xs : List ℕ). window_bytes left place size w ∷ sieving_windows size xs)
+    (rest_bytes left place size w begun later stop l n ∙ sym (past_bytes place list left stop (omega arith) p))
+
+pub all_windows : (size : ℕ) (list : List Owned) → windows_of size list ≡ windows_from size 0 list
+all_windows size list =
+    ap (λ (xs : List ℕ). sieving_windows size xs)
+    (sym (filter_all (λ (y : ℕ). nat_le 0 y) (in_order (ranges list)) (λ y m. le_true 0 y (omega arith))))
+
+pub no_window : (size place : ℕ) (list left : List Owned) → left ≡ [] → IsPast place list left → windows_from size place list ≡ []
+no_window size place list left e p =
+    ap (λ (xs : List ℕ). sieving_windows size xs)
+    (past_bytes place list left place (omega arith) p ∙ ap (λ (l : List Owned). bytes_from place l) e)

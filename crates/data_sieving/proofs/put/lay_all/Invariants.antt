@@ -1,0 +1,12 @@
+-- The buffer has the bytes of the entries so far.
+use Rattle.std.proofs.Common.{◌≡◌, ◌+◌, length, take, map}
+use Rattle.serial_spec.specs.Said.{write_cells}
+use Rattle.data_sieving.specs.Sieving.{source_of}
+use Rattle.data_sieving.proofs.PartSteps.{laid_cell}
+use Rattle.data_sieving.proofs.put.lay_all.Given as goal
+
+abbrev pub invariant-loop-entry : goal.invariant-loop-entry
+invariant-loop-entry l = record {
+  laid : l.buf ≡ write_cells l.initial.buf (map (λ o. laid_cell (source_of l.puts) l.hull.at (l.hull.at + l.hull.len) o) (take l.entry-index l.entries));
+  long : length l.buf ≡ length l.initial.buf;
+}

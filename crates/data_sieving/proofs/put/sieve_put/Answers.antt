@@ -1,0 +1,122 @@
+-- Each window brings the entries' bytes up to its end.
+use Rattle.std.proofs.Common.{◌+◌, ◌∙◌, refl, sym, ap, subst, length, ℕ, arith}
+use Rattle.std.specs.Prelude.{flat_map}
+use Rattle.serial_spec.specs.DeviceCalls.{overlays}
+use Rattle.nc_outside.specs.Told.{with_end}
+use Rattle.overlay_laws.specs.Changes.{IsBegun}
+use Rattle.aggregator_rounds.proofs.RoundLaws.{on_err}
+use Rattle.data_sieving.specs.Sieving.{source_of, windows_of}
+use Rattle.data_sieving.specs.Serving.{HasDone, windows_from}
+use Rattle.data_sieving.proofs.CoveredBytes.{past_twice}
+use Rattle.data_sieving.proofs.WindowSteps.{goes_on}
+use Rattle.data_sieving.proofs.PutSteps.{covered_place}
+use Rattle.data_sieving.proofs.ReachSteps.{hull_low, hull_high, hull_end, begun_ends, begun_filled, begun_found}
+use Rattle.data_sieving.proofs.LoopSteps.{walk_begin, walk_ready, calls_begin, stores_more, stores_begun, calls_end, put_begin, put_more, put_refused, put_end}
+use Rattle.data_sieving.proofs.put.sieve_put.Goals as goal
+
+pub windows-init : goal.windows-init
+windows-init g c = record {
+  past = walk_begin c.args.list.now;
+  left = walk_ready c.args.list.now (length c.args.buf.now) c.requires.sorted c.requires.ends c.requires.filled c.requires.buffer;
+  size = refl;
+  from = refl;
+  len = refl;
+  bytes = put_begin (g.D.Disk.held c.args.disk.now) c.args.puts.now c.args.list.now (g.D.Disk.from c.args.disk.now) (g.D.Disk.len c.args.disk.now) c.size-size.ensures.told c.requires.on_disk;
+  calls = calls_begin overlays (length c.args.buf.now) c.args.list.now (g.D.Disk.calls c.args.disk.now);
+  sure = λ s. s;
+  faults = omega arith;
+}
+
+pub put_window-requires-clause-low : goal.put_window-requires-clause-low
+put_window-requires-clause-low g c κs within =
+    let low = hull_low c.args.list.now c.windows.walk.entries.now c.windows.walk.from c.windows.walk.size c.in-Some.next.window c.in-Some.next.entries.now
+    c.next_window.new.self.entries.now c.next_window.new.self.from (g.D.Disk.from c.args.disk.now) (g.D.Disk.len c.args.disk.now) c.requires.on_disk c.windows.invariant.past c.in-Some.ensures.next in
+    let same = c.windows.invariant.from in
+    omega arith
+
+pub put_window-requires-clause-high : goal.put_window-requires-clause-high
+put_window-requires-clause-high g c κs within =
+    let high = hull_high c.args.list.now c.windows.walk.entries.now c.windows.walk.from c.windows.walk.size c.in-Some.next.window c.in-Some.next.entries.now
+    c.next_window.new.self.entries.now c.next_window.new.self.from (g.D.Disk.from c.args.disk.now) (g.D.Disk.len c.args.disk.now) c.requires.on_disk c.windows.invariant.past c.in-Some.ensures.next in
+    let same = c.windows.invariant.from in
+    let long = c.windows.invariant.len in
+    omega arith
+
+pub put_window-requires-clause-hull : goal.put_window-requires-clause-hull
+put_window-requires-clause-hull g c κs within =
+    hull_end c.windows.walk.entries.now c.windows.walk.from c.windows.walk.size c.in-Some.next.window c.in-Some.next.entries.now
+    c.next_window.new.self.entries.now c.next_window.new.self.from c.windows.invariant.left c.in-Some.ensures.next
+
+pub put_window-requires-clause-ends : goal.put_window-requires-clause-ends
+put_window-requires-clause-ends g c κs within =
+    begun_ends c.windows.walk.entries.now c.windows.walk.from c.windows.walk.size c.next_window.new.self.from c.in-Some.next.entries.now c.windows.invariant.left c.in-Some.ensures.next.begun
+
+pub put_window-requires-clause-filled : goal.put_window-requires-clause-filled
+put_window-requires-clause-filled g c κs within =
+    begun_filled c.windows.walk.entries.now c.windows.walk.from c.windows.walk.size c.next_window.new.self.from c.in-Some.next.entries.now c.windows.invariant.left c.in-Some.ensures.next.begun
+
+pub put_window-requires-clause-found : goal.put_window-requires-clause-found
+put_window-requires-clause-found g c κs within =
+    begun_found (source_of c.args.puts.now) c.args.list.now c.windows.walk.entries.now c.windows.walk.from c.next_window.new.self.from c.in-Some.next.entries.now
+    c.requires.found c.windows.invariant.past c.in-Some.ensures.next.begun
+
+pub put_window-requires-clause-whole : goal.put_window-requires-clause-whole
+put_window-requires-clause-whole g c κs within = λ t x l h.
+    covered_place (source_of c.args.puts.now) c.in-Some.next.entries.now c.in-Some.next.window.hull.at (c.in-Some.next.window.hull.at + c.in-Some.next.window.hull.len) x
+    (begun_found (source_of c.args.puts.now) c.args.list.now c.windows.walk.entries.now c.windows.walk.from c.next_window.new.self.from c.in-Some.next.entries.now
+    c.requires.found c.windows.invariant.past c.in-Some.ensures.next.begun) l h (c.in-Some.ensures.next.hull.full t x l h)
+
+pub windows-preserved : goal.windows-preserved
+windows-preserved g c =
+    let further = goes_on c.windows.walk.entries.now c.windows.walk.from c.windows.walk.size c.in-Some.next.window c.in-Some.next.entries.now
+    c.next_window.new.self.entries.now c.next_window.new.self.from c.in-Some.ensures.next in
+    let later = c.in_ok-put_window.ensures.cause.later in
+    let faults = c.windows.invariant.faults in
+    record {
+      past = past_twice c.windows.walk.from c.next_window.new.self.from c.args.list.now c.windows.walk.entries.now c.next_window.new.self.entries.now (omega arith)
+          c.windows.invariant.past c.in-Some.ensures.next.past;
+      left = c.in-Some.ensures.left;
+      size = c.in-Some.ensures.size ∙ c.windows.invariant.size;
+      from = c.in_ok-put_window.ensures.from ∙ c.windows.invariant.from;
+      len = c.in_ok-put_window.ensures.len ∙ c.windows.invariant.len;
+      bytes = put_more (g.D.Disk.held c.args.disk.now) (g.D.Disk.held c.windows.disk) (g.D.Disk.held c.put_window.new.disk) c.args.puts.now c.args.list.now
+          c.windows.walk.entries.now c.windows.walk.from c.windows.walk.size c.in-Some.next.window c.in-Some.next.entries.now c.next_window.new.self.entries.now c.next_window.new.self.from
+          (g.D.Disk.from c.args.disk.now) (g.D.Disk.from c.windows.disk) (g.D.Disk.len c.args.disk.now) c.size-size.ensures.told c.requires.on_disk c.windows.invariant.from
+          c.windows.invariant.past c.in-Some.ensures.next c.windows.invariant.bytes c.in_ok-put_window.ensures.bytes;
+      calls = subst (λ (n : ℕ). HasDone (flat_map overlays (windows_of n c.args.list.now)) (flat_map overlays (windows_from n c.next_window.new.self.from c.args.list.now))
+          (g.D.Disk.calls c.args.disk.now) (g.D.Disk.calls c.put_window.new.disk)) (sym c.in-Some.ensures.size)
+          (stores_more c.args.list.now c.windows.walk.entries.now c.windows.walk.from c.windows.walk.size c.in-Some.next.window c.in-Some.next.entries.now
+          c.next_window.new.self.entries.now c.next_window.new.self.from (flat_map overlays (windows_of c.windows.walk.size c.args.list.now))
+          (g.D.Disk.calls c.args.disk.now) (g.D.Disk.calls c.windows.disk) (g.D.Disk.calls c.put_window.new.disk)
+          c.windows.invariant.past c.windows.invariant.left c.in-Some.ensures.next c.in_ok-put_window.ensures.calls c.windows.invariant.calls);
+      sure = λ s. c.in_ok-put_window.ensures.sure (c.windows.invariant.sure s);
+      faults = omega arith;
+    }
+
+pub returns-in_err-put_window-clause-refused : goal.returns-in_err-put_window-clause-refused
+returns-in_err-put_window-clause-refused g c =
+    on_err c.from_residual.result
+    (put_refused (g.D.Disk.held c.args.disk.now) (g.D.Disk.held c.windows.disk) (g.D.Disk.held c.put_window.new.disk) c.args.puts.now c.args.list.now
+    c.windows.walk.entries.now c.windows.walk.from c.windows.walk.size c.in-Some.next.window c.in-Some.next.entries.now c.next_window.new.self.entries.now c.next_window.new.self.from
+    (g.D.Disk.from c.args.disk.now) (g.D.Disk.from c.windows.disk) (g.D.Disk.len c.args.disk.now) c.size-size.ensures.told c.requires.on_disk c.windows.invariant.from
+    c.windows.invariant.past c.in-Some.ensures.next c.windows.invariant.bytes c.in_err-put_window.ensures.refused)
+
+pub returns-in_err-put_window-clause-begun : goal.returns-in_err-put_window-clause-begun
+returns-in_err-put_window-clause-begun g c =
+    on_err c.from_residual.result
+    (subst (λ (n : ℕ). IsBegun (flat_map overlays (windows_of n c.args.list.now)) (g.D.Disk.calls c.args.disk.now) (g.D.Disk.calls c.put_window.new.disk)) c.windows.invariant.size
+    (stores_begun c.args.list.now c.windows.walk.entries.now c.windows.walk.from c.windows.walk.size c.in-Some.next.window c.in-Some.next.entries.now
+    c.next_window.new.self.entries.now c.next_window.new.self.from (flat_map overlays (windows_of c.windows.walk.size c.args.list.now))
+    (g.D.Disk.calls c.args.disk.now) (g.D.Disk.calls c.windows.disk) (g.D.Disk.calls c.put_window.new.disk)
+    c.windows.invariant.past c.windows.invariant.left c.in-Some.ensures.next c.in_err-put_window.ensures.begun c.windows.invariant.calls))
+
+pub returns-clause-bytes : goal.returns-clause-bytes
+returns-clause-bytes g c =
+    put_end (g.D.Disk.held c.args.disk.now) (g.D.Disk.held c.windows.disk) c.args.puts.now c.args.list.now c.windows.walk.entries.now c.windows.walk.from
+    (g.D.Disk.from c.args.disk.now) (g.D.Disk.len c.args.disk.now) c.size-size.ensures.told c.requires.on_disk c.in_default.ensures.none c.windows.invariant.past c.windows.invariant.bytes
+
+pub returns-clause-calls : goal.returns-clause-calls
+returns-clause-calls g c =
+    calls_end overlays c.windows.walk.size c.windows.walk.from c.args.list.now c.windows.walk.entries.now (flat_map overlays (windows_of c.windows.walk.size c.args.list.now))
+    (g.D.Disk.calls c.args.disk.now) (g.D.Disk.calls c.windows.disk) c.in_default.ensures.none c.windows.invariant.past c.windows.invariant.calls
+    ∙ ap (λ (n : ℕ). with_end (g.D.Disk.calls c.args.disk.now) (flat_map overlays (windows_of n c.args.list.now))) c.windows.invariant.size

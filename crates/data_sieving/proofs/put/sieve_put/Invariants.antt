@@ -1,0 +1,25 @@
+-- The disk has the entries' bytes up to a place, and the calls of the windows so far were made.
+use Rattle.std.proofs.Common.{◌≡◌, ◌-◌, ◌^◌, ◌≤◌, length}
+use Rattle.std.specs.Prelude.{flat_map}
+use Rattle.nc_outside.specs.Told.{after}
+use Rattle.serial_spec.specs.DeviceCalls.{overlays}
+use Rattle.data_sieving.specs.Sieving.{put_cells, windows_of}
+use Rattle.data_sieving.specs.Serving.{IsPast, AreLeft, HasDone, windows_from}
+use Rattle.data_sieving.proofs.PutSteps.{file_to}
+use Rattle.data_sieving.proofs.put.sieve_put.Given as goal
+
+abbrev pub invariant-windows : goal.invariant-windows
+invariant-windows g l = record {
+  past : IsPast l.walk.from l.list l.walk.entries.now;
+  left : AreLeft l.walk.entries.now l.walk.from l.walk.size;
+  size : l.walk.size ≡ length l.initial.buf;
+  from : g.D.Disk.from l.disk ≡ g.D.Disk.from l.initial.disk;
+  len : g.D.Disk.len l.disk ≡ g.D.Disk.len l.initial.disk;
+  bytes : g.D.Disk.held l.disk ≡ after (λ file. file_to (g.D.Disk.from l.initial.disk) l.walk.from (put_cells l.puts l.list) file) (g.D.Disk.held l.initial.disk);
+  calls : HasDone (flat_map overlays (windows_of l.walk.size l.list)) (flat_map overlays (windows_from l.walk.size l.walk.from l.list)) (g.D.Disk.calls l.initial.disk) (g.D.Disk.calls l.disk);
+  sure : g.D.Disk.sure l.initial.disk → g.D.Disk.sure l.disk;
+  faults : g.D.Disk.faults l.initial.disk ≤ g.D.Disk.faults l.disk;
+}
+
+abbrev pub decreases-windows : goal.decreases-windows
+decreases-windows g l = 2 ^ 64 - l.walk.from

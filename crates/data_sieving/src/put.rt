@@ -1,0 +1,125 @@
+// Puts by data sieving.
+ghost use Rattle.std.specs.Prelude.{◌≡◌, ◌+◌, ◌^◌, ◌<◌, ◌≤◌, [], ◌∷◌, length, flat_map, true, ℕ, IsOk, OnOk, OnErr};
+ghost use Rattle.serial_spec.specs.DeviceCalls.{overlays};
+ghost use Rattle.serial_spec.specs.Said.{write_cells, moved_down};
+ghost use Rattle.overlay_laws.specs.Windows.{clip, clips, HasPlace};
+ghost use Rattle.overlay_laws.specs.Entries.{cell_of};
+ghost use Rattle.overlay_laws.specs.Origins.{AreFound};
+ghost use Rattle.overlay_laws.specs.Lines.{extents, IsByPlace, EndBelow};
+ghost use Rattle.overlay_laws.specs.Changes.{IsBetween, IsBegun, store_calls};
+ghost use Rattle.nc_outside.specs.Told.{after, with_end, BothTold};
+ghost use Rattle.nc_outside.specs.Cause.{HasDiskCause};
+ghost use Rattle.aggregator_rounds.specs.Pieces.{told_window};
+ghost use Rattle.data_sieving.specs.Sieving.{source_of, put_cells, windows_of, AreFilled, LieOn};
+
+use crate::entry::{copy_to, cut, part_of};
+use crate::walk::{SieveWalk, SieveWindow};
+use aggregator_rounds::{close_window, open_window};
+use nc_base::{Extent, Owned, PostList};
+use nc_outside::{Disk, DiskErr};
+use std::alloc::Global;
+
+/// Writes the bytes of sorted entries, each of which has them in the post of its slot, window by window. Where entries share a
+/// byte, the last one counts. A window with a hole is read over its hull, overlaid and written; one without is only written.
+///
+/// Refused, it leaves each byte old or as it would have been, so that bytes of no entry are as before.
+///
+/// `buf` holds one window, at most as many bytes as it has. The cost is that of the hulls' bytes and of the entries, each of which
+/// is looked at once for each window that it has bytes in.
+pub fn sieve_put<D: Disk>(
+    alloc: Global,
+    disk: &mut D,
+    list: &[Owned],
+    puts: &PostList,
+    buf: &mut [u8],
+) -> Result<(), DiskErr>
+    requires sorted { IsByPlace (extents list.now) }
+    requires ends { EndBelow (2 ^ 62) (extents list.now) }
+    requires filled { AreFilled list.now }
+    requires on_disk { LieOn (D.from disk.old) (D.len disk.old) list.now }
+    requires found { AreFound (source_of puts.now) list.now }
+    requires buffer { 1 ≤ length buf.old }
+    ensures from { D.from disk.new ≡ D.from disk.old }
+    ensures len { D.len disk.new ≡ D.len disk.old }
+    ensures bytes { OnOk result (D.held disk.new ≡ after (λ file. write_cells file (moved_down (D.from disk.old) (put_cells puts.now list.now))) (D.held disk.old)) }
+    ensures refused { OnErr result (BothTold (λ old left. IsBetween old (write_cells old (moved_down (D.from disk.old) (put_cells puts.now list.now))) left) (D.held disk.old) (D.held disk.new)) }
+    ensures calls { OnOk result (D.calls disk.new ≡ with_end (D.calls disk.old) (flat_map overlays (windows_of (length buf.old) list.now))) }
+    ensures begun { OnErr result (IsBegun (flat_map overlays (windows_of (length buf.old) list.now)) (D.calls disk.old) (D.calls disk.new)) }
+    ensures certain { D.sure disk.old → IsOk result }
+    ensures sure { D.sure disk.old → D.sure disk.new }
+    ensures cause { HasDiskCause (D.faults disk.old) (D.faults disk.new) result }
+{
+    let _size = disk.size();
+    let mut walk = SieveWalk {
+        entries: list,
+        from: 0,
+        size: buf.len() as u64,
+    };
+    'windows: while let Some(next) = walk.next_window() {
+        put_window(alloc, disk, &next, puts, buf)?;
+    }
+    Ok(())
+}
+
+// Overlays the hull of a window with the entries' bytes, by one read at most and one write.
+fn put_window<D: Disk>(
+    alloc: Global,
+    disk: &mut D,
+    next: &SieveWindow,
+    puts: &PostList,
+    buf: &mut [u8],
+) -> Result<(), DiskErr>
+    requires low { D.from disk.old ≤ next.now.window.hull.at }
+    requires high { next.now.window.hull.at + next.now.window.hull.len ≤ D.from disk.old + D.len disk.old }
+    requires hull { next.now.window.hull.at + next.now.window.hull.len < 2 ^ 62 }
+    requires ends { EndBelow (2 ^ 62) (extents next.now.entries.now) }
+    requires filled { AreFilled next.now.entries.now }
+    requires found { AreFound (source_of puts.now) next.now.entries.now }
+    requires room { next.now.window.hull.len ≤ length buf.old }
+    requires whole { next.now.window.full ≡ true → (x : ℕ) → next.now.window.hull.at ≤ x → x < next.now.window.hull.at + next.now.window.hull.len → HasPlace (clips next.now.window.hull.at (next.now.window.hull.at + next.now.window.hull.len) (put_cells puts.now next.now.entries.now)) x }
+    ensures from { D.from disk.new ≡ D.from disk.old }
+    ensures len { D.len disk.new ≡ D.len disk.old }
+    ensures bytes { OnOk result (D.held disk.new ≡ after (λ file. write_cells file (moved_down (D.from disk.old) (clips next.now.window.hull.at (next.now.window.hull.at + next.now.window.hull.len) (put_cells puts.now next.now.entries.now)))) (D.held disk.old)) }
+    ensures refused { OnErr result (BothTold (λ old left. IsBetween old (write_cells old (moved_down (D.from disk.old) (clips next.now.window.hull.at (next.now.window.hull.at + next.now.window.hull.len) (put_cells puts.now next.now.entries.now)))) left) (D.held disk.old) (D.held disk.new)) }
+    ensures calls { OnOk result (D.calls disk.new ≡ with_end (D.calls disk.old) (store_calls (told_window next.now.window))) }
+    ensures begun { OnErr result (IsBegun (store_calls (told_window next.now.window)) (D.calls disk.old) (D.calls disk.new)) }
+    ensures certain { D.sure disk.old → IsOk result }
+    ensures sure { D.sure disk.old → D.sure disk.new }
+    ensures cause { HasDiskCause (D.faults disk.old) (D.faults disk.new) result }
+{
+    let _size = disk.size();
+    let bytes = &mut buf[..next.window.hull.len as usize];
+    open_window(alloc, disk, &next.window, bytes)?;
+    lay_all(next.window.hull, next.entries, puts, bytes);
+    close_window(alloc, disk, &next.window, bytes)?;
+    Ok(())
+}
+
+// Lays the entries' bytes over the hull's, one entry after another.
+fn lay_all(hull: Extent, entries: &[Owned], puts: &PostList, buf: &mut [u8])
+    requires hull { hull.at + hull.len < 2 ^ 62 }
+    requires room { length buf.old ≡ hull.len }
+    requires ends { EndBelow (2 ^ 62) (extents entries.now) }
+    requires filled { AreFilled entries.now }
+    requires found { AreFound (source_of puts.now) entries.now }
+    ensures { buf.new ≡ write_cells buf.old (moved_down hull.at (clips hull.at (hull.at + hull.len) (put_cells puts.now entries.now))) }
+{
+    for entry in entries {
+        lay_entry(hull, entry, puts, buf);
+    }
+}
+
+// Lays the bytes that an entry has in the hull.
+fn lay_entry(hull: Extent, entry: &Owned, puts: &PostList, buf: &mut [u8])
+    requires hull { hull.at + hull.len < 2 ^ 62 }
+    requires room { length buf.old ≡ hull.len }
+    requires end { entry.now.extent.at + entry.now.extent.len < 2 ^ 62 }
+    requires filled { 1 ≤ entry.now.extent.len }
+    requires found { entry.now.from + entry.now.extent.len ≤ length (source_of puts.now entry.now.rank entry.now.slot) }
+    ensures { buf.new ≡ write_cells buf.old (moved_down hull.at (clip hull.at (hull.at + hull.len) (cell_of (source_of puts.now) entry.now) ∷ [])) }
+{
+    let bytes = puts.as_slice()[entry.slot as usize].bytes.as_slice();
+    let part = cut(entry, hull);
+    let bytes = part_of(bytes, part.from as usize, part.extent.len as usize);
+    copy_to(buf, (part.extent.at - hull.at) as usize, bytes);
+}
