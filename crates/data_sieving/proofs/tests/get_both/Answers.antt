@@ -4,7 +4,7 @@ use Rattle.data_sieving.proofs.TwoEntries.{two_places}
 use Rattle.data_sieving.proofs.tests.get_both.Goals as goal
 
 pub sieve_get-requires-clause-one_place : goal.sieve_get-requires-clause-one_place
-sieve_get-requires-clause-one_place c κs within =
+sieve_get-requires-clause-one_place c κs =
     let first = c.requires.slots.0 in
     let apart = c.requires.apart in
     two_places c.args.a c.args.b (λ e. omega arith)
