@@ -9,7 +9,7 @@ use Rattle.std.proofs.lemmas.Bool.{and_parts}
 use Rattle.std.proofs.lemmas.Bool.Decides.{nat_tests}
 use Rattle.std.proofs.lemmas.Fmt.{digits_decimal, digits_value-decimal, length-decimal-le, decimal_nonempty, first_decimal, decimal_digit}
 use Rattle.std.proofs.lemmas.Str.Parse.{IsNumeralModel, numerals_by_fold}
-use Rattle.script_spec.specs.Thin.{IsName, is_name_byte, is_name_start}
+use Rattle.ncmpi_cli.specs.Thin.{IsName, is_name_byte, is_name_start}
 use Rattle.ncmpi_cli.proofs.Same.{same_bytes}
 use Rattle.ncmpi_cli.specs.Reading.{literal_at, name_at, name_len, is_name, number_at, is_digit, digits_len, is_number, read_on, begins_with_zero}
 

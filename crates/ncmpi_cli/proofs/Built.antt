@@ -3,7 +3,7 @@ use Rattle.std.proofs.Common.{◌≡◌, ℕ, ◌≤◌, List, [], ◌∷◌, �
 use Rattle.std.specs.Prelude.{IfSome}
 use Rattle.std.proofs.lemmas.List.{append-nil}
 use Rattle.nc_outside.specs.Told.{after, with_front}
-use Rattle.script_spec.specs.Thin.{IsBuilt}
+use Rattle.ncmpi_cli.specs.Thin.{IsBuilt}
 use Rattle.ncmpi_cli.specs.declared.one_put.OnePut.{OnePut}
 use Rattle.ncmpi_cli.specs.OnePut.{script_of, call_of, var_at}
 use Rattle.ncmpi_cli.proofs.Same.{same_bytes}

@@ -5,7 +5,7 @@ use Rattle.nc_base.specs.declared.header.Header.{Header}
 use Rattle.nc_base.specs.declared.step.Mark.{Mark}
 use Rattle.nc_base.specs.declared.step.Mark.TheVariants.{Meet}
 use Rattle.nc_outside.specs.Told.{after}
-use Rattle.script_spec.specs.Thin.{IsBuilt}
+use Rattle.ncmpi_cli.specs.Thin.{IsBuilt}
 use Rattle.serial_spec.specs.SerialEnd.{End}
 use Rattle.ncmpi_cli.specs.declared.one_put.OnePut.{OnePut}
 use Rattle.ncmpi_cli.specs.Headline.{Ran, created_header, text_of}

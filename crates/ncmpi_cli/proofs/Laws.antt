@@ -4,7 +4,7 @@ use Rattle.std.specs.Prelude.{codes}
 use Rattle.std.specs.List.{prefix_len}
 use Rattle.std.specs.Fmt.{decimal}
 use Rattle.std.proofs.lemmas.List.{append-nil}
-use Rattle.script_spec.specs.Thin.{thin_text, number_words, IsName}
+use Rattle.ncmpi_cli.specs.Thin.{thin_text, number_words, IsName}
 use Rattle.ncmpi_cli.specs.declared.one_put.OnePut.{OnePut}
 use Rattle.ncmpi_cli.specs.OnePut.{script_of}
 use Rattle.ncmpi_cli.specs.Reading.{◌>>=◌, is_digit, dim_at, var_at, region_at, parts_at}

@@ -18,7 +18,7 @@ use Rattle.nc_base.specs.declared.script.Hints.{Hints}
 use Rattle.nc_base.specs.declared.script.Script.{Script}
 use Rattle.nc_base.specs.declared.script.Extra.{Extra}
 use Rattle.serial_spec.specs.Layout.{product, length_of}
-use Rattle.script_spec.specs.Thin.{IsName, IsBuilt, FitsShape, thin_text, default_hints, var_named}
+use Rattle.ncmpi_cli.specs.Thin.{IsName, IsBuilt, FitsShape, thin_text, default_hints, var_named}
 use Rattle.ncmpi_cli.specs.declared.one_put.OnePut.{OnePut}
 use Rattle.ncmpi_cli.specs.Says.{SaysPut}
 

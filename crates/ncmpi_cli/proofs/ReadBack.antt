@@ -9,7 +9,7 @@ use Rattle.ncmpi_cli.proofs.Same.{same_bytes}
 use Rattle.std.proofs.lemmas.Slice.Eq.{bytes_eq-Decides}
 use Rattle.std.specs.Fmt.{signed_decimal}
 use Rattle.std.proofs.lemmas.List.{length-append}
-use Rattle.script_spec.specs.Thin.{number_words}
+use Rattle.ncmpi_cli.specs.Thin.{number_words}
 use Rattle.ncmpi_cli.specs.declared.one_put.OnePut.{OnePut}
 use Rattle.ncmpi_cli.specs.OnePut.{IsOnePut}
 use Rattle.ncmpi_cli.specs.Says.{SaysPut, IsInside}

@@ -9,7 +9,7 @@ use Rattle.std.proofs.lemmas.Bool.{and_parts}
 use Rattle.std.proofs.lemmas.Bool.Decides.{nat_tests}
 use Rattle.std.proofs.lemmas.Int.{ints}
 use Rattle.std.proofs.lemmas.Fmt.{digits_decimal, decimal_nonempty}
-use Rattle.script_spec.specs.Thin.{number_words}
+use Rattle.ncmpi_cli.specs.Thin.{number_words}
 use Rattle.ncmpi_cli.specs.Reading.{literal_at, is_digit, negative_at, positive_at, signed_at, word_at, numbers_at, with_word}
 use Rattle.ncmpi_cli.proofs.Again.{literal-again, number-again, own, chosen, both}
 use Rattle.ncmpi_cli.proofs.Laws.{bind}

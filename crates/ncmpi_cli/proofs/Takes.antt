@@ -10,7 +10,7 @@ use Rattle.std.proofs.lemmas.Option.{cond_some}
 use Rattle.std.proofs.lemmas.Slice.Eq.{bytes_eq-Decides}
 use Rattle.std.proofs.lemmas.Fmt.{decimal-digits_value}
 use Rattle.std.proofs.lemmas.Str.Parse.{digits_value_short}
-use Rattle.script_spec.specs.Thin.{IsName, is_name_byte, is_name_start}
+use Rattle.ncmpi_cli.specs.Thin.{IsName, is_name_byte, is_name_start}
 use Rattle.ncmpi_cli.specs.Reading.{◌>>=◌, dim_at, var_at, region_at, parts_at, literal_at, name_at, name_len, is_name, number_at, is_digit, digits_len, is_number, read_on, begins_with_zero}
 use Rattle.ncmpi_cli.proofs.Again.{own}
 use Rattle.ncmpi_cli.proofs.Laws.{dim_text, var_text, region_text}

@@ -12,7 +12,7 @@ use Rattle.serial_spec.specs.HeaderGrammar.{header_len}
 use Rattle.serial_spec.specs.History.{IsLegal}
 use Rattle.serial_spec.specs.SerialEnd.{End, serial}
 use Rattle.script_spec.specs.Texts.{answers_text}
-use Rattle.script_spec.specs.Thin.{IsBuilt}
+use Rattle.ncmpi_cli.specs.Thin.{IsBuilt}
 
 abbrev pub align_of : Hints → Align
 align_of hints = record { header = hints.header_align; var = hints.var_align }

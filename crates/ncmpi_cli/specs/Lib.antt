@@ -1,3 +1,4 @@
+pub mod Thin
 pub mod Limits
 pub mod OnePut
 pub mod Words

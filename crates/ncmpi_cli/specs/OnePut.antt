@@ -12,7 +12,7 @@ use Rattle.nc_base.specs.declared.request.Values.TheVariants.{Numbers}
 use Rattle.nc_base.specs.declared.request.Form.TheVariants.{Vara}
 use Rattle.nc_base.specs.declared.request.Given.{Given}
 use Rattle.nc_base.specs.declared.script.Script.{Script}
-use Rattle.script_spec.specs.Thin.{IsName, default_hints}
+use Rattle.ncmpi_cli.specs.Thin.{IsName, default_hints}
 use Rattle.nc_base.specs.declared.request.Region.{Region}
 use Rattle.nc_base.specs.declared.request.Value.TheVariants as value
 use Rattle.serial_spec.specs.ExternalForm.{ext}

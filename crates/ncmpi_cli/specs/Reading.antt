@@ -2,7 +2,7 @@
 use Rattle.std.specs.Prelude.{ℕ, ◌+◌, ◌-◌, ◌*◌, Bool, false, not, ◌&&◌, ◌||◌, ◌==◌, nat_le, nat_lt, nat_eq, List, [], ◌∷◌, length, take, drop, Option, Some, None, option_and_then, if◌then◌else◌, codes, zero, suc, ℤ, pos, neg_ℤ}
 use Rattle.std.specs.Option.{option_map_or}
 use Rattle.std.specs.List.{prefix_len, starts_with}
-use Rattle.script_spec.specs.Thin.{is_name_byte, is_name_start}
+use Rattle.ncmpi_cli.specs.Thin.{is_name_byte, is_name_start}
 
 infixl 10 ◌>>=◌
 abbrev pub ◌>>=◌ : {A B : Type 0} → Option A → (A → Option B) → Option B

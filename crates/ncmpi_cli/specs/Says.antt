@@ -1,6 +1,6 @@
 -- What a text of one put says.
 use Rattle.std.specs.Prelude.{ℕ, ◌+◌, ◌^◌, ◌≤◌, ◌≡◌, List}
-use Rattle.script_spec.specs.Thin.{thin_text}
+use Rattle.ncmpi_cli.specs.Thin.{thin_text}
 use Rattle.ncmpi_cli.specs.declared.one_put.OnePut.{OnePut}
 use Rattle.ncmpi_cli.specs.OnePut.{IsOnePut, script_of}
 

@@ -7,7 +7,7 @@ ghost use Rattle.ncmpi_cli.specs.declared.one_put.OnePut.{OnePut};
 ghost use Rattle.ncmpi_cli.specs.Says.{SaysPut, IsInside};
 ghost use Rattle.ncmpi_cli.specs.Limits.{max_text};
 ghost use Rattle.ncmpi_cli.specs.Reading.{literal_at, name_at, name_len, is_name, number_at, digits_len, is_number, is_digit, read_on, parts_at, dim_at, var_at, region_at, numbers_at, word_at, signed_at, negative_at, positive_at};
-ghost use Rattle.script_spec.specs.Thin.{is_name_byte, is_name_start, is_letter_or_digit};
+ghost use Rattle.ncmpi_cli.specs.Thin.{is_name_byte, is_name_start, is_letter_or_digit};
 
 use crate::one_put::OnePut;
 use nc_base::{Name, NumberList};

@@ -4,7 +4,7 @@ ghost use Rattle.std.specs.String.{string_bytes};
 ghost use Rattle.nc_outside.specs.Told.{after};
 ghost use Rattle.nc_outside.specs.Cause.{Rose};
 ghost use Rattle.nc_base.specs.declared.step.Mark.TheVariants.{Meet};
-ghost use Rattle.script_spec.specs.Thin.{IsBuilt};
+ghost use Rattle.ncmpi_cli.specs.Thin.{IsBuilt};
 ghost use Rattle.ncmpi_cli.specs.Headline.{GivesLine, HasNoStep, IsBeforeStart, IsSilent, IsSomeScript, IsStatus, Ran, RanToSink, RanWell};
 ghost use Rattle.ncmpi_cli.specs.OnePut.{IsOnePut, script_of};
 ghost use Rattle.ncmpi_cli.specs.Stops.{line_of_status, status_number};

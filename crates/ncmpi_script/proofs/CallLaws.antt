@@ -6,7 +6,7 @@ use Rattle.nc_base.specs.declared.step.MeetKind.{MeetKind}
 use Rattle.serial_spec.specs.History.{kinds, kind_of_call}
 use Rattle.std.proofs.lemmas.List.Elements.{filter_map-append}
 use Rattle.nc_base.specs.declared.request.Call.{Call}
-use Rattle.script_spec.specs.ScriptGrammar.{posted, id_of_post, is_posted, calls_of}
+use Rattle.script_spec.specs.ScriptCalls.{posted, id_of_post, is_posted, calls_of}
 
 one_more : (c : Call) (id : ℕ) → id_of_post c ≡ Some id → posted (c ∷ []) ≡ id ∷ []
 one_more c id h = rw h refl

@@ -4,7 +4,7 @@ use Rattle.nc_base.specs.declared.header.NcType.{NcType}
 use Rattle.nc_base.specs.declared.request.Value.TheVariants as value
 use Rattle.nc_base.specs.declared.request.Values.TheVariants.{Numbers}
 use Rattle.serial_spec.specs.ExternalForm.{ext}
-use Rattle.script_spec.specs.ScriptGrammar.{external_bytes}
+use Rattle.script_spec.specs.ScriptDefinitions.{external_bytes}
 use Rattle.std.proofs.lemmas.List.{take_more}
 use Rattle.std.proofs.lemmas.Grind.{flat_map-append}
 

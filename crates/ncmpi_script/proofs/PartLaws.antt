@@ -3,7 +3,7 @@ use Rattle.std.proofs.Common.{◌≡◌, ◌<◌, ℕ, zero, suc, ◌-◌, List,
 use Rattle.nc_base.specs.declared.errors.ScriptKind.{ScriptKind}
 use Rattle.nc_base.specs.declared.request.Part.{Part}
 use Rattle.script_spec.specs.ScriptWords.{Word}
-use Rattle.script_spec.specs.ScriptGrammar.{part, part_list}
+use Rattle.script_spec.specs.ScriptCalls.{part, part_list}
 
 pub part_more : (n : ℕ) (found : List Part) (ws : List Word) → 0 < n
     → part_list n found ws ≡ elim (part ws) as (λ r. Result (List Part × List Word) ScriptKind) [ Err e ↦ Err e | Ok p ↦ part_list (n - 1) (found ++ p.0 ∷ []) p.1 ]

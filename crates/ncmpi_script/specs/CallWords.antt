@@ -9,7 +9,9 @@ use Rattle.nc_base.specs.declared.request.PostKind.{PostKind}
 use Rattle.nc_base.specs.declared.request.Call.{Call}
 use Rattle.nc_base.specs.declared.request.Call.TheVariants as call
 use Rattle.script_spec.specs.ScriptWords.{Word}
-use Rattle.script_spec.specs.ScriptGrammar.{◌>>=◌, or_fault, name, region, values, ended, post_values, new_id, posted, after_prefix, form_and_all, form_of_text, post_of_text, plain_call}
+use Rattle.script_spec.specs.ScriptSteps.{◌>>=◌, or_fault, name, ended}
+use Rattle.script_spec.specs.ScriptValues.{values}
+use Rattle.script_spec.specs.ScriptCalls.{region, post_values, new_id, posted, after_prefix, form_and_all, form_of_text, post_of_text, plain_call}
 
 unfoldable pub region_by : Form → List Word → Result (Given × List Word) ScriptKind
 region_by f ws = region f ws

@@ -2,7 +2,8 @@
 use Rattle.std.specs.Prelude.{ℕ, ◌+◌, List, Bool, true, false, Result, Ok, ◌==◌}
 use Rattle.nc_base.specs.declared.errors.ScriptKind.{ScriptKind}
 use Rattle.script_spec.specs.ScriptWords.{Word}
-use Rattle.script_spec.specs.ScriptGrammar.{◌>>=◌, Known, Defined, Added, addition, definition}
+use Rattle.script_spec.specs.ScriptSteps.{◌>>=◌}
+use Rattle.script_spec.specs.ScriptDefinitions.{Known, Defined, Added, addition, definition}
 
 unfoldable pub addition_by : ℕ → Added → List ℕ → List Word → Result (ℕ × Added) ScriptKind
 addition_by before d first ws = addition before d first ws

@@ -7,7 +7,10 @@ use Rattle.nc_base.specs.declared.errors.LimitName.TheVariants as limit
 use Rattle.nc_base.specs.declared.request.Call.{Call}
 use Rattle.nc_base.specs.declared.script.Script.{Script}
 use Rattle.script_spec.specs.ScriptWords.{Line, text_lines, significant}
-use Rattle.script_spec.specs.ScriptGrammar.{◌>>=◌, Known, Called, nothing_known, no_calls, at_line, head, definitions, data_part, finish, script_of, script_of_lines, within_lines, most_bytes, newlines}
+use Rattle.script_spec.specs.ScriptSteps.{◌>>=◌}
+use Rattle.script_spec.specs.ScriptDefinitions.{Known, nothing_known}
+use Rattle.script_spec.specs.ScriptCalls.{Called}
+use Rattle.script_spec.specs.ScriptGrammar.{no_calls, at_line, head, definitions, data_part, finish, script_of, script_of_lines, within_lines, most_bytes, newlines}
 
 unfoldable pub head_by : Line → Result ℕ ScriptErr
 head_by l = at_line l.number (head l.first l.rest)

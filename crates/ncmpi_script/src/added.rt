@@ -1,7 +1,7 @@
 // What a script adds to an existing dataset.
 ghost use Rattle.std.specs.Prelude.{◌≡◌, ◌≤◌, ◌^◌, ◌+◌, IfOk, length, drop, nat_lt};
 ghost use Rattle.std.specs.List.{list_any};
-ghost use Rattle.script_spec.specs.ScriptGrammar.{Added, nothing_added, is_added_record, added_shape, owner_name, dim_addition, var_addition, att_addition, addition};
+ghost use Rattle.script_spec.specs.ScriptDefinitions.{Added, nothing_added, is_added_record, added_shape, owner_name, dim_addition, var_addition, att_addition, addition};
 ghost use Rattle.ncmpi_script.specs.Reading.{Gives};
 
 use crate::attributes::attribute;
@@ -27,7 +27,7 @@ pub struct Additions<'a> {
 }
 
 impl<'a> Model for Additions<'a> {
-    ghost use Rattle.script_spec.specs.ScriptGrammar.{Added};
+    ghost use Rattle.script_spec.specs.ScriptDefinitions.{Added};
 
     ghost Value = { Added };
 

@@ -5,7 +5,7 @@ ghost use Rattle.std.specs.Int.{to_be_bytes};
 ghost use Rattle.serial_spec.specs.ExternalForm.{ext, width_of, code_of};
 ghost use Rattle.serial_spec.specs.Request.{count_of};
 ghost use Rattle.nc_base.specs.declared.request.Value.TheVariants as value;
-ghost use Rattle.script_spec.specs.ScriptGrammar.{attr_of, attribute, attribute_name, external_bytes, same_title};
+ghost use Rattle.script_spec.specs.ScriptDefinitions.{attr_of, attribute, attribute_name, external_bytes, same_title};
 ghost use Rattle.ncmpi_script.specs.Numbers.{patterns_of};
 ghost use Rattle.ncmpi_script.specs.Reading.{Gives};
 

@@ -4,7 +4,7 @@ ghost use Rattle.std.specs.List.{All};
 ghost use Rattle.serial_spec.specs.History.{kinds};
 ghost use Rattle.serial_spec.specs.Lawful.{values_in_call};
 ghost use Rattle.serial_spec.specs.Request.{count_of};
-ghost use Rattle.script_spec.specs.ScriptGrammar.{Called, rank_of_text, call_line, called_after, calls_of, posted, with_call};
+ghost use Rattle.script_spec.specs.ScriptCalls.{Called, rank_of_text, call_line, called_after, calls_of, posted, with_call};
 ghost use Rattle.ncmpi_script.specs.Posts.{IsNew};
 ghost use Rattle.ncmpi_script.specs.Reading.{Gives};
 
@@ -27,7 +27,7 @@ pub struct RankTable {
 
 impl Model for RankTable {
     ghost use Rattle.std.specs.Prelude.{◌≤◌, ◌^◌, length};
-    ghost use Rattle.script_spec.specs.ScriptGrammar.{Called};
+    ghost use Rattle.script_spec.specs.ScriptCalls.{Called};
 
     ghost Value = { Called };
 

@@ -1,7 +1,8 @@
 // The calls of a line.
 ghost use Rattle.std.specs.Prelude.{◌≡◌, ◌≤◌, ◌^◌, ◌+◌, [], IfOk, None, option_map, false};
 ghost use Rattle.serial_spec.specs.Lawful.{values_in_call};
-ghost use Rattle.script_spec.specs.ScriptGrammar.{after_prefix, before_suffix, form_and_all, form_of_text, post_values, posted, id_of_post, choice, one_id, ids, fill_call, attach_call, inquiry, lone_call, whole, other_call, plain_call, post_of_text, call_of, new_id, is_posted};
+ghost use Rattle.script_spec.specs.ScriptSteps.{whole};
+ghost use Rattle.script_spec.specs.ScriptCalls.{after_prefix, before_suffix, form_and_all, form_of_text, post_values, posted, id_of_post, choice, one_id, ids, fill_call, attach_call, inquiry, lone_call, other_call, plain_call, post_of_text, call_of, new_id, is_posted};
 ghost use Rattle.serial_spec.specs.Request.{count_of};
 ghost use Rattle.ncmpi_script.specs.CallWords.{region_by, values_by, post_values_by, new_id_by, put_by, get_by, post_by, plain_by, post_or_plain_by, call_by};
 ghost use Rattle.ncmpi_script.specs.Reading.{Gives, word_of};

@@ -1,6 +1,7 @@
 // The definitions of a new dataset.
 ghost use Rattle.std.specs.Prelude.{◌≡◌, ◌≤◌, ◌<◌, ◌^◌, ◌+◌, IfOk, IfSome, Some, None, length};
-ghost use Rattle.script_spec.specs.ScriptGrammar.{Defined, no_definition, owner_place, att_line, fill_line, dim_definition, var_definition, definition, header_of};
+ghost use Rattle.script_spec.specs.ScriptDefinitions.{Defined, no_definition, owner_place, att_line, fill_line, dim_definition, var_definition, definition};
+ghost use Rattle.script_spec.specs.ScriptGrammar.{header_of};
 ghost use Rattle.ncmpi_script.specs.Reading.{Gives};
 
 use crate::attributes::attribute;
@@ -25,7 +26,7 @@ pub struct Definitions<'a> {
 }
 
 impl<'a> Model for Definitions<'a> {
-    ghost use Rattle.script_spec.specs.ScriptGrammar.{Defined};
+    ghost use Rattle.script_spec.specs.ScriptDefinitions.{Defined};
 
     ghost Value = { Defined };
 

@@ -1,7 +1,7 @@
 // The dimensions of a script, in the order of their lines, with their names beside them.
 ghost use Rattle.std.specs.Prelude.{◌≡◌, ◌<◌, ◌++◌, ◌∷◌, [], OnOk, length, false, position, bytes_eq};
 ghost use Rattle.std.specs.List.{list_any};
-ghost use Rattle.script_spec.specs.ScriptGrammar.{is_among, is_unlimited, dim_line, dim_names, is_record_dim, is_added_record};
+ghost use Rattle.script_spec.specs.ScriptDefinitions.{is_among, is_unlimited, dim_line, dim_names, is_record_dim, is_added_record};
 ghost use Rattle.ncmpi_script.specs.Reading.{Gives};
 
 use crate::fault::ReadErr;
@@ -23,7 +23,7 @@ pub struct Dims<'a> {
 impl<'a> Model for Dims<'a> {
     ghost use Rattle.std.specs.Prelude.{◌≡◌, ◌≤◌, List, length};
     ghost use Rattle.std.specs.List.{list_any};
-    ghost use Rattle.script_spec.specs.ScriptGrammar.{is_unlimited, dim_names};
+    ghost use Rattle.script_spec.specs.ScriptDefinitions.{is_unlimited, dim_names};
     ghost use Rattle.nc_base.specs.declared.header.Dim.{Dim};
 
     ghost Value = { List Dim };

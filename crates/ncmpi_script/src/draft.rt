@@ -1,6 +1,6 @@
 // What is known before `data`.
 ghost use Rattle.std.specs.Prelude.{◌≡◌, ◌≤◌, ◌^◌, ◌+◌, IfOk, IfSome};
-ghost use Rattle.script_spec.specs.ScriptGrammar.{Known, nothing_known, ranks_line, definition_or_addition, known_after};
+ghost use Rattle.script_spec.specs.ScriptDefinitions.{Known, nothing_known, ranks_line, definition_or_addition, known_after};
 ghost use Rattle.ncmpi_script.specs.DraftWords.{addition_by, definition_by, known_added, known_defined, known_by};
 ghost use Rattle.ncmpi_script.specs.Reading.{Gives};
 
@@ -26,7 +26,7 @@ pub struct Draft<'a> {
 
 impl<'a> Model for Draft<'a> {
     ghost use Rattle.std.specs.Prelude.{◌≤◌, ◌^◌, IfSome};
-    ghost use Rattle.script_spec.specs.ScriptGrammar.{Known};
+    ghost use Rattle.script_spec.specs.ScriptDefinitions.{Known};
 
     ghost Value = { Known };
 

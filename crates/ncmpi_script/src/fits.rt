@@ -1,7 +1,7 @@
 // Which values may be of an attribute of a type.
 ghost use Rattle.std.specs.Prelude.{◌≡◌};
 ghost use Rattle.nc_base.specs.declared.request.Value.TheVariants as value;
-ghost use Rattle.script_spec.specs.ScriptGrammar.{may_have};
+ghost use Rattle.script_spec.specs.ScriptValues.{may_have};
 ghost use Rattle.ncmpi_script.specs.Numbers.{magnitude, signed_below, unsigned_below};
 
 use nc_base::NcType;

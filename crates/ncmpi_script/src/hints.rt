@@ -1,7 +1,9 @@
 // The hints of a script.
 ghost use Rattle.std.specs.Prelude.{◌≡◌, ◌<◌, option_map, position, bytes_eq, Some, None, replicate, slice_set, IfOk, length};
 ghost use Rattle.nc_base.specs.declared.errors.ScriptKind.TheVariants as kind;
-ghost use Rattle.script_spec.specs.ScriptGrammar.{hint_of_text, hint_form, hint_value, hint_in, hint_line, hint_or, hints_of, one_of_two, reads_as, rule_of};
+ghost use Rattle.script_spec.specs.ScriptSteps.{reads_as};
+ghost use Rattle.script_spec.specs.ScriptDefinitions.{hint_of_text, hint_form, hint_value, hint_in, hint_line, one_of_two};
+ghost use Rattle.script_spec.specs.ScriptGrammar.{hint_or, hints_of, rule_of};
 ghost use Rattle.ncmpi_script.specs.Reading.{Gives};
 ghost use Rattle.ncmpi_script.specs.HintPlaces.{hint_place};
 

@@ -1,7 +1,7 @@
 // Whether the ranks agree on the kinds of their collective calls.
 ghost use Rattle.std.specs.Prelude.{◌≡◌, ◌<◌, ◌≤◌, ◌^◌, IfSome, length, position, not, ◌==◌};
 ghost use Rattle.std.specs.List.{All};
-ghost use Rattle.script_spec.specs.ScriptGrammar.{kind_at, differs_at, mismatch, first_difference};
+ghost use Rattle.script_spec.specs.ScriptCalls.{kind_at, differs_at, mismatch, first_difference};
 
 use nc_base::{Items, MeetKind, ScriptKind};
 

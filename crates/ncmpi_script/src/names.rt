@@ -1,6 +1,6 @@
 // Names in the order in which they come, each looked up in constant time.
 ghost use Rattle.std.specs.Prelude.{◌≡◌, ◌++◌, ◌∷◌, [], OnOk, OnErr, IfSome, ◌<◌, bytes_eq, position, length, false};
-ghost use Rattle.script_spec.specs.ScriptGrammar.{is_among};
+ghost use Rattle.script_spec.specs.ScriptDefinitions.{is_among};
 
 use indexmap::IndexSet;
 use std::alloc::{AllocError, Global};

@@ -2,7 +2,8 @@
 ghost use Rattle.std.specs.Prelude.{◌≡◌, ◌<◌, ◌^◌, IsTrue, IfSome, true, length, ◌≤◌, fold, Some, ◌==◌, nat_lt, ◌&&◌, ◌%◌, option_map, unsigned_abs};
 ghost use Rattle.std.specs.List.{list_all};
 ghost use Rattle.script_spec.specs.ScriptWords.{is_digit, digits_value, is_digits, natural_of, size_of_text, number_of_text, bits_of_text, hex_sum, is_name, starts_name, in_name, is_letter, between_brackets, begins_rank, below};
-ghost use Rattle.script_spec.specs.ScriptGrammar.{id_of_text, number_within};
+ghost use Rattle.script_spec.specs.ScriptDefinitions.{number_within};
+ghost use Rattle.script_spec.specs.ScriptCalls.{id_of_text};
 
 use crate::texts::hex_value;
 

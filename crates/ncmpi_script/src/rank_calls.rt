@@ -1,7 +1,7 @@
 // The calls of one rank, with the ids that it posts beside them.
 ghost use Rattle.std.specs.Prelude.{◌≡◌, ◌++◌, ◌∷◌, [], OnOk, IfOk, IfSome, None, Some, false, filter_map, length, ◌<◌, ◌≤◌, ◌+◌, ◌^◌};
 ghost use Rattle.serial_spec.specs.History.{kinds, kind_of_call};
-ghost use Rattle.script_spec.specs.ScriptGrammar.{posted, id_of_post, is_posted};
+ghost use Rattle.script_spec.specs.ScriptCalls.{posted, id_of_post, is_posted};
 ghost use Rattle.ncmpi_script.specs.Posts.{IsNew};
 
 use indexmap::IndexSet;
@@ -17,7 +17,7 @@ pub struct RankCalls {
 
 impl Model for RankCalls {
     ghost use Rattle.std.specs.Prelude.{◌≡◌, ◌<◌, ◌^◌, List, length};
-    ghost use Rattle.script_spec.specs.ScriptGrammar.{posted};
+    ghost use Rattle.script_spec.specs.ScriptCalls.{posted};
     ghost use Rattle.nc_base.specs.declared.request.Call.{Call};
 
     ghost Value = { List Call };

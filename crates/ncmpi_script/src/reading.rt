@@ -1,7 +1,10 @@
 // The next words of a line, each by its form.
 ghost use Rattle.std.specs.Prelude.{◌≡◌, ◌<◌, ◌≤◌, option_map, find, bytes_eq, nat_le, ◌^◌, unsigned_abs, IfOk};
 ghost use Rattle.script_spec.specs.ScriptWords.{size_of_text, number_of_text, bits_of_text, between_brackets};
-ghost use Rattle.script_spec.specs.ScriptGrammar.{bare, next, name, name_of_text, size, ended, length_of_text, reads_as, id_of_text, number_within, type_of, types, owner_of_text, version_of_text};
+ghost use Rattle.script_spec.specs.ScriptSteps.{bare, next, name, name_of_text, size, ended, reads_as};
+ghost use Rattle.script_spec.specs.ScriptDefinitions.{length_of_text, number_within, type_of, types, owner_of_text};
+ghost use Rattle.script_spec.specs.ScriptCalls.{id_of_text};
+ghost use Rattle.script_spec.specs.ScriptGrammar.{version_of_text};
 ghost use Rattle.script_spec.specs.Texts.{type_word};
 ghost use Rattle.serial_spec.specs.HeaderGrammar.{number_of, last_type};
 ghost use Rattle.nc_base.specs.declared.errors.ScriptKind.TheVariants as kind;

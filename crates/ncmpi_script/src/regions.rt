@@ -1,7 +1,8 @@
 // The regions of calls.
 ghost use Rattle.std.specs.Prelude.{◌≡◌, [], map};
 ghost use Rattle.script_spec.specs.ScriptWords.{all_some, size_of_text};
-ghost use Rattle.script_spec.specs.ScriptGrammar.{list, or_fault, form_of_text, part, part_list, many_regions, region, given_of};
+ghost use Rattle.script_spec.specs.ScriptSteps.{list, or_fault};
+ghost use Rattle.script_spec.specs.ScriptCalls.{form_of_text, part, part_list, many_regions, region, given_of};
 ghost use Rattle.nc_base.specs.declared.errors.ScriptKind.TheVariants as kind;
 ghost use Rattle.nc_base.specs.declared.request.Form.TheVariants as form;
 ghost use Rattle.ncmpi_script.specs.Reading.{Gives};

@@ -1,7 +1,7 @@
 // The titles of attributes: the owner's word and the name.
 ghost use Rattle.std.specs.Prelude.{◌≡◌, ◌++◌, ◌∷◌, [], OnOk, false};
 ghost use Rattle.std.specs.List.{list_any};
-ghost use Rattle.script_spec.specs.ScriptGrammar.{same_title};
+ghost use Rattle.script_spec.specs.ScriptDefinitions.{same_title};
 
 use indexmap::IndexSet;
 use std::alloc::{AllocError, Global};
@@ -15,7 +15,7 @@ pub struct Titles<'a> {
 
 impl<'a> Model for Titles<'a> {
     ghost use Rattle.std.specs.Prelude.{List, map};
-    ghost use Rattle.script_spec.specs.ScriptGrammar.{Title};
+    ghost use Rattle.script_spec.specs.ScriptDefinitions.{Title};
 
     ghost Value = { List Title };
 

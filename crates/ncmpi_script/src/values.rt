@@ -3,7 +3,7 @@ ghost use Rattle.std.specs.Prelude.{◌≡◌, ◌≤◌, ◌<◌, ◌+◌, ◌^
 ghost use Rattle.serial_spec.specs.Request.{count_of};
 ghost use Rattle.nc_base.specs.declared.request.Value.TheVariants as value;
 ghost use Rattle.script_spec.specs.ScriptWords.{Plain};
-ghost use Rattle.script_spec.specs.ScriptGrammar.{within_limits, may_be, are_numbers, are_patterns, are_text, may_have, wrong_kind, number_for, pattern_for, one_value, each_value, sequence_count, sequence, last_number, is_term, term, numbers_between, pattern_sequence, last_pattern, is_pattern_term, pattern_term, patterns_between, seq_values, seqx_values, text_values, pattern_values, number_values, bits_values, begins_x, listed_kind, listed_values, values};
+ghost use Rattle.script_spec.specs.ScriptValues.{within_limits, may_be, are_numbers, are_patterns, are_text, may_have, wrong_kind, number_for, pattern_for, one_value, each_value, sequence_count, sequence, last_number, is_term, term, numbers_between, pattern_sequence, last_pattern, is_pattern_term, pattern_term, patterns_between, seq_values, seqx_values, text_values, pattern_values, number_values, bits_values, begins_x, listed_kind, listed_values, values};
 ghost use Rattle.ncmpi_script.specs.Reading.{Gives, word_of};
 
 use crate::fault::ReadErr;

@@ -2,7 +2,8 @@
 ghost use Rattle.std.specs.Prelude.{◌≡◌, ◌<◌, ◌++◌, ◌∷◌, [], IfOk, OnOk, length, false, position, bytes_eq, drop};
 ghost use Rattle.std.specs.List.{list_any, list_all};
 ghost use Rattle.script_spec.specs.ScriptWords.{is_name};
-ghost use Rattle.script_spec.specs.ScriptGrammar.{is_among, var_names, var_head, var_line, name_list, shape, dim_ids, or_fault, is_record_dim, with_attr_at};
+ghost use Rattle.script_spec.specs.ScriptSteps.{or_fault};
+ghost use Rattle.script_spec.specs.ScriptDefinitions.{is_among, var_names, var_head, var_line, name_list, shape, dim_ids, is_record_dim, with_attr_at};
 ghost use Rattle.nc_base.specs.declared.errors.ScriptKind.TheVariants as kind;
 ghost use Rattle.ncmpi_script.specs.Reading.{Gives};
 
@@ -29,7 +30,7 @@ pub struct Vars<'a> {
 
 impl<'a> Model for Vars<'a> {
     ghost use Rattle.std.specs.Prelude.{◌≡◌, List};
-    ghost use Rattle.script_spec.specs.ScriptGrammar.{var_names};
+    ghost use Rattle.script_spec.specs.ScriptDefinitions.{var_names};
     ghost use Rattle.nc_base.specs.declared.header.Var.{Var};
 
     ghost Value = { List Var };

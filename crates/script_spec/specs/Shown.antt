@@ -24,7 +24,7 @@ use Rattle.nc_base.specs.declared.script.Script.{Script}
 use Rattle.serial_spec.specs.ExternalForm.{class_of, size_of, val}
 use Rattle.serial_spec.specs.Request.{gathered}
 use Rattle.script_spec.specs.Texts.{type_word, call_word, line, joined, value_words}
-use Rattle.script_spec.specs.ScriptGrammar.{hint_forms}
+use Rattle.script_spec.specs.ScriptDefinitions.{hint_forms}
 
 abbrev pub bracketed : List (List ℕ) → List ℕ
 bracketed ws = 91 ∷ joined 44 ws ++ 93 ∷ []

@@ -9,7 +9,6 @@ ghost use Rattle.nc_base.specs.declared.step.Mark.TheVariants.{Meet};
 ghost use Rattle.script_spec.specs.Texts.{text_line, watch_text, script_line, redef_line, layout_line, offsets_text, header_line};
 ghost use Rattle.script_spec.specs.Generator.{first_row, made_calls, made_header};
 ghost use Rattle.nc_base.specs.declared.header.NcType.TheVariants.{Float, Short, Int};
-ghost use Rattle.script_spec.specs.Thin.{IsBuilt, thin_text};
 ghost use Rattle.serial_spec.specs.Redefinition.{layout_fault};
 ghost use Rattle.nc_base.specs.declared.errors.HeaderErr.TheVariants.{Streaming};
 ghost use Rattle.nc_base.specs.declared.errors.ScriptKind.TheVariants as kind;
@@ -22,10 +21,8 @@ pub fn worked_text()
     ensures { text_of halves (Meet 0 ∷ []) ≡ text_halves }
 {}
 
-/// A thin text, its file and what is printed.
-pub fn worked_thin()
-    ensures thin { IsBuilt thin_lines (script_read thin_lines) }
-    ensures spelled { thin_text (script_read thin_lines) ≡ thin_lines }
+/// The text of a script with one put of one rank, its file and what is printed.
+pub fn worked_one_put()
     ensures read { with_layout (script_read thin_lines) ≡ thin_script }
     ensures bytes { (ended thin_script (Meet 0 ∷ [])).bytes ≡ header_a ++ 0 ∷ 0 ∷ 0 ∷ 0 ∷ 0 ∷ 0 ∷ 0 ∷ 5 ∷ 255 ∷ 255 ∷ 255 ∷ 255 ∷ 0 ∷ 0 ∷ 0 ∷ 0 ∷ [] }
     ensures text { thin_answers ≡ thin_printed }

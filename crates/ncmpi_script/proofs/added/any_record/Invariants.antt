@@ -1,6 +1,6 @@
 use Rattle.std.proofs.Common.{◌≡◌, length}
 use Rattle.std.specs.List.{list_any}
-use Rattle.script_spec.specs.ScriptGrammar.{is_added_record}
+use Rattle.script_spec.specs.ScriptDefinitions.{is_added_record}
 use Rattle.ncmpi_script.proofs.added.any_record.Given as goal
 
 abbrev pub invariant-loop-name : goal.invariant-loop-name

@@ -1,5 +1,5 @@
 use Rattle.std.proofs.Common.{◌≡◌, [], length}
-use Rattle.script_spec.specs.ScriptGrammar.{ids}
+use Rattle.script_spec.specs.ScriptCalls.{ids}
 use Rattle.ncmpi_script.proofs.calls.ids.Given as goal
 
 abbrev pub invariant-loop-found : goal.invariant-loop-found

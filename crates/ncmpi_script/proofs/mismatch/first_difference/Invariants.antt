@@ -1,5 +1,5 @@
 use Rattle.std.proofs.Common.{◌≡◌, ◌≤◌, ◌-◌, length}
-use Rattle.script_spec.specs.ScriptGrammar.{is_difference}
+use Rattle.script_spec.specs.ScriptCalls.{is_difference}
 use Rattle.ncmpi_script.proofs.MismatchLaws.{left}
 use Rattle.ncmpi_script.proofs.mismatch.first_difference.Given as goal
 

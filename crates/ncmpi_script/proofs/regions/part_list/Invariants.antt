@@ -1,5 +1,5 @@
 use Rattle.std.proofs.Common.{◌≡◌, []}
-use Rattle.script_spec.specs.ScriptGrammar.{part_list}
+use Rattle.script_spec.specs.ScriptCalls.{part_list}
 use Rattle.ncmpi_script.proofs.regions.part_list.Given as goal
 
 abbrev pub invariant-loop-left : goal.invariant-loop-left

@@ -1,5 +1,5 @@
 use Rattle.std.proofs.Common.{◌≡◌, ◌≤◌, ◌+◌, ◌^◌, [], length}
-use Rattle.script_spec.specs.ScriptGrammar.{each_value, pattern_for}
+use Rattle.script_spec.specs.ScriptValues.{each_value, pattern_for}
 use Rattle.ncmpi_script.proofs.values.patterns.Given as goal
 
 abbrev pub invariant-loop-found : goal.invariant-loop-found

@@ -1,5 +1,5 @@
 use Rattle.std.proofs.Common.{◌≡◌, length}
-use Rattle.script_spec.specs.ScriptGrammar.{dim_ids}
+use Rattle.script_spec.specs.ScriptDefinitions.{dim_ids}
 use Rattle.ncmpi_script.proofs.FoundLaws.{with_found}
 use Rattle.ncmpi_script.proofs.vars.dim_ids.Given as goal
 

@@ -2,7 +2,7 @@ use Rattle.std.proofs.Common.{◌≡◌, ◌∙◌, ℕ, List, Result, length, g
 use Rattle.nc_base.specs.declared.errors.ScriptKind.{ScriptKind}
 use Rattle.nc_base.specs.declared.request.Call.{Call}
 use Rattle.script_spec.specs.ScriptWords.{Word}
-use Rattle.script_spec.specs.ScriptGrammar.{Called, call_of, calls_of}
+use Rattle.script_spec.specs.ScriptCalls.{Called, call_of, calls_of}
 use Rattle.ncmpi_script.specs.Reading.{Gives}
 use Rattle.ncmpi_script.proofs.CallLaws.{found_own}
 use Rattle.ncmpi_script.proofs.LineOfCall.{line_of_next}

@@ -1,5 +1,5 @@
 use Rattle.std.proofs.Common.{◌≡◌, ◌∙◌, ◌++◌, ◌∷◌, [], length, length-append, sym, ap, arith}
-use Rattle.script_spec.specs.ScriptGrammar.{posted}
+use Rattle.script_spec.specs.ScriptCalls.{posted}
 use Rattle.ncmpi_script.proofs.CallLaws.{posted_same}
 use Rattle.ncmpi_script.proofs.rank_calls.RankCalls.push_plain.Goals as goal
 

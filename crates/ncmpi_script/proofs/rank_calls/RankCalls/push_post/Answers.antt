@@ -1,6 +1,6 @@
 use Rattle.std.proofs.Common.{◌≡◌, ◌∙◌, List, ◌++◌, ◌∷◌, [], false, length, length-append, sym, ap, arith}
 use Rattle.nc_base.specs.declared.request.Call.{Call}
-use Rattle.script_spec.specs.ScriptGrammar.{posted, is_posted}
+use Rattle.script_spec.specs.ScriptCalls.{posted, is_posted}
 use Rattle.ncmpi_script.proofs.CallLaws.{posted_grown}
 use Rattle.ncmpi_script.proofs.rank_calls.RankCalls.push_post.Goals as goal
 

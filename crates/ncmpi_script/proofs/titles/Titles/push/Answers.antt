@@ -1,6 +1,6 @@
 use Rattle.std.proofs.Common.{◌≡◌, ◌∙◌, List, [], ◌∷◌, ◌++◌, sym, ap}
 use Rattle.std.specs.List.{list_any}
-use Rattle.script_spec.specs.ScriptGrammar.{Title, same_title}
+use Rattle.script_spec.specs.ScriptDefinitions.{Title, same_title}
 use Rattle.ncmpi_script.proofs.NameLaws.{any_map, pushed}
 use Rattle.ncmpi_script.proofs.titles.Titles.push.Goals as goal
 

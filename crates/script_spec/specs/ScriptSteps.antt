@@ -1,0 +1,56 @@
+-- Steps from word to word of a line of a script: each gives what it says and the words after it, or its fault. (own)
+use Rattle.std.specs.Prelude.{ℕ, ◌-◌, List, [], ◌∷◌, Bool, if◌then◌else◌, Option, Some, None, Result, Ok, Err}
+use Rattle.nc_base.specs.declared.errors.ScriptKind.{ScriptKind}
+use Rattle.nc_base.specs.declared.errors.ScriptKind.TheVariants as kind
+use Rattle.script_spec.specs.ScriptWords.{Word, Plain, Quoted, Broken, size_of_text, is_name, list_of_text}
+
+-- ---- steps from word to word: each gives what it says and the words after it, or its fault
+
+infixl 10 ◌>>=◌
+abbrev pub ◌>>=◌ : {A B E : Type 0} → Result A E → (A → Result B E) → Result B E
+(Ok x) >>= f = f x
+(Err e) >>= f = Err e
+
+abbrev pub refuse_if : Bool → ScriptKind → Result (Unit {0}) ScriptKind
+refuse_if b e = if b then Err e else Ok tt
+
+abbrev pub or_fault : {A : Type 0} → ScriptKind → Option A → Result A ScriptKind
+or_fault e None = Err e
+or_fault e (Some x) = Ok x
+
+-- A word as it stands: a text that is no text is refused where it is looked at, and a text is no other word.
+abbrev pub bare : Word → Result (List ℕ) ScriptKind
+bare (Plain w) = Ok w
+bare (Quoted text) = Ok (34 ∷ [])
+bare Broken = Err kind.BadText
+
+abbrev pub next : List Word → Result (List ℕ × List Word) ScriptKind
+next [] = Err kind.MissingWord
+next (w ∷ ws) = bare w >>= λ x. Ok (x, ws)
+
+-- the next word, which this reads, or else has this fault
+abbrev pub reads_as : {A : Type 0} → (List ℕ → Option A) → ScriptKind → List Word → Result (A × List Word) ScriptKind
+reads_as f e ws = do
+  w ← next ws
+  x ← or_fault e (f w.0)
+  Ok (x, w.1)
+
+abbrev pub size : List Word → Result (ℕ × List Word) ScriptKind
+size ws = reads_as size_of_text kind.BadNumber ws
+
+abbrev pub list : List Word → Result (List ℕ × List Word) ScriptKind
+list ws = reads_as list_of_text kind.BadNumber ws
+
+abbrev pub name_of_text : List ℕ → Option (List ℕ)
+name_of_text w = if is_name w then Some w else None
+
+abbrev pub name : List Word → Result (List ℕ × List Word) ScriptKind
+name ws = reads_as name_of_text kind.BadName ws
+
+-- nothing may follow a whole line
+abbrev pub ended : List Word → Result (Unit {0}) ScriptKind
+ended [] = Ok tt
+ended (w ∷ ws) = bare w >>= λ x. Err kind.ExtraWord
+
+abbrev pub whole : {A : Type 0} → A × List Word → Result A ScriptKind
+whole (x, ws) = ended ws >>= λ u. Ok x

@@ -1,0 +1,262 @@
+-- Runs of lines of the definitions, and what is added to a dataset that is opened: each line, printed, is read in the state in which it was read before.
+use Rattle.std.proofs.Common.{◌≡◌, ◌⊎◌, ◌∙◌, ℕ, zero, suc, ◌+◌, ◌≤◌, ◌<◌, List, [], ◌∷◌, ◌++◌, map, length, drop, flat_map, Bool, true, false, not, cond, nat_lt, nat_le, ◌==◌, ◌&&◌, Option, Some, None, Result, Ok, Err, refl, sym, ap, subst, ⊎_elim, inl, inr, append_assoc, arith, bytes_eq, codes}
+use Rattle.std.specs.List.{list_all, list_any}
+use Rattle.std.proofs.lemmas.Bool.{and_parts, and_from, cond-true, cond-false, cases_Bool}
+use Rattle.std.proofs.lemmas.Slice.Eq.{bytes_eq-Decides}
+use Rattle.nc_base.specs.declared.errors.ScriptKind.{ScriptKind}
+use Rattle.nc_base.specs.declared.errors.ScriptKind.TheVariants as kind
+use Rattle.nc_base.specs.declared.errors.ScriptErr.{ScriptErr}
+use Rattle.nc_base.specs.declared.errors.LimitName.TheVariants as limit
+use Rattle.nc_base.specs.declared.header.NcType.{NcType}
+use Rattle.nc_base.specs.declared.header.Dim.{Dim}
+use Rattle.nc_base.specs.declared.header.Attr.{Attr}
+use Rattle.nc_base.specs.declared.script.Extra.{Extra}
+use Rattle.nc_base.specs.declared.script.Extra.TheVariants as extra
+use Rattle.serial_spec.specs.Limits.{most_dims_of_var}
+use Rattle.serial_spec.specs.Lawful.{most_values}
+use Rattle.script_spec.specs.Texts.{type_word, line}
+use Rattle.script_spec.specs.Shown.{bracketed, shown_extra, shown_attr, shown_dim}
+use Rattle.script_spec.specs.ScriptWords.{Word, Plain, Quoted, Broken, Line, is_name}
+use Rattle.script_spec.specs.ScriptSteps.{◌>>=◌, refuse_if, bare, reads_as, name_of_text, ended, whole}
+use Rattle.script_spec.specs.ScriptDefinitions.{dim_line, var_head, name_list, owner_of_text, owner_name, attribute, Added, is_added_record, added_shape, dim_addition, var_addition, att_addition, addition, Known, known_after, definition_or_addition}
+use Rattle.script_spec.specs.ScriptGrammar.{at_line, definition_step, definitions, data_line}
+use Rattle.script_text.proofs.Steps.{Went, went, go_on, same_ok, not_refused, passed, read_word, word_read, by_true, by_false}
+use Rattle.script_text.proofs.Lexing.{spelling, is_plain, is_good}
+use Rattle.script_text.proofs.Lines.{is_line, spelled, numbered}
+use Rattle.script_text.proofs.Numerals.{name_plain}
+use Rattle.script_text.proofs.PrintedValues.{is_read}
+use Rattle.script_text.proofs.PrintedRegions.{kept}
+use Rattle.script_text.proofs.PrintedAttributes.{type_plain, attr_tokens, attr_spelled, AttrAgain, AttrRead, attr_read}
+use Rattle.script_text.proofs.PrintedDefinitions.{dim_tokens, DimAgain, dim_read, HeadAgain, head_read, head_again, names_read, names_plain, names_again}
+
+-- ---- runs of lines
+
+-- the line leads from what is known to this
+abbrev pub Leads : ℕ → Known → List Word → Known → Type 0
+Leads version known [] after = ⊥
+Leads version known (Plain first ∷ ws) after = (bytes_eq first (codes "data") ≡ false) × (known_after version known first ws ≡ Ok after)
+Leads version known (Quoted text ∷ ws) after = ⊥
+Leads version known (Broken ∷ ws) after = ⊥
+
+abbrev pub Runs : ℕ → Known → List (List Word) → Known → Type 0
+Runs version known [] after = known ≡ after
+Runs version known (ws ∷ wss) after = (next : Known) × Leads version known ws next × Runs version next wss after
+
+pub runs_on : (version : ℕ) (k x y : Known) (a b : List (List Word)) → Runs version k a x → Runs version x b y → Runs version k (a ++ b) y
+runs_on version k x y [] b h j = subst (λ (z : Known). Runs version z b y) (sym h) j
+runs_on version k x y (ws ∷ a) b h j = (h.0, h.1, runs_on version h.0 x y a b h.2 j)
+
+abbrev defined_by : ℕ → ℕ → List Line → Result (Option ℕ × Known) ScriptErr → Result (ℕ × (Known × List Line)) ScriptErr
+defined_by past version lines r = elim r [ Err e ↦ Err e | Ok s ↦ elim s.0 [ Some ranks ↦ Ok (ranks, (s.1, lines)) | None ↦ definitions past version s.1 lines ] ]
+
+step_again : (version : ℕ) (k x : Known) (first : List ℕ) (ws : List Word) → bytes_eq first (codes "data") ≡ false → known_after version k first ws ≡ Ok x → definition_step version k (Plain first) ws ≡ Ok (None, x)
+step_again version k x first ws other h = by_false (bytes_eq first (codes "data")) _ _ other ∙ go_on (known_after version k first ws) (λ more. Ok (None, more)) x (None, x) h refl
+
+line_on : (past version n : ℕ) (k x : Known) (ws : List Word) (wss : List (List Word)) → Leads version k ws x
+    → definitions past version k (numbered n (ws ∷ wss)) ≡ definitions past version x (numbered (n + 1) wss)
+line_on past version n k x [] wss h = absurd h
+line_on past version n k x (Quoted text ∷ ws) wss h = absurd h
+line_on past version n k x (Broken ∷ ws) wss h = absurd h
+line_on past version n k x (Plain first ∷ ws) wss h =
+    ap (λ (r : Result (Option ℕ × Known) ScriptKind). defined_by past version (numbered (n + 1) wss) (at_line n r)) (step_again version k x first ws h.0 h.1)
+
+pub run_again : (past version n m : ℕ) (k x : Known) (wss more : List (List Word)) → n + length wss ≡ m → Runs version k wss x
+    → definitions past version k (numbered n (wss ++ more)) ≡ definitions past version x (numbered m more)
+run_again past version n m k x [] more e h =
+    let same : n ≡ m = omega arith in
+    ap (λ (z : Known). definitions past version z (numbered n more)) h ∙ ap (λ (j : ℕ). definitions past version x (numbered j more)) same
+run_again past version n m k x (ws ∷ wss) more e h =
+    line_on past version n k h.0 ws (wss ++ more) h.1 ∙ run_again past version (n + 1) m h.0 x wss more (omega arith) h.2
+
+-- ---- what is added, as it is printed
+
+abbrev pub extra_word : Extra → List ℕ
+extra_word (extra.Dim d) = codes "dim"
+extra_word (extra.Var t n dims) = codes "var"
+extra_word (extra.Att owner a) = codes "att"
+
+abbrev pub extra_rest : Extra → List Word
+extra_rest (extra.Dim d) = dim_tokens d
+extra_rest (extra.Var t n dims) = Plain (type_word t) ∷ Plain n ∷ Plain (bracketed dims) ∷ []
+extra_rest (extra.Att None a) = Plain (codes ":") ∷ attr_tokens a
+extra_rest (extra.Att (Some owner) a) = Plain owner ∷ attr_tokens a
+
+abbrev pub extra_line : Extra → List Word
+extra_line e = Plain (extra_word e) ∷ extra_rest e
+
+pub att_spelled : (owner : List ℕ) (a : Attr) → spelled (Plain (codes "att") ∷ Plain owner ∷ attr_tokens a) ≡ shown_attr owner a
+att_spelled owner a = ap (λ (ws : List (List ℕ)). line (codes "att" ∷ owner ∷ ws)) (attr_spelled a)
+
+extra_spelled : (e : Extra) → spelled (extra_line e) ≡ shown_extra e
+extra_spelled (extra.Dim d) = refl
+extra_spelled (extra.Var t n dims) = refl
+extra_spelled (extra.Att None a) = att_spelled (codes ":") a
+extra_spelled (extra.Att (Some owner) a) = att_spelled owner a
+
+pub extras_spelled : (es : List Extra) → flat_map spelled (map extra_line es) ≡ flat_map shown_extra es
+extras_spelled [] = refl
+extras_spelled (e ∷ es) = ap (λ (text : List ℕ). text ++ flat_map spelled (map extra_line es)) (extra_spelled e) ∙ ap (λ (text : List ℕ). shown_extra e ++ text) (extras_spelled es)
+
+extra_is_line : (e : Extra) → list_all is_good (extra_rest e) ≡ true → is_line (extra_line e) ≡ true
+extra_is_line (extra.Dim d) h = h
+extra_is_line (extra.Var t n dims) h = h
+extra_is_line (extra.Att owner a) h = h
+
+-- ---- a line that adds
+
+-- the line added this, and so many values
+pub record AddedBy (values : ℕ) (d : Added) (r : ℕ × Added) : Type 0 where
+  pub what : Extra
+  pub extras : r.1.extras ≡ d.extras ++ what ∷ []
+  pub good : list_all is_good (extra_rest what) ≡ true
+  pub again : addition values d (extra_word what) (extra_rest what) ≡ Ok r
+  pub few : values + r.0 ≤ most_values
+
+dim_added : (values : ℕ) (d : Added) (ws : List Word) (r : ℕ × Added) → values ≤ most_values → dim_addition d ws ≡ Ok r → AddedBy values d r
+dim_added values d ws r low h =
+    let a = went (dim_line 5 d.dims ws) _ r h in
+    let x = a.value in
+    let k = dim_read 5 d.dims ws x a.first in
+    let next : Added = record d { dims = d.dims ++ x ∷ []; extras = d.extras ++ extra.Dim x ∷ [] } in
+    subst (AddedBy values d) (same_ok (0, next) r a.rest) (record {
+      what = extra.Dim x;
+      extras = refl;
+      good = k.good;
+      again = go_on (dim_line 5 d.dims (dim_tokens x)) _ x (0, next) k.again refl;
+      few = omega arith;
+    })
+
+var_added : (values : ℕ) (d : Added) (ws : List Word) (r : ℕ × Added) → values ≤ most_values → var_addition d ws ≡ Ok r → AddedBy values d r
+var_added values d ws r low h =
+    let v = went (var_head 5 d.vars ws) _ r h in
+    let s = went (added_shape d.dims v.value.1) _ r v.rest in
+    let e = went (ended s.value.1) _ r s.rest in
+    let l = went (name_list v.value.1) _ s.value s.first in
+    let b = went (refuse_if (nat_lt most_dims_of_var (length l.value.0)) (kind.Limit limit.VarDims)) _ s.value l.rest in
+    let c = went (refuse_if (list_any (is_added_record d.dims) (drop 1 l.value.0)) kind.BadShape) _ s.value b.rest in
+    let t = v.value.0.0 in
+    let n = v.value.0.1 in
+    let ns = s.value.0 in
+    let same : l.value ≡ s.value = same_ok l.value s.value c.rest in
+    let named = subst (λ (x : List (List ℕ) × List Word). list_all is_name x.0 ≡ true) same (names_read v.value.1 l.value l.first) in
+    let few = subst (λ (x : List (List ℕ) × List Word). nat_lt most_dims_of_var (length x.0) ≡ false) same (not_refused _ _ b.value b.first) in
+    let records = subst (λ (x : List (List ℕ) × List Word). list_any (is_added_record d.dims) (drop 1 x.0) ≡ false) same (not_refused _ _ c.value c.first) in
+    let head = head_read 5 d.vars ws v.value v.first in
+    let next : Added = record d { vars = d.vars ++ n ∷ []; extras = d.extras ++ extra.Var t n ns ∷ [] } in
+    let rest = Plain (bracketed ns) ∷ [] in
+    subst (AddedBy values d) (same_ok (0, next) r e.rest) (record {
+      what = extra.Var t n ns;
+      extras = refl;
+      good = and_from _ _ (type_plain t) (and_from _ _ (name_plain n head.named) (and_from _ _ (names_plain ns named) refl));
+      again = go_on (var_head 5 d.vars (Plain (type_word t) ∷ Plain n ∷ rest)) _ ((t, n), rest) (0, next) (head_again 5 d.vars t n rest head)
+          (go_on (added_shape d.dims rest) _ (ns, []) (0, next)
+          (go_on (name_list rest) _ (ns, []) (ns, []) (names_again ns [] named)
+          (go_on (refuse_if (nat_lt most_dims_of_var (length ns)) (kind.Limit limit.VarDims)) _ tt (ns, []) (passed _ _ few)
+          (go_on (refuse_if (list_any (is_added_record d.dims) (drop 1 ns)) kind.BadShape) _ tt (ns, []) (passed _ _ records) refl))) refl);
+      few = omega arith;
+    })
+
+-- the owner of an attribute: the dataset, or a name
+abbrev pub Owner : List ℕ → Type 0
+Owner w = (w ≡ codes ":") ⊎ ((bytes_eq w (codes ":") ≡ false) × (is_name w ≡ true))
+
+name_from : (w n : List ℕ) (b : Bool) → is_name w ≡ b → cond {A = Option (List ℕ)} b (Some w) None ≡ Some n → (w ≡ n) × (is_name n ≡ true)
+name_from w n true e h = let same : w ≡ n = cc in (same, subst (λ x. is_name x ≡ true) same e)
+name_from w n false e h = absurd (cc)
+
+owner_is : (w o : List ℕ) → owner_of_text w ≡ Some o → Owner o
+owner_is w o h = by (bytes_eq w (codes ":")) refl h
+  where
+    by : (b : Bool) → bytes_eq w (codes ":") ≡ b → cond b (Some w) (name_of_text w) ≡ Some o → Owner o
+    by true e k = let same : w ≡ o = cc in inl (sym same ∙ (bytes_eq-Decides w (codes ":")).0 e)
+    by false e k =
+        let n = name_from w o (is_name w) refl k in
+        inr (subst (λ x. bytes_eq x (codes ":") ≡ false) n.0 e, n.1)
+
+pub owner_read : (ws : List Word) (r : List ℕ × List Word) → reads_as owner_of_text kind.BadName ws ≡ Ok r → Owner r.0
+owner_read ws r h = let w = read_word owner_of_text kind.BadName ws r h in owner_is w.0 r.0 w.1
+
+pub owner_again : (o : List ℕ) → Owner o → (is_plain o ≡ true) × (owner_of_text o ≡ Some o)
+owner_again o h = ⊎_elim
+    (λ (e : o ≡ codes ":"). subst (λ x. (is_plain x ≡ true) × (owner_of_text x ≡ Some x)) (sym e) (refl, refl))
+    (λ (k : (bytes_eq o (codes ":") ≡ false) × (is_name o ≡ true)). (name_plain o k.1, cond-false _ _ _ k.0 ∙ cond-true _ _ _ k.1))
+    h
+
+-- the words of the owner, as an extra's
+owner_rest : (o : List ℕ) (a : Attr) → Owner o → extra_rest (extra.Att (owner_name o) a) ≡ Plain o ∷ attr_tokens a
+owner_rest o a h = ⊎_elim
+    (λ (e : o ≡ codes ":"). subst (λ (x : List ℕ). extra_rest (extra.Att (owner_name x) a) ≡ Plain x ∷ attr_tokens a) (sym e) refl)
+    (λ (k : (bytes_eq o (codes ":") ≡ false) × (is_name o ≡ true)). ap (λ (x : Option (List ℕ)). extra_rest (extra.Att x a)) (cond-false _ _ _ k.0))
+    h
+
+att_added : (values : ℕ) (d : Added) (ws : List Word) (r : ℕ × Added) → values ≤ most_values → list_all is_read ws ≡ true → att_addition values d ws ≡ Ok r → AddedBy values d r
+att_added values d ws r low read h =
+    let b = went (reads_as owner_of_text kind.BadName ws) _ r h in
+    let c = went (attribute 5 d.titles values b.value.0 b.value.1) _ r b.rest in
+    let o = b.value.0 in
+    let a = c.value in
+    let k = attr_read 5 d.titles values o b.value.1 a low (kept is_read owner_of_text kind.BadName ws b.value b.first read) c.first in
+    let owner = owner_read ws b.value b.first in
+    let words = owner_rest o a owner in
+    let next : Added = record d { titles = d.titles ++ (o, a.name) ∷ []; extras = d.extras ++ extra.Att (owner_name o) a ∷ [] } in
+    subst (AddedBy values d) (same_ok (a.count, next) r c.rest) (record {
+      what = extra.Att (owner_name o) a;
+      extras = refl;
+      good = ap (list_all is_good) words ∙ and_from _ _ (owner_again o owner).0 k.same.good;
+      again = ap (λ (xs : List Word). att_addition values d xs) words
+          ∙ go_on (reads_as owner_of_text kind.BadName (Plain o ∷ attr_tokens a)) _ (o, attr_tokens a) (a.count, next) (word_read owner_of_text kind.BadName o o (attr_tokens a) (owner_again o owner).1)
+          (go_on (attribute 5 d.titles values o (attr_tokens a)) _ a (a.count, next) (k.same.again d.titles values o k.fresh k.few) refl);
+      few = k.few;
+    })
+
+pub addition_read : (values : ℕ) (d : Added) (first : List ℕ) (ws : List Word) (r : ℕ × Added) → values ≤ most_values → list_all is_read ws ≡ true → addition values d first ws ≡ Ok r → AddedBy values d r
+addition_read values d first ws r low read h = by (bytes_eq first (codes "dim")) (bytes_eq first (codes "var")) (bytes_eq first (codes "att")) h
+  where
+    by : (i j k : Bool) → elim i as (λ x. Result (ℕ × Added) ScriptKind) [
+      | true ↦ dim_addition d ws
+      | false ↦ elim j as (λ x. Result (ℕ × Added) ScriptKind) [
+        | true ↦ var_addition d ws
+        | false ↦ elim k as (λ x. Result (ℕ × Added) ScriptKind) [ true ↦ att_addition values d ws | false ↦ Err kind.UnknownWord ]
+      ]
+    ] ≡ Ok r → AddedBy values d r
+    by true j k e = dim_added values d ws r low e
+    by false true k e = var_added values d ws r low e
+    by false false true e = att_added values d ws r low read e
+    by false false false e = absurd (cc)
+
+-- ---- all of them, again
+
+-- these extras, printed, lead from one state to the other
+abbrev pub Replay : ℕ → Added → List Extra → ℕ → Added → Type 0
+Replay v d [] w x = (v ≡ w) × (d ≡ x)
+Replay v d (e ∷ es) w x = (r : ℕ × Added) × (list_all is_good (extra_rest e) ≡ true) × (addition v d (extra_word e) (extra_rest e) ≡ Ok r) × Replay (v + r.0) r.1 es w x
+
+replay_pushed : (v w : ℕ) (d x : Added) (es : List Extra) (e : Extra) (r : ℕ × Added) → Replay v d es w x → list_all is_good (extra_rest e) ≡ true → addition w x (extra_word e) (extra_rest e) ≡ Ok r
+    → Replay v d (es ++ e ∷ []) (w + r.0) r.1
+replay_pushed v w d x [] e r h good again = (
+      r,
+      good,
+      ap (λ (n : ℕ). addition n d (extra_word e) (extra_rest e)) h.0 ∙ (ap (λ (y : Added). addition w y (extra_word e) (extra_rest e)) h.1 ∙ again),
+      (ap (λ (n : ℕ). n + r.0) h.0, refl),
+    )
+replay_pushed v w d x (f ∷ es) e r h good again = (h.0, h.1, h.2, replay_pushed (v + h.0.0) w h.0.1 x es e r h.3 good again)
+
+pub replay_on : (v w : ℕ) (d x : Added) (r : ℕ × Added) → Replay v d x.extras w x → AddedBy w x r → Replay v d r.1.extras (w + r.0) r.1
+replay_on v w d x r h a = subst (λ (es : List Extra). Replay v d es (w + r.0) r.1) (sym a.extras) (replay_pushed v w d x x.extras a.what r h a.good a.again)
+
+pub replay_lines : (v w : ℕ) (d x : Added) (es : List Extra) → Replay v d es w x → list_all is_line (map extra_line es) ≡ true
+replay_lines v w d x [] h = refl
+replay_lines v w d x (e ∷ es) h = and_from _ _ (extra_is_line e h.1) (replay_lines (v + h.0.0) w h.0.1 x es h.3)
+
+extra_leads : (k : Known) (e : Extra) (r : ℕ × Added) → addition k.values k.added (extra_word e) (extra_rest e) ≡ Ok r → Leads 0 k (extra_line e) (record k { added = r.1; values = k.values + r.0 })
+extra_leads k (extra.Dim d) r h = (refl, go_on (addition k.values k.added (codes "dim") (dim_tokens d)) (λ x. Ok (record k { added = x.1; values = k.values + x.0 })) r _ h refl)
+extra_leads k (extra.Var t n dims) r h = (refl, go_on (addition k.values k.added (codes "var") (extra_rest (extra.Var t n dims))) (λ x. Ok (record k { added = x.1; values = k.values + x.0 })) r _ h refl)
+extra_leads k (extra.Att owner a) r h = (refl, go_on (addition k.values k.added (codes "att") (extra_rest (extra.Att owner a))) (λ x. Ok (record k { added = x.1; values = k.values + x.0 })) r _ h refl)
+
+pub replay_runs : (v w : ℕ) (d x : Added) (es : List Extra) (k : Known) → Replay v d es w x → Runs 0 (record k { added = d; values = v }) (map extra_line es) (record k { added = x; values = w })
+replay_runs v w d x [] k h = ap (λ (n : ℕ). record k { added = d; values = n }) h.0 ∙ ap (λ (y : Added). record k { added = y; values = w }) h.1
+replay_runs v w d x (e ∷ es) k h = (
+      record k { added = h.0.1; values = v + h.0.0 },
+      extra_leads (record k { added = d; values = v }) e h.0 h.2,
+      replay_runs (v + h.0.0) w h.0.1 x es k h.3,
+    )

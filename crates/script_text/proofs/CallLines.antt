@@ -1,0 +1,299 @@
+-- The calls of all ranks, printed rank by rank, are read as the same calls.
+use Rattle.std.proofs.Common.{◌≡◌, ◌⊎◌, ◌∙◌, ℕ, zero, suc, ◌+◌, ◌-◌, ◌^◌, ◌≤◌, ◌<◌, List, [], ◌∷◌, ◌++◌, map, length, replicate, flat_map, Bool, true, false, not, cond, nat_lt, ◌==◌, ◌&&◌, ◌||◌, Option, Some, None, unwrap_or, slice_get, slice_set, Result, Ok, Err, refl, sym, ap, subst, append_assoc, append-nil, length-append, arith, bytes_eq, codes, decimal}
+use Rattle.std.specs.List.{list_all, enumerate_from}
+use Rattle.std.proofs.lemmas.Bool.{and_parts, and_from, cond-true, ne_eqb}
+use Rattle.std.proofs.lemmas.List.{set_at}
+use borrow.Author.Tests.{ltb-true, lt-ltb}
+use Rattle.nc_base.specs.declared.errors.ScriptKind.{ScriptKind}
+use Rattle.nc_base.specs.declared.errors.ScriptKind.TheVariants as kind
+use Rattle.nc_base.specs.declared.errors.ScriptErr.{ScriptErr}
+use Rattle.nc_base.specs.declared.request.Call.{Call}
+use Rattle.serial_spec.specs.Lawful.{most_values, values_in_call}
+use Rattle.script_spec.specs.Texts.{call_word, line}
+use Rattle.script_spec.specs.Shown.{shown_call}
+use Rattle.script_spec.specs.ScriptWords.{Word, Plain, Quoted, Broken, Line, is_comment, is_digit, begins_rank, digits_value}
+use Rattle.script_spec.specs.ScriptSteps.{◌>>=◌, bare, next, whole}
+use Rattle.script_spec.specs.ScriptCalls.{Called, calls_of, rank_of_text, with_call, call_line, call_of, called_after}
+use Rattle.script_spec.specs.ScriptGrammar.{at_line, call_step, data_part}
+use Rattle.script_text.proofs.Steps.{Went, went, go_on, same_ok, whole_value, by_true, by_false}
+use Rattle.script_text.proofs.Lexing.{spelling, is_plain, is_good}
+use Rattle.script_text.proofs.Lines.{is_line, spelled, numbered, all_joined}
+use Rattle.script_text.proofs.Numerals.{IsNumeral, decimal_numeral, decimal_plain, decimal_word}
+use Rattle.script_text.proofs.PrintedValues.{is_read, not_letters}
+use Rattle.script_text.proofs.PrintedCalls.{call_tokens, call_spelled, call_plain, CallAgain, CallRead, call_read}
+
+-- ---- calls that were read
+
+-- each call of rank r, after the calls before it
+abbrev pub Chain : ℕ → ℕ → List Call → List Call → Type 0
+Chain ranks r own [] = Unit {0}
+Chain ranks r own (c ∷ cs) = CallAgain ranks r own c × Chain ranks r (own ++ c ∷ []) cs
+
+-- the calls of the ranks from r on
+abbrev pub Chains : ℕ → ℕ → List (List Call) → Type 0
+Chains ranks r [] = Unit {0}
+Chains ranks r (own ∷ more) = Chain ranks r [] own × Chains ranks (r + 1) more
+
+chain_pushed : (ranks r : ℕ) (own cs : List Call) (c : Call) → Chain ranks r own cs → CallAgain ranks r (own ++ cs) c → Chain ranks r own (cs ++ c ∷ [])
+chain_pushed ranks r own [] c h k = (subst (λ xs. CallAgain ranks r xs c) (append-nil own) k, tt)
+chain_pushed ranks r own (x ∷ cs) c h k = (h.0, chain_pushed ranks r (own ++ x ∷ []) cs c h.1 (subst (λ xs. CallAgain ranks r xs c) (sym (append_assoc own (x ∷ []) cs)) k))
+
+abbrev count : List Call → ℕ
+count [] = 0
+count (c ∷ cs) = values_in_call c + count cs
+
+abbrev pub count_all : List (List Call) → ℕ
+count_all [] = 0
+count_all (own ∷ more) = count own + count_all more
+
+count-pushed : (cs : List Call) (c : Call) → count (cs ++ c ∷ []) ≡ count cs + values_in_call c
+count-pushed [] c = omega arith
+count-pushed (x ∷ cs) c = omega (arith, count-pushed cs c)
+
+chains_set : (ranks a r k : ℕ) (calls : List (List Call)) (c : Call) → a + r ≡ k → r < length calls → Chains ranks a calls → CallAgain ranks k (calls_of r calls) c → Chains ranks a (slice_set calls r (calls_of r calls ++ c ∷ []))
+chains_set ranks a r k [] c e low h again = absurd (omega arith)
+chains_set ranks a zero k (own ∷ more) c e low h again =
+    let same : k ≡ a = omega arith in
+    (chain_pushed ranks a [] own c h.0 (subst (λ x. CallAgain ranks x own c) same again), h.1)
+chains_set ranks a (suc r) k (own ∷ more) c e low h again = (h.0, chains_set ranks (a + 1) r k more c (omega arith) (omega arith) h.1 again)
+
+count_set : (calls : List (List Call)) (r : ℕ) (c : Call) → r < length calls → count_all (slice_set calls r (calls_of r calls ++ c ∷ [])) ≡ count_all calls + values_in_call c
+count_set [] r c low = absurd (omega arith)
+count_set (own ∷ more) zero c low = omega (arith, count-pushed own c)
+count_set (own ∷ more) (suc r) c low = omega (arith, count_set more r c (omega arith))
+
+length-set_list : {A : Type 0} (xs : List A) (r : ℕ) (x : A) → length (slice_set xs r x) ≡ length xs
+length-set_list [] r x = refl
+length-set_list (y ∷ xs) zero x = refl
+length-set_list (y ∷ xs) (suc r) x = ap suc (length-set_list xs r x)
+
+-- what was called so far, v values having come before the first call
+pub record Holds (ranks v : ℕ) (d : Called) : Type 0 where
+  pub long : length d.calls ≡ ranks
+  pub chains : Chains ranks 0 d.calls
+  pub counted : d.values ≡ v + count_all d.calls
+  pub few : d.values ≤ most_values
+
+rank_bound : (ranks : ℕ) (w : List ℕ) (r : ℕ) → rank_of_text ranks w ≡ Ok r → r < ranks
+rank_bound ranks w r h = by (begins_rank w) (nat_lt (digits_value w) ranks) refl h
+  where
+    by : (a b : Bool) → nat_lt (digits_value w) ranks ≡ b → cond {A = Result ℕ ScriptKind} a (cond b (Ok (digits_value w)) (Err kind.BadRank)) (Err kind.UnknownWord) ≡ Ok r → r < ranks
+    by true true e k = subst (λ x. x < ranks) (same_ok (digits_value w) r k) (ltb-true (digits_value w) ranks e)
+    by true false e k = absurd (cc)
+    by false b e k = absurd (cc)
+
+next_read : (ws : List Word) (r : List ℕ × List Word) → next ws ≡ Ok r → list_all is_read ws ≡ true → list_all is_read r.1 ≡ true
+next_read [] r h all = absurd (cc)
+next_read (w ∷ ws) r h all =
+    let a = went (bare w) (λ x. Ok (x, ws)) r h in
+    subst (λ xs. list_all is_read xs ≡ true) (ap (λ (p : List ℕ × List Word). p.1) (same_ok (a.value, ws) r a.rest)) (and_parts (is_read w) _ all).1
+
+pub holds_on : (ranks v : ℕ) (d e : Called) (first : List ℕ) (ws : List Word) → Holds ranks v d → list_all is_read ws ≡ true → called_after d first ws ≡ Ok e → Holds ranks v e
+holds_on ranks v d e first ws holds read h =
+    let a = went (rank_of_text (length d.calls) first) _ e h in
+    let b = went (call_line d a.value ws) _ e a.rest in
+    let w = went (next ws) _ b.value b.first in
+    let r = a.value in
+    let c = b.value in
+    let low : r < length d.calls = rank_bound (length d.calls) first r a.first in
+    let again = call_read (length d.calls) r (calls_of r d.calls) d.values w.value.0 w.value.1 c holds.few (next_read ws w.value w.first read) w.rest in
+    let same : CallAgain ranks r (calls_of r d.calls) c = subst (λ n. CallAgain n r (calls_of r d.calls) c) holds.long again.same in
+    subst (Holds ranks v) (same_ok (with_call r c d) e b.rest) (record {
+      long = length-set_list d.calls r (calls_of r d.calls ++ c ∷ []) ∙ holds.long;
+      chains = chains_set ranks 0 r r d.calls c (omega arith) low holds.chains same;
+      counted = omega (arith, holds.counted, count_set d.calls r c low);
+      few = again.few;
+    })
+
+-- ---- the lines of the calls
+
+-- what a line has as its words
+abbrev pub are_read : List Line → Bool
+are_read lines = list_all (λ (l : Line). list_all is_read l.rest) lines
+
+pub record DataEnd (ranks v : ℕ) (calls : List (List Call)) : Type 0 where
+  pub long : length calls ≡ ranks
+  pub chains : Chains ranks 0 calls
+  pub few : v + count_all calls ≤ most_values
+
+pub line_ok : {A : Type 0} (n : ℕ) (r : Result A ScriptKind) (x : A) → at_line n r ≡ Ok x → r ≡ Ok x
+line_ok n (Ok y) x h = ap (λ z. Ok z) (same_ok y x h)
+line_ok n (Err e) x h = absurd (cc)
+
+abbrev data_by : ℕ → Line → List Line → Result (Bool × Called) ScriptErr → Result (ℕ × (Called × List Line)) ScriptErr
+data_by past l lines r = elim r [ Err e ↦ Err e | Ok s ↦ elim s.0 [ true ↦ Ok (l.number, (s.1, lines)) | false ↦ data_part past s.1 lines ] ]
+
+step_holds : (ranks v : ℕ) (d : Called) (w : Word) (ws : List Word) (s : Bool × Called) → Holds ranks v d → list_all is_read ws ≡ true → call_step d w ws ≡ Ok s → Holds ranks v s.1
+step_holds ranks v d w ws s holds read h =
+    let a = went (bare w) _ s h in
+    by a.value (bytes_eq a.value (codes "end")) a.rest
+  where
+    by : (first : List ℕ) (b : Bool) → elim b as (λ x. Result (Bool × Called) ScriptKind) [ true ↦ whole ((true, d), ws) | false ↦ (called_after d first ws >>= λ more. Ok (false, more)) ] ≡ Ok s → Holds ranks v s.1
+    by first true k = subst (λ (x : Bool × Called). Holds ranks v x.1) (whole_value ((true, d), ws) s k).0 holds
+    by first false k =
+        let a = went (called_after d first ws) (λ more. Ok (false, more)) s k in
+        subst (λ (x : Bool × Called). Holds ranks v x.1) (same_ok (false, a.value) s a.rest) (holds_on ranks v d a.value first ws holds read a.first)
+
+pub data_holds : (ranks v past : ℕ) (lines : List Line) (d : Called) (r : ℕ × (Called × List Line)) → Holds ranks v d → are_read lines ≡ true → data_part past d lines ≡ Ok r → Holds ranks v r.1.0
+data_holds ranks v past [] d r holds read h = absurd (cc)
+data_holds ranks v past (l ∷ lines) d r holds read h = by (at_line l.number (call_step d l.first l.rest)) refl h (λ e. data_holds ranks v past lines e r)
+  where
+    both : (list_all is_read l.rest ≡ true) × (are_read lines ≡ true)
+    both = and_parts _ _ read
+    by : (s : Result (Bool × Called) ScriptErr) → at_line l.number (call_step d l.first l.rest) ≡ s → data_by past l lines s ≡ Ok r
+        → ((e : Called) → Holds ranks v e → are_read lines ≡ true → data_part past e lines ≡ Ok r → Holds ranks v r.1.0) → Holds ranks v r.1.0
+    by (Err e) is k more = absurd (cc)
+    by (Ok (true, e)) is k more =
+        subst (λ (x : ℕ × (Called × List Line)). Holds ranks v x.1.0) (same_ok (l.number, (e, lines)) r k) (step_holds ranks v d l.first l.rest (true, e) holds both.0 (line_ok l.number _ (true, e) is))
+    by (Ok (false, e)) is k more = more e (step_holds ranks v d l.first l.rest (false, e) holds both.0 (line_ok l.number _ (false, e) is)) both.1 k
+
+-- ---- printed lines of calls
+
+abbrev call_tokens_of : ℕ → Call → List Word
+call_tokens_of r c = Plain (decimal r) ∷ Plain (call_word c) ∷ call_tokens c
+
+abbrev own_lines : ℕ → List Call → List (List Word)
+own_lines r cs = map (call_tokens_of r) cs
+
+abbrev pub call_lines : ℕ → List (List Call) → List (List Word)
+call_lines r [] = []
+call_lines r (own ∷ more) = own_lines r own ++ call_lines (r + 1) more
+
+own_spelled : (r : ℕ) (cs : List Call) → flat_map spelled (own_lines r cs) ≡ flat_map (shown_call r) cs
+own_spelled r [] = refl
+own_spelled r (c ∷ cs) =
+    ap (λ (ws : List (List ℕ)). line (decimal r ∷ call_word c ∷ ws) ++ flat_map spelled (own_lines r cs)) (call_spelled c) ∙ ap (λ (text : List ℕ). shown_call r c ++ text) (own_spelled r cs)
+
+pub flat_joined : {A : Type 0} (f : A → List ℕ) (xs ys : List A) → flat_map f (xs ++ ys) ≡ flat_map f xs ++ flat_map f ys
+flat_joined f [] ys = refl
+flat_joined f (x ∷ xs) ys = ap (λ (text : List ℕ). f x ++ text) (flat_joined f xs ys) ∙ sym (append_assoc (f x) (flat_map f xs) (flat_map f ys))
+
+pub calls_spelled : (r : ℕ) (calls : List (List Call)) → flat_map spelled (call_lines r calls) ≡ flat_map (λ p. flat_map (shown_call p.0) p.1) (enumerate_from r calls)
+calls_spelled r [] = refl
+calls_spelled r (own ∷ more) =
+    flat_joined spelled (own_lines r own) (call_lines (r + 1) more)
+    ∙ (ap (λ (text : List ℕ). text ++ flat_map spelled (call_lines (r + 1) more)) (own_spelled r own) ∙ ap (λ (text : List ℕ). flat_map (shown_call r) own ++ text) (calls_spelled (r + 1) more))
+
+digits_no_comment : (ds : List ℕ) → 0 < length ds → list_all is_digit ds ≡ true → is_comment (Plain ds) ≡ false
+digits_no_comment [] some h = absurd (omega arith)
+digits_no_comment (d ∷ ds) some h =
+    ne_eqb d 35 (λ e. let k : is_digit 35 ≡ true = subst (λ x. is_digit x ≡ true) e (and_parts (is_digit d) (list_all is_digit ds) h).0 in absurd (cc))
+
+call_is_line : (ranks r : ℕ) (own : List Call) (c : Call) → r < 64 → CallAgain ranks r own c → is_line (call_tokens_of r c) ≡ true
+call_is_line ranks r own c low again =
+    let d = decimal_numeral r (omega arith) in
+    and_from _ _ (ap not (digits_no_comment (decimal r) d.some d.digits)) (and_from _ _ (decimal_plain r (omega arith)) (and_from _ _ (call_plain c) again.good))
+
+own_are_lines : (ranks r : ℕ) (cs own : List Call) → r < 64 → Chain ranks r own cs → list_all is_line (own_lines r cs) ≡ true
+own_are_lines ranks r [] own low h = refl
+own_are_lines ranks r (c ∷ cs) own low h = and_from _ _ (call_is_line ranks r own c low h.0) (own_are_lines ranks r cs (own ++ c ∷ []) low h.1)
+
+pub calls_are_lines : (ranks r : ℕ) (calls : List (List Call)) → r + length calls ≤ 64 → Chains ranks r calls → list_all is_line (call_lines r calls) ≡ true
+calls_are_lines ranks r [] low h = refl
+calls_are_lines ranks r (own ∷ more) low h =
+    all_joined is_line (own_lines r own) (call_lines (r + 1) more) (own_are_lines ranks r own [] (omega arith) h.0) (calls_are_lines ranks (r + 1) more (omega arith) h.1)
+
+-- ---- and they are read again
+
+rank_again : (ranks r : ℕ) → r < ranks → r < 64 → rank_of_text ranks (decimal r) ≡ Ok r
+rank_again ranks r low small =
+    let d = decimal_numeral r (omega arith) in
+    let digits : begins_rank (decimal r) ≡ true = and_from _ _ (lt-ltb 0 (length (decimal r)) d.some) d.digits in
+    let inner : nat_lt (digits_value (decimal r)) ranks ≡ true = ap (λ x. nat_lt x ranks) d.value ∙ lt-ltb r ranks low in
+    cond-true _ _ _ digits ∙ (cond-true _ _ _ inner ∙ ap (λ x. Ok x) d.value)
+
+abbrev at_rank : List (List Call) → List Call → List (List Call) → ℕ → Called
+at_rank front own back v = record { calls = front ++ own ∷ back; values = v }
+
+own_at : (front : List (List Call)) (own : List Call) (back : List (List Call)) (r : ℕ) → length front ≡ r → calls_of r (front ++ own ∷ back) ≡ own
+own_at [] own back zero e = refl
+own_at [] own back (suc r) e = absurd (omega arith)
+own_at (x ∷ front) own back zero e = absurd (omega arith)
+own_at (x ∷ front) own back (suc r) e = own_at front own back r (omega arith)
+
+with_call_at : (front : List (List Call)) (own : List Call) (back : List (List Call)) (v r : ℕ) (c : Call) → length front ≡ r → with_call r c (at_rank front own back v) ≡ at_rank front (own ++ c ∷ []) back (v + values_in_call c)
+with_call_at front own back v r c e =
+    let calls = front ++ own ∷ back in
+    ap (λ (x : List Call). record { calls = slice_set calls r (x ++ c ∷ []); values = v + values_in_call c }) (own_at front own back r e)
+    ∙ ap (λ (xs : List (List Call)). record { calls = xs; values = v + values_in_call c }) (set_at front own back (own ++ c ∷ []) r e)
+
+call_again_step : (ranks : ℕ) (front : List (List Call)) (own : List Call) (back : List (List Call)) (v r : ℕ) (c : Call) → length front ≡ r → r < 64 → length (front ++ own ∷ back) ≡ ranks
+    → CallAgain ranks r own c → v + values_in_call c ≤ most_values
+    → call_step (at_rank front own back v) (Plain (decimal r)) (Plain (call_word c) ∷ call_tokens c) ≡ Ok (false, at_rank front (own ++ c ∷ []) back (v + values_in_call c))
+call_again_step ranks front own back v r c e small long again few =
+    let d = at_rank front own back v in
+    let ws = Plain (call_word c) ∷ call_tokens c in
+    let next_d = at_rank front (own ++ c ∷ []) back (v + values_in_call c) in
+    let low : r < length d.calls = omega (arith, length-append front (own ∷ back)) in
+    let read : call_line d r ws ≡ Ok c =
+    ap (λ (n : ℕ). call_of n r (calls_of r d.calls) v (call_word c) (call_tokens c)) long
+    ∙ (ap (λ (x : List Call). call_of ranks r x v (call_word c) (call_tokens c)) (own_at front own back r e) ∙ again.again v few) in
+    let after : called_after d (decimal r) ws ≡ Ok next_d =
+    go_on (rank_of_text (length d.calls) (decimal r)) _ r next_d (rank_again (length d.calls) r low small)
+    (go_on (call_line d r ws) _ c next_d read (ap (λ x. Ok x) (with_call_at front own back v r c e))) in
+    by_false (bytes_eq (decimal r) (codes "end")) _ _ (not_letters (decimal r) 101 (110 ∷ 100 ∷ []) (decimal_word r (omega arith)) (omega arith))
+    ∙ go_on (called_after d (decimal r) ws) (λ more. Ok (false, more)) next_d (false, next_d) after refl
+
+data_on : (past n : ℕ) (d e : Called) (w : Word) (ws : List Word) (lines : List Line) → call_step d w ws ≡ Ok (false, e)
+    → data_part past d (record { number = n; first = w; rest = ws } ∷ lines) ≡ data_part past e lines
+data_on past n d e w ws lines h = ap (λ (r : Result (Bool × Called) ScriptKind). data_by past (record { number = n; first = w; rest = ws }) lines (at_line n r)) h
+
+own_again : (ranks past : ℕ) (cs : List Call) (front : List (List Call)) (own : List Call) (back : List (List Call)) (v r n m : ℕ) (more : List (List Word))
+    → length front ≡ r → r < 64 → length (front ++ own ∷ back) ≡ ranks → Chain ranks r own cs → v + count cs ≤ most_values → n + length cs ≡ m
+    → data_part past (at_rank front own back v) (numbered n (own_lines r cs ++ more)) ≡ data_part past (at_rank front (own ++ cs) back (v + count cs)) (numbered m more)
+own_again ranks past [] front own back v r n m more e small long h few num =
+    let same : v ≡ v + 0 = omega arith in
+    let line : n ≡ m = omega arith in
+    ap (λ (k : ℕ). data_part past (at_rank front own back v) (numbered k more)) line
+    ∙ (ap (λ (x : List Call). data_part past (at_rank front x back v) (numbered m more)) (sym (append-nil own)) ∙ ap (λ (x : ℕ). data_part past (at_rank front (own ++ []) back x) (numbered m more)) same)
+own_again ranks past (c ∷ cs) front own back v r n m more e small long h few num =
+    let step = call_again_step ranks front own back v r c e small long h.0 (omega arith) in
+    let next_own = own ++ c ∷ [] in
+    let next_long : length (front ++ next_own ∷ back) ≡ ranks = omega (arith, long, length-append front (own ∷ back), length-append front (next_own ∷ back)) in
+    let rest = own_again ranks past cs front next_own back (v + values_in_call c) r (n + 1) m more e small next_long h.1 (omega arith) (omega arith) in
+    let total : (v + values_in_call c) + count cs ≡ v + (values_in_call c + count cs) = omega arith in
+    data_on past n (at_rank front own back v) (at_rank front next_own back (v + values_in_call c)) (Plain (decimal r)) (Plain (call_word c) ∷ call_tokens c) (numbered (n + 1) (own_lines r cs ++ more)) step
+    ∙ (rest
+    ∙ (ap (λ (x : List Call). data_part past (at_rank front x back ((v + values_in_call c) + count cs)) (numbered m more)) (append_assoc own (c ∷ []) cs)
+    ∙ ap (λ (x : ℕ). data_part past (at_rank front (own ++ c ∷ cs) back x) (numbered m more)) total))
+
+abbrev lines_in : List (List Call) → ℕ
+lines_in [] = 0
+lines_in (own ∷ more) = length own + lines_in more
+
+abbrev from_rank : List (List Call) → List (List Call) → ℕ → Called
+from_rank front rest v = record { calls = front ++ rest; values = v }
+
+calls_again : (ranks past : ℕ) (calls front : List (List Call)) (v r n m : ℕ) (more : List (List Word))
+    → length front ≡ r → r + length calls ≡ ranks → ranks ≤ 64 → Chains ranks r calls → v + count_all calls ≤ most_values → n + lines_in calls ≡ m
+    → data_part past (from_rank front (replicate (length calls) []) v) (numbered n (call_lines r calls ++ more)) ≡ data_part past (from_rank front calls (v + count_all calls)) (numbered m more)
+calls_again ranks past [] front v r n m more e long small h few num =
+    let same : v ≡ v + 0 = omega arith in
+    let line : n ≡ m = omega arith in
+    ap (λ (k : ℕ). data_part past (from_rank front [] v) (numbered k more)) line ∙ ap (λ (x : ℕ). data_part past (from_rank front [] x) (numbered m more)) same
+calls_again ranks past (own ∷ calls) front v r n m more e long small h few num =
+    let back : List (List Call) = replicate (length calls) [] in
+    let whole_long : length (front ++ [] ∷ back) ≡ ranks = omega (arith, length-append front ([] ∷ back), length_replicate (length calls)) in
+    let first = own_again ranks past own front [] back v r n (n + length own) (call_lines (r + 1) calls ++ more) e (omega arith) whole_long h.0 (omega arith) refl in
+    let next_front = front ++ own ∷ [] in
+    let shift : (rest : List (List Call)) → front ++ own ∷ rest ≡ next_front ++ rest = λ rest. sym (append_assoc front (own ∷ []) rest) in
+    let rest = calls_again ranks past calls next_front (v + count own) (r + 1) (n + length own) m more (omega (arith, e, length-append front (own ∷ []))) (omega arith) small h.1 (omega arith) (omega arith) in
+    let total : (v + count own) + count_all calls ≡ v + (count own + count_all calls) = omega arith in
+    ap (λ (wss : List (List Word)). data_part past (from_rank front ([] ∷ back) v) (numbered n wss)) (append_assoc (own_lines r own) (call_lines (r + 1) calls) more)
+    ∙ (first
+    ∙ (ap (λ (xs : List (List Call)). data_part past (record { calls = xs; values = v + count own }) (numbered (n + length own) (call_lines (r + 1) calls ++ more))) (shift back)
+    ∙ (rest
+    ∙ (ap (λ (xs : List (List Call)). data_part past (record { calls = xs; values = (v + count own) + count_all calls }) (numbered m more)) (sym (shift calls))
+    ∙ ap (λ (x : ℕ). data_part past (from_rank front (own ∷ calls) x) (numbered m more)) total))))
+  where
+    length_replicate : (k : ℕ) → length (replicate {A = List Call} k []) ≡ k
+    length_replicate zero = refl
+    length_replicate (suc k) = ap suc (length_replicate k)
+
+-- the printed calls up to `end`
+pub data_again : (ranks past n v : ℕ) (calls : List (List Call)) → ranks ≤ 64 → DataEnd ranks v calls
+    → (m : ℕ) × (data_part past (record { calls = replicate ranks []; values = v }) (numbered n (call_lines 0 calls ++ (Plain (codes "end") ∷ []) ∷ [])) ≡ Ok (m, (record { calls = calls; values = v + count_all calls }, [])))
+data_again ranks past n v calls small e =
+    let m = n + lines_in calls in
+    let all = calls_again ranks past calls [] v 0 n m ((Plain (codes "end") ∷ []) ∷ []) refl (omega (arith, e.long)) small e.chains e.few refl in
+    (m, ap (λ (k : ℕ). data_part past (record { calls = replicate k []; values = v }) (numbered n (call_lines 0 calls ++ (Plain (codes "end") ∷ []) ∷ []))) (sym e.long) ∙ all)

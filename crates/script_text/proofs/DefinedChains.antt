@@ -1,0 +1,361 @@
+-- What is known of the definitions of a new dataset once they are read: each dimension, variable and attribute, printed after those before it, is read again.
+use Rattle.std.proofs.Common.{◌≡◌, ◌⊎◌, ◌∙◌, ℕ, zero, suc, ◌+◌, ◌≤◌, ◌<◌, List, [], ◌∷◌, ◌++◌, map, position, length, drop, Bool, true, false, not, cond, nat_lt, nat_le, ◌==◌, ◌&&◌, ◌||◌, Option, Some, None, slice_get, slice_set, Result, Ok, Err, refl, sym, ap, subst, ⊎_elim, append_assoc, append-nil, arith, bytes_eq, codes}
+use Rattle.std.specs.List.{list_all, list_any}
+use Rattle.std.proofs.lemmas.Bool.{and_parts, and_from, or_from, or_left, or_right, cases_Bool, cond-true, cond-false}
+use Rattle.std.proofs.lemmas.List.Folds.{list_any-append}
+use Rattle.nc_base.specs.declared.errors.ScriptKind.{ScriptKind}
+use Rattle.nc_base.specs.declared.errors.ScriptKind.TheVariants as kind
+use Rattle.nc_base.specs.declared.errors.LimitName.TheVariants as limit
+use Rattle.nc_base.specs.declared.header.NcType.{NcType}
+use Rattle.nc_base.specs.declared.header.Dim.{Dim}
+use Rattle.nc_base.specs.declared.header.Attr.{Attr}
+use Rattle.nc_base.specs.declared.header.Var.{Var}
+use Rattle.serial_spec.specs.Limits.{most_dims_of_var}
+use Rattle.serial_spec.specs.Lawful.{most_values}
+use Rattle.script_spec.specs.Texts.{type_word}
+use Rattle.script_spec.specs.Shown.{bracketed}
+use Rattle.script_spec.specs.ScriptWords.{Word, Plain, Quoted, Broken, is_name}
+use Rattle.script_spec.specs.ScriptSteps.{◌>>=◌, refuse_if, or_fault, reads_as, ended}
+use Rattle.script_spec.specs.ScriptDefinitions.{is_among, dim_names, dim_line, var_head, name_list, dim_ids, is_record_dim, var_names, shape, var_line, owner_of_text, owner_place, Title, same_title, attribute, Defined, with_dim, with_var, with_attr_at, with_title, with_attr, att_line, dim_definition, var_definition, fill_line, definition}
+use Rattle.script_text.proofs.Steps.{Went, went, go_on, same_ok, not_refused, passed, no_fault, faultless}
+use Rattle.script_text.proofs.Lines.{all_more, all_joined}
+use Rattle.script_text.proofs.Lexing.{is_good}
+use Rattle.script_text.proofs.PrintedValues.{is_read}
+use Rattle.script_text.proofs.PrintedRegions.{kept}
+use Rattle.script_text.proofs.PrintedAttributes.{AttrAgain, AttrRead, attr_read}
+use Rattle.script_text.proofs.PrintedDefinitions.{DimAgain, dim_read, HeadAgain, head_read, head_again, names_read, names_plain, names_again}
+use Rattle.script_text.proofs.Places.{name_at, names_shown, more_ids, more_records, bytes_same, bytes_own, Later, place_cases}
+
+-- ---- dimensions
+
+abbrev pub DimChain : ℕ → List Dim → List Dim → Type 0
+DimChain version front [] = Unit {0}
+DimChain version front (d ∷ ds) = DimAgain version front d × DimChain version (front ++ d ∷ []) ds
+
+dims_pushed : (version : ℕ) (front ds : List Dim) (d : Dim) → DimChain version front ds → DimAgain version (front ++ ds) d → DimChain version front (ds ++ d ∷ [])
+dims_pushed version front [] d h k = (subst (λ xs. DimAgain version xs d) (append-nil front) k, tt)
+dims_pushed version front (x ∷ ds) d h k = (h.0, dims_pushed version (front ++ x ∷ []) ds d h.1 (subst (λ xs. DimAgain version xs d) (sym (append_assoc front (x ∷ []) ds)) k))
+
+-- ---- variables
+
+pub record VarAgain (version : ℕ) (dims : List Dim) (names : List (List ℕ)) (t : NcType) (n : List ℕ) (ids : List ℕ) (start : ℕ) : Type 0 where
+  pub dim_list : List (List ℕ)
+  pub named : list_all is_name dim_list ≡ true
+  pub found : dim_ids dims dim_list ≡ Some ids
+  pub few : nat_lt most_dims_of_var (length ids) ≡ false
+  pub records : list_any (is_record_dim dims) (drop 1 ids) ≡ false
+  pub head : HeadAgain version names t n
+  pub no_start : start ≡ 0
+
+abbrev pub VarOk : ℕ → List Dim → List (List ℕ) → Var → Type 0
+VarOk version dims names v = VarAgain version dims names v.kind v.name v.dims v.begin
+
+abbrev pub VarChain : ℕ → List Dim → List (List ℕ) → List Var → Type 0
+VarChain version dims names [] = Unit {0}
+VarChain version dims names (v ∷ vs) = VarOk version dims names v × VarChain version dims (names ++ v.name ∷ []) vs
+
+vars_pushed : (version : ℕ) (dims : List Dim) (names : List (List ℕ)) (vs : List Var) (v : Var) → VarChain version dims names vs → VarOk version dims (names ++ var_names vs) v → VarChain version dims names (vs ++ v ∷ [])
+vars_pushed version dims names [] v h k = (subst (λ ns. VarOk version dims ns v) (append-nil names) k, tt)
+vars_pushed version dims names (x ∷ vs) v h k =
+    (h.0, vars_pushed version dims (names ++ x.name ∷ []) vs v h.1 (subst (λ ns. VarOk version dims ns v) (sym (append_assoc names (x.name ∷ []) (var_names vs))) k))
+
+vars_more : (version : ℕ) (dims more : List Dim) (names : List (List ℕ)) (vs : List Var) → VarChain version dims names vs → VarChain version (dims ++ more) names vs
+vars_more version dims more names [] h = tt
+vars_more version dims more names (v ∷ vs) h =
+    let k = h.0 in (
+      record {
+        dim_list = k.dim_list;
+        named = k.named;
+        found = more_ids dims more k.dim_list v.dims k.found;
+        few = k.few;
+        records = more_records dims more k.dim_list v.dims k.found k.records;
+        head = k.head;
+        no_start = k.no_start;
+      },
+      vars_more version dims more (names ++ v.name ∷ []) vs h.1,
+    )
+
+-- ---- attributes
+
+abbrev pub attr_names : List Attr → List (List ℕ)
+attr_names list = map (λ (a : Attr). a.name) list
+
+-- the attributes of one owner, after others of these names
+abbrev pub AttrChain : ℕ → List (List ℕ) → List Attr → Type 0
+AttrChain version names [] = Unit {0}
+AttrChain version names (a ∷ list) = AttrAgain version a × (is_among a.name names ≡ false) × AttrChain version (names ++ a.name ∷ []) list
+
+attrs_pushed : (version : ℕ) (names : List (List ℕ)) (list : List Attr) (a : Attr) → AttrChain version names list → AttrAgain version a → is_among a.name (names ++ attr_names list) ≡ false → AttrChain version names (list ++ a ∷ [])
+attrs_pushed version names [] a h k fresh = (k, subst (λ ns. is_among a.name ns ≡ false) (append-nil names) fresh, tt)
+attrs_pushed version names (x ∷ list) a h k fresh =
+    (h.0, h.1, attrs_pushed version (names ++ x.name ∷ []) list a h.2 k (subst (λ ns. is_among a.name ns ≡ false) (sym (append_assoc names (x.name ∷ []) (attr_names list))) fresh))
+
+-- each has its title
+abbrev titled : List Title → List ℕ → List Attr → Bool
+titled titles owner list = list_all (λ (a : Attr). list_any (same_title (owner, a.name)) titles) list
+
+titled_fresh : (titles : List Title) (owner n : List ℕ) (list : List Attr) → titled titles owner list ≡ true → list_any (same_title (owner, n)) titles ≡ false → is_among n (attr_names list) ≡ false
+titled_fresh titles owner n [] h fresh = refl
+titled_fresh titles owner n (a ∷ list) h fresh =
+    let both = and_parts (list_any (same_title (owner, a.name)) titles) (titled titles owner list) h in
+    or_from _ _ (by (bytes_eq n a.name) refl both.0) (titled_fresh titles owner n list both.1 fresh)
+  where
+    by : (b : Bool) → bytes_eq n a.name ≡ b → list_any (same_title (owner, a.name)) titles ≡ true → b ≡ false
+    by false e k = refl
+    by true e k =
+        let j : list_any (same_title (owner, n)) titles ≡ true = subst (λ x. list_any (same_title (owner, x)) titles ≡ true) (sym (bytes_same n a.name e)) k in
+        absurd (cc)
+
+titled_more : (titles more : List Title) (owner : List ℕ) (list : List Attr) → titled titles owner list ≡ true → titled (titles ++ more) owner list ≡ true
+titled_more titles more owner list h =
+    all_more (λ (a : Attr). list_any (same_title (owner, a.name)) titles) (λ (a : Attr). list_any (same_title (owner, a.name)) (titles ++ more))
+    (λ a k. list_any-append (same_title (owner, a.name)) titles more ∙ or_left _ _ k) list h
+
+titled_new : (titles : List Title) (owner n : List ℕ) → list_any (same_title (owner, n)) (titles ++ (owner, n) ∷ []) ≡ true
+titled_new titles owner n = list_any-append (same_title (owner, n)) titles ((owner, n) ∷ []) ∙ or_right _ _ (or_left _ _ (and_from _ _ (bytes_own owner) (bytes_own n)))
+
+titled_pushed : (titles : List Title) (owner : List ℕ) (list : List Attr) (a : Attr) → titled titles owner list ≡ true → titled (titles ++ (owner, a.name) ∷ []) owner (list ++ a ∷ []) ≡ true
+titled_pushed titles owner list a h =
+    let next = titles ++ (owner, a.name) ∷ [] in
+    all_joined (λ (b : Attr). list_any (same_title (owner, b.name)) next) list (a ∷ []) (titled_more titles ((owner, a.name) ∷ []) owner list h) (and_from _ _ (titled_new titles owner a.name) refl)
+
+-- the attributes of the variables
+abbrev pub OwnChains : ℕ → List Title → List Var → Type 0
+OwnChains version titles [] = Unit {0}
+OwnChains version titles (v ∷ vs) = AttrChain version [] v.attrs × (titled titles v.name v.attrs ≡ true) × OwnChains version titles vs
+
+own_more : (version : ℕ) (titles more : List Title) (vs : List Var) → OwnChains version titles vs → OwnChains version (titles ++ more) vs
+own_more version titles more [] h = tt
+own_more version titles more (v ∷ vs) h = (h.0, titled_more titles more v.name v.attrs h.1, own_more version titles more vs h.2)
+
+own_pushed : (version : ℕ) (titles : List Title) (vs : List Var) (v : Var) → v.attrs ≡ [] → OwnChains version titles vs → OwnChains version titles (vs ++ v ∷ [])
+own_pushed version titles [] v none h = (subst (AttrChain version []) (sym none) tt, ap (titled titles v.name) none, tt)
+own_pushed version titles (x ∷ vs) v none h = (h.0, h.1, own_pushed version titles vs v none h.2)
+
+-- one attribute more of the variable at this place
+abbrev pub with_own : Attr → Var → Var
+with_own a v = record v { attrs = v.attrs ++ a ∷ [] }
+
+abbrev pub push_attr : ℕ → Attr → List Var → List Var
+push_attr k a [] = []
+push_attr zero a (v ∷ vs) = with_own a v ∷ vs
+push_attr (suc k) a (v ∷ vs) = v ∷ push_attr k a vs
+
+pub pushes : (k : ℕ) (a : Attr) (vs : List Var) → with_attr_at k a vs ≡ push_attr k a vs
+pushes k a [] = refl
+pushes zero a (v ∷ vs) = refl
+pushes (suc k) a (v ∷ vs) = by (slice_get vs k) ∙ ap (λ (xs : List Var). v ∷ xs) (pushes k a vs)
+  where
+    by : (o : Option Var) → elim o as (λ x. List Var) [ None ↦ v ∷ vs | Some w ↦ v ∷ slice_set vs k (record w { attrs = w.attrs ++ a ∷ [] }) ] ≡ v ∷ elim o as (λ x. List Var) [ None ↦ vs | Some w ↦ slice_set vs k (record w { attrs = w.attrs ++ a ∷ [] }) ]
+    by None = refl
+    by (Some w) = refl
+
+abbrev NameAt : List Var → ℕ → List ℕ → Type 0
+NameAt [] k n = ⊥
+NameAt (v ∷ vs) zero n = n ≡ v.name
+NameAt (v ∷ vs) (suc k) n = NameAt vs k n
+
+found_name : (n : List ℕ) (vs : List Var) (k : ℕ) → position (bytes_eq n) (var_names vs) ≡ Some k → NameAt vs k n
+found_name n [] k h = absurd (cc)
+found_name n (v ∷ vs) k h = ⊎_elim
+    (λ (a : (bytes_eq n v.name ≡ true) × (k ≡ 0)). subst (λ j. NameAt (v ∷ vs) j n) (sym a.1) (bytes_same n v.name a.0))
+    (λ (b : (bytes_eq n v.name ≡ false) × Later (bytes_eq n) (var_names vs) k). subst (λ j. NameAt (v ∷ vs) j n) (sym b.1.next) (found_name n vs b.1.before b.1.found))
+    (place_cases (bytes_eq n) v.name (var_names vs) k h)
+
+vars_attr : (version : ℕ) (dims : List Dim) (names : List (List ℕ)) (k : ℕ) (a : Attr) (vs : List Var) → VarChain version dims names vs → VarChain version dims names (push_attr k a vs)
+vars_attr version dims names k a [] h = tt
+vars_attr version dims names zero a (v ∷ vs) h = (h.0, h.1)
+vars_attr version dims names (suc k) a (v ∷ vs) h = (h.0, vars_attr version dims (names ++ v.name ∷ []) k a vs h.1)
+
+own_attr : (version : ℕ) (titles : List Title) (k : ℕ) (owner : List ℕ) (a : Attr) (vs : List Var) → OwnChains version titles vs → NameAt vs k owner → AttrAgain version a → list_any (same_title (owner, a.name)) titles ≡ false
+    → OwnChains version (titles ++ (owner, a.name) ∷ []) (push_attr k a vs)
+own_attr version titles k owner a [] h at again fresh = absurd at
+own_attr version titles zero owner a (v ∷ vs) h at again fresh =
+    let fresh_own = subst (λ n. list_any (same_title (n, a.name)) titles ≡ false) at fresh in (
+      attrs_pushed version [] v.attrs a h.0 again (titled_fresh titles v.name a.name v.attrs h.1 fresh_own),
+      subst (λ n. titled (titles ++ (n, a.name) ∷ []) v.name (v.attrs ++ a ∷ []) ≡ true) (sym at) (titled_pushed titles v.name v.attrs a h.1),
+      own_more version titles ((owner, a.name) ∷ []) vs h.2,
+    )
+own_attr version titles (suc k) owner a (v ∷ vs) h at again fresh =
+    (h.0, titled_more titles ((owner, a.name) ∷ []) v.name v.attrs h.1, own_attr version titles k owner a vs h.2 at again fresh)
+
+-- ---- how many values
+
+abbrev pub count_attrs : List Attr → ℕ
+count_attrs [] = 0
+count_attrs (a ∷ list) = a.count + count_attrs list
+
+abbrev pub count_own : List Var → ℕ
+count_own [] = 0
+count_own (v ∷ vs) = count_attrs v.attrs + count_own vs
+
+count-attr : (list : List Attr) (a : Attr) → count_attrs (list ++ a ∷ []) ≡ count_attrs list + a.count
+count-attr [] a = omega arith
+count-attr (x ∷ list) a = omega (arith, count-attr list a)
+
+count-var : (vs : List Var) (v : Var) → v.attrs ≡ [] → count_own (vs ++ v ∷ []) ≡ count_own vs
+count-var [] v none = omega (arith, ap count_attrs none)
+count-var (x ∷ vs) v none = omega (arith, count-var vs v none)
+
+count-pushed : (k : ℕ) (n : List ℕ) (a : Attr) (vs : List Var) → NameAt vs k n → count_own (push_attr k a vs) ≡ count_own vs + a.count
+count-pushed k n a [] at = absurd at
+count-pushed zero n a (v ∷ vs) at = omega (arith, count-attr v.attrs a)
+count-pushed (suc k) n a (v ∷ vs) at = omega (arith, count-pushed k n a vs at)
+
+-- ---- the definitions
+
+pub record DefinedOk (version values : ℕ) (d : Defined) : Type 0 where
+  pub dims : DimChain version [] d.dims
+  pub vars : VarChain version d.dims [] d.vars
+  pub attrs : AttrChain version [] d.attrs
+  pub has_titles : titled d.titles (codes ":") d.attrs ≡ true
+  pub own : OwnChains version d.titles d.vars
+  pub counted : values ≡ count_attrs d.attrs + count_own d.vars
+
+pub record DefinedOn (version values : ℕ) (r : ℕ × Defined) : Type 0 where
+  pub same : DefinedOk version (values + r.0) r.1
+  pub few : values + r.0 ≤ most_values
+
+dim_on : (version values : ℕ) (d : Defined) (ws : List Word) (r : ℕ × Defined) → values ≤ most_values → DefinedOk version values d → dim_definition version d ws ≡ Ok r → DefinedOn version values r
+dim_on version values d ws r low ok h =
+    let a = went (dim_line version d.dims ws) (λ x. Ok (0, with_dim x d)) r h in
+    let x = a.value in
+    subst (DefinedOn version values) (same_ok (0, with_dim x d) r a.rest) (record {
+      same = record {
+        dims = dims_pushed version [] d.dims x ok.dims (dim_read version d.dims ws x a.first);
+        vars = vars_more version d.dims (x ∷ []) [] d.vars ok.vars;
+        attrs = ok.attrs;
+        has_titles = ok.has_titles;
+        own = ok.own;
+        counted = omega (arith, ok.counted);
+      };
+      few = omega arith;
+    })
+
+var_read : (version : ℕ) (dims : List Dim) (vars : List Var) (ws : List Word) (v : Var) → var_line version dims vars ws ≡ Ok v → VarOk version dims (var_names vars) v × (v.attrs ≡ [])
+var_read version dims vars ws v h =
+    let a = went (var_head version (var_names vars) ws) _ v h in
+    let b = went (shape dims a.value.1) _ v a.rest in
+    let c = went (ended b.value.1) _ v b.rest in
+    let n = went (name_list a.value.1) _ b.value b.first in
+    let i = went (or_fault kind.UnknownName (dim_ids dims n.value.0)) _ b.value n.rest in
+    let f = went (refuse_if (nat_lt most_dims_of_var (length i.value)) (kind.Limit limit.VarDims)) _ b.value i.rest in
+    let g = went (refuse_if (list_any (is_record_dim dims) (drop 1 i.value)) kind.BadShape) _ b.value f.rest in
+    let ids : i.value ≡ b.value.0 = ap (λ (x : List ℕ × List Word). x.0) (same_ok (i.value, n.value.1) b.value g.rest) in
+    let x : Var = record { name = a.value.0.1; dims = b.value.0; attrs = []; kind = a.value.0.0; begin = 0 } in
+    subst (λ (y : Var). VarOk version dims (var_names vars) y × (y.attrs ≡ [])) (same_ok x v c.rest) (
+      record {
+        dim_list = n.value.0;
+        named = names_read a.value.1 n.value n.first;
+        found = no_fault kind.UnknownName (dim_ids dims n.value.0) i.value i.first ∙ ap (λ (xs : List ℕ). Some xs) ids;
+        few = subst (λ xs. nat_lt most_dims_of_var (length xs) ≡ false) ids (not_refused _ _ f.value f.first);
+        records = subst (λ xs. list_any (is_record_dim dims) (drop 1 xs) ≡ false) ids (not_refused _ _ g.value g.first);
+        head = head_read version (var_names vars) ws a.value a.first;
+        no_start = refl;
+      },
+      refl,
+    )
+
+var_on : (version values : ℕ) (d : Defined) (ws : List Word) (r : ℕ × Defined) → values ≤ most_values → DefinedOk version values d → var_definition version d ws ≡ Ok r → DefinedOn version values r
+var_on version values d ws r low ok h =
+    let a = went (var_line version d.dims d.vars ws) (λ x. Ok (0, with_var x d)) r h in
+    let v = a.value in
+    let k = var_read version d.dims d.vars ws v a.first in
+    subst (DefinedOn version values) (same_ok (0, with_var v d) r a.rest) (record {
+      same = record {
+        dims = ok.dims;
+        vars = vars_pushed version d.dims [] d.vars v ok.vars k.0;
+        attrs = ok.attrs;
+        has_titles = ok.has_titles;
+        own = own_pushed version d.titles d.vars v k.1 ok.own;
+        counted = omega (arith, ok.counted, count-var d.vars v k.1);
+      };
+      few = omega arith;
+    })
+
+-- an attribute of the dataset, or of the variable at a place
+att_of_dataset : (version values : ℕ) (d : Defined) (owner : List ℕ) (a : Attr) → DefinedOk version values d → owner ≡ codes ":" → AttrRead version d.titles values owner a → DefinedOn version values (a.count, with_title owner a.name (with_attr None a d))
+att_of_dataset version values d owner a ok e read =
+    let at = codes ":" in
+    let fresh = subst (λ o. list_any (same_title (o, a.name)) d.titles ≡ false) e read.fresh in
+    record {
+      same = record {
+        dims = ok.dims;
+        vars = ok.vars;
+        attrs = attrs_pushed version [] d.attrs a ok.attrs read.same (titled_fresh d.titles at a.name d.attrs ok.has_titles fresh);
+        has_titles = subst (λ o. titled (d.titles ++ (o, a.name) ∷ []) at (d.attrs ++ a ∷ []) ≡ true) (sym e) (titled_pushed d.titles at d.attrs a ok.has_titles);
+        own = own_more version d.titles ((owner, a.name) ∷ []) d.vars ok.own;
+        counted = omega (arith, ok.counted, count-attr d.attrs a);
+      };
+      few = read.few;
+    }
+
+att_of_var : (version values : ℕ) (d : Defined) (owner : List ℕ) (k : ℕ) (a : Attr) → DefinedOk version values d → NameAt d.vars k owner → AttrRead version d.titles values owner a → DefinedOn version values (a.count, with_title owner a.name (with_attr (Some k) a d))
+att_of_var version values d owner k a ok at read =
+    let same_vars = sym (pushes k a d.vars) in
+    record {
+      same = record {
+        dims = ok.dims;
+        vars = subst (VarChain version d.dims []) same_vars (vars_attr version d.dims [] k a d.vars ok.vars);
+        attrs = ok.attrs;
+        has_titles = titled_more d.titles ((owner, a.name) ∷ []) (codes ":") d.attrs ok.has_titles;
+        own = subst (OwnChains version (d.titles ++ (owner, a.name) ∷ [])) same_vars (own_attr version d.titles k owner a d.vars ok.own at read.same read.fresh);
+        counted = omega (arith, ok.counted, count-pushed k owner a d.vars at, ap count_own same_vars);
+      };
+      few = read.few;
+    }
+
+abbrev PlaceOf : List Var → List ℕ → Option ℕ → Type 0
+PlaceOf vars owner None = owner ≡ codes ":"
+PlaceOf vars owner (Some k) = NameAt vars k owner
+
+place_read : (vars : List Var) (owner : List ℕ) (o : Option ℕ) → owner_place vars owner ≡ Ok o → PlaceOf vars owner o
+place_read vars owner o h = by (bytes_eq owner (codes ":")) refl h
+  where
+    by : (b : Bool) → bytes_eq owner (codes ":") ≡ b
+        → elim b as (λ x. Result (Option ℕ) ScriptKind) [ true ↦ Ok None | false ↦ (or_fault kind.UnknownName (position (bytes_eq owner) (var_names vars)) >>= λ k. Ok (Some k)) ] ≡ Ok o → PlaceOf vars owner o
+    by true e k = subst (PlaceOf vars owner) (same_ok None o k) (bytes_same owner (codes ":") e)
+    by false e k =
+        let a = went (or_fault kind.UnknownName (position (bytes_eq owner) (var_names vars))) (λ j. Ok (Some j)) o k in
+        subst (PlaceOf vars owner) (same_ok (Some a.value) o a.rest) (found_name owner vars a.value (no_fault kind.UnknownName (position (bytes_eq owner) (var_names vars)) a.value a.first))
+
+att_by_place : (version values : ℕ) (d : Defined) (owner : List ℕ) (o : Option ℕ) (a : Attr) → DefinedOk version values d → PlaceOf d.vars owner o → AttrRead version d.titles values owner a → DefinedOn version values (a.count, with_title owner a.name (with_attr o a d))
+att_by_place version values d owner None a ok at read = att_of_dataset version values d owner a ok at read
+att_by_place version values d owner (Some k) a ok at read = att_of_var version values d owner k a ok at read
+
+att_on : (version values : ℕ) (d : Defined) (ws : List Word) (r : ℕ × Defined) → values ≤ most_values → list_all is_read ws ≡ true → DefinedOk version values d → att_line version values d ws ≡ Ok r → DefinedOn version values r
+att_on version values d ws r low read ok h =
+    let o = went (reads_as owner_of_text kind.BadName ws) _ r h in
+    let k = went (owner_place d.vars o.value.0) _ r o.rest in
+    let a = went (attribute version d.titles values o.value.0 o.value.1) _ r k.rest in
+    subst (DefinedOn version values) (same_ok (a.value.count, with_title o.value.0 a.value.name (with_attr k.value a.value d)) r a.rest)
+    (att_by_place version values d o.value.0 k.value a.value ok (place_read d.vars o.value.0 k.value k.first)
+    (attr_read version d.titles values o.value.0 o.value.1 a.value low (kept is_read owner_of_text kind.BadName ws o.value o.first read) a.first))
+
+fill_on : (version values : ℕ) (d : Defined) (ws : List Word) (r : ℕ × Defined) → values ≤ most_values → DefinedOk version values d → fill_line d ws ≡ Ok r → DefinedOn version values r
+fill_on version values d ws r low ok h =
+    let a = went (refuse_if d.filled kind.TwiceNamed) _ r h in
+    let b = went (ended ws) _ r a.rest in
+    subst (DefinedOn version values) (same_ok (0, record d { filled = true }) r b.rest) (record {
+      same = record { dims = ok.dims; vars = ok.vars; attrs = ok.attrs; has_titles = ok.has_titles; own = ok.own; counted = omega (arith, ok.counted) };
+      few = omega arith;
+    })
+
+pub definition_read : (version values : ℕ) (d : Defined) (first : List ℕ) (ws : List Word) (r : ℕ × Defined) → values ≤ most_values → list_all is_read ws ≡ true → DefinedOk version values d → definition version values d first ws ≡ Ok r → DefinedOn version values r
+definition_read version values d first ws r low read ok h = by (bytes_eq first (codes "dim")) (bytes_eq first (codes "var")) (bytes_eq first (codes "att")) (bytes_eq first (codes "fill")) h
+  where
+    by : (i j k l : Bool) → elim i as (λ x. Result (ℕ × Defined) ScriptKind) [
+      | true ↦ dim_definition version d ws
+      | false ↦ elim j as (λ x. Result (ℕ × Defined) ScriptKind) [
+        | true ↦ var_definition version d ws
+        | false ↦ elim k as (λ x. Result (ℕ × Defined) ScriptKind) [
+          | true ↦ att_line version values d ws
+          | false ↦ elim l as (λ x. Result (ℕ × Defined) ScriptKind) [ true ↦ fill_line d ws | false ↦ Err kind.UnknownWord ]
+        ]
+      ]
+    ] ≡ Ok r → DefinedOn version values r
+    by true j k l e = dim_on version values d ws r low ok e
+    by false true k l e = var_on version values d ws r low ok e
+    by false false true l e = att_on version values d ws r low read ok e
+    by false false false true e = fill_on version values d ws r low ok e
+    by false false false false e = absurd (cc)

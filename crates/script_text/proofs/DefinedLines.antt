@@ -1,0 +1,342 @@
+-- The definitions of a new dataset, printed in their canonical order, are read as the same definitions.
+use Rattle.std.proofs.Common.{◌≡◌, ◌⊎◌, ◌∙◌, ℕ, zero, suc, ◌+◌, ◌≤◌, ◌<◌, List, [], ◌∷◌, ◌++◌, map, position, length, drop, flat_map, Bool, true, false, not, cond, nat_lt, nat_le, ◌==◌, ◌&&◌, ◌||◌, Option, Some, None, slice_get, Result, Ok, Err, refl, sym, ap, subst, inr, append_assoc, append-nil, arith, bytes_eq, codes}
+use Rattle.std.specs.List.{list_all, list_any}
+use Rattle.std.proofs.lemmas.Bool.{and_parts, and_from, and_left, and_right, or_from, or_parts, ne_eqb}
+use Rattle.std.proofs.lemmas.List.Folds.{list_any-append}
+use Rattle.nc_base.specs.declared.errors.ScriptKind.{ScriptKind}
+use Rattle.nc_base.specs.declared.errors.ScriptKind.TheVariants as kind
+use Rattle.nc_base.specs.declared.errors.LimitName.TheVariants as limit
+use Rattle.nc_base.specs.declared.header.NcType.{NcType}
+use Rattle.nc_base.specs.declared.header.Dim.{Dim}
+use Rattle.nc_base.specs.declared.header.Attr.{Attr}
+use Rattle.nc_base.specs.declared.header.Var.{Var}
+use Rattle.serial_spec.specs.Limits.{most_dims_of_var}
+use Rattle.serial_spec.specs.Lawful.{most_values}
+use Rattle.script_spec.specs.Texts.{type_word, line}
+use Rattle.script_spec.specs.Shown.{bracketed, shown_attr, shown_dim}
+use Rattle.script_spec.specs.ScriptWords.{Word, Plain, Quoted, Broken, is_name, starts_name}
+use Rattle.script_spec.specs.ScriptSteps.{◌>>=◌, refuse_if, or_fault, reads_as, ended}
+use Rattle.script_spec.specs.ScriptDefinitions.{is_among, dim_names, dim_line, var_head, name_list, dim_ids, is_record_dim, var_names, shape, var_line, owner_of_text, owner_place, Title, same_title, attribute, Defined, with_dim, with_var, with_attr_at, with_title, with_attr, att_line, dim_definition, var_definition, fill_line, definition, Known, known_after}
+use Rattle.script_text.proofs.Steps.{Went, went, go_on, same_ok, not_refused, passed, no_fault, faultless, word_read, by_true, by_false}
+use Rattle.script_text.proofs.Lexing.{spelling, is_plain, is_good}
+use Rattle.script_text.proofs.Lines.{is_line, spelled, all_joined}
+use Rattle.script_text.proofs.Numerals.{name_plain}
+use Rattle.script_text.proofs.PrintedAttributes.{type_plain, attr_tokens, AttrAgain}
+use Rattle.script_text.proofs.PrintedDefinitions.{dim_tokens, DimAgain, HeadAgain, head_again, names_plain, names_again}
+use Rattle.script_text.proofs.AddedLines.{Leads, Runs, runs_on, att_spelled, Owner, owner_again}
+use Rattle.script_text.proofs.Places.{name_at, names_shown, bytes_own, place_of_new}
+use Rattle.script_text.proofs.DefinedChains.{DimChain, VarAgain, VarOk, VarChain, attr_names, AttrChain, OwnChains, with_own, push_attr, pushes, count_attrs, count_own}
+
+-- ---- lines of the definitions
+
+-- what is known, with these definitions
+abbrev pub at_state : Known → Defined → ℕ → Known
+at_state k d v = record k { defined = d; values = v }
+
+pub leads_by : (version : ℕ) (k : Known) (first : List ℕ) (ws : List Word) (r : ℕ × Defined) → (version == 0) ≡ false → bytes_eq first (codes "ranks") ≡ false → bytes_eq first (codes "hint") ≡ false → bytes_eq first (codes "data") ≡ false
+    → definition version k.values k.defined first ws ≡ Ok r → Leads version k (Plain first ∷ ws) (record k { defined = r.1; values = k.values + r.0 })
+leads_by version k first ws r new a b c h = (
+      c,
+      by_false (bytes_eq first (codes "ranks")) _ _ a
+      ∙ (by_false (bytes_eq first (codes "hint")) _ _ b
+      ∙ (by_false (version == 0) _ _ new
+      ∙ go_on (definition version k.values k.defined first ws) (λ x. Ok (record k { defined = x.1; values = k.values + x.0 })) r _ h refl)),
+    )
+
+-- ---- dimensions
+
+abbrev pub line_of_dim : Dim → List Word
+line_of_dim d = Plain (codes "dim") ∷ dim_tokens d
+
+dims_run : (version : ℕ) (k : Known) (d : Defined) (ds front : List Dim) → (version == 0) ≡ false → DimChain version front ds
+    → Runs version (at_state k (record d { dims = front }) 0) (map line_of_dim ds) (at_state k (record d { dims = front ++ ds }) 0)
+dims_run version k d [] front new h = ap (λ (xs : List Dim). at_state k (record d { dims = xs }) 0) (sym (append-nil front))
+dims_run version k d (x ∷ ds) front new h =
+    let here = record d { dims = front } in
+    let next = record d { dims = front ++ x ∷ [] } in
+    let more = dims_run version k d ds (front ++ x ∷ []) new h.1 in (
+      at_state k next 0,
+      leads_by version (at_state k here 0) (codes "dim") (dim_tokens x) (0, next) new refl refl refl (go_on (dim_line version front (dim_tokens x)) (λ y. Ok (0, with_dim y here)) x (0, next) h.0.again refl),
+      subst (λ (xs : List Dim). Runs version (at_state k next 0) (map line_of_dim ds) (at_state k (record d { dims = xs }) 0)) (append_assoc front (x ∷ []) ds) more,
+    )
+
+-- ---- variables
+
+abbrev pub line_of_var : List Dim → Var → List Word
+line_of_var dims v = Plain (codes "var") ∷ Plain (type_word v.kind) ∷ Plain v.name ∷ Plain (bracketed (map (name_at dims) v.dims)) ∷ []
+
+-- without its attributes, and with them
+abbrev bare : Var → Var
+bare v = record { name = v.name; dims = v.dims; attrs = []; kind = v.kind; begin = 0 }
+
+abbrev full : Var → Var
+full v = record { name = v.name; dims = v.dims; attrs = v.attrs; kind = v.kind; begin = 0 }
+
+var_again : (version : ℕ) (dims : List Dim) (names : List (List ℕ)) (done : List Var) (v : Var) → VarOk version dims names v → var_names done ≡ names
+    → var_line version dims done (Plain (type_word v.kind) ∷ Plain v.name ∷ Plain (bracketed (map (name_at dims) v.dims)) ∷ []) ≡ Ok (bare v)
+var_again version dims names done v ok same =
+    let rest = Plain (bracketed ok.dim_list) ∷ [] in
+    let head = subst (λ ns. HeadAgain version ns v.kind v.name) (sym same) ok.head in
+    ap (λ (ns : List (List ℕ)). var_line version dims done (Plain (type_word v.kind) ∷ Plain v.name ∷ Plain (bracketed ns) ∷ [])) (names_shown dims ok.dim_list v.dims ok.found)
+    ∙ go_on (var_head version (var_names done) (Plain (type_word v.kind) ∷ Plain v.name ∷ rest)) _ ((v.kind, v.name), rest) (bare v) (head_again version (var_names done) v.kind v.name rest head)
+    (go_on (shape dims rest) _ (v.dims, []) (bare v)
+    (go_on (name_list rest) _ (ok.dim_list, []) (v.dims, []) (names_again ok.dim_list [] ok.named)
+    (go_on (or_fault kind.UnknownName (dim_ids dims ok.dim_list)) _ v.dims (v.dims, []) (faultless kind.UnknownName (dim_ids dims ok.dim_list) v.dims ok.found)
+    (go_on (refuse_if (nat_lt most_dims_of_var (length v.dims)) (kind.Limit limit.VarDims)) _ tt (v.dims, []) (passed _ _ ok.few)
+    (go_on (refuse_if (list_any (is_record_dim dims) (drop 1 v.dims)) kind.BadShape) _ tt (v.dims, []) (passed _ _ ok.records) refl)))) refl)
+
+joined_vars : (vs more : List Var) → var_names (vs ++ more) ≡ var_names vs ++ var_names more
+joined_vars [] more = refl
+joined_vars (v ∷ vs) more = ap (λ (xs : List (List ℕ)). v.name ∷ xs) (joined_vars vs more)
+
+vars_run : (version : ℕ) (k : Known) (d : Defined) (names : List (List ℕ)) (vs done : List Var) → (version == 0) ≡ false → VarChain version d.dims names vs → var_names done ≡ names
+    → Runs version (at_state k (record d { vars = done }) 0) (map (line_of_var d.dims) vs) (at_state k (record d { vars = done ++ map bare vs }) 0)
+vars_run version k d names [] done new h same = ap (λ (xs : List Var). at_state k (record d { vars = xs }) 0) (sym (append-nil done))
+vars_run version k d names (v ∷ vs) done new h same =
+    let here = record d { vars = done } in
+    let next = record d { vars = done ++ bare v ∷ [] } in
+    let ws = Plain (type_word v.kind) ∷ Plain v.name ∷ Plain (bracketed (map (name_at d.dims) v.dims)) ∷ [] in
+    let more = vars_run version k d (names ++ v.name ∷ []) vs (done ++ bare v ∷ []) new h.1 (joined_vars done (bare v ∷ []) ∙ ap (λ (xs : List (List ℕ)). xs ++ v.name ∷ []) same) in (
+      at_state k next 0,
+      leads_by version (at_state k here 0) (codes "var") ws (0, next) new refl refl refl
+      (go_on (var_line version d.dims done ws) (λ y. Ok (0, with_var y here)) (bare v) (0, next) (var_again version d.dims names done v h.0 same) refl),
+      subst (λ (xs : List Var). Runs version (at_state k next 0) (map (line_of_var d.dims) vs) (at_state k (record d { vars = xs }) 0)) (append_assoc done (bare v ∷ []) (map bare vs)) more,
+    )
+
+-- ---- attributes of the dataset
+
+abbrev pub line_of_att : List ℕ → Attr → List Word
+line_of_att owner a = Plain (codes "att") ∷ Plain owner ∷ attr_tokens a
+
+-- of this owner no title stands there but of these names
+abbrev FreshOwner : List Title → List ℕ → List (List ℕ) → Type 0
+FreshOwner titles owner names = (n : List ℕ) → is_among n names ≡ false → list_any (same_title (owner, n)) titles ≡ false
+
+fresh_pushed : (titles : List Title) (owner : List ℕ) (names : List (List ℕ)) (m : List ℕ) → FreshOwner titles owner names → FreshOwner (titles ++ (owner, m) ∷ []) owner (names ++ m ∷ [])
+fresh_pushed titles owner names m h n none =
+    let both = or_parts (is_among n names) (bytes_eq n m || false) (sym (list_any-append (bytes_eq n) names (m ∷ [])) ∙ none) in
+    let other = (or_parts (bytes_eq n m) false both.1).0 in
+    list_any-append (same_title (owner, n)) titles ((owner, m) ∷ []) ∙ or_from _ _ (h n both.0) (or_from _ _ (and_right _ _ other) refl)
+
+abbrev titles_of : List ℕ → List Attr → List Title
+titles_of owner list = map (λ (a : Attr). (owner, a.name)) list
+
+abbrev with_atts : Defined → List Attr → List Title → Defined
+with_atts d list titles = record d { attrs = list; titles = titles }
+
+att_dataset_again : (version : ℕ) (d : Defined) (v : ℕ) (a : Attr) → AttrAgain version a → list_any (same_title (codes ":", a.name)) d.titles ≡ false → v + a.count ≤ most_values
+    → att_line version v d (Plain (codes ":") ∷ attr_tokens a) ≡ Ok (a.count, with_title (codes ":") a.name (with_attr None a d))
+att_dataset_again version d v a again fresh few =
+    let owner = codes ":" in
+    let r : ℕ × Defined = (a.count, with_title owner a.name (with_attr None a d)) in
+    go_on (reads_as owner_of_text kind.BadName (Plain owner ∷ attr_tokens a))
+    (λ o. owner_place d.vars o.0 >>= λ k. attribute version d.titles v o.0 o.1 >>= λ x. Ok (x.count, with_title o.0 x.name (with_attr k x d)))
+    (owner, attr_tokens a) r (word_read owner_of_text kind.BadName owner owner (attr_tokens a) refl)
+    (go_on (attribute version d.titles v owner (attr_tokens a)) (λ x. Ok (x.count, with_title owner x.name (with_attr None x d))) a r (again.again d.titles v owner fresh few) refl)
+
+dataset_run : (version : ℕ) (k : Known) (d : Defined) (list : List Attr) (names : List (List ℕ)) (front : List Attr) (titles : List Title) (v : ℕ) → (version == 0) ≡ false → AttrChain version names list → FreshOwner titles (codes ":") names → v + count_attrs list ≤ most_values
+    → Runs version (at_state k (with_atts d front titles) v) (map (line_of_att (codes ":")) list) (at_state k (with_atts d (front ++ list) (titles ++ titles_of (codes ":") list)) (v + count_attrs list))
+dataset_run version k d [] names front titles v new h fresh few =
+    let zero_more : v ≡ v + 0 = omega arith in
+    ap (λ (xs : List Attr). at_state k (with_atts d xs titles) v) (sym (append-nil front))
+    ∙ (ap (λ (ts : List Title). at_state k (with_atts d (front ++ []) ts) v) (sym (append-nil titles)) ∙ ap (λ (n : ℕ). at_state k (with_atts d (front ++ []) (titles ++ [])) n) zero_more)
+dataset_run version k d (a ∷ list) names front titles v new h fresh few =
+    let owner = codes ":" in
+    let here = with_atts d front titles in
+    let next_titles = titles ++ (owner, a.name) ∷ [] in
+    let next = with_atts d (front ++ a ∷ []) next_titles in
+    let more = dataset_run version k d list (names ++ a.name ∷ []) (front ++ a ∷ []) next_titles (v + a.count) new h.2 (fresh_pushed titles owner names a.name fresh) (omega arith) in
+    let total : (v + a.count) + count_attrs list ≡ v + (a.count + count_attrs list) = omega arith in
+    let same : at_state k (with_atts d ((front ++ a ∷ []) ++ list) (next_titles ++ titles_of owner list)) ((v + a.count) + count_attrs list) ≡ at_state k (with_atts d (front ++ a ∷ list) (titles ++ titles_of owner (a ∷ list))) (v + count_attrs (a ∷ list)) =
+    ap (λ (xs : List Attr). at_state k (with_atts d xs (next_titles ++ titles_of owner list)) ((v + a.count) + count_attrs list)) (append_assoc front (a ∷ []) list)
+    ∙ (ap (λ (ts : List Title). at_state k (with_atts d (front ++ a ∷ list) ts) ((v + a.count) + count_attrs list)) (append_assoc titles ((owner, a.name) ∷ []) (titles_of owner list))
+    ∙ ap (λ (n : ℕ). at_state k (with_atts d (front ++ a ∷ list) (titles ++ titles_of owner (a ∷ list))) n) total) in (
+      at_state k next (v + a.count),
+      leads_by version (at_state k here v) (codes "att") (Plain owner ∷ attr_tokens a) (a.count, next) new refl refl refl (att_dataset_again version here v a h.0 (fresh a.name h.1) (omega arith)),
+      subst (Runs version (at_state k next (v + a.count)) (map (line_of_att owner) list)) same more,
+    )
+
+-- ---- attributes of the variables
+
+no_colon : (n : List ℕ) → is_name n ≡ true → bytes_eq n (codes ":") ≡ false
+no_colon [] h = absurd (cc)
+no_colon (c ∷ cs) h =
+    let starts = (and_parts (starts_name c) _ (and_parts _ _ h).0).0 in
+    and_left _ _ (ne_eqb c 58 (λ e. let k : starts_name 58 ≡ true = subst (λ x. starts_name x ≡ true) e starts in absurd (cc)))
+
+length_var_names : (vs : List Var) → length (var_names vs) ≡ length vs
+length_var_names [] = refl
+length_var_names (v ∷ vs) = ap suc (length_var_names vs)
+
+place_again : (front back : List Var) (w : Var) → is_name w.name ≡ true → is_among w.name (var_names front) ≡ false → owner_place (front ++ w ∷ back) w.name ≡ Ok (Some (length front))
+place_again front back w named fresh =
+    let at : position (bytes_eq w.name) (var_names (front ++ w ∷ back)) ≡ Some (length front) =
+    ap (position (bytes_eq w.name)) (joined_vars front (w ∷ back)) ∙ (place_of_new w.name (var_names front) (var_names back) fresh ∙ ap (λ (n : ℕ). Some n) (length_var_names front)) in
+    by_false (bytes_eq w.name (codes ":")) _ _ (no_colon w.name named)
+    ∙ go_on (or_fault kind.UnknownName (position (bytes_eq w.name) (var_names (front ++ w ∷ back)))) (λ j. Ok (Some j)) (length front) (Some (length front)) (faultless kind.UnknownName _ (length front) at) refl
+
+push_at : (front back : List Var) (w : Var) (a : Attr) → push_attr (length front) a (front ++ w ∷ back) ≡ front ++ with_own a w ∷ back
+push_at [] back w a = refl
+push_at (v ∷ front) back w a = ap (λ (xs : List Var). v ∷ xs) (push_at front back w a)
+
+abbrev with_vars : Defined → List Var → List Title → Defined
+with_vars d vars titles = record d { vars = vars; titles = titles }
+
+abbrev with_list : Var → List Attr → Var
+with_list w list = record w { attrs = list }
+
+att_own_again : (version : ℕ) (d : Defined) (front back : List Var) (w : Var) (titles : List Title) (v : ℕ) (a : Attr) → is_name w.name ≡ true → is_among w.name (var_names front) ≡ false → AttrAgain version a
+    → list_any (same_title (w.name, a.name)) titles ≡ false → v + a.count ≤ most_values
+    → att_line version v (with_vars d (front ++ w ∷ back) titles) (Plain w.name ∷ attr_tokens a) ≡ Ok (a.count, with_vars d (front ++ with_own a w ∷ back) (titles ++ (w.name, a.name) ∷ []))
+att_own_again version d front back w titles v a named fresh again new few =
+    let here = with_vars d (front ++ w ∷ back) titles in
+    let r : ℕ × Defined = (a.count, with_vars d (front ++ with_own a w ∷ back) (titles ++ (w.name, a.name) ∷ [])) in
+    let same : with_attr_at (length front) a (front ++ w ∷ back) ≡ front ++ with_own a w ∷ back = pushes (length front) a (front ++ w ∷ back) ∙ push_at front back w a in
+    go_on (reads_as owner_of_text kind.BadName (Plain w.name ∷ attr_tokens a)) _ (w.name, attr_tokens a) r (word_read owner_of_text kind.BadName w.name w.name (attr_tokens a) (owner_again w.name (inr (no_colon w.name named, named))).1)
+    (go_on (owner_place (front ++ w ∷ back) w.name) _ (Some (length front)) r (place_again front back w named fresh)
+    (go_on (attribute version titles v w.name (attr_tokens a)) _ a r (again.again titles v w.name new few)
+    (ap (λ (xs : List Var). Ok (a.count, with_vars d xs (titles ++ (w.name, a.name) ∷ []))) same)))
+
+own_run : (version : ℕ) (k : Known) (d : Defined) (front back : List Var) (list : List Attr) (names : List (List ℕ)) (w : Var) (titles : List Title) (v : ℕ) → (version == 0) ≡ false
+    → is_name w.name ≡ true → is_among w.name (var_names front) ≡ false → AttrChain version names list → FreshOwner titles w.name names → v + count_attrs list ≤ most_values
+    → Runs version (at_state k (with_vars d (front ++ w ∷ back) titles) v) (map (line_of_att w.name) list) (at_state k (with_vars d (front ++ with_list w (w.attrs ++ list) ∷ back) (titles ++ titles_of w.name list)) (v + count_attrs list))
+own_run version k d front back [] names w titles v new named alone h fresh few =
+    let zero_more : v ≡ v + 0 = omega arith in
+    ap (λ (xs : List Attr). at_state k (with_vars d (front ++ with_list w xs ∷ back) titles) v) (sym (append-nil w.attrs))
+    ∙ (ap (λ (ts : List Title). at_state k (with_vars d (front ++ with_list w (w.attrs ++ []) ∷ back) ts) v) (sym (append-nil titles))
+    ∙ ap (λ (n : ℕ). at_state k (with_vars d (front ++ with_list w (w.attrs ++ []) ∷ back) (titles ++ [])) n) zero_more)
+own_run version k d front back (a ∷ list) names w titles v new named alone h fresh few =
+    let here = with_vars d (front ++ w ∷ back) titles in
+    let next_titles = titles ++ (w.name, a.name) ∷ [] in
+    let next = with_vars d (front ++ with_own a w ∷ back) next_titles in
+    let more = own_run version k d front back list (names ++ a.name ∷ []) (with_own a w) next_titles (v + a.count) new named alone h.2 (fresh_pushed titles w.name names a.name fresh) (omega arith) in
+    let total : (v + a.count) + count_attrs list ≡ v + (a.count + count_attrs list) = omega arith in
+    let same : at_state k (with_vars d (front ++ with_list w ((w.attrs ++ a ∷ []) ++ list) ∷ back) (next_titles ++ titles_of w.name list)) ((v + a.count) + count_attrs list)
+            ≡ at_state k (with_vars d (front ++ with_list w (w.attrs ++ a ∷ list) ∷ back) (titles ++ titles_of w.name (a ∷ list))) (v + count_attrs (a ∷ list)) =
+    ap (λ (xs : List Attr). at_state k (with_vars d (front ++ with_list w xs ∷ back) (next_titles ++ titles_of w.name list)) ((v + a.count) + count_attrs list)) (append_assoc w.attrs (a ∷ []) list)
+    ∙ (ap (λ (ts : List Title). at_state k (with_vars d (front ++ with_list w (w.attrs ++ a ∷ list) ∷ back) ts) ((v + a.count) + count_attrs list)) (append_assoc titles ((w.name, a.name) ∷ []) (titles_of w.name list))
+    ∙ ap (λ (n : ℕ). at_state k (with_vars d (front ++ with_list w (w.attrs ++ a ∷ list) ∷ back) (titles ++ titles_of w.name (a ∷ list))) n) total) in (
+      at_state k next (v + a.count),
+      leads_by version (at_state k here v) (codes "att") (Plain w.name ∷ attr_tokens a) (a.count, next) new refl refl refl (att_own_again version d front back w titles v a named alone h.0 (fresh a.name h.1) (omega arith)),
+      subst (Runs version (at_state k next (v + a.count)) (map (line_of_att w.name) list)) same more,
+    )
+
+-- the titles are of owners of these names, or of the dataset
+abbrev Apart : List Title → List (List ℕ) → Type 0
+Apart titles names = (owner : List ℕ) → bytes_eq owner (codes ":") ≡ false → is_among owner names ≡ false → (n : List ℕ) → list_any (same_title (owner, n)) titles ≡ false
+
+other_titles : (owner other n : List ℕ) (list : List Attr) → bytes_eq owner other ≡ false → list_any (same_title (owner, n)) (titles_of other list) ≡ false
+other_titles owner other n [] h = refl
+other_titles owner other n (a ∷ list) h = or_from _ _ (and_left _ _ h) (other_titles owner other n list h)
+
+apart_pushed : (titles : List Title) (names : List (List ℕ)) (m : List ℕ) (list : List Attr) → Apart titles names → Apart (titles ++ titles_of m list) (names ++ m ∷ [])
+apart_pushed titles names m list h owner colon none n =
+    let both = or_parts (is_among owner names) (bytes_eq owner m || false) (sym (list_any-append (bytes_eq owner) names (m ∷ [])) ∙ none) in
+    list_any-append (same_title (owner, n)) titles (titles_of m list)
+    ∙ or_from _ _ (h owner colon both.0 n) (other_titles owner m n list (or_parts (bytes_eq owner m) false both.1).0)
+
+abbrev titles_after : List Title → List Var → List Title
+titles_after titles [] = titles
+titles_after titles (v ∷ vs) = titles_after (titles ++ titles_of v.name v.attrs) vs
+
+abbrev pub lines_of_own : List Var → List (List Word)
+lines_of_own [] = []
+lines_of_own (v ∷ vs) = map (line_of_att v.name) v.attrs ++ lines_of_own vs
+
+all_own_run : (version : ℕ) (k : Known) (d : Defined) (old : List Title) (names : List (List ℕ)) (vs done : List Var) (titles : List Title) (v : ℕ) → (version == 0) ≡ false
+    → VarChain version d.dims names vs → OwnChains version old vs → var_names done ≡ names → Apart titles names → v + count_own vs ≤ most_values
+    → Runs version (at_state k (with_vars d (done ++ map bare vs) titles) v) (lines_of_own vs) (at_state k (with_vars d (done ++ map full vs) (titles_after titles vs)) (v + count_own vs))
+all_own_run version k d old names [] done titles v new h own same apart few =
+    let zero_more : v ≡ v + 0 = omega arith in ap (λ (n : ℕ). at_state k (with_vars d (done ++ []) titles) n) zero_more
+all_own_run version k d old names (x ∷ vs) done titles v new h own same apart few =
+    let named = h.0.head.named in
+    let alone : is_among x.name (var_names done) ≡ false = subst (λ ns. is_among x.name ns ≡ false) (sym same) h.0.head.fresh in
+    let fresh : FreshOwner titles x.name [] = λ n none. apart x.name (no_colon x.name named) h.0.head.fresh n in
+    let first = own_run version k d done (map bare vs) x.attrs [] (bare x) titles v new named alone own.0 fresh (omega arith) in
+    let next_titles = titles ++ titles_of x.name x.attrs in
+    let next_done = done ++ full x ∷ [] in
+    let rest = all_own_run version k d old (names ++ x.name ∷ []) vs next_done next_titles (v + count_attrs x.attrs) new h.1 own.2
+    (joined_vars done (full x ∷ []) ∙ ap (λ (xs : List (List ℕ)). xs ++ x.name ∷ []) same) (apart_pushed titles names x.name x.attrs apart) (omega arith) in
+    let shift : (more : List Var) → next_done ++ more ≡ done ++ full x ∷ more = λ more. append_assoc done (full x ∷ []) more in
+    let total : (v + count_attrs x.attrs) + count_own vs ≡ v + (count_attrs x.attrs + count_own vs) = omega arith in
+    let mid = at_state k (with_vars d (done ++ full x ∷ map bare vs) next_titles) (v + count_attrs x.attrs) in
+    let rest_from : Runs version mid (lines_of_own vs) (at_state k (with_vars d (next_done ++ map full vs) (titles_after next_titles vs)) ((v + count_attrs x.attrs) + count_own vs)) =
+    subst (λ (xs : List Var). Runs version (at_state k (with_vars d xs next_titles) (v + count_attrs x.attrs)) (lines_of_own vs) (at_state k (with_vars d (next_done ++ map full vs) (titles_after next_titles vs)) ((v + count_attrs x.attrs) + count_own vs))) (shift (map bare vs)) rest in
+    let last : at_state k (with_vars d (next_done ++ map full vs) (titles_after next_titles vs)) ((v + count_attrs x.attrs) + count_own vs) ≡ at_state k (with_vars d (done ++ full x ∷ map full vs) (titles_after next_titles vs)) (v + count_own (x ∷ vs)) =
+    ap (λ (xs : List Var). at_state k (with_vars d xs (titles_after next_titles vs)) ((v + count_attrs x.attrs) + count_own vs)) (shift (map full vs))
+    ∙ ap (λ (n : ℕ). at_state k (with_vars d (done ++ full x ∷ map full vs) (titles_after next_titles vs)) n) total in
+    runs_on version _ mid _ (map (line_of_att x.name) x.attrs) (lines_of_own vs) first (subst (Runs version mid (lines_of_own vs)) last rest_from)
+
+full_again : (version : ℕ) (dims : List Dim) (names : List (List ℕ)) (vs : List Var) → VarChain version dims names vs → map full vs ≡ vs
+full_again version dims names [] h = refl
+full_again version dims names (v ∷ vs) h =
+    ap (λ (b : ℕ). record { name = v.name; dims = v.dims; attrs = v.attrs; kind = v.kind; begin = b } ∷ map full vs) (sym h.0.no_start)
+    ∙ ap (λ (xs : List Var). v ∷ xs) (full_again version dims (names ++ v.name ∷ []) vs h.1)
+
+-- ---- all definitions
+
+abbrev pub definition_lines : Defined → List (List Word)
+definition_lines d = map line_of_dim d.dims ++ (map (line_of_var d.dims) d.vars ++ (map (line_of_att (codes ":")) d.attrs ++ lines_of_own d.vars))
+
+-- the definitions, with the titles in the order in which they are printed
+abbrev pub told_again : Defined → Defined
+told_again d = record d { titles = titles_after (titles_of (codes ":") d.attrs) d.vars }
+
+abbrev pub nothing_but : Bool → Defined
+nothing_but filled = record { dims = []; vars = []; attrs = []; titles = []; filled = filled }
+
+pub definitions_run : (version v : ℕ) (k : Known) (d : Defined) → (version == 0) ≡ false → DimChain version [] d.dims → VarChain version d.dims [] d.vars → AttrChain version [] d.attrs → OwnChains version d.titles d.vars
+    → v ≡ count_attrs d.attrs + count_own d.vars → v ≤ most_values
+    → Runs version (at_state k (nothing_but d.filled) 0) (definition_lines d) (at_state k (told_again d) v)
+definitions_run version v k d new hd hv ha ho counted few =
+    let empty = nothing_but d.filled in
+    let one = record empty { dims = d.dims } in
+    let two = record one { vars = map bare d.vars } in
+    let set_titles = titles_of (codes ":") d.attrs in
+    let three = with_atts two d.attrs set_titles in
+    let four = with_vars three (map full d.vars) (titles_after set_titles d.vars) in
+    let total : count_attrs d.attrs + count_own d.vars ≡ v = sym counted in
+    let no_title : FreshOwner [] (codes ":") [] = λ n none. refl in
+    let apart : Apart set_titles [] = λ owner colon none n. other_titles owner (codes ":") n d.attrs colon in
+    let all_dims = dims_run version k empty d.dims [] new hd in
+    let all_vars = vars_run version k one [] d.vars [] new hv refl in
+    let all_atts = dataset_run version k two d.attrs [] [] [] 0 new ha no_title (omega arith) in
+    let all_own = all_own_run version k three d.titles [] d.vars [] set_titles (count_attrs d.attrs) new hv ho refl apart (omega arith) in
+    let zero_more : 0 + count_attrs d.attrs ≡ count_attrs d.attrs = omega arith in
+    let atts = subst (λ n. Runs version (at_state k two 0) (map (line_of_att (codes ":")) d.attrs) (at_state k three n)) zero_more all_atts in
+    let last : at_state k four (count_attrs d.attrs + count_own d.vars) ≡ at_state k (told_again d) v =
+    ap (λ (xs : List Var). at_state k (with_vars three xs (titles_after set_titles d.vars)) (count_attrs d.attrs + count_own d.vars)) (full_again version d.dims [] d.vars hv) ∙ ap (λ (n : ℕ). at_state k (told_again d) n) total in
+    runs_on version (at_state k empty 0) (at_state k one 0) (at_state k (told_again d) v) (map line_of_dim d.dims) _ all_dims
+    (runs_on version (at_state k one 0) (at_state k two 0) (at_state k (told_again d) v) (map (line_of_var d.dims) d.vars) _ all_vars
+    (runs_on version (at_state k two 0) (at_state k three (count_attrs d.attrs)) (at_state k (told_again d) v) (map (line_of_att (codes ":")) d.attrs) _ atts
+    (subst (Runs version (at_state k three (count_attrs d.attrs)) (lines_of_own d.vars)) last all_own)))
+
+-- ---- these lines are cut again
+
+dims_are_lines : (version : ℕ) (front ds : List Dim) → DimChain version front ds → list_all is_line (map line_of_dim ds) ≡ true
+dims_are_lines version front [] h = refl
+dims_are_lines version front (d ∷ ds) h = and_from _ _ h.0.good (dims_are_lines version (front ++ d ∷ []) ds h.1)
+
+var_is_line : (version : ℕ) (dims : List Dim) (names : List (List ℕ)) (v : Var) → VarOk version dims names v → is_line (line_of_var dims v) ≡ true
+var_is_line version dims names v ok =
+    let shown : is_plain (bracketed (map (name_at dims) v.dims)) ≡ true = ap (λ (ns : List (List ℕ)). is_plain (bracketed ns)) (names_shown dims ok.dim_list v.dims ok.found) ∙ names_plain ok.dim_list ok.named in
+    and_from _ _ (type_plain v.kind) (and_from _ _ (name_plain v.name ok.head.named) (and_from _ _ shown refl))
+
+vars_are_lines : (version : ℕ) (dims : List Dim) (names : List (List ℕ)) (vs : List Var) → VarChain version dims names vs → list_all is_line (map (line_of_var dims) vs) ≡ true
+vars_are_lines version dims names [] h = refl
+vars_are_lines version dims names (v ∷ vs) h = and_from _ _ (var_is_line version dims names v h.0) (vars_are_lines version dims (names ++ v.name ∷ []) vs h.1)
+
+atts_are_lines : (version : ℕ) (owner : List ℕ) (names : List (List ℕ)) (list : List Attr) → is_plain owner ≡ true → AttrChain version names list → list_all is_line (map (line_of_att owner) list) ≡ true
+atts_are_lines version owner names [] plain h = refl
+atts_are_lines version owner names (a ∷ list) plain h = and_from _ _ (and_from _ _ plain h.0.good) (atts_are_lines version owner (names ++ a.name ∷ []) list plain h.2)
+
+own_are_lines : (version : ℕ) (dims : List Dim) (old : List Title) (names : List (List ℕ)) (vs : List Var) → VarChain version dims names vs → OwnChains version old vs → list_all is_line (lines_of_own vs) ≡ true
+own_are_lines version dims old names [] h own = refl
+own_are_lines version dims old names (v ∷ vs) h own =
+    all_joined is_line (map (line_of_att v.name) v.attrs) (lines_of_own vs) (atts_are_lines version v.name [] v.attrs (name_plain v.name h.0.head.named) own.0) (own_are_lines version dims old (names ++ v.name ∷ []) vs h.1 own.2)
+
+pub definitions_are_lines : (version : ℕ) (d : Defined) → DimChain version [] d.dims → VarChain version d.dims [] d.vars → AttrChain version [] d.attrs → OwnChains version d.titles d.vars → list_all is_line (definition_lines d) ≡ true
+definitions_are_lines version d hd hv ha ho =
+    all_joined is_line (map line_of_dim d.dims) _ (dims_are_lines version [] d.dims hd)
+    (all_joined is_line (map (line_of_var d.dims) d.vars) _ (vars_are_lines version d.dims [] d.vars hv)
+    (all_joined is_line (map (line_of_att (codes ":")) d.attrs) (lines_of_own d.vars) (atts_are_lines version (codes ":") [] d.attrs refl ha) (own_are_lines version d.dims d.titles [] d.vars hv ho)))

@@ -1,0 +1,318 @@
+-- The number of ranks and the hints, and what is known before `data` as a whole.
+use Rattle.std.proofs.Common.{◌≡◌, ◌⊎◌, ◌∙◌, ℕ, zero, suc, ◌+◌, ◌%◌, ◌^◌, ◌≤◌, ◌<◌, min, List, [], ◌∷◌, ◌++◌, map, zip, replicate, length, flat_map, Bool, true, false, not, cond, nat_lt, nat_le, ◌==◌, ◌&&◌, ◌||◌, Option, Some, None, is_some, unwrap_or, slice_get, slice_set, Result, Ok, Err, refl, sym, ap, subst, arith, bytes_eq, codes, decimal}
+use Rattle.std.specs.List.{list_all}
+use Rattle.std.proofs.lemmas.Bool.{and_parts, and_from, cond-true}
+use borrow.Author.Tests.{leb-true, le-leb, lt-ltb, eq-eqb}
+use Rattle.nc_base.specs.declared.errors.ScriptKind.{ScriptKind}
+use Rattle.nc_base.specs.declared.errors.ScriptKind.TheVariants as kind
+use Rattle.nc_base.specs.declared.errors.ScriptErr.{ScriptErr}
+use Rattle.nc_base.specs.declared.script.Hints.{Hints}
+use Rattle.nc_base.specs.declared.script.OverlapRule.{OverlapRule}
+use Rattle.nc_base.specs.declared.script.OverlapRule.TheVariants.{Refuse, Serial}
+use Rattle.serial_spec.specs.Lawful.{most_values}
+use Rattle.script_spec.specs.Texts.{line}
+use Rattle.script_spec.specs.Shown.{rule_word, hint_words, shown_hints}
+use Rattle.script_spec.specs.ScriptWords.{Word, Plain, Quoted, Broken, Line}
+use Rattle.script_spec.specs.ScriptSteps.{◌>>=◌, refuse_if, or_fault, bare, reads_as, whole, ended}
+use Rattle.script_spec.specs.ScriptDefinitions.{HintForm, Within, Either, hint_forms, hint_of_text, hint_form, number_within, one_of_two, hint_value, hint_in, hint_line, ranks_line, Defined, no_definition, definition, Added, nothing_added, addition, Known, nothing_known, definition_or_addition, known_after}
+use Rattle.script_spec.specs.ScriptGrammar.{at_line, data_line, definition_step, definitions, hint_or, rule_of, hints_of}
+use Rattle.script_text.proofs.Steps.{Went, went, go_on, same_ok, not_refused, passed, no_fault, faultless, word_read, whole_value, by_true, by_false}
+use Rattle.script_text.proofs.Lexing.{spelling, is_plain, is_good}
+use Rattle.script_text.proofs.Lines.{is_line, spelled}
+use Rattle.script_text.proofs.PrintedValues.{is_read}
+use Rattle.script_text.proofs.PrintedDefinitions.{is_value_of, within_again, within_plain, are_hints, hint_read, hint_or_fits, ranks_read, ranks_again}
+use Rattle.script_text.proofs.CallLines.{are_read, line_ok}
+use Rattle.script_text.proofs.AddedLines.{Leads, Runs, Replay, replay_on, AddedBy, addition_read}
+use Rattle.script_text.proofs.DefinedChains.{DefinedOk, DefinedOn, definition_read}
+
+-- ---- the hints as they are printed
+
+abbrev pub hint_tokens : Hints → List (List Word)
+hint_tokens h = map (λ p. Plain (codes "hint") ∷ Plain p.0.0 ∷ Plain p.1 ∷ []) (zip hint_forms (hint_words h))
+
+pub mapped_spelled : {A : Type 0} (f : A → List ℕ) (g : A → List Word) → ((x : A) → spelled (g x) ≡ f x) → (xs : List A) → flat_map spelled (map g xs) ≡ flat_map f xs
+mapped_spelled f g same [] = refl
+mapped_spelled f g same (x ∷ xs) = ap (λ (text : List ℕ). text ++ flat_map spelled (map g xs)) (same x) ∙ ap (λ (text : List ℕ). f x ++ text) (mapped_spelled f g same xs)
+
+pub hints_spelled : (h : Hints) → flat_map spelled (hint_tokens h) ≡ shown_hints h
+hints_spelled h = mapped_spelled (λ p. line (codes "hint" ∷ p.0.0 ∷ p.1 ∷ [])) (λ p. Plain (codes "hint") ∷ Plain p.0.0 ∷ Plain p.1 ∷ []) (λ p. refl) (zip hint_forms (hint_words h))
+
+-- ---- the hints as numbers
+
+abbrev flag : Bool → ℕ
+flag true = 1
+flag false = 0
+
+abbrev rule_number : OverlapRule → ℕ
+rule_number Refuse = 0
+rule_number Serial = 1
+
+-- one for each of the table
+abbrev pub hint_table : Hints → List (Option ℕ)
+hint_table h = Some h.cb_nodes ∷ Some h.cb_buffer ∷ Some h.rd_buffer ∷ Some h.wr_buffer ∷ Some h.line_room ∷ Some (flag h.threads) ∷ Some (rule_number h.overlap) ∷ Some h.header_align ∷ Some h.var_align ∷ Some h.striping_unit ∷ []
+
+flag_again : (b : Bool) → (flag b == 1) ≡ b
+flag_again true = refl
+flag_again false = refl
+
+rule_again : (o : OverlapRule) → rule_of (rule_number o) ≡ o
+rule_again Refuse = refl
+rule_again Serial = refl
+
+pub hints_again : (ranks : ℕ) (h : Hints) → hints_of ranks (hint_table h) ≡ h
+hints_again ranks h = ap (λ (b : Bool). record h { threads = b; overlap = rule_of (rule_number h.overlap) }) (flag_again h.threads) ∙ ap (λ (o : OverlapRule). record h { overlap = o }) (rule_again h.overlap)
+
+-- those that are numbers are within their ranges
+pub record HintsFit (h : Hints) : Type 0 where
+  pub cb_nodes : is_value_of (Within 1 64 1) h.cb_nodes ≡ true
+  pub cb_buffer : is_value_of (Within 1 33554432 1) h.cb_buffer ≡ true
+  pub rd_buffer : is_value_of (Within 1 33554432 1) h.rd_buffer ≡ true
+  pub wr_buffer : is_value_of (Within 1 33554432 1) h.wr_buffer ≡ true
+  pub line_room : is_value_of (Within 1 64 1) h.line_room ≡ true
+  pub header_align : is_value_of (Within 4 1048576 4) h.header_align ≡ true
+  pub var_align : is_value_of (Within 4 1048576 4) h.var_align ≡ true
+  pub striping_unit : is_value_of (Within 1 33554432 1) h.striping_unit ≡ true
+
+nodes_fit : (n : ℕ) → is_value_of (Within 1 64 1) n ≡ true → is_value_of (Within 1 64 1) (min n 8) ≡ true
+nodes_fit n h =
+    let low = leb-true 1 n (and_parts (nat_le 1 n) (nat_le n 64) (and_parts (nat_le 1 n && nat_le n 64) (n % 1 == 0) h).0).0 in
+    let unit : min n 8 % 1 ≡ 0 = omega arith in
+    and_from _ _ (and_from _ _ (le-leb 1 (min n 8) (omega arith)) (le-leb (min n 8) 64 (omega arith))) (eq-eqb (min n 8 % 1) 0 unit)
+
+pub hints_fit : (ranks : ℕ) (hints : List (Option ℕ)) → is_value_of (Within 1 64 1) ranks ≡ true → are_hints hint_forms hints ≡ true → HintsFit (hints_of ranks hints)
+hints_fit ranks hints r h = record {
+      cb_nodes = hint_or_fits hint_forms hints 0 (min ranks 8) h (nodes_fit ranks r);
+      cb_buffer = hint_or_fits hint_forms hints 1 16777216 h refl;
+      rd_buffer = hint_or_fits hint_forms hints 2 4194304 h refl;
+      wr_buffer = hint_or_fits hint_forms hints 3 524288 h refl;
+      line_room = hint_or_fits hint_forms hints 4 2 h refl;
+      header_align = hint_or_fits hint_forms hints 7 4 h refl;
+      var_align = hint_or_fits hint_forms hints 8 4 h refl;
+      striping_unit = hint_or_fits hint_forms hints 9 1 h refl;
+    }
+
+-- ---- the lines of the hints
+
+hint_leads : (version : ℕ) (k : Known) (word shown : List ℕ) (i v : ℕ) → hint_of_text word ≡ Some i → is_some (hint_in i k.hints) ≡ false → hint_value (hint_form i) (Plain shown ∷ []) ≡ Ok (v, [])
+    → Leads version k (Plain (codes "hint") ∷ Plain word ∷ Plain shown ∷ []) (record k { hints = slice_set k.hints i (Some v) })
+hint_leads version k word shown i v at free read = (
+      refl,
+      go_on (hint_line k.hints (Plain word ∷ Plain shown ∷ [])) (λ h. Ok (record k { hints = slice_set k.hints h.0 (Some h.1) })) (i, v) _
+      (go_on (reads_as hint_of_text kind.UnknownWord (Plain word ∷ Plain shown ∷ [])) _ (i, Plain shown ∷ []) (i, v) (word_read hint_of_text kind.UnknownWord word i (Plain shown ∷ []) at)
+      (go_on (refuse_if (is_some (hint_in i k.hints)) kind.TwiceNamed) _ tt (i, v) (passed _ _ free)
+      (go_on (hint_value (hint_form i) (Plain shown ∷ [])) _ (v, []) (i, v) read refl))) refl,
+    )
+
+number_value : (low high unit n : ℕ) → is_value_of (Within low high unit) n ≡ true → high < 2 ^ 63 → hint_value (Within low high unit) (Plain (decimal n) ∷ []) ≡ Ok (n, [])
+number_value low high unit n h top = word_read (number_within low high unit) kind.BadNumber (decimal n) n [] (within_again low high unit n h top)
+
+flag_value : (b : Bool) → hint_value (Either (codes "off") (codes "on")) (Plain (cond b (codes "on") (codes "off")) ∷ []) ≡ Ok (flag b, [])
+flag_value true = refl
+flag_value false = refl
+
+rule_value : (o : OverlapRule) → hint_value (Either (codes "refuse") (codes "serial")) (Plain (rule_word o) ∷ []) ≡ Ok (rule_number o, [])
+rule_value Refuse = refl
+rule_value Serial = refl
+
+-- what is known with these hints
+abbrev pub with_hints : Known → List (Option ℕ) → Known
+with_hints k hints = record k { hints = hints }
+
+pub hints_run : (version : ℕ) (k : Known) (h : Hints) → HintsFit h → Runs version (with_hints k (replicate 10 None)) (hint_tokens h) (with_hints k (hint_table h))
+hints_run version k h fit =
+    let t1 : List (Option ℕ) = Some h.cb_nodes ∷ None ∷ None ∷ None ∷ None ∷ None ∷ None ∷ None ∷ None ∷ None ∷ [] in
+    let t2 : List (Option ℕ) = Some h.cb_nodes ∷ Some h.cb_buffer ∷ None ∷ None ∷ None ∷ None ∷ None ∷ None ∷ None ∷ None ∷ [] in
+    let t3 : List (Option ℕ) = Some h.cb_nodes ∷ Some h.cb_buffer ∷ Some h.rd_buffer ∷ None ∷ None ∷ None ∷ None ∷ None ∷ None ∷ None ∷ [] in
+    let t4 : List (Option ℕ) = Some h.cb_nodes ∷ Some h.cb_buffer ∷ Some h.rd_buffer ∷ Some h.wr_buffer ∷ None ∷ None ∷ None ∷ None ∷ None ∷ None ∷ [] in
+    let t5 : List (Option ℕ) = Some h.cb_nodes ∷ Some h.cb_buffer ∷ Some h.rd_buffer ∷ Some h.wr_buffer ∷ Some h.line_room ∷ None ∷ None ∷ None ∷ None ∷ None ∷ [] in
+    let t6 : List (Option ℕ) = Some h.cb_nodes ∷ Some h.cb_buffer ∷ Some h.rd_buffer ∷ Some h.wr_buffer ∷ Some h.line_room ∷ Some (flag h.threads) ∷ None ∷ None ∷ None ∷ None ∷ [] in
+    let t7 : List (Option ℕ) = Some h.cb_nodes ∷ Some h.cb_buffer ∷ Some h.rd_buffer ∷ Some h.wr_buffer ∷ Some h.line_room ∷ Some (flag h.threads) ∷ Some (rule_number h.overlap) ∷ None ∷ None ∷ None ∷ [] in
+    let t8 : List (Option ℕ) = Some h.cb_nodes ∷ Some h.cb_buffer ∷ Some h.rd_buffer ∷ Some h.wr_buffer ∷ Some h.line_room ∷ Some (flag h.threads) ∷ Some (rule_number h.overlap) ∷ Some h.header_align ∷ None ∷ None ∷ [] in
+    let t9 : List (Option ℕ) = Some h.cb_nodes ∷ Some h.cb_buffer ∷ Some h.rd_buffer ∷ Some h.wr_buffer ∷ Some h.line_room ∷ Some (flag h.threads) ∷ Some (rule_number h.overlap) ∷ Some h.header_align ∷ Some h.var_align ∷ None ∷ [] in
+    let t0 : List (Option ℕ) = replicate 10 None in (
+      with_hints k t1,
+      hint_leads version (with_hints k t0) (codes "cb_nodes") (decimal h.cb_nodes) 0 h.cb_nodes refl refl (number_value 1 64 1 h.cb_nodes fit.cb_nodes (omega arith)),
+      (
+      with_hints k t2,
+      hint_leads version (with_hints k t1) (codes "cb_buffer_size") (decimal h.cb_buffer) 1 h.cb_buffer refl refl (number_value 1 33554432 1 h.cb_buffer fit.cb_buffer (omega arith)),
+      (
+      with_hints k t3,
+      hint_leads version (with_hints k t2) (codes "ind_rd_buffer_size") (decimal h.rd_buffer) 2 h.rd_buffer refl refl (number_value 1 33554432 1 h.rd_buffer fit.rd_buffer (omega arith)),
+      (
+      with_hints k t4,
+      hint_leads version (with_hints k t3) (codes "ind_wr_buffer_size") (decimal h.wr_buffer) 3 h.wr_buffer refl refl (number_value 1 33554432 1 h.wr_buffer fit.wr_buffer (omega arith)),
+      (
+      with_hints k t5,
+      hint_leads version (with_hints k t4) (codes "line_room") (decimal h.line_room) 4 h.line_room refl refl (number_value 1 64 1 h.line_room fit.line_room (omega arith)),
+      (
+      with_hints k t6,
+      hint_leads version (with_hints k t5) (codes "threads") (cond h.threads (codes "on") (codes "off")) 5 (flag h.threads) refl refl (flag_value h.threads),
+      (
+      with_hints k t7,
+      hint_leads version (with_hints k t6) (codes "overlap") (rule_word h.overlap) 6 (rule_number h.overlap) refl refl (rule_value h.overlap),
+      (
+      with_hints k t8,
+      hint_leads version (with_hints k t7) (codes "nc_header_align_size") (decimal h.header_align) 7 h.header_align refl refl (number_value 4 1048576 4 h.header_align fit.header_align (omega arith)),
+      (
+      with_hints k t9,
+      hint_leads version (with_hints k t8) (codes "nc_var_align_size") (decimal h.var_align) 8 h.var_align refl refl (number_value 4 1048576 4 h.var_align fit.var_align (omega arith)),
+      (
+      with_hints k (hint_table h),
+      hint_leads version (with_hints k t9) (codes "striping_unit") (decimal h.striping_unit) 9 h.striping_unit refl refl (number_value 1 33554432 1 h.striping_unit fit.striping_unit (omega arith)),
+      refl,
+      ),
+      ),
+      ),
+      ),
+      ),
+      ),
+      ),
+      ),
+      ),
+    )
+
+flag_plain : (b : Bool) → is_plain (cond b (codes "on") (codes "off")) ≡ true
+flag_plain true = refl
+flag_plain false = refl
+
+rule_plain : (o : OverlapRule) → is_plain (rule_word o) ≡ true
+rule_plain Refuse = refl
+rule_plain Serial = refl
+
+hint_is_line : (word shown : List ℕ) → is_plain word ≡ true → is_plain shown ≡ true → is_line (Plain (codes "hint") ∷ Plain word ∷ Plain shown ∷ []) ≡ true
+hint_is_line word shown a b = and_from _ _ a (and_from _ _ b refl)
+
+pub hints_are_lines : (h : Hints) → HintsFit h → list_all is_line (hint_tokens h) ≡ true
+hints_are_lines h fit =
+    and_from _ _ (hint_is_line (codes "cb_nodes") (decimal h.cb_nodes) refl (within_plain 1 64 1 h.cb_nodes fit.cb_nodes (omega arith)))
+    (and_from _ _ (hint_is_line (codes "cb_buffer_size") (decimal h.cb_buffer) refl (within_plain 1 33554432 1 h.cb_buffer fit.cb_buffer (omega arith)))
+    (and_from _ _ (hint_is_line (codes "ind_rd_buffer_size") (decimal h.rd_buffer) refl (within_plain 1 33554432 1 h.rd_buffer fit.rd_buffer (omega arith)))
+    (and_from _ _ (hint_is_line (codes "ind_wr_buffer_size") (decimal h.wr_buffer) refl (within_plain 1 33554432 1 h.wr_buffer fit.wr_buffer (omega arith)))
+    (and_from _ _ (hint_is_line (codes "line_room") (decimal h.line_room) refl (within_plain 1 64 1 h.line_room fit.line_room (omega arith)))
+    (and_from _ _ (hint_is_line (codes "threads") (cond h.threads (codes "on") (codes "off")) refl (flag_plain h.threads))
+    (and_from _ _ (hint_is_line (codes "overlap") (rule_word h.overlap) refl (rule_plain h.overlap))
+    (and_from _ _ (hint_is_line (codes "nc_header_align_size") (decimal h.header_align) refl (within_plain 4 1048576 4 h.header_align fit.header_align (omega arith)))
+    (and_from _ _ (hint_is_line (codes "nc_var_align_size") (decimal h.var_align) refl (within_plain 4 1048576 4 h.var_align fit.var_align (omega arith)))
+    (and_from _ _ (hint_is_line (codes "striping_unit") (decimal h.striping_unit) refl (within_plain 1 33554432 1 h.striping_unit fit.striping_unit (omega arith)))
+    refl)))))))))
+
+-- ---- what is known before `data`
+
+abbrev ranks_ok : Option ℕ → Bool
+ranks_ok None = true
+ranks_ok (Some n) = is_value_of (Within 1 64 1) n
+
+-- what is added to an existing dataset, or what is defined of a new one
+abbrev pub What : Bool → ℕ → Known → Type 0
+What true version k = (k.defined ≡ no_definition) × Replay 0 nothing_added k.added.extras k.values k.added
+What false version k = (k.added ≡ nothing_added) × DefinedOk version k.values k.defined
+
+pub record KnownOk (version : ℕ) (k : Known) : Type 0 where
+  pub ranks : ranks_ok k.ranks ≡ true
+  pub hints : are_hints hint_forms k.hints ≡ true
+  pub few : k.values ≤ most_values
+  pub what : What (version == 0) version k
+
+what_ranks : (b : Bool) (version n : ℕ) (k : Known) → What b version k → What b version (record k { ranks = Some n })
+what_ranks true version n k h = h
+what_ranks false version n k h = h
+
+what_hints : (b : Bool) (version : ℕ) (hints : List (Option ℕ)) (k : Known) → What b version k → What b version (record k { hints = hints })
+what_hints true version hints k h = h
+what_hints false version hints k h = h
+
+what_nothing : (b : Bool) (version : ℕ) → What b version nothing_known
+what_nothing true version = (refl, (refl, refl))
+what_nothing false version = (refl, record { dims = tt; vars = tt; attrs = tt; has_titles = refl; own = tt; counted = refl })
+
+pub nothing_ok : (version : ℕ) → KnownOk version nothing_known
+nothing_ok version = record { ranks = refl; hints = refl; few = omega arith; what = what_nothing (version == 0) version }
+
+abbrev IsOn : Bool → ℕ → Known → Known → Type 0
+IsOn b version k next = (ranks_ok next.ranks ≡ true) × (are_hints hint_forms next.hints ≡ true) × (next.values ≤ most_values) × What b version next
+
+content_on : (b : Bool) (version : ℕ) (k next : Known) (first : List ℕ) (ws : List Word) → list_all is_read ws ≡ true → KnownOk version k → What b version k
+    → elim b as (λ x. Result Known ScriptKind) [
+      | true ↦ (addition k.values k.added first ws >>= λ x. Ok (record k { added = x.1; values = k.values + x.0 }))
+      | false ↦ (definition version k.values k.defined first ws >>= λ x. Ok (record k { defined = x.1; values = k.values + x.0 }))
+    ] ≡ Ok next → IsOn b version k next
+content_on true version k next first ws read ok what h =
+    let a = went (addition k.values k.added first ws) (λ x. Ok (record k { added = x.1; values = k.values + x.0 })) next h in
+    let by = addition_read k.values k.added first ws a.value ok.few read a.first in
+    subst (IsOn true version k) (same_ok (record k { added = a.value.1; values = k.values + a.value.0 }) next a.rest)
+    (ok.ranks, ok.hints, by.few, (what.0, replay_on 0 k.values nothing_added k.added a.value what.1 by))
+content_on false version k next first ws read ok what h =
+    let a = went (definition version k.values k.defined first ws) (λ x. Ok (record k { defined = x.1; values = k.values + x.0 })) next h in
+    let by = definition_read version k.values k.defined first ws a.value ok.few read what.1 a.first in
+    subst (IsOn false version k) (same_ok (record k { defined = a.value.1; values = k.values + a.value.0 }) next a.rest)
+    (ok.ranks, ok.hints, by.few, (what.0, by.same))
+
+known_on : (version : ℕ) (k next : Known) (first : List ℕ) (ws : List Word) → list_all is_read ws ≡ true → KnownOk version k → known_after version k first ws ≡ Ok next → KnownOk version next
+known_on version k next first ws read ok h = by (bytes_eq first (codes "ranks")) (bytes_eq first (codes "hint")) h
+  where
+    by : (i j : Bool) → elim i as (λ x. Result Known ScriptKind) [
+      | true ↦ (ranks_line k.ranks ws >>= λ n. Ok (record k { ranks = Some n }))
+      | false ↦ elim j as (λ x. Result Known ScriptKind) [
+        | true ↦ (hint_line k.hints ws >>= λ h. Ok (record k { hints = slice_set k.hints h.0 (Some h.1) }))
+        | false ↦ definition_or_addition version k first ws
+      ]
+    ] ≡ Ok next → KnownOk version next
+    by true j e =
+        let a = went (ranks_line k.ranks ws) (λ n. Ok (record k { ranks = Some n })) next e in
+        subst (KnownOk version) (same_ok (record k { ranks = Some a.value }) next a.rest)
+        (record { ranks = ranks_read k.ranks ws a.value a.first; hints = ok.hints; few = ok.few; what = what_ranks (version == 0) version a.value k ok.what })
+    by false true e =
+        let a = went (hint_line k.hints ws) (λ h. Ok (record k { hints = slice_set k.hints h.0 (Some h.1) })) next e in
+        let hints = slice_set k.hints a.value.0 (Some a.value.1) in
+        subst (KnownOk version) (same_ok (record k { hints = hints }) next a.rest)
+        (record { ranks = ok.ranks; hints = hint_read k.hints ws a.value ok.hints a.first; few = ok.few; what = what_hints (version == 0) version hints k ok.what })
+    by false false e =
+        let c = content_on (version == 0) version k next first ws read ok ok.what e in
+        record { ranks = c.0; hints = c.1; few = c.2; what = c.3 }
+
+-- ---- the definitions as a whole
+
+-- at `data`: what is known, the number of ranks, and the lines that follow
+pub record AtData (version : ℕ) (r : ℕ × (Known × List Line)) : Type 0 where
+  pub known : KnownOk version r.1.0
+  pub ranks : r.1.0.ranks ≡ Some r.0
+  pub read : are_read r.1.1 ≡ true
+
+abbrev StepOk : ℕ → Option ℕ × Known → Type 0
+StepOk version (None, k) = KnownOk version k
+StepOk version (Some n, k) = KnownOk version k × (k.ranks ≡ Some n)
+
+step_ok : (version : ℕ) (k : Known) (w : Word) (ws : List Word) (s : Option ℕ × Known) → list_all is_read ws ≡ true → KnownOk version k → definition_step version k w ws ≡ Ok s → StepOk version s
+step_ok version k w ws s read ok h =
+    let a = went (bare w) _ s h in
+    by a.value (bytes_eq a.value (codes "data")) a.rest
+  where
+    by : (first : List ℕ) (b : Bool) → elim b as (λ x. Result (Option ℕ × Known) ScriptKind) [
+      | true ↦ (data_line k ws >>= λ ranks. Ok (Some ranks, k))
+      | false ↦ (known_after version k first ws >>= λ more. Ok (None, more))
+    ] ≡ Ok s → StepOk version s
+    by first true e =
+        let a = went (data_line k ws) (λ ranks. Ok (Some ranks, k)) s e in
+        let c = went (or_fault kind.MissingWord k.ranks) _ a.value a.first in
+        let n = (whole_value (c.value, ws) a.value c.rest).0 in
+        subst (StepOk version) (same_ok (Some a.value, k) s a.rest) (ok, no_fault kind.MissingWord k.ranks c.value c.first ∙ ap (λ (x : ℕ). Some x) n)
+    by first false e =
+        let a = went (known_after version k first ws) (λ more. Ok (None, more)) s e in
+        subst (StepOk version) (same_ok (None, a.value) s a.rest) (known_on version k a.value first ws read ok a.first)
+
+abbrev defined_by : ℕ → ℕ → List Line → Result (Option ℕ × Known) ScriptErr → Result (ℕ × (Known × List Line)) ScriptErr
+defined_by past version lines r = elim r [ Err e ↦ Err e | Ok s ↦ elim s.0 [ Some ranks ↦ Ok (ranks, (s.1, lines)) | None ↦ definitions past version s.1 lines ] ]
+
+pub definitions_read : (past version : ℕ) (lines : List Line) (k : Known) (r : ℕ × (Known × List Line)) → are_read lines ≡ true → KnownOk version k → definitions past version k lines ≡ Ok r → AtData version r
+definitions_read past version [] k r read ok h = absurd (cc)
+definitions_read past version (l ∷ lines) k r read ok h = by (at_line l.number (definition_step version k l.first l.rest)) refl h (λ x. definitions_read past version lines x r)
+  where
+    both : (list_all is_read l.rest ≡ true) × (are_read lines ≡ true)
+    both = and_parts _ _ read
+    by : (s : Result (Option ℕ × Known) ScriptErr) → at_line l.number (definition_step version k l.first l.rest) ≡ s → defined_by past version lines s ≡ Ok r
+        → ((x : Known) → are_read lines ≡ true → KnownOk version x → definitions past version x lines ≡ Ok r → AtData version r) → AtData version r
+    by (Err e) is j more = absurd (cc)
+    by (Ok (Some n, x)) is j more =
+        let s = step_ok version k l.first l.rest (Some n, x) both.0 ok (line_ok l.number _ (Some n, x) is) in
+        subst (AtData version) (same_ok (n, (x, lines)) r j) (record { known = s.0; ranks = s.1; read = both.1 })
+    by (Ok (None, x)) is j more = more x both.1 (step_ok version k l.first l.rest (None, x) both.0 ok (line_ok l.number _ (None, x) is)) j

@@ -1,0 +1,221 @@
+-- Words that are printed are cut again from their line.
+use Rattle.std.proofs.Common.{◌≡◌, ◌∙◌, ℕ, zero, suc, ◌+◌, ◌-◌, ◌*◌, ◌/◌, ◌%◌, ◌≤◌, ◌<◌, List, [], ◌∷◌, ◌++◌, map, length, take, drop, flat_map, Bool, true, false, not, cond, nat_lt, nat_le, ◌==◌, ◌&&◌, ◌||◌, Option, Some, None, option_map, refl, sym, ap, subst, ⊎_elim, append_assoc, append-nil, length-append, arith}
+use Rattle.std.proofs.lemmas.Bool.{and_parts, and_from, or_from, ne_eqb, eq-eqb, eqb-true, cases_Bool, cond-true, cond-false, agree_below, agree_below_at}
+use Rattle.std.proofs.lemmas.Grind.{common_steps}
+use Rattle.std.proofs.lemmas.List.{take_at, drop_at}
+use Rattle.std.specs.List.{position_or_len, prefix_len, list_all}
+use Rattle.script_spec.specs.Texts.{text_char, quoted, hex, hex_digit, joined}
+use Rattle.script_spec.specs.ScriptWords.{Word, Plain, Quoted, Broken, is_blank, begins_blank, after_blanks, first_word, quoted_word, text_from, Within, Between, AfterBackslash, FirstHex, SecondHex, words, words_within, hex_value, escape}
+
+-- ---- words as they are printed
+
+abbrev pub spelling : Word → List ℕ
+spelling (Plain w) = w
+spelling (Quoted text) = quoted text
+spelling Broken = []
+
+-- it can be seen, so it is no blank
+abbrev pub is_graphic : ℕ → Bool
+is_graphic c = nat_le 33 c && nat_le c 126
+
+abbrev pub is_plain : List ℕ → Bool
+is_plain [] = false
+is_plain (c ∷ cs) = not (c == 34) && list_all is_graphic (c ∷ cs)
+
+abbrev pub is_byte : ℕ → Bool
+is_byte c = nat_lt c 256
+
+-- the word is cut again where its spelling is printed
+abbrev pub is_good : Word → Bool
+is_good (Plain w) = is_plain w
+is_good (Quoted text) = list_all is_byte text
+is_good Broken = false
+
+pub graphic_bounds : (c : ℕ) → is_graphic c ≡ true → (33 ≤ c) × (c ≤ 126)
+graphic_bounds c h = grind (arith, common_steps)
+
+pub not_blank : (c : ℕ) → 33 ≤ c → is_blank c ≡ false
+not_blank c h = or_from _ _ (or_from _ _ (ne_eqb c 32 (omega arith)) (ne_eqb c 9 (omega arith))) (ne_eqb c 13 (omega arith))
+
+-- ---- a text, character by character
+
+abbrev is_hex_again : ℕ → Bool
+is_hex_again d = elim (hex_value (hex_digit d)) [ None ↦ false | Some x ↦ x == d ]
+
+hex_again_by : (o : Option ℕ) (d : ℕ) → elim o as (λ x. Bool) [ None ↦ false | Some x ↦ x == d ] ≡ true → o ≡ Some d
+hex_again_by None d h = absurd (cc)
+hex_again_by (Some x) d h = ap (λ (y : ℕ). Some y) (eqb-true x d h)
+
+pub hex_again : (d : ℕ) → d < 16 → hex_value (hex_digit d) ≡ Some d
+hex_again d h = hex_again_by (hex_value (hex_digit d)) d (agree_below_at is_hex_again (λ x. true) 16 d refl h)
+
+abbrev IsAgain : List ℕ → List ℕ → List ℕ → ℕ → Type 0
+IsAgain rest text tail c = text_from Between (text_char c ++ rest) ≡ Some (c ∷ text, tail)
+
+abbrev more_text : ℕ → Option (List ℕ × List ℕ) → Option (List ℕ × List ℕ)
+more_text c o = option_map (λ r. (c ∷ r.0, r.1)) o
+
+itself_again : (c : ℕ) (rest : List ℕ) → (c == 34) ≡ false → (c == 92) ≡ false → text_from Between (c ∷ rest) ≡ more_text c (text_from Between rest)
+itself_again c rest a b = by (c == 34) (c == 92) a b
+  where
+    by : (x y : Bool) → x ≡ false → y ≡ false → elim x as (λ z. Option (List ℕ × List ℕ)) [
+      | true ↦ Some ([], rest)
+      | false ↦ elim y as (λ z. Option (List ℕ × List ℕ)) [ true ↦ text_from AfterBackslash rest | false ↦ more_text c (text_from Between rest) ]
+    ] ≡ more_text c (text_from Between rest)
+    by false false a b = refl
+    by true y a b = absurd (cc)
+    by false true a b = absurd (cc)
+
+abbrev first_hex : Option ℕ → List ℕ → Option (List ℕ × List ℕ)
+first_hex o cs = elim o [ None ↦ None | Some h ↦ text_from (SecondHex h) cs ]
+
+abbrev second_hex : ℕ → Option ℕ → List ℕ → Option (List ℕ × List ℕ)
+second_hex g o cs = elim o [ None ↦ None | Some h ↦ more_text (16 * g + h) (text_from Between cs) ]
+
+hex_pair_again : (g h : ℕ) (rest : List ℕ) → g < 16 → h < 16 → text_from FirstHex (hex_digit g ∷ hex_digit h ∷ rest) ≡ more_text (16 * g + h) (text_from Between rest)
+hex_pair_again g h rest a b = ap (λ (o : Option ℕ). first_hex o (hex_digit h ∷ rest)) (hex_again g a) ∙ ap (λ (o : Option ℕ). second_hex g o rest) (hex_again h b)
+
+split_byte : (c : ℕ) → c < 256 → 16 * (c / 16 % 16) + c % 16 ≡ c
+split_byte c h = omega arith
+
+pub below_16 : (c : ℕ) → c % 16 < 16
+below_16 c = omega arith
+
+escaped_again : (c : ℕ) (rest text tail : List ℕ) → c < 256 → text_from Between rest ≡ Some (text, tail) → text_from Between ((92 ∷ 120 ∷ hex 2 c) ++ rest) ≡ Some (c ∷ text, tail)
+escaped_again c rest text tail small h =
+    hex_pair_again (c / 16 % 16) (c % 16) rest (below_16 (c / 16)) (below_16 c)
+    ∙ (ap (λ (x : ℕ). more_text x (text_from Between rest)) (split_byte c small) ∙ ap (more_text c) h)
+
+abbrev pub char_else : Bool → ℕ → List ℕ
+char_else b c = cond b (c ∷ []) (92 ∷ 120 ∷ hex 2 c)
+
+char_again : (rest text tail : List ℕ) → text_from Between rest ≡ Some (text, tail) → (c : ℕ) → c < 256 → IsAgain rest text tail c
+char_again rest text tail h c small = ⊎_elim
+    (λ a. subst (IsAgain rest text tail) (sym (eqb-true c 34 a)) (ap (more_text 34) h))
+    (λ a. ⊎_elim
+    (λ b. subst (IsAgain rest text tail) (sym (eqb-true c 92 b)) (ap (more_text 92) h))
+    (λ b. ⊎_elim
+    (λ d. subst (IsAgain rest text tail) (sym (eqb-true c 10 d)) (ap (more_text 10) h))
+    (λ d. ⊎_elim
+    (λ e. subst (IsAgain rest text tail) (sym (eqb-true c 9 e)) (ap (more_text 9) h))
+    (λ e.
+    let form : text_char c ≡ char_else (nat_le 32 c && nat_le c 126) c = cond-false _ _ _ a ∙ (cond-false _ _ _ b ∙ (cond-false _ _ _ d ∙ cond-false _ _ _ e)) in
+    ⊎_elim
+    (λ f. ap (λ (cs : List ℕ). text_from Between (cs ++ rest)) (form ∙ ap (λ (x : Bool). char_else x c) f) ∙ (itself_again c rest a b ∙ ap (more_text c) h))
+    (λ f. ap (λ (cs : List ℕ). text_from Between (cs ++ rest)) (form ∙ ap (λ (x : Bool). char_else x c) f) ∙ escaped_again c rest text tail small h)
+    (cases_Bool (nat_le 32 c && nat_le c 126)))
+    (cases_Bool (c == 9)))
+    (cases_Bool (c == 10)))
+    (cases_Bool (c == 92)))
+    (cases_Bool (c == 34))
+
+pub byte_bound : (c : ℕ) → is_byte c ≡ true → c < 256
+byte_bound c h = grind (arith, common_steps)
+
+text_again : (text tail : List ℕ) → list_all is_byte text ≡ true → text_from Between ((flat_map text_char text ++ 34 ∷ []) ++ tail) ≡ Some (text, tail)
+text_again [] tail h = refl
+text_again (c ∷ text) tail h =
+    let both = and_parts _ _ h in
+    let last = flat_map text_char text ++ 34 ∷ [] in
+    let same : ((text_char c ++ flat_map text_char text) ++ 34 ∷ []) ++ tail ≡ text_char c ++ (last ++ tail) =
+    ap (λ (cs : List ℕ). cs ++ tail) (append_assoc (text_char c) (flat_map text_char text) (34 ∷ [])) ∙ append_assoc (text_char c) last tail in
+    ap (text_from Between) same ∙ char_again (last ++ tail) text tail (text_again text tail both.1) c (byte_bound c both.0)
+
+-- ---- a word, with what follows it on its line
+
+pub record IsCut (w : Word) : Type 0 where
+  pub head : ℕ
+  pub behind : List ℕ
+  pub spelled : spelling w ≡ head ∷ behind
+  pub seen : is_blank head ≡ false
+  pub cut : (tail : List ℕ) → begins_blank tail ≡ true → first_word head (behind ++ tail) ≡ (w, tail)
+
+abbrev plain_or_quoted : Bool → ℕ → List ℕ → Word × List ℕ
+plain_or_quoted b c cs = elim b [ true ↦ quoted_word (text_from Between cs) | false ↦ (let n = position_or_len is_blank cs in (Plain (c ∷ take n cs), drop n cs)) ]
+
+quoted_again : (text tail : List ℕ) → list_all is_byte text ≡ true → begins_blank tail ≡ true → quoted_word (text_from Between ((flat_map text_char text ++ 34 ∷ []) ++ tail)) ≡ (Quoted text, tail)
+quoted_again text tail h blank = ap quoted_word (text_again text tail h) ∙ cond-true _ _ _ blank
+
+up_to_blank : (cs tail : List ℕ) → list_all is_graphic cs ≡ true → begins_blank tail ≡ true → position_or_len is_blank (cs ++ tail) ≡ length cs
+up_to_blank [] [] h blank = refl
+up_to_blank [] (c ∷ tail) h blank = ap (λ (b : Bool). cond (not b) (1 + position_or_len is_blank tail) 0) blank
+up_to_blank (c ∷ cs) tail h blank =
+    let both = and_parts _ _ h in
+    let seen : is_blank c ≡ false = not_blank c (graphic_bounds c both.0).0 in
+    let more = up_to_blank cs tail both.1 blank in
+    ap (λ (b : Bool). cond (not b) (1 + position_or_len is_blank (cs ++ tail)) 0) seen ∙ omega arith
+
+plain_again : (c : ℕ) (cs tail : List ℕ) → (c == 34) ≡ false → list_all is_graphic cs ≡ true → begins_blank tail ≡ true → first_word c (cs ++ tail) ≡ (Plain (c ∷ cs), tail)
+plain_again c cs tail a h blank =
+    let n = up_to_blank cs tail h blank in
+    ap (λ (b : Bool). plain_or_quoted b c (cs ++ tail)) a
+    ∙ (ap (λ (k : ℕ). (Plain (c ∷ take k (cs ++ tail)), drop k (cs ++ tail))) n
+    ∙ (ap (λ (front : List ℕ). (Plain (c ∷ front), drop (length cs) (cs ++ tail))) (take_at cs tail (length cs) refl)
+    ∙ ap (λ (back : List ℕ). (Plain (c ∷ cs), back)) (drop_at cs tail (length cs) refl)))
+
+pub not_true : (b : Bool) → not b ≡ true → b ≡ false
+not_true true h = absurd (cc)
+not_true false h = refl
+
+pub cut : (w : Word) → is_good w ≡ true → IsCut w
+cut (Plain []) h = absurd (cc)
+cut (Plain (c ∷ cs)) h =
+    let both = and_parts _ _ h in
+    let all = and_parts _ _ both.1 in
+    record {
+      head = c;
+      behind = cs;
+      spelled = refl;
+      seen = not_blank c (graphic_bounds c all.0).0;
+      cut = λ tail blank. plain_again c cs tail (not_true (c == 34) both.0) all.1 blank;
+    }
+cut (Quoted text) h =
+    record { head = 34; behind = flat_map text_char text ++ 34 ∷ []; spelled = refl; seen = refl; cut = λ tail blank. quoted_again text tail h blank }
+cut Broken h = absurd (cc)
+
+-- ---- the words of a line
+
+-- what follows a word
+abbrev pub tail_of : List Word → List ℕ
+tail_of [] = []
+tail_of (w ∷ ws) = 32 ∷ (spelling w ++ tail_of ws)
+
+pub joined_words : (w : Word) (ws : List Word) → joined 32 (map spelling (w ∷ ws)) ≡ spelling w ++ tail_of ws
+joined_words w [] = sym (append-nil (spelling w))
+joined_words w (x ∷ ws) = ap (λ (rest : List ℕ). spelling w ++ 32 ∷ rest) (joined_words x ws)
+
+tail_blank : (ws : List Word) → begins_blank (tail_of ws) ≡ true
+tail_blank [] = refl
+tail_blank (w ∷ ws) = refl
+
+abbrev more_words : (List ℕ → List Word) → List ℕ → List Word
+more_words f rest = elim rest [ [] ↦ [] | c ∷ cs ↦ (let w = first_word c cs in w.0 ∷ f w.1) ]
+
+skip_none : (c : ℕ) (cs : List ℕ) → is_blank c ≡ false → after_blanks (c ∷ cs) ≡ c ∷ cs
+skip_none c cs e = ap (λ (b : Bool). drop (cond (not (not b)) (1 + position_or_len (λ x. not (is_blank x)) cs) 0) (c ∷ cs)) e
+
+skip_one : (c : ℕ) (cs : List ℕ) → is_blank c ≡ false → after_blanks (32 ∷ c ∷ cs) ≡ c ∷ cs
+skip_one c cs e = ap (λ (b : Bool). drop (1 + cond (not (not b)) (1 + position_or_len (λ x. not (is_blank x)) cs) 0) (32 ∷ c ∷ cs)) e
+
+next_word : (n : ℕ) (line cs tail : List ℕ) (c : ℕ) (w : Word) → after_blanks line ≡ c ∷ cs → first_word c cs ≡ (w, tail) → words_within (suc n) line ≡ w ∷ words_within n tail
+next_word n line cs tail c w a b = ap (more_words (words_within n)) a ∙ ap (λ (x : Word × List ℕ). x.0 ∷ words_within n x.1) b
+
+words_tail : (ws : List Word) (n : ℕ) → list_all is_good ws ≡ true → length (tail_of ws) ≤ n → words_within n (tail_of ws) ≡ ws
+words_tail [] zero h fits = refl
+words_tail [] (suc n) h fits = refl
+words_tail (w ∷ ws) zero h fits = absurd (omega arith)
+words_tail (w ∷ ws) (suc n) h fits =
+    let both = and_parts _ _ h in
+    let k = cut w both.0 in
+    let line : 32 ∷ (spelling w ++ tail_of ws) ≡ 32 ∷ k.head ∷ (k.behind ++ tail_of ws) = ap (λ (cs : List ℕ). 32 ∷ (cs ++ tail_of ws)) k.spelled in
+    let first = next_word n (32 ∷ k.head ∷ (k.behind ++ tail_of ws)) (k.behind ++ tail_of ws) (tail_of ws) k.head w (skip_one k.head (k.behind ++ tail_of ws) k.seen) (k.cut (tail_of ws) (tail_blank ws)) in
+    ap (words_within (suc n)) line ∙ (first ∙ ap (λ (rest : List Word). w ∷ rest) (words_tail ws n both.1 (omega (arith, length-append (spelling w) (tail_of ws)))))
+
+pub words_again : (w : Word) (ws : List Word) → list_all is_good (w ∷ ws) ≡ true → words (joined 32 (map spelling (w ∷ ws))) ≡ w ∷ ws
+words_again w ws h =
+    let both = and_parts _ _ h in
+    let k = cut w both.0 in
+    let line : joined 32 (map spelling (w ∷ ws)) ≡ k.head ∷ (k.behind ++ tail_of ws) = joined_words w ws ∙ ap (λ (cs : List ℕ). cs ++ tail_of ws) k.spelled in
+    let n = length (k.behind ++ tail_of ws) in
+    let first = next_word n (k.head ∷ (k.behind ++ tail_of ws)) (k.behind ++ tail_of ws) (tail_of ws) k.head w (skip_none k.head (k.behind ++ tail_of ws) k.seen) (k.cut (tail_of ws) (tail_blank ws)) in
+    ap words line ∙ (first ∙ ap (λ (rest : List Word). w ∷ rest) (words_tail ws n both.1 (omega (arith, length-append k.behind (tail_of ws)))))

@@ -1,0 +1,234 @@
+-- Lines that are printed are the significant lines of their text, which is ASCII.
+use Rattle.std.proofs.Common.{◌≡◌, ◌⊎◌, ◌∙◌, ℕ, zero, suc, ◌+◌, ◌-◌, ◌*◌, ◌/◌, ◌%◌, ◌≤◌, ◌<◌, List, [], ◌∷◌, ◌++◌, map, length, take, drop, get_or, flat_map, Bool, true, false, not, cond, nat_lt, nat_le, ◌==◌, ◌&&◌, refl, sym, ap, subst, ⊎_elim, inl, inr, append_assoc, length-append, take_all, true≢false, arith, IsUtf8, IsAscii}
+use Rattle.std.proofs.lemmas.Bool.{and_parts, and_from, ne_eqb, eq-eqb, eqb-true, cases_Bool, cases_lt, cond-true, cond-false, agree_below_at, le-leb, lt-ltb, le-ltb}
+use Rattle.std.proofs.lemmas.Grind.{common_steps}
+use Rattle.std.proofs.lemmas.List.Splits.{slice_split_at, length-slice_split}
+use Rattle.std.proofs.lemmas.List.Folds.{list_all-append}
+use Rattle.std.proofs.lemmas.List.Sums.{AllPass-from_list_all}
+use Rattle.std.proofs.lemmas.Str.{IsUtf8-from_ascii, IsUtf8-from_is_utf8, utf8_valid_len-IsUtf8}
+use Rattle.std.proofs.lemmas.Str.Ascii.{IsAscii-from_all}
+use Rattle.std.specs.List.{All, list_all, slice_split, enumerate_from, position_or_len}
+use Rattle.std.specs.Str.{is_utf8}
+use Rattle.std.specs.Str.Lossy.{valid_len_up_to, utf8_valid_len}
+use lib.Utf8.{scalar, scalars, encode, encodes, scalar_cases, next}
+use Rattle.script_spec.specs.Texts.{text_char, quoted, hex, hex_digit, joined, line}
+use Rattle.script_spec.specs.ScriptWords.{Word, Plain, Quoted, Broken, Line, words, is_comment, is_newline, line_of, significant, significant_of, text_lines, without_empty_end}
+use Rattle.script_text.proofs.Lexing.{spelling, is_graphic, is_plain, is_byte, is_good, graphic_bounds, char_else, byte_bound, tail_of, joined_words, words_again, not_true, below_16}
+
+-- ---- what holds of each byte
+
+pub all_more : {A : Type 0} (p q : A → Bool) → ((x : A) → p x ≡ true → q x ≡ true) → (xs : List A) → list_all p xs ≡ true → list_all q xs ≡ true
+all_more p q more [] h = refl
+all_more p q more (x ∷ xs) h =
+    let both = and_parts _ _ h in
+    and_from _ _ (more x both.0) (all_more p q more xs both.1)
+
+pub all_joined : {A : Type 0} (p : A → Bool) (xs ys : List A) → list_all p xs ≡ true → list_all p ys ≡ true → list_all p (xs ++ ys) ≡ true
+all_joined p xs ys a b = list_all-append p xs ys ∙ and_from _ _ a b
+
+-- ---- bytes that are printed
+
+abbrev pub is_printable : ℕ → Bool
+is_printable c = nat_le 32 c && nat_le c 126
+
+printable_bounds : (c : ℕ) → is_printable c ≡ true → (32 ≤ c) × (c ≤ 126)
+printable_bounds c h = grind (arith, common_steps)
+
+printable : (c : ℕ) → 32 ≤ c → c ≤ 126 → is_printable c ≡ true
+printable c low high = and_from _ _ (le-leb 32 c low) (le-leb c 126 high)
+
+graphic_printable : (c : ℕ) → is_graphic c ≡ true → is_printable c ≡ true
+graphic_printable c h = let b = graphic_bounds c h in printable c (omega arith) b.1
+
+printable_hex : (d : ℕ) → d < 16 → is_printable (hex_digit d) ≡ true
+printable_hex d h = agree_below_at (λ x. is_printable (hex_digit x)) (λ x. true) 16 d refl h
+
+abbrev IsPrinted : ℕ → Type 0
+IsPrinted c = list_all is_printable (text_char c) ≡ true
+
+printed_char : (c : ℕ) → c < 256 → IsPrinted c
+printed_char c small = ⊎_elim
+    (λ a. subst IsPrinted (sym (eqb-true c 34 a)) refl)
+    (λ a. ⊎_elim
+    (λ b. subst IsPrinted (sym (eqb-true c 92 b)) refl)
+    (λ b. ⊎_elim
+    (λ d. subst IsPrinted (sym (eqb-true c 10 d)) refl)
+    (λ d. ⊎_elim
+    (λ e. subst IsPrinted (sym (eqb-true c 9 e)) refl)
+    (λ e.
+    let form : text_char c ≡ char_else (nat_le 32 c && nat_le c 126) c = cond-false _ _ _ a ∙ (cond-false _ _ _ b ∙ (cond-false _ _ _ d ∙ cond-false _ _ _ e)) in
+    ⊎_elim
+    (λ f. ap (list_all is_printable) (form ∙ ap (λ (x : Bool). char_else x c) f) ∙ and_from (is_printable c) true f refl)
+    (λ f. ap (list_all is_printable) (form ∙ ap (λ (x : Bool). char_else x c) f)
+    ∙ and_from (is_printable (hex_digit (c / 16 % 16))) (is_printable (hex_digit (c % 16)) && true) (printable_hex (c / 16 % 16) (below_16 (c / 16)))
+    (and_from (is_printable (hex_digit (c % 16))) true (printable_hex (c % 16) (below_16 c)) refl))
+    (cases_Bool (nat_le 32 c && nat_le c 126)))
+    (cases_Bool (c == 9)))
+    (cases_Bool (c == 10)))
+    (cases_Bool (c == 92)))
+    (cases_Bool (c == 34))
+
+printed_text : (text : List ℕ) → list_all is_byte text ≡ true → list_all is_printable (flat_map text_char text) ≡ true
+printed_text [] h = refl
+printed_text (c ∷ text) h =
+    let both = and_parts _ _ h in
+    all_joined is_printable (text_char c) (flat_map text_char text) (printed_char c (byte_bound c both.0)) (printed_text text both.1)
+
+printed_word : (w : Word) → is_good w ≡ true → list_all is_printable (spelling w) ≡ true
+printed_word (Plain []) h = refl
+printed_word (Plain (c ∷ cs)) h = all_more is_graphic is_printable graphic_printable (c ∷ cs) (and_parts _ _ h).1
+printed_word (Quoted text) h = all_joined is_printable (34 ∷ flat_map text_char text) (34 ∷ []) (printed_text text h) refl
+printed_word Broken h = refl
+
+printed_tail : (ws : List Word) → list_all is_good ws ≡ true → list_all is_printable (tail_of ws) ≡ true
+printed_tail [] h = refl
+printed_tail (w ∷ ws) h =
+    let both = and_parts _ _ h in
+    all_joined is_printable (spelling w) (tail_of ws) (printed_word w both.0) (printed_tail ws both.1)
+
+-- ---- lines
+
+-- the words of a line, which is significant and cut into them again
+abbrev pub is_line : List Word → Bool
+is_line [] = false
+is_line (w ∷ ws) = not (is_comment w) && list_all is_good (w ∷ ws)
+
+abbrev body : List Word → List ℕ
+body ws = joined 32 (map spelling ws)
+
+abbrev pub spelled : List Word → List ℕ
+spelled ws = line (map spelling ws)
+
+printed_body : (ws : List Word) → is_line ws ≡ true → list_all is_printable (body ws) ≡ true
+printed_body [] h = refl
+printed_body (w ∷ ws) h =
+    let both = and_parts _ _ (and_parts _ _ h).1 in
+    ap (list_all is_printable) (joined_words w ws) ∙ all_joined is_printable (spelling w) (tail_of ws) (printed_word w both.0) (printed_tail ws both.1)
+
+no_newline : (cs : List ℕ) → list_all is_printable cs ≡ true → All (λ c. is_newline c ≡ false) cs
+no_newline cs h k d low =
+    let b = printable_bounds (get_or cs k d) (AllPass-from_list_all is_printable cs h k d low) in
+    ne_eqb (get_or cs k d) 10 (omega arith)
+
+kept : (x : List ℕ) (zs : List (List ℕ)) → 0 < length zs → without_empty_end (x ∷ zs) ≡ x ∷ without_empty_end zs
+kept x [] h = absurd (omega arith)
+kept x (z ∷ zs) h = refl
+
+line_cut : (cs rest : List ℕ) → list_all is_printable cs ≡ true → text_lines ((cs ++ 10 ∷ []) ++ rest) ≡ cs ∷ text_lines rest
+line_cut cs rest h =
+    ap text_lines (append_assoc cs (10 ∷ []) rest)
+    ∙ (ap without_empty_end (slice_split_at is_newline cs 10 rest (no_newline cs h) refl)
+    ∙ kept cs (slice_split is_newline rest) (omega (arith, length-slice_split is_newline rest)))
+
+pub lines_again : (wss : List (List Word)) → list_all is_line wss ≡ true → text_lines (flat_map spelled wss) ≡ map body wss
+lines_again [] h = refl
+lines_again (ws ∷ wss) h =
+    let both = and_parts _ _ h in
+    line_cut (body ws) (flat_map spelled wss) (printed_body ws both.0) ∙ ap (λ (more : List (List ℕ)). body ws ∷ more) (lines_again wss both.1)
+
+-- ---- the significant lines
+
+-- the lines of these words, from this number on
+abbrev pub numbered : ℕ → List (List Word) → List Line
+numbered n [] = []
+numbered n ([] ∷ wss) = numbered (n + 1) wss
+numbered n ((w ∷ ws) ∷ wss) = record { number = n; first = w; rest = ws } ∷ numbered (n + 1) wss
+
+line_again : (n : ℕ) (w : Word) (ws : List Word) → is_line (w ∷ ws) ≡ true → line_of n (words (body (w ∷ ws))) ≡ record { number = n; first = w; rest = ws } ∷ []
+line_again n w ws h =
+    let both = and_parts _ _ h in
+    ap (line_of n) (words_again w ws both.1) ∙ cond-false _ _ _ (not_true (is_comment w) both.0)
+
+pub significant_again : (n : ℕ) (wss : List (List Word)) → list_all is_line wss ≡ true → significant_of (enumerate_from n (map body wss)) ≡ numbered n wss
+significant_again n [] h = refl
+significant_again n ([] ∷ wss) h = absurd (cc)
+significant_again n ((w ∷ ws) ∷ wss) h =
+    let both = and_parts (is_line (w ∷ ws)) (list_all is_line wss) h in
+    ap (λ (ls : List Line). ls ++ significant_of (enumerate_from (n + 1) (map body wss))) (line_again n w ws both.0)
+    ∙ ap (λ (more : List Line). record { number = n; first = w; rest = ws } ∷ more) (significant_again (n + 1) wss both.1)
+
+pub significant_lines : (wss : List (List Word)) → list_all is_line wss ≡ true → significant (flat_map spelled wss) ≡ numbered 1 wss
+significant_lines wss h = ap (λ (ls : List (List ℕ)). significant_of (enumerate_from 1 ls)) (lines_again wss h) ∙ significant_again 1 wss h
+
+-- ---- UTF-8
+
+abbrev is_ascii : ℕ → Bool
+is_ascii c = nat_lt c 128
+
+ascii_bound : (c : ℕ) → is_ascii c ≡ true → c < 128
+ascii_bound c h = grind (arith, common_steps)
+
+printable_ascii : (c : ℕ) → is_printable c ≡ true → is_ascii c ≡ true
+printable_ascii c h = let b = printable_bounds c h in lt-ltb c 128 (omega arith)
+
+ascii_lines : (wss : List (List Word)) → list_all is_line wss ≡ true → list_all is_ascii (flat_map spelled wss) ≡ true
+ascii_lines [] h = refl
+ascii_lines (ws ∷ wss) h =
+    let both = and_parts _ _ h in
+    let own = all_more is_printable is_ascii printable_ascii (body ws) (printed_body ws both.0) in
+    all_joined is_ascii (spelled ws) (flat_map spelled wss) (all_joined is_ascii (body ws) (10 ∷ []) own refl) (ascii_lines wss both.1)
+
+pub valid_lines : (wss : List (List Word)) → list_all is_line wss ≡ true → (utf8_valid_len (flat_map spelled wss) == length (flat_map spelled wss)) ≡ true
+valid_lines wss h =
+    let text = flat_map spelled wss in
+    let all : IsAscii text = IsAscii-from_all text (λ k d low. ascii_bound (get_or text k d) (AllPass-from_list_all is_ascii text (ascii_lines wss h) k d low)) in
+    eq-eqb _ _ (utf8_valid_len-IsUtf8 text (IsUtf8-from_ascii text all))
+
+-- ---- a text that is UTF-8 has bytes
+
+longest_front : (bs : List ℕ) (m : ℕ) → IsUtf8 (take (valid_len_up_to bs m) bs)
+longest_front bs zero = ([], (refl, refl))
+longest_front bs (suc m) = ⊎_elim
+    (λ yes.
+    let is : valid_len_up_to bs (suc m) ≡ suc m = cond-true _ _ _ yes in
+    subst (λ n. IsUtf8 (take n bs)) (sym is) (IsUtf8-from_is_utf8 _ yes))
+    (λ no.
+    let is : valid_len_up_to bs (suc m) ≡ valid_len_up_to bs m = cond-false _ _ _ no in
+    subst (λ n. IsUtf8 (take n bs)) (sym is) (longest_front bs m))
+    (cases_Bool (is_utf8 (take (suc m) bs)))
+
+whole_front : (bs : List ℕ) → (utf8_valid_len bs == length bs) ≡ true → IsUtf8 bs
+unfolding utf8_valid_len
+whole_front bs h =
+    let same : valid_len_up_to bs (length bs) ≡ length bs = eqb-true _ _ h in
+    subst IsUtf8 (take_all (length bs) bs (omega arith)) (subst (λ n. IsUtf8 (take n bs)) same (longest_front bs (length bs)))
+
+byte : (c : ℕ) → c < 256 → is_byte c ≡ true
+byte c h = lt-ltb c 256 h
+
+next_byte : (c : ℕ) → is_byte (next c) ≡ true
+next_byte c = byte (next c) (omega arith)
+
+two : (a b : ℕ) → a < 256 → list_all is_byte (a ∷ next b ∷ []) ≡ true
+two a b h = and_from (is_byte a) (is_byte (next b) && true) (byte a h) (and_from (is_byte (next b)) true (next_byte b) refl)
+
+three : (a b c : ℕ) → a < 256 → list_all is_byte (a ∷ next b ∷ next c ∷ []) ≡ true
+three a b c h = and_from (is_byte a) _ (byte a h) (two (next b) c (omega arith))
+
+last_byte : (c : ℕ) → scalar c ≡ true → 240 + c / 262144 < 256
+last_byte c h = ⊎_elim (λ a. omega arith) (λ a. let high = a.1 in omega arith) (scalar_cases c h)
+
+encode_bytes : (c : ℕ) → scalar c ≡ true → list_all is_byte (encode c) ≡ true
+unfolding encode
+encode_bytes c h = ⊎_elim
+    (λ a. ap (list_all is_byte) (cond-true _ _ _ (lt-ltb c 128 a)) ∙ and_from (is_byte c) true (byte c (omega arith)) refl)
+    (λ a. ⊎_elim
+    (λ b. ap (list_all is_byte) (cond-false _ _ _ (le-ltb c 128 a) ∙ cond-true _ _ _ (lt-ltb c 2048 b)) ∙ two (192 + c / 64) c (omega arith))
+    (λ b. ⊎_elim
+    (λ d. ap (list_all is_byte) (cond-false _ _ _ (le-ltb c 128 a) ∙ (cond-false _ _ _ (le-ltb c 2048 b) ∙ cond-true _ _ _ (lt-ltb c 65536 d))) ∙ three (224 + c / 4096) (c / 64) c (omega arith))
+    (λ d. ap (list_all is_byte) (cond-false _ _ _ (le-ltb c 128 a) ∙ (cond-false _ _ _ (le-ltb c 2048 b) ∙ cond-false _ _ _ (le-ltb c 65536 d)))
+    ∙ and_from (is_byte (240 + c / 262144)) _ (byte (240 + c / 262144) (last_byte c h)) (three (next (c / 4096)) (c / 64) c (omega arith)))
+    (cases_lt c 65536))
+    (cases_lt c 2048))
+    (cases_lt c 128)
+
+encodes_bytes : (cs : List ℕ) → scalars cs ≡ true → list_all is_byte (encodes cs) ≡ true
+encodes_bytes [] h = refl
+encodes_bytes (c ∷ cs) h =
+    let both = and_parts _ _ h in
+    all_joined is_byte (encode c) (encodes cs) (encode_bytes c both.0) (encodes_bytes cs both.1)
+
+pub valid_bytes : (bs : List ℕ) → (utf8_valid_len bs == length bs) ≡ true → list_all is_byte bs ≡ true
+valid_bytes bs h =
+    let u = whole_front bs h in
+    subst (λ (xs : List ℕ). list_all is_byte xs ≡ true) u.1.1 (encodes_bytes u.0 u.1.0)

@@ -1,0 +1,183 @@
+-- Places of names in a list.
+use Rattle.std.proofs.Common.{◌≡◌, ◌⊎◌, ◌∙◌, ℕ, zero, suc, ◌+◌, ◌≤◌, ◌<◌, List, [], ◌∷◌, ◌++◌, map, position, length, drop, Bool, true, false, not, cond, nat_lt, ◌&&◌, ◌||◌, Option, Some, None, option_map, slice_get, refl, sym, ap, subst, ⊎_elim, arith, bytes_eq}
+use Rattle.std.specs.List.{list_all, list_any, position_or_len}
+use Rattle.std.proofs.lemmas.Bool.{and_parts, and_from, or_from, or_parts, cases_lt, cases_Bool, cond-true, cond-false}
+use Rattle.std.proofs.lemmas.Slice.Eq.{bytes_eq-Decides}
+use borrow.Author.Tests.{ltb-true, lt-ltb, le-ltb}
+use Rattle.nc_base.specs.declared.header.Dim.{Dim}
+use Rattle.script_spec.specs.ScriptWords.{all_some}
+use Rattle.script_spec.specs.ScriptDefinitions.{is_among, dim_names, dim_ids, is_record_dim, is_unlimited}
+
+abbrev place : ℕ → ℕ → Option ℕ
+place k n = cond (nat_lt k n) (Some k) None
+
+-- the first place, by the first element
+pub position_cons : {A : Type 0} (p : A → Bool) (x : A) (xs : List A) → position p (x ∷ xs) ≡ cond (p x) (Some 0) (option_map suc (position p xs))
+position_cons p x xs = by (p x) (position_or_len p xs) (length xs)
+  where
+    by : (b : Bool) (m n : ℕ) → place (cond (not b) (1 + m) 0) (suc n) ≡ cond b (Some 0) (option_map suc (place m n))
+    by true m n = cond-true _ _ _ (lt-ltb 0 (suc n) (omega arith))
+    by false m n = ⊎_elim
+        (λ (low : m < n).
+        let next : 1 + m ≡ suc m = omega arith in
+        cond-true _ _ _ (lt-ltb (1 + m) (suc n) (omega arith)) ∙ (ap (λ (k : ℕ). Some k) next ∙ ap (option_map suc) (sym (cond-true _ _ _ (lt-ltb m n low)))))
+        (λ (high : n ≤ m). cond-false _ _ _ (le-ltb (1 + m) (suc n) (omega arith)) ∙ ap (option_map suc) (sym (cond-false _ _ _ (le-ltb m n high))))
+        (cases_lt m n)
+
+-- a place, by the first element: it passes, or the place is one further
+pub record Later {A : Type 0} (p : A → Bool) (xs : List A) (k : ℕ) : Type 0 where
+  pub before : ℕ
+  pub next : k ≡ suc before
+  pub found : position p xs ≡ Some before
+
+later_from : {A : Type 0} (p : A → Bool) (xs : List A) (k : ℕ) → option_map suc (position p xs) ≡ Some k → Later p xs k
+later_from p xs k h = by (position p xs) refl h
+  where
+    by : (o : Option ℕ) → position p xs ≡ o → option_map suc o ≡ Some k → Later p xs k
+    by None e j = absurd (cc)
+    by (Some m) e j = let same : suc m ≡ k = cc in record { before = m; next = sym same; found = e }
+
+pub place_cases : {A : Type 0} (p : A → Bool) (x : A) (xs : List A) (k : ℕ) → position p (x ∷ xs) ≡ Some k → ((p x ≡ true) × (k ≡ 0)) ⊎ ((p x ≡ false) × Later p xs k)
+place_cases p x xs k h = by (p x) refl (sym (position_cons p x xs) ∙ h)
+  where
+    by : (b : Bool) → p x ≡ b → cond b (Some 0) (option_map suc (position p xs)) ≡ Some k → ((p x ≡ true) × (k ≡ 0)) ⊎ ((p x ≡ false) × Later p xs k)
+    by true e j = let same : 0 ≡ k = cc in Rattle.std.proofs.Common.inl (e, sym same)
+    by false e j = Rattle.std.proofs.Common.inr (e, later_from p xs k j)
+
+pub place_here : {A : Type 0} (p : A → Bool) (x : A) (xs : List A) → p x ≡ true → position p (x ∷ xs) ≡ Some 0
+place_here p x xs h = position_cons p x xs ∙ cond-true _ _ _ h
+
+pub place_later : {A : Type 0} (p : A → Bool) (x : A) (xs : List A) (k : ℕ) → p x ≡ false → position p xs ≡ Some k → position p (x ∷ xs) ≡ Some (suc k)
+place_later p x xs k h e = position_cons p x xs ∙ (cond-false _ _ _ h ∙ ap (option_map suc) e)
+
+pub place_more : {A : Type 0} (p : A → Bool) (xs ys : List A) (k : ℕ) → position p xs ≡ Some k → position p (xs ++ ys) ≡ Some k
+place_more p [] ys k h = absurd (cc)
+place_more p (x ∷ xs) ys k h = ⊎_elim
+    (λ (a : (p x ≡ true) × (k ≡ 0)). place_here p x (xs ++ ys) a.0 ∙ ap (λ (j : ℕ). Some j) (sym a.1))
+    (λ (b : (p x ≡ false) × Later p xs k). place_later p x (xs ++ ys) b.1.before b.0 (place_more p xs ys b.1.before b.1.found) ∙ ap (λ (j : ℕ). Some j) (sym b.1.next))
+    (place_cases p x xs k h)
+
+pub place_within : {A : Type 0} (p : A → Bool) (xs : List A) (k : ℕ) → position p xs ≡ Some k → k < length xs
+place_within p [] k h = absurd (cc)
+place_within p (x ∷ xs) k h = ⊎_elim
+    (λ (a : (p x ≡ true) × (k ≡ 0)). omega (arith, a.1))
+    (λ (b : (p x ≡ false) × Later p xs k). omega (arith, b.1.next, place_within p xs b.1.before b.1.found))
+    (place_cases p x xs k h)
+
+pub bytes_same : (a b : List ℕ) → bytes_eq a b ≡ true → a ≡ b
+bytes_same a b h = (bytes_eq-Decides a b).0 h
+
+pub bytes_own : (a : List ℕ) → bytes_eq a a ≡ true
+bytes_own a = (bytes_eq-Decides a a).1 refl
+
+-- a name after others stands at their end
+pub place_of_new : (n : List ℕ) (names more : List (List ℕ)) → is_among n names ≡ false → position (bytes_eq n) (names ++ n ∷ more) ≡ Some (length names)
+place_of_new n [] more h = place_here (bytes_eq n) n more (bytes_own n)
+place_of_new n (x ∷ names) more h =
+    let both = or_parts (bytes_eq n x) (is_among n names) h in
+    place_later (bytes_eq n) x (names ++ n ∷ more) (length names) both.0 (place_of_new n names more both.1)
+
+-- ---- the places of the names of dimensions
+
+abbrev pub name_at : List Dim → ℕ → List ℕ
+name_at dims id = elim (slice_get dims id) [ None ↦ [] | Some d ↦ d.name ]
+
+name_of_place : (n : List ℕ) (dims : List Dim) (k : ℕ) → position (bytes_eq n) (dim_names dims) ≡ Some k → name_at dims k ≡ n
+name_of_place n [] k h = absurd (cc)
+name_of_place n (d ∷ dims) k h = ⊎_elim
+    (λ (a : (bytes_eq n d.name ≡ true) × (k ≡ 0)). ap (name_at (d ∷ dims)) a.1 ∙ sym (bytes_same n d.name a.0))
+    (λ (b : (bytes_eq n d.name ≡ false) × Later (bytes_eq n) (dim_names dims) k). ap (name_at (d ∷ dims)) b.1.next ∙ name_of_place n dims b.1.before b.1.found)
+    (place_cases (bytes_eq n) d.name (dim_names dims) k h)
+
+-- each item is what f gives
+abbrev Zipped : {A B : Type 0} → (A → Option B) → List A → List B → Type 0
+Zipped f [] [] = Unit {0}
+Zipped f [] (y ∷ ys) = ⊥
+Zipped f (x ∷ xs) [] = ⊥
+Zipped f (x ∷ xs) (y ∷ ys) = (f x ≡ Some y) × Zipped f xs ys
+
+zipped_from : {A B : Type 0} (f : A → Option B) (xs : List A) (ys : List B) → all_some (map f xs) ≡ Some ys → Zipped f xs ys
+zipped_from f [] [] h = tt
+zipped_from f [] (y ∷ ys) h = absurd (cc)
+zipped_from {A} {B} f (x ∷ xs) ys h = by (f x) (all_some (map f xs)) refl refl ys h (λ zs. zipped_from f xs zs)
+  where
+    by : (o : Option B) (p : Option (List B)) → f x ≡ o → all_some (map f xs) ≡ p → (zs : List B) → all_some (o ∷ map f xs) ≡ Some zs
+        → ((us : List B) → all_some (map f xs) ≡ Some us → Zipped f xs us) → Zipped f (x ∷ xs) zs
+    by None p a b zs k more = absurd (cc)
+    by (Some z) None a b zs k more = let none : option_map (λ us. z ∷ us) None ≡ Some zs = ap (option_map (λ us. z ∷ us)) (sym b) ∙ k in absurd (cc)
+    by (Some z) (Some us) a b zs k more =
+        let same : Some (z ∷ us) ≡ Some zs = ap (option_map (λ vs. z ∷ vs)) (sym b) ∙ k in
+        let lists : z ∷ us ≡ zs = cc in
+        subst (Zipped f (x ∷ xs)) lists (a, more us b)
+
+zipped_to : {A B : Type 0} (f : A → Option B) (xs : List A) (ys : List B) → Zipped f xs ys → all_some (map f xs) ≡ Some ys
+zipped_to f [] [] h = refl
+zipped_to f [] (y ∷ ys) h = absurd h
+zipped_to f (x ∷ xs) [] h = absurd h
+zipped_to {A} {B} f (x ∷ xs) (y ∷ ys) h = ap (λ (o : Option B). all_some (o ∷ map f xs)) h.0 ∙ ap (option_map (λ zs. y ∷ zs)) (zipped_to f xs ys h.1)
+
+abbrev place_in : List Dim → List ℕ → Option ℕ
+place_in dims n = position (bytes_eq n) (dim_names dims)
+
+names_zipped : (dims : List Dim) (ns : List (List ℕ)) (ids : List ℕ) → Zipped (place_in dims) ns ids → map (name_at dims) ids ≡ ns
+names_zipped dims [] [] h = refl
+names_zipped dims [] (i ∷ ids) h = absurd h
+names_zipped dims (n ∷ ns) [] h = absurd h
+names_zipped dims (n ∷ ns) (i ∷ ids) h =
+    ap (λ (x : List ℕ). x ∷ map (name_at dims) ids) (name_of_place n dims i h.0) ∙ ap (λ (xs : List (List ℕ)). n ∷ xs) (names_zipped dims ns ids h.1)
+
+-- the dimensions' names by their places
+pub names_shown : (dims : List Dim) (ns : List (List ℕ)) (ids : List ℕ) → dim_ids dims ns ≡ Some ids → map (name_at dims) ids ≡ ns
+names_shown dims ns ids h = names_zipped dims ns ids (zipped_from (place_in dims) ns ids h)
+
+joined_names : (dims more : List Dim) → dim_names (dims ++ more) ≡ dim_names dims ++ dim_names more
+joined_names [] more = refl
+joined_names (d ∷ dims) more = ap (λ (xs : List (List ℕ)). d.name ∷ xs) (joined_names dims more)
+
+more_zipped : (dims more : List Dim) (ns : List (List ℕ)) (ids : List ℕ) → Zipped (place_in dims) ns ids → Zipped (place_in (dims ++ more)) ns ids
+more_zipped dims more [] [] h = tt
+more_zipped dims more [] (i ∷ ids) h = absurd h
+more_zipped dims more (n ∷ ns) [] h = absurd h
+more_zipped dims more (n ∷ ns) (i ∷ ids) h =
+    (ap (position (bytes_eq n)) (joined_names dims more) ∙ place_more (bytes_eq n) (dim_names dims) (dim_names more) i h.0, more_zipped dims more ns ids h.1)
+
+-- more dimensions leave these where they are
+pub more_ids : (dims more : List Dim) (ns : List (List ℕ)) (ids : List ℕ) → dim_ids dims ns ≡ Some ids → dim_ids (dims ++ more) ns ≡ Some ids
+more_ids dims more ns ids h = zipped_to (place_in (dims ++ more)) ns ids (more_zipped dims more ns ids (zipped_from (place_in dims) ns ids h))
+
+length_names : (dims : List Dim) → length (dim_names dims) ≡ length dims
+length_names [] = refl
+length_names (d ∷ dims) = ap suc (length_names dims)
+
+abbrev are_within : List Dim → List ℕ → Bool
+are_within dims ids = list_all (λ id. nat_lt id (length dims)) ids
+
+within_zipped : (dims : List Dim) (ns : List (List ℕ)) (ids : List ℕ) → Zipped (place_in dims) ns ids → are_within dims ids ≡ true
+within_zipped dims [] [] h = refl
+within_zipped dims [] (i ∷ ids) h = absurd h
+within_zipped dims (n ∷ ns) [] h = absurd h
+within_zipped dims (n ∷ ns) (i ∷ ids) h =
+    let low = place_within (bytes_eq n) (dim_names dims) i h.0 in
+    and_from _ _ (lt-ltb i (length dims) (omega (arith, low, length_names dims))) (within_zipped dims ns ids h.1)
+
+got_within : (dims more : List Dim) (i : ℕ) → i < length dims → slice_get (dims ++ more) i ≡ slice_get dims i
+got_within [] more i h = absurd (omega arith)
+got_within (d ∷ dims) more zero h = refl
+got_within (d ∷ dims) more (suc i) h = got_within dims more i (omega arith)
+
+abbrev record_by : Option Dim → Bool
+record_by o = elim o [ None ↦ false | Some d ↦ is_unlimited d ]
+
+same_records : (dims more : List Dim) (ids : List ℕ) → are_within dims ids ≡ true → list_any (is_record_dim (dims ++ more)) ids ≡ list_any (is_record_dim dims) ids
+same_records dims more [] h = refl
+same_records dims more (i ∷ ids) h =
+    let both = and_parts (nat_lt i (length dims)) (are_within dims ids) h in
+    ap (λ (o : Option Dim). record_by o || list_any (is_record_dim (dims ++ more)) ids) (got_within dims more i (ltb-true i (length dims) both.0))
+    ∙ ap (λ (b : Bool). is_record_dim dims i || b) (same_records dims more ids both.1)
+
+rest_within : (dims : List Dim) (ids : List ℕ) → are_within dims ids ≡ true → are_within dims (drop 1 ids) ≡ true
+rest_within dims [] h = refl
+rest_within dims (i ∷ ids) h = (and_parts (nat_lt i (length dims)) (are_within dims ids) h).1
+
+pub more_records : (dims more : List Dim) (ns : List (List ℕ)) (ids : List ℕ) → dim_ids dims ns ≡ Some ids → list_any (is_record_dim dims) (drop 1 ids) ≡ false → list_any (is_record_dim (dims ++ more)) (drop 1 ids) ≡ false
+more_records dims more ns ids h none = same_records dims more (drop 1 ids) (rest_within dims ids (within_zipped dims ns ids (zipped_from (place_in dims) ns ids h))) ∙ none

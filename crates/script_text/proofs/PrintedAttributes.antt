@@ -1,0 +1,279 @@
+-- Types and attributes that are printed are read again.
+use Rattle.std.proofs.Common.{◌≡◌, ◌⊎◌, ◌∙◌, ℕ, zero, suc, ◌+◌, ◌^◌, ◌≤◌, ◌<◌, List, [], ◌∷◌, ◌++◌, map, find, length, take, drop, flat_map, Bool, true, false, not, cond, nat_lt, nat_le, ◌&&◌, Option, Some, None, Result, Ok, Err, ℤ, refl, sym, ap, subst, arith, bytes_eq, codes}
+use Rattle.std.specs.List.{list_all, list_any}
+use Rattle.std.specs.Int.{Width, w8, w16, w32, w64, to_be_bytes, byte_len}
+use Rattle.std.proofs.lemmas.Bool.{and_parts, and_from, cond-true}
+use Rattle.std.proofs.lemmas.List.{take_at, drop_at}
+use borrow.Author.Tests.{ltb-true, lt-ltb}
+use Rattle.nc_base.specs.declared.errors.ScriptKind.{ScriptKind}
+use Rattle.nc_base.specs.declared.errors.ScriptKind.TheVariants as kind
+use Rattle.nc_base.specs.declared.header.NcType.{NcType}
+use Rattle.nc_base.specs.declared.header.NcType.TheVariants.{Byte, Char, Short, Int, Float, Double, UByte, UShort, UInt, Int64, UInt64}
+use Rattle.nc_base.specs.declared.header.Attr.{Attr}
+use Rattle.nc_base.specs.declared.request.Value.{Value}
+use Rattle.nc_base.specs.declared.request.Value.TheVariants as value
+use Rattle.nc_base.specs.declared.request.Values.{Values}
+use Rattle.nc_base.specs.declared.request.Values.TheVariants.{Numbers, Text, Bits}
+use Rattle.serial_spec.specs.ExternalForm as class
+use Rattle.serial_spec.specs.ExternalForm.{Class, class_of, width_of, size_of, ext, val, fits}
+use Rattle.serial_spec.specs.HeaderGrammar.{number_of, last_type}
+use Rattle.serial_spec.specs.Lawful.{most_values}
+use Rattle.serial_spec.specs.Request.{count_of, number_in, code_in, gathered}
+use Rattle.serial_spec.proofs.ValueLaws.{val-ext}
+use Rattle.script_spec.specs.Texts.{type_word}
+use Rattle.script_spec.specs.Shown.{pieces, attr_values, shown_values}
+use Rattle.script_spec.specs.ScriptWords.{Word, Plain, Quoted, Broken, is_name}
+use Rattle.script_spec.specs.ScriptSteps.{◌>>=◌, refuse_if, or_fault, reads_as, name, name_of_text}
+use Rattle.script_spec.specs.ScriptValues.{are_numbers, are_patterns, are_text, values}
+use Rattle.script_spec.specs.ScriptDefinitions.{types, type_of, Title, same_title, external_bytes, attr_of, attribute_name, attribute}
+use Rattle.script_text.proofs.Steps.{Went, went, go_on, same_ok, not_refused, passed, read_word, word_read}
+use Rattle.script_text.proofs.Lexing.{spelling, is_plain, is_good, is_byte}
+use Rattle.script_text.proofs.Numerals.{name_plain}
+use Rattle.script_text.proofs.Sequences.{is_fit_number, is_fit_pattern}
+use Rattle.script_text.proofs.PrintedValues.{value_tokens, values_spelled, is_read, AreFit, HasRoom, Fitting, values_fit, values_again, values_good}
+use Rattle.script_text.proofs.PrintedRegions.{kept, name_read, name_again}
+
+-- ---- types
+
+find_type : (t : NcType) → find (λ s. bytes_eq (type_word t) (type_word s)) types ≡ Some t
+find_type Byte = refl
+find_type Char = refl
+find_type Short = refl
+find_type Int = refl
+find_type Float = refl
+find_type Double = refl
+find_type UByte = refl
+find_type UShort = refl
+find_type UInt = refl
+find_type Int64 = refl
+find_type UInt64 = refl
+
+pub type_plain : (t : NcType) → is_plain (type_word t) ≡ true
+type_plain Byte = refl
+type_plain Char = refl
+type_plain Short = refl
+type_plain Int = refl
+type_plain Float = refl
+type_plain Double = refl
+type_plain UByte = refl
+type_plain UShort = refl
+type_plain UInt = refl
+type_plain Int64 = refl
+type_plain UInt64 = refl
+
+abbrev type_by : ℕ → Option NcType → Option NcType
+type_by version o = elim o [ None ↦ None | Some t ↦ cond (nat_le (number_of t) (last_type version)) (Some t) None ]
+
+type_known : (version : ℕ) (o : Option NcType) (t : NcType) → type_by version o ≡ Some t → nat_le (number_of t) (last_type version) ≡ true
+type_known version None t h = absurd (cc)
+type_known version (Some s) t h = by (nat_le (number_of s) (last_type version)) refl h
+  where
+    by : (b : Bool) → nat_le (number_of s) (last_type version) ≡ b → cond {A = Option NcType} b (Some s) None ≡ Some t → nat_le (number_of t) (last_type version) ≡ true
+    by true e k = let same : s ≡ t = cc in subst (λ x. nat_le (number_of x) (last_type version) ≡ true) same e
+    by false e k = absurd (cc)
+
+pub type_again : (version : ℕ) (w : List ℕ) (t : NcType) → type_of version w ≡ Some t → type_of version (type_word t) ≡ Some t
+type_again version w t h = ap (type_by version) (find_type t) ∙ cond-true _ _ _ (type_known version (find (λ s. bytes_eq w (type_word s)) types) t h)
+
+pub type_read : (version : ℕ) (ws : List Word) (r : NcType × List Word) → reads_as (type_of version) kind.UnknownWord ws ≡ Ok r → type_of version (type_word r.0) ≡ Some r.0
+type_read version ws r h = let w = read_word (type_of version) kind.UnknownWord ws r h in type_again version w.0 r.0 w.1
+
+pub type_word_again : (version : ℕ) (t : NcType) (more : List Word) → type_of version (type_word t) ≡ Some t → reads_as (type_of version) kind.UnknownWord (Plain (type_word t) ∷ more) ≡ Ok (t, more)
+type_word_again version t more h = word_read (type_of version) kind.UnknownWord (type_word t) t more h
+
+-- ---- the values of an attribute, from its bytes
+
+long_ext : (t : NcType) (v : Value) → length (ext t v) ≡ size_of t
+long_ext Byte v = refl
+long_ext Char v = refl
+long_ext Short v = refl
+long_ext Int v = refl
+long_ext Float v = refl
+long_ext Double v = refl
+long_ext UByte v = refl
+long_ext UShort v = refl
+long_ext UInt v = refl
+long_ext Int64 v = refl
+long_ext UInt64 v = refl
+
+abbrev seen : NcType → ℕ → List ℕ → List (Option Value)
+seen t n bytes = map (λ b. Some (val t b)) (pieces n (size_of t) bytes)
+
+-- values of which each fits, from their bytes
+seen_again : {A : Type 0} (t : NcType) (h : A → Value) (test : A → Bool) → ((x : A) → test x ≡ true → fits t (h x) ≡ true) → (xs : List A) → list_all test xs ≡ true
+    → seen t (length xs) (flat_map (λ x. ext t (h x)) xs) ≡ map (λ x. Some (h x)) xs
+seen_again t h test each [] all = refl
+seen_again t h test each (x ∷ xs) all =
+    let both = and_parts (test x) (list_all test xs) all in
+    let rest = flat_map (λ y. ext t (h y)) xs in
+    let front : take (size_of t) (ext t (h x) ++ rest) ≡ ext t (h x) = take_at (ext t (h x)) rest (size_of t) (long_ext t (h x)) in
+    let back : drop (size_of t) (ext t (h x) ++ rest) ≡ rest = drop_at (ext t (h x)) rest (size_of t) (long_ext t (h x)) in
+    ap (λ (bs : List ℕ). Some (val t bs) ∷ seen t (length xs) (drop (size_of t) (ext t (h x) ++ rest))) front
+    ∙ (ap (λ (bs : List ℕ). Some (val t (ext t (h x))) ∷ seen t (length xs) bs) back
+    ∙ (ap (λ (v : Value). Some v ∷ seen t (length xs) rest) (val-ext t (h x) (each x both.0))
+    ∙ ap (λ (vs : List (Option Value)). Some (h x) ∷ vs) (seen_again t h test each xs both.1)))
+
+numbers_of : (zs : List ℤ) → map number_in (map (λ z. Some (value.Number z)) zs) ≡ zs
+numbers_of [] = refl
+numbers_of (z ∷ zs) = ap (λ (ys : List ℤ). z ∷ ys) (numbers_of zs)
+
+chars_of : (cs : List ℕ) → map code_in (map (λ c. Some (value.Char c)) cs) ≡ cs
+chars_of [] = refl
+chars_of (c ∷ cs) = ap (λ (ys : List ℕ). c ∷ ys) (chars_of cs)
+
+bits_of : (ns : List ℕ) → map code_in (map (λ n. Some (value.Bits n)) ns) ≡ ns
+bits_of [] = refl
+bits_of (n ∷ ns) = ap (λ (ys : List ℕ). n ∷ ys) (bits_of ns)
+
+-- what is printed of an attribute's values is read as its values
+pub record AttrShown (n : List ℕ) (t : NcType) (vs : Values) : Type 0 where
+  pub good : list_all is_good (value_tokens (attr_values (attr_of n t vs))) ≡ true
+  pub again : (before : ℕ) → before + count_of vs ≤ most_values
+      → (us : Values) × (values (Some t) before (value_tokens (attr_values (attr_of n t vs))) ≡ Ok us) × (attr_of n t us ≡ attr_of n t vs)
+
+-- values that are shown as they are
+as_they_are : (n : List ℕ) (t : NcType) (before : ℕ) (vs : Values) → attr_values (attr_of n t vs) ≡ vs → Fitting (Some t) before vs → AttrShown n t vs
+as_they_are n t before vs same fit = record {
+      good = ap (λ (us : Values). list_all is_good (value_tokens us)) same ∙ values_good (Some t) vs fit.are;
+      again = λ now few. (
+          vs,
+          ap (λ (us : Values). values (Some t) now (value_tokens us)) same
+          ∙ values_again (Some t) now vs (record { are = fit.are; room = record { all = few; own = λ none. absurd (cc) } }),
+          refl,
+        );
+    }
+
+gathered_numbers : (c : Class) (os : List (Option Value)) → are_numbers c ≡ true → gathered c os ≡ Numbers (map number_in os)
+gathered_numbers class.Signed os h = refl
+gathered_numbers class.Unsigned os h = refl
+gathered_numbers class.Text os h = absurd (cc)
+gathered_numbers class.Pattern os h = absurd (cc)
+
+gathered_text : (c : Class) (os : List (Option Value)) → are_text c ≡ true → gathered c os ≡ Text (map code_in os)
+gathered_text class.Text os h = refl
+gathered_text class.Signed os h = absurd (cc)
+gathered_text class.Unsigned os h = absurd (cc)
+gathered_text class.Pattern os h = absurd (cc)
+
+gathered_bits : (c : Class) (os : List (Option Value)) → are_patterns c ≡ true → gathered c os ≡ Bits (map code_in os)
+gathered_bits class.Pattern os h = refl
+gathered_bits class.Text os h = absurd (cc)
+gathered_bits class.Signed os h = absurd (cc)
+gathered_bits class.Unsigned os h = absurd (cc)
+
+nothing_shown : (n : List ℕ) (t : NcType) (c : Class) → class_of t ≡ c → AttrShown n t (Numbers [])
+nothing_shown n t class.Signed e = record {
+      good = ap (λ (x : Class). list_all is_good (value_tokens (gathered x []))) e;
+      again = λ now few. (Numbers [], ap (λ (x : Class). values (Some t) now (value_tokens (gathered x []))) e, refl);
+    }
+nothing_shown n t class.Unsigned e = record {
+      good = ap (λ (x : Class). list_all is_good (value_tokens (gathered x []))) e;
+      again = λ now few. (Numbers [], ap (λ (x : Class). values (Some t) now (value_tokens (gathered x []))) e, refl);
+    }
+nothing_shown n t class.Pattern e = record {
+      good = ap (λ (x : Class). list_all is_good (value_tokens (gathered x []))) e;
+      again = λ now few. (Numbers [], ap (λ (x : Class). values (Some t) now (value_tokens (gathered x []))) e, refl);
+    }
+nothing_shown n t class.Text e = record {
+      good = ap (λ (x : Class). list_all is_good (value_tokens (gathered x []))) e;
+      again = λ now few. (
+          Text [],
+          ap (λ (x : Class). values (Some t) now (value_tokens (gathered x []))) e
+          ∙ values_again (Some t) now (Text []) (record { are = (refl, ap are_text e); room = record { all = few; own = λ none. absurd (cc) } }),
+          refl,
+        );
+    }
+
+numbers_shown : (n : List ℕ) (t : NcType) (before : ℕ) (zs : List ℤ) → Fitting (Some t) before (Numbers zs) → AttrShown n t (Numbers zs)
+numbers_shown n t before [] fit = nothing_shown n t (class_of t) refl
+numbers_shown n t before (z ∷ zs) fit =
+    let os = seen t (length (z ∷ zs)) (external_bytes t (Numbers (z ∷ zs))) in
+    let same : os ≡ map (λ y. Some (value.Number y)) (z ∷ zs) = seen_again t (λ y. value.Number y) (is_fit_number (Some t)) (λ y h. (and_parts _ _ h).1) (z ∷ zs) fit.are.0 in
+    as_they_are n t before (Numbers (z ∷ zs))
+    (gathered_numbers (class_of t) os (fit.are.1 (omega arith)) ∙ ap (λ (ys : List ℤ). Numbers ys) (ap (map number_in) same ∙ numbers_of (z ∷ zs))) fit
+
+bits_shown : (n : List ℕ) (t : NcType) (before : ℕ) (ns : List ℕ) → Fitting (Some t) before (Bits ns) → AttrShown n t (Bits ns)
+bits_shown n t before ns fit =
+    let os = seen t (length ns) (external_bytes t (Bits ns)) in
+    let same : os ≡ map (λ y. Some (value.Bits y)) ns = seen_again t (λ y. value.Bits y) (is_fit_pattern (Some t)) (λ y h. (and_parts _ _ h).1) ns fit.are.0 in
+    as_they_are n t before (Bits ns) (gathered_bits (class_of t) os fit.are.2 ∙ ap (λ (ys : List ℕ). Bits ys) (ap (map code_in) same ∙ bits_of ns)) fit
+
+char_fits : (t : NcType) → are_text (class_of t) ≡ true → (c : ℕ) → is_byte c ≡ true → fits t (value.Char c) ≡ true
+char_fits Char h c b = b
+char_fits Byte h c b = absurd (cc)
+char_fits Short h c b = absurd (cc)
+char_fits Int h c b = absurd (cc)
+char_fits Float h c b = absurd (cc)
+char_fits Double h c b = absurd (cc)
+char_fits UByte h c b = absurd (cc)
+char_fits UShort h c b = absurd (cc)
+char_fits UInt h c b = absurd (cc)
+char_fits Int64 h c b = absurd (cc)
+char_fits UInt64 h c b = absurd (cc)
+
+text_shown : (n : List ℕ) (t : NcType) (before : ℕ) (cs : List ℕ) → Fitting (Some t) before (Text cs) → AttrShown n t (Text cs)
+text_shown n t before cs fit =
+    let os = seen t (length cs) (external_bytes t (Text cs)) in
+    let same : os ≡ map (λ y. Some (value.Char y)) cs = seen_again t (λ y. value.Char y) is_byte (char_fits t fit.are.1) cs fit.are.0 in
+    as_they_are n t before (Text cs) (gathered_text (class_of t) os fit.are.1 ∙ ap (λ (ys : List ℕ). Text ys) (ap (map code_in) same ∙ chars_of cs)) fit
+
+values_shown : (n : List ℕ) (t : NcType) (before : ℕ) (vs : Values) → Fitting (Some t) before vs → AttrShown n t vs
+values_shown n t before (Numbers zs) fit = numbers_shown n t before zs fit
+values_shown n t before (Text cs) fit = text_shown n t before cs fit
+values_shown n t before (Bits ns) fit = bits_shown n t before ns fit
+
+-- ---- attributes
+
+-- what follows the owner
+abbrev pub attr_tokens : Attr → List Word
+attr_tokens a = Plain a.name ∷ Plain (type_word a.kind) ∷ value_tokens (attr_values a)
+
+pub attr_spelled : (a : Attr) → map spelling (attr_tokens a) ≡ a.name ∷ type_word a.kind ∷ shown_values (attr_values a)
+attr_spelled a = ap (λ (ws : List (List ℕ)). a.name ∷ type_word a.kind ∷ ws) (values_spelled (attr_values a))
+
+-- the attribute, printed, is read again wherever its owner has none of its name
+pub record AttrAgain (version : ℕ) (a : Attr) : Type 0 where
+  pub good : list_all is_good (attr_tokens a) ≡ true
+  pub again : (titles : List Title) (before : ℕ) (owner : List ℕ) → list_any (same_title (owner, a.name)) titles ≡ false → before + a.count ≤ most_values
+      → attribute version titles before owner (attr_tokens a) ≡ Ok a
+
+-- an attribute of this owner, after these titles and so many values
+pub record AttrRead (version : ℕ) (titles : List Title) (before : ℕ) (owner : List ℕ) (a : Attr) : Type 0 where
+  pub same : AttrAgain version a
+  pub fresh : list_any (same_title (owner, a.name)) titles ≡ false
+  pub few : before + a.count ≤ most_values
+
+attr_same : (version : ℕ) (n : List ℕ) (t : NcType) (vs : Values) → is_name n ≡ true → type_of version (type_word t) ≡ Some t → AttrShown n t vs → AttrAgain version (attr_of n t vs)
+attr_same version n t vs hn ht hv =
+    let a = attr_of n t vs in
+    let rest = value_tokens (attr_values a) in
+    record {
+      good = and_from _ _ (name_plain n hn) (and_from _ _ (type_plain t) hv.good);
+      again = λ titles before owner fresh few.
+          let r = hv.again before few in
+          go_on (attribute_name titles owner (Plain n ∷ Plain (type_word t) ∷ rest)) _ (n, Plain (type_word t) ∷ rest) a
+          (go_on (name (Plain n ∷ Plain (type_word t) ∷ rest)) _ (n, Plain (type_word t) ∷ rest) (n, Plain (type_word t) ∷ rest) (name_again n (Plain (type_word t) ∷ rest) hn)
+          (go_on (refuse_if (list_any (same_title (owner, n)) titles) kind.TwiceNamed) _ tt (n, Plain (type_word t) ∷ rest) (passed _ _ fresh) refl))
+          (go_on (reads_as (type_of version) kind.UnknownWord (Plain (type_word t) ∷ rest)) _ (t, rest) a (type_word_again version t rest ht)
+          (go_on (values (Some t) before rest) _ r.0 a r.1 (ap (λ (x : Attr). Ok x) r.2)));
+    }
+
+pub attr_read : (version : ℕ) (titles : List Title) (before : ℕ) (owner : List ℕ) (ws : List Word) (a : Attr)
+    → before ≤ most_values → list_all is_read ws ≡ true → attribute version titles before owner ws ≡ Ok a → AttrRead version titles before owner a
+attr_read version titles before owner ws a low read h =
+    let n = went (attribute_name titles owner ws) _ a h in
+    let t = went (reads_as (type_of version) kind.UnknownWord n.value.1) _ a n.rest in
+    let vs = went (values (Some t.value.0) before t.value.1) _ a t.rest in
+    let m = went (name ws) _ n.value n.first in
+    let u = went (refuse_if (list_any (same_title (owner, m.value.0)) titles) kind.TwiceNamed) _ n.value m.rest in
+    let same : m.value ≡ n.value = same_ok m.value n.value u.rest in
+    let fresh = subst (λ (x : List ℕ × List Word). list_any (same_title (owner, x.0)) titles ≡ false) same (not_refused _ _ u.value u.first) in
+    let named = subst (λ (x : List ℕ × List Word). is_name x.0 ≡ true) same (name_read ws m.value m.first) in
+    let read_name = subst (λ (x : List ℕ × List Word). list_all is_read x.1 ≡ true) same (kept is_read name_of_text kind.BadName ws m.value m.first read) in
+    let read_type = kept is_read (type_of version) kind.UnknownWord n.value.1 t.value t.first read_name in
+    let fit = values_fit (Some t.value.0) before t.value.1 vs.value low read_type vs.first in
+    subst (AttrRead version titles before owner) (same_ok (attr_of n.value.0 t.value.0 vs.value) a vs.rest) (record {
+      same = attr_same version n.value.0 t.value.0 vs.value named (type_read version n.value.1 t.value t.first) (values_shown n.value.0 t.value.0 before vs.value fit);
+      fresh = fresh;
+      few = fit.room.all;
+    })

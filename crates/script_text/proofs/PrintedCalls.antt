@@ -1,0 +1,422 @@
+-- A call that is printed is read as the same call.
+use Rattle.std.proofs.Common.{◌≡◌, ◌⊎◌, ◌∙◌, ℕ, zero, suc, ◌+◌, ◌^◌, ◌≤◌, ◌<◌, List, [], ◌∷◌, ◌++◌, map, length, find, Bool, true, false, not, cond, nat_lt, ◌==◌, ◌&&◌, ◌||◌, Option, Some, None, Result, Ok, Err, refl, sym, ap, subst, append-nil, arith, bytes_eq, codes, decimal}
+use Rattle.std.specs.List.{list_all, list_any}
+use Rattle.std.proofs.lemmas.Bool.{and_parts, and_from}
+use borrow.Author.Tests.{ltb-true}
+use Rattle.nc_base.specs.declared.errors.ScriptKind.{ScriptKind}
+use Rattle.nc_base.specs.declared.errors.ScriptKind.TheVariants as kind
+use Rattle.nc_base.specs.declared.request.Values.{Values}
+use Rattle.nc_base.specs.declared.request.Values.TheVariants.{Numbers, Text, Bits}
+use Rattle.nc_base.specs.declared.request.Form.{Form}
+use Rattle.nc_base.specs.declared.request.Form.TheVariants as form
+use Rattle.nc_base.specs.declared.request.Given.{Given}
+use Rattle.nc_base.specs.declared.request.PostKind.{PostKind}
+use Rattle.nc_base.specs.declared.request.PostKind.TheVariants.{Iput, Iget, Bput}
+use Rattle.nc_base.specs.declared.request.Choice.{Choice}
+use Rattle.nc_base.specs.declared.request.Call.{Call}
+use Rattle.nc_base.specs.declared.request.Call.TheVariants as call
+use Rattle.serial_spec.specs.Lawful.{most_values, values_in_call}
+use Rattle.serial_spec.specs.Request.{count_of}
+use Rattle.script_spec.specs.Texts.{call_word, form_word, kind_word, with_all}
+use Rattle.script_spec.specs.Shown.{call_words, region_words, shown_values, size_list}
+use Rattle.script_spec.specs.ScriptWords.{Word, Plain, Quoted, Broken, is_name}
+use Rattle.script_spec.specs.ScriptSteps.{◌>>=◌, refuse_if, or_fault, bare, reads_as, size, name, name_of_text, ended, whole}
+use Rattle.script_spec.specs.ScriptValues.{values}
+use Rattle.script_spec.specs.ScriptWords.{size_of_text}
+use Rattle.script_spec.specs.ScriptCalls.{after_prefix, form_of_text, form_and_all, region, id_of_text, choice, posted, is_posted, new_id, put_call, get_call, post_values, post_call, fill_call, attach_call, inquiry, lone_calls, lone_call, other_call, plain_call, post_of_text, call_of}
+use Rattle.script_text.proofs.Steps.{Went, went, go_on, same_ok, not_refused, passed, no_fault, faultless, read_word, word_read, is_end, whole_value}
+use Rattle.script_text.proofs.Lexing.{spelling, is_plain, is_good}
+use Rattle.script_text.proofs.Lines.{all_joined}
+use Rattle.script_text.proofs.Numerals.{name_plain, size_plain}
+use Rattle.script_text.proofs.PrintedValues.{value_tokens, values_spelled, is_read, AreFit, HasRoom, Fitting, values_fit, values_again, values_good}
+use Rattle.script_text.proofs.PrintedRegions.{kept, name_read, name_again, size_read, size_word, region_tokens, region_spelled, RegionAgain, region_again, region_kept, id_bound, id_again, id_plain, choice_tokens, choice_spelled, ChoiceAgain, choice_read}
+
+-- ---- calls as they are printed
+
+-- what follows a call's word
+abbrev pub call_tokens : Call → List Word
+call_tokens (call.Put all n g vs) = Plain n ∷ (region_tokens g.form g ++ value_tokens vs)
+call_tokens (call.Get all n g) = Plain n ∷ region_tokens g.form g
+call_tokens (call.Post id k n g vs) = Plain (decimal id) ∷ Plain n ∷ (region_tokens g.form g ++ value_tokens vs)
+call_tokens (call.Wait all c) = choice_tokens c
+call_tokens (call.Cancel c) = choice_tokens c
+call_tokens (call.Attach n) = Plain (decimal n) ∷ []
+call_tokens (call.InqDim n) = Plain n ∷ []
+call_tokens (call.FillRec n number share ranks) = Plain n ∷ Plain (decimal number) ∷ []
+call_tokens call.Detach = []
+call_tokens call.BeginIndep = []
+call_tokens call.EndIndep = []
+call_tokens call.SyncRecords = []
+
+both_spelled : (g : Given) (vs : Values) → map spelling (region_tokens g.form g ++ value_tokens vs) ≡ region_words g ++ shown_values vs
+both_spelled g vs =
+    joined_spelled (region_tokens g.form g) (value_tokens vs)
+    ∙ (ap (λ (ws : List (List ℕ)). ws ++ map spelling (value_tokens vs)) (region_spelled g.form g) ∙ ap (λ (ws : List (List ℕ)). region_words g ++ ws) (values_spelled vs))
+  where
+    joined_spelled : (xs ys : List Word) → map spelling (xs ++ ys) ≡ map spelling xs ++ map spelling ys
+    joined_spelled [] ys = refl
+    joined_spelled (x ∷ xs) ys = ap (λ (ws : List (List ℕ)). spelling x ∷ ws) (joined_spelled xs ys)
+
+pub call_spelled : (c : Call) → map spelling (call_tokens c) ≡ call_words c
+call_spelled (call.Put all n g vs) = ap (λ (ws : List (List ℕ)). n ∷ ws) (both_spelled g vs)
+call_spelled (call.Get all n g) = ap (λ (ws : List (List ℕ)). n ∷ ws) (region_spelled g.form g)
+call_spelled (call.Post id k n g vs) = ap (λ (ws : List (List ℕ)). decimal id ∷ n ∷ ws) (both_spelled g vs)
+call_spelled (call.Wait all c) = choice_spelled c
+call_spelled (call.Cancel c) = choice_spelled c
+call_spelled (call.Attach n) = refl
+call_spelled (call.InqDim n) = refl
+call_spelled (call.FillRec n number share ranks) = refl
+call_spelled call.Detach = refl
+call_spelled call.BeginIndep = refl
+call_spelled call.EndIndep = refl
+call_spelled call.SyncRecords = refl
+
+-- ---- the words of calls
+
+with_all_plain : (all : Bool) (f : Form) → (is_plain (with_all all (codes "put_" ++ form_word f)) ≡ true) × (is_plain (with_all all (codes "get_" ++ form_word f)) ≡ true)
+with_all_plain true form.Var1 = (refl, refl)
+with_all_plain true form.Var = (refl, refl)
+with_all_plain true form.Vara = (refl, refl)
+with_all_plain true form.Vars = (refl, refl)
+with_all_plain true form.Varm = (refl, refl)
+with_all_plain true form.Varn = (refl, refl)
+with_all_plain false form.Var1 = (refl, refl)
+with_all_plain false form.Var = (refl, refl)
+with_all_plain false form.Vara = (refl, refl)
+with_all_plain false form.Vars = (refl, refl)
+with_all_plain false form.Varm = (refl, refl)
+with_all_plain false form.Varn = (refl, refl)
+
+post_plain : (k : PostKind) (f : Form) → is_plain (kind_word k ++ form_word f) ≡ true
+post_plain Iput form.Var1 = refl
+post_plain Iput form.Var = refl
+post_plain Iput form.Vara = refl
+post_plain Iput form.Vars = refl
+post_plain Iput form.Varm = refl
+post_plain Iput form.Varn = refl
+post_plain Iget form.Var1 = refl
+post_plain Iget form.Var = refl
+post_plain Iget form.Vara = refl
+post_plain Iget form.Vars = refl
+post_plain Iget form.Varm = refl
+post_plain Iget form.Varn = refl
+post_plain Bput form.Var1 = refl
+post_plain Bput form.Var = refl
+post_plain Bput form.Vara = refl
+post_plain Bput form.Vars = refl
+post_plain Bput form.Varm = refl
+post_plain Bput form.Varn = refl
+
+wait_plain : (all : Bool) → is_plain (with_all all (codes "wait")) ≡ true
+wait_plain true = refl
+wait_plain false = refl
+
+pub call_plain : (c : Call) → is_plain (call_word c) ≡ true
+call_plain (call.Put all n g vs) = (with_all_plain all g.form).0
+call_plain (call.Get all n g) = (with_all_plain all g.form).1
+call_plain (call.Post id k n g vs) = post_plain k g.form
+call_plain (call.Wait all c) = wait_plain all
+call_plain (call.Cancel c) = refl
+call_plain (call.Attach n) = refl
+call_plain (call.InqDim n) = refl
+call_plain (call.FillRec n number share ranks) = refl
+call_plain call.Detach = refl
+call_plain call.BeginIndep = refl
+call_plain call.EndIndep = refl
+call_plain call.SyncRecords = refl
+
+module _ (ranks r : ℕ) (own : List Call) (before : ℕ) (ws : List Word) where
+  put_word : (all : Bool) (f : Form) → call_of ranks r own before (with_all all (codes "put_" ++ form_word f)) ws ≡ put_call all f before ws
+  put_word true form.Var1 = refl
+  put_word true form.Var = refl
+  put_word true form.Vara = refl
+  put_word true form.Vars = refl
+  put_word true form.Varm = refl
+  put_word true form.Varn = refl
+  put_word false form.Var1 = refl
+  put_word false form.Var = refl
+  put_word false form.Vara = refl
+  put_word false form.Vars = refl
+  put_word false form.Varm = refl
+  put_word false form.Varn = refl
+
+  get_word : (all : Bool) (f : Form) → call_of ranks r own before (with_all all (codes "get_" ++ form_word f)) ws ≡ get_call all f ws
+  get_word true form.Var1 = refl
+  get_word true form.Var = refl
+  get_word true form.Vara = refl
+  get_word true form.Vars = refl
+  get_word true form.Varm = refl
+  get_word true form.Varn = refl
+  get_word false form.Var1 = refl
+  get_word false form.Var = refl
+  get_word false form.Vara = refl
+  get_word false form.Vars = refl
+  get_word false form.Varm = refl
+  get_word false form.Varn = refl
+
+  post_word : (k : PostKind) (f : Form) → call_of ranks r own before (kind_word k ++ form_word f) ws ≡ post_call k (posted own) f before ws
+  post_word Iput form.Var1 = refl
+  post_word Iput form.Var = refl
+  post_word Iput form.Vara = refl
+  post_word Iput form.Vars = refl
+  post_word Iput form.Varm = refl
+  post_word Iput form.Varn = refl
+  post_word Iget form.Var1 = refl
+  post_word Iget form.Var = refl
+  post_word Iget form.Vara = refl
+  post_word Iget form.Vars = refl
+  post_word Iget form.Varm = refl
+  post_word Iget form.Varn = refl
+  post_word Bput form.Var1 = refl
+  post_word Bput form.Var = refl
+  post_word Bput form.Vara = refl
+  post_word Bput form.Vars = refl
+  post_word Bput form.Varm = refl
+  post_word Bput form.Varn = refl
+
+  wait_word : (all : Bool) → call_of ranks r own before (with_all all (codes "wait")) ws ≡ (choice ws >>= λ c. Ok (call.Wait all c))
+  wait_word true = refl
+  wait_word false = refl
+
+-- ---- a call read again
+
+-- the call, printed, is read as this call of rank r after its own calls
+pub record CallAgain (ranks r : ℕ) (own : List Call) (c : Call) : Type 0 where
+  pub good : list_all is_good (call_tokens c) ≡ true
+  pub again : (before : ℕ) → before + values_in_call c ≤ most_values → call_of ranks r own before (call_word c) (call_tokens c) ≡ Ok c
+
+-- such a call after so many values, which has room for its own
+pub record CallRead (ranks r : ℕ) (own : List Call) (before : ℕ) (c : Call) : Type 0 where
+  pub same : CallAgain ranks r own c
+  pub few : before + values_in_call c ≤ most_values
+
+no_values : (ranks r : ℕ) (own : List Call) (before : ℕ) (c : Call) → before ≤ most_values → values_in_call c ≡ 0 → CallAgain ranks r own c → CallRead ranks r own before c
+no_values ranks r own before c low none again = record { same = again; few = omega (arith, none) }
+
+-- the values of a call, wherever it stands
+fitting_at : (vs : Values) (before now : ℕ) → Fitting None before vs → now + count_of vs ≤ most_values → Fitting None now vs
+fitting_at vs before now fit low = record { are = fit.are; room = record { all = low; own = fit.room.own } }
+
+put_same : (ranks r : ℕ) (own : List Call) (all : Bool) (n : List ℕ) (f : Form) (g : Given) (before : ℕ) (vs : Values)
+    → is_name n ≡ true → RegionAgain f g → Fitting None before vs → CallAgain ranks r own (call.Put all n g vs)
+put_same ranks r own all n f g before vs hn hg hv =
+    let region_of = subst (λ k. RegionAgain k g) hg.same_form hg in
+    let rest = region_tokens g.form g ++ value_tokens vs in
+    record {
+      good = and_from _ _ (name_plain n hn) (all_joined is_good (region_tokens g.form g) (value_tokens vs) region_of.good (values_good None vs hv.are));
+      again = λ now low. put_word ranks r own now (Plain n ∷ rest) all g.form
+          ∙ go_on (name (Plain n ∷ rest)) _ (n, rest) (call.Put all n g vs) (name_again n rest hn)
+          (go_on (region g.form rest) _ (g, value_tokens vs) (call.Put all n g vs) (region_of.again (value_tokens vs))
+          (go_on (values None now (value_tokens vs)) _ vs (call.Put all n g vs) (values_again None now vs (fitting_at vs before now hv low)) refl));
+    }
+
+put_read : (ranks r : ℕ) (own : List Call) (all : Bool) (f : Form) (before : ℕ) (ws : List Word) (c : Call)
+    → before ≤ most_values → list_all is_read ws ≡ true → put_call all f before ws ≡ Ok c → CallRead ranks r own before c
+put_read ranks r own all f before ws c low read h =
+    let a = went (name ws) _ c h in
+    let b = went (region f a.value.1) _ c a.rest in
+    let d = went (values None before b.value.1) _ c b.rest in
+    let read_on = region_kept is_read f a.value.1 b.value b.first (kept is_read name_of_text kind.BadName ws a.value a.first read) in
+    let fit = values_fit None before b.value.1 d.value low read_on d.first in
+    subst (CallRead ranks r own before) (same_ok (call.Put all a.value.0 b.value.0 d.value) c d.rest) (record {
+      same = put_same ranks r own all a.value.0 f b.value.0 before d.value (name_read ws a.value a.first) (region_again f a.value.1 b.value b.first) fit;
+      few = fit.room.all;
+    })
+
+get_same : (ranks r : ℕ) (own : List Call) (all : Bool) (n : List ℕ) (f : Form) (g : Given) → is_name n ≡ true → RegionAgain f g → CallAgain ranks r own (call.Get all n g)
+get_same ranks r own all n f g hn hg =
+    let region_of = subst (λ k. RegionAgain k g) hg.same_form hg in
+    let rest = region_tokens g.form g in
+    record {
+      good = and_from _ _ (name_plain n hn) region_of.good;
+      again = λ now low. get_word ranks r own now (Plain n ∷ rest) all g.form
+          ∙ go_on (name (Plain n ∷ rest)) _ (n, rest) (call.Get all n g) (name_again n rest hn)
+          (go_on (region g.form rest) _ (g, []) (call.Get all n g) (ap (region g.form) (sym (append-nil rest)) ∙ region_of.again []) refl);
+    }
+
+get_read : (ranks r : ℕ) (own : List Call) (before : ℕ) (low : before ≤ most_values) (all : Bool) (f : Form) (ws : List Word) (c : Call) → get_call all f ws ≡ Ok c → CallRead ranks r own before c
+get_read ranks r own before low all f ws c h =
+    let a = went (name ws) _ c h in
+    let b = went (region f a.value.1) _ c a.rest in
+    let d = went (ended b.value.1) _ c b.rest in
+    subst (CallRead ranks r own before) (same_ok (call.Get all a.value.0 b.value.0) c d.rest)
+    (no_values ranks r own before _ low refl (get_same ranks r own all a.value.0 f b.value.0 (name_read ws a.value a.first) (region_again f a.value.1 b.value b.first)))
+
+-- the values of a post of this kind
+pub record PostedAgain (k : PostKind) (before : ℕ) (vs : Values) : Type 0 where
+  pub good : list_all is_good (value_tokens vs) ≡ true
+  pub again : (now : ℕ) → now + count_of vs ≤ most_values → post_values k now (value_tokens vs) ≡ Ok vs
+  pub few : before + count_of vs ≤ most_values
+
+put_values : (before : ℕ) (vs : Values) → Fitting None before vs → PostedAgain Iput before vs × PostedAgain Bput before vs
+put_values before vs fit = (
+      record { good = values_good None vs fit.are; again = λ now low. values_again None now vs (fitting_at vs before now fit low); few = fit.room.all },
+      record { good = values_good None vs fit.are; again = λ now low. values_again None now vs (fitting_at vs before now fit low); few = fit.room.all },
+    )
+
+posted_read : (k : PostKind) (before : ℕ) (ws : List Word) (vs : Values) → before ≤ most_values → list_all is_read ws ≡ true → post_values k before ws ≡ Ok vs → PostedAgain k before vs
+posted_read Iget before ws vs low read h = subst (PostedAgain Iget before) (whole_value (Numbers [], ws) vs h).0 (record { good = refl; again = λ now fits. refl; few = omega arith })
+posted_read Iput before ws vs low read h = (put_values before vs (values_fit None before ws vs low read h)).0
+posted_read Bput before ws vs low read h = (put_values before vs (values_fit None before ws vs low read h)).1
+
+post_same : (ranks r : ℕ) (own : List Call) (k : PostKind) (id : ℕ) (n : List ℕ) (f : Form) (g : Given) (before : ℕ) (vs : Values)
+    → id < 2 ^ 32 → is_posted id (posted own) ≡ false → is_name n ≡ true → RegionAgain f g → PostedAgain k before vs → CallAgain ranks r own (call.Post id k n g vs)
+post_same ranks r own k id n f g before vs low fresh hn hg hv =
+    let region_of = subst (λ x. RegionAgain x g) hg.same_form hg in
+    let rest = region_tokens g.form g ++ value_tokens vs in
+    let c = call.Post id k n g vs in
+    record {
+      good = and_from _ _ (id_plain id low) (and_from _ _ (name_plain n hn) (all_joined is_good (region_tokens g.form g) (value_tokens vs) region_of.good hv.good));
+      again = λ now few. post_word ranks r own now (Plain (decimal id) ∷ Plain n ∷ rest) k g.form
+          ∙ go_on (new_id (posted own) (Plain (decimal id) ∷ Plain n ∷ rest)) _ (id, Plain n ∷ rest) c
+          (go_on (reads_as id_of_text kind.BadNumber (Plain (decimal id) ∷ Plain n ∷ rest)) _ (id, Plain n ∷ rest) (id, Plain n ∷ rest) (word_read id_of_text kind.BadNumber (decimal id) id (Plain n ∷ rest) (id_again id low))
+          (go_on (refuse_if (is_posted id (posted own)) kind.TwiceNamed) _ tt (id, Plain n ∷ rest) (passed _ _ fresh) refl))
+          (go_on (name (Plain n ∷ rest)) _ (n, rest) c (name_again n rest hn)
+          (go_on (region g.form rest) _ (g, value_tokens vs) c (region_of.again (value_tokens vs))
+          (go_on (post_values k now (value_tokens vs)) _ vs c (hv.again now few) refl)));
+    }
+
+post_read : (ranks r : ℕ) (own : List Call) (k : PostKind) (f : Form) (before : ℕ) (ws : List Word) (c : Call)
+    → before ≤ most_values → list_all is_read ws ≡ true → post_call k (posted own) f before ws ≡ Ok c → CallRead ranks r own before c
+post_read ranks r own k f before ws c low read h =
+    let i = went (new_id (posted own) ws) _ c h in
+    let a = went (name i.value.1) _ c i.rest in
+    let b = went (region f a.value.1) _ c a.rest in
+    let d = went (post_values k before b.value.1) _ c b.rest in
+    let e = went (reads_as id_of_text kind.BadNumber ws) _ i.value i.first in
+    let u = went (refuse_if (is_posted e.value.0 (posted own)) kind.TwiceNamed) _ i.value e.rest in
+    let same : e.value ≡ i.value = same_ok e.value i.value u.rest in
+    let fresh = subst (λ (x : ℕ × List Word). is_posted x.0 (posted own) ≡ false) same (not_refused _ _ u.value u.first) in
+    let id_read = read_word id_of_text kind.BadNumber ws e.value e.first in
+    let small = subst (λ (x : ℕ × List Word). x.0 < 2 ^ 32) same (id_bound id_read.0 e.value.0 id_read.1) in
+    let read_id = subst (λ (x : ℕ × List Word). list_all is_read x.1 ≡ true) same (kept is_read id_of_text kind.BadNumber ws e.value e.first read) in
+    let read_on = region_kept is_read f a.value.1 b.value b.first (kept is_read name_of_text kind.BadName i.value.1 a.value a.first read_id) in
+    let vs = posted_read k before b.value.1 d.value low read_on d.first in
+    subst (CallRead ranks r own before) (same_ok (call.Post i.value.0 k a.value.0 b.value.0 d.value) c d.rest) (record {
+      same = post_same ranks r own k i.value.0 a.value.0 f b.value.0 before d.value small fresh (name_read i.value.1 a.value a.first) (region_again f a.value.1 b.value b.first) vs;
+      few = vs.few;
+    })
+
+-- ---- calls of no form
+
+wait_read : (ranks r : ℕ) (own : List Call) (before : ℕ) (low : before ≤ most_values) (all : Bool) (ws : List Word) (c : Call) → (choice ws >>= λ x. Ok (call.Wait all x)) ≡ Ok c → CallRead ranks r own before c
+wait_read ranks r own before low all ws c h =
+    let a = went (choice ws) (λ x. Ok (call.Wait all x)) c h in
+    let k = choice_read ws a.value a.first in
+    subst (CallRead ranks r own before) (same_ok (call.Wait all a.value) c a.rest) (no_values ranks r own before _ low refl (record {
+      good = k.good;
+      again = λ now fits. wait_word ranks r own now (choice_tokens a.value) all ∙ go_on (choice (choice_tokens a.value)) (λ x. Ok (call.Wait all x)) a.value (call.Wait all a.value) k.again refl;
+    }))
+
+cancel_read : (ranks r : ℕ) (own : List Call) (before : ℕ) (low : before ≤ most_values) (ws : List Word) (c : Call) → (choice ws >>= λ x. Ok (call.Cancel x)) ≡ Ok c → CallRead ranks r own before c
+cancel_read ranks r own before low ws c h =
+    let a = went (choice ws) (λ x. Ok (call.Cancel x)) c h in
+    let k = choice_read ws a.value a.first in
+    subst (CallRead ranks r own before) (same_ok (call.Cancel a.value) c a.rest) (no_values ranks r own before _ low refl (record {
+      good = k.good;
+      again = λ now fits. go_on (choice (choice_tokens a.value)) (λ x. Ok (call.Cancel x)) a.value (call.Cancel a.value) k.again refl;
+    }))
+
+attach_read : (ranks r : ℕ) (own : List Call) (before : ℕ) (low : before ≤ most_values) (ws : List Word) (c : Call) → attach_call ws ≡ Ok c → CallRead ranks r own before c
+attach_read ranks r own before low ws c h =
+    let a = went (size ws) _ c h in
+    let small = size_read ws a.value a.first in
+    let n = a.value.0 in
+    subst (CallRead ranks r own before) (whole_value (call.Attach n, a.value.1) c a.rest).0 (no_values ranks r own before _ low refl (record {
+      good = and_from _ _ (size_plain n small) refl;
+      again = λ now few. go_on (size (Plain (decimal n) ∷ [])) _ (n, []) (call.Attach n) (size_word n [] small) refl;
+    }))
+
+inquiry_read : (ranks r : ℕ) (own : List Call) (before : ℕ) (low : before ≤ most_values) (ws : List Word) (c : Call) → inquiry ws ≡ Ok c → CallRead ranks r own before c
+inquiry_read ranks r own before low ws c h =
+    let a = went (name ws) _ c h in
+    let hn = name_read ws a.value a.first in
+    let n = a.value.0 in
+    subst (CallRead ranks r own before) (whole_value (call.InqDim n, a.value.1) c a.rest).0 (no_values ranks r own before _ low refl (record {
+      good = and_from _ _ (name_plain n hn) refl;
+      again = λ now few. go_on (name (Plain n ∷ [])) _ (n, []) (call.InqDim n) (name_again n [] hn) refl;
+    }))
+
+fill_read : (ranks r : ℕ) (own : List Call) (before : ℕ) (low : before ≤ most_values) (ws : List Word) (c : Call) → fill_call ranks r ws ≡ Ok c → CallRead ranks r own before c
+fill_read ranks r own before low ws c h =
+    let a = went (name ws) _ c h in
+    let b = went (size a.value.1) _ c a.rest in
+    let d = went (ended b.value.1) _ c b.rest in
+    let hn = name_read ws a.value a.first in
+    let small = size_read a.value.1 b.value b.first in
+    let n = a.value.0 in
+    let k = b.value.0 in
+    subst (CallRead ranks r own before) (same_ok (call.FillRec n k r ranks) c d.rest) (no_values ranks r own before _ low refl (record {
+      good = and_from _ _ (name_plain n hn) (and_from _ _ (size_plain k small) refl);
+      again = λ now few. go_on (name (Plain n ∷ Plain (decimal k) ∷ [])) _ (n, Plain (decimal k) ∷ []) (call.FillRec n k r ranks) (name_again n (Plain (decimal k) ∷ []) hn)
+          (go_on (size (Plain (decimal k) ∷ [])) _ (k, []) (call.FillRec n k r ranks) (size_word k [] small) refl);
+    }))
+
+lone_read : (ranks r : ℕ) (own : List Call) (before : ℕ) (low : before ≤ most_values) (w : List ℕ) (ws : List Word) (c : Call) → lone_call w ws ≡ Ok c → CallRead ranks r own before c
+lone_read ranks r own before low w ws c h = by (bytes_eq w (codes "buffer_detach")) (bytes_eq w (codes "begin_indep_data")) (bytes_eq w (codes "end_indep_data")) (bytes_eq w (codes "sync_numrecs")) h
+  where
+    by : (i j k l : Bool)
+        → elim (cond {A = Option (List ℕ × Call)} i (Some (codes "buffer_detach", call.Detach)) (cond j (Some (codes "begin_indep_data", call.BeginIndep)) (cond k (Some (codes "end_indep_data", call.EndIndep)) (cond l (Some (codes "sync_numrecs", call.SyncRecords)) None)))) as (λ x. Result Call ScriptKind) [
+      | None ↦ Err kind.UnknownWord
+      | Some p ↦ whole (p.1, ws)
+    ] ≡ Ok c → CallRead ranks r own before c
+    by true j k l e = subst (CallRead ranks r own before) (whole_value (call.Detach, ws) c e).0 (no_values ranks r own before _ low refl (record { good = refl; again = λ now fits. refl }))
+    by false true k l e = subst (CallRead ranks r own before) (whole_value (call.BeginIndep, ws) c e).0 (no_values ranks r own before _ low refl (record { good = refl; again = λ now fits. refl }))
+    by false false true l e = subst (CallRead ranks r own before) (whole_value (call.EndIndep, ws) c e).0 (no_values ranks r own before _ low refl (record { good = refl; again = λ now fits. refl }))
+    by false false false true e = subst (CallRead ranks r own before) (whole_value (call.SyncRecords, ws) c e).0 (no_values ranks r own before _ low refl (record { good = refl; again = λ now fits. refl }))
+    by false false false false e = absurd (cc)
+
+other_read : (ranks r : ℕ) (own : List Call) (before : ℕ) (low : before ≤ most_values) (w : List ℕ) (ws : List Word) (c : Call) → other_call ranks r w ws ≡ Ok c → CallRead ranks r own before c
+other_read ranks r own before low w ws c h = by (bytes_eq w (codes "buffer_attach")) (bytes_eq w (codes "inq_dimlen")) (bytes_eq w (codes "fill_var_rec")) h
+  where
+    by : (i j k : Bool) → elim i as (λ x. Result Call ScriptKind) [
+      | true ↦ attach_call ws
+      | false ↦ elim j as (λ x. Result Call ScriptKind) [
+        | true ↦ inquiry ws
+        | false ↦ elim k as (λ x. Result Call ScriptKind) [ true ↦ fill_call ranks r ws | false ↦ lone_call w ws ]
+      ]
+    ] ≡ Ok c → CallRead ranks r own before c
+    by true j k e = attach_read ranks r own before low ws c e
+    by false true k e = inquiry_read ranks r own before low ws c e
+    by false false true e = fill_read ranks r own before low ws c e
+    by false false false e = lone_read ranks r own before low w ws c e
+
+plain_read : (ranks r : ℕ) (own : List Call) (before : ℕ) (low : before ≤ most_values) (w : List ℕ) (ws : List Word) (c : Call) → plain_call ranks r w ws ≡ Ok c → CallRead ranks r own before c
+plain_read ranks r own before low w ws c h = by (bytes_eq w (codes "wait")) (bytes_eq w (codes "wait_all")) (bytes_eq w (codes "cancel")) h
+  where
+    by : (i j k : Bool) → elim i as (λ x. Result Call ScriptKind) [
+      | true ↦ (choice ws >>= λ x. Ok (call.Wait false x))
+      | false ↦ elim j as (λ x. Result Call ScriptKind) [
+        | true ↦ (choice ws >>= λ x. Ok (call.Wait true x))
+        | false ↦ elim k as (λ x. Result Call ScriptKind) [ true ↦ (choice ws >>= λ x. Ok (call.Cancel x)) | false ↦ other_call ranks r w ws ]
+      ]
+    ] ≡ Ok c → CallRead ranks r own before c
+    by true j k e = wait_read ranks r own before low false ws c e
+    by false true k e = wait_read ranks r own before low true ws c e
+    by false false true e = cancel_read ranks r own before low ws c e
+    by false false false e = other_read ranks r own before low w ws c e
+
+pub call_read : (ranks r : ℕ) (own : List Call) (before : ℕ) (w : List ℕ) (ws : List Word) (c : Call)
+    → before ≤ most_values → list_all is_read ws ≡ true → call_of ranks r own before w ws ≡ Ok c → CallRead ranks r own before c
+call_read ranks r own before w ws c low read h = by (after_prefix (codes "put_") w) (after_prefix (codes "get_") w) (post_of_text w) h
+  where
+    by : (i j : Option (List ℕ)) (k : Option (PostKind × List ℕ)) → elim i as (λ x. Result Call ScriptKind) [
+      | Some rest ↦ (or_fault kind.UnknownWord (form_and_all rest) >>= λ f. put_call f.1 f.0 before ws)
+      | None ↦ elim j as (λ x. Result Call ScriptKind) [
+        | Some rest ↦ (or_fault kind.UnknownWord (form_and_all rest) >>= λ f. get_call f.1 f.0 ws)
+        | None ↦ elim k as (λ x. Result Call ScriptKind) [
+          | Some p ↦ (or_fault kind.UnknownWord (form_of_text p.1) >>= λ f. post_call p.0 (posted own) f before ws)
+          | None ↦ plain_call ranks r w ws
+        ]
+      ]
+    ] ≡ Ok c → CallRead ranks r own before c
+    by (Some rest) j k e =
+        let a = went (or_fault kind.UnknownWord (form_and_all rest)) (λ f. put_call f.1 f.0 before ws) c e in
+        put_read ranks r own a.value.1 a.value.0 before ws c low read a.rest
+    by None (Some rest) k e =
+        let a = went (or_fault kind.UnknownWord (form_and_all rest)) (λ f. get_call f.1 f.0 ws) c e in
+        get_read ranks r own before low a.value.1 a.value.0 ws c a.rest
+    by None None (Some p) e =
+        let a = went (or_fault kind.UnknownWord (form_of_text p.1)) (λ f. post_call p.0 (posted own) f before ws) c e in
+        post_read ranks r own p.0 a.value before ws c low read a.rest
+    by None None None e = plain_read ranks r own before low w ws c e

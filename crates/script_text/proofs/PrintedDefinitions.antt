@@ -1,0 +1,240 @@
+-- Hints, dimensions and variables that are printed are read again.
+use Rattle.std.proofs.Common.{◌≡◌, ◌⊎◌, ◌∙◌, ℕ, zero, suc, ◌+◌, ◌-◌, ◌%◌, ◌^◌, ◌≤◌, ◌<◌, List, [], ◌∷◌, ◌++◌, map, position, length, drop, Bool, true, false, not, cond, nat_lt, nat_le, ◌==◌, ◌&&◌, ◌||◌, Option, Some, None, option_map, is_some, slice_get, slice_set, unwrap_or, Result, Ok, Err, refl, sym, ap, subst, ⊎_elim, arith, bytes_eq, codes, decimal}
+use Rattle.std.specs.List.{list_all, list_any, position_or_len, prefix_len}
+use Rattle.std.proofs.lemmas.Bool.{and_parts, and_from, and_right, cond-true, cond-false, cases_Bool, or_cases, ne_eqb, eq-eqb}
+use Rattle.std.proofs.lemmas.Slice.Eq.{bytes_eq-Decides}
+use borrow.Author.Tests.{ltb-true, lt-ltb, leb-true, le-leb, eqb-true, not-false}
+use Rattle.nc_base.specs.declared.errors.ScriptKind.{ScriptKind}
+use Rattle.nc_base.specs.declared.errors.ScriptKind.TheVariants as kind
+use Rattle.nc_base.specs.declared.errors.LimitName.TheVariants as limit
+use Rattle.nc_base.specs.declared.header.NcType.{NcType}
+use Rattle.nc_base.specs.declared.header.Dim.{Dim}
+use Rattle.serial_spec.specs.Limits.{most_dims, most_dims_of_var, most_vars}
+use Rattle.script_spec.specs.Texts.{type_word}
+use Rattle.script_spec.specs.Shown.{bracketed}
+use Rattle.script_spec.specs.ScriptWords.{Word, Plain, Quoted, Broken, is_name, below, size_of_text, between_brackets, parts, all_some}
+use Rattle.script_spec.specs.ScriptSteps.{◌>>=◌, refuse_if, or_fault, reads_as, name, ended, whole}
+use Rattle.script_spec.specs.ScriptDefinitions.{HintForm, Within, Either, hint_forms, hint_of_text, hint_form, number_within, one_of_two, hint_value, hint_in, hint_line, ranks_line, type_of, is_among, length_limit, length_of_text, is_unlimited, dim_names, dim_line, var_head, name_list}
+use Rattle.script_text.proofs.Steps.{Went, went, go_on, same_ok, not_refused, passed, Read, read_word, word_read, whole_value}
+use Rattle.script_text.proofs.Lexing.{spelling, is_plain, is_good}
+use Rattle.script_text.proofs.Lines.{all_more}
+use Rattle.script_text.proofs.Numerals.{below_bound, below_again, size_bound, size_again, size_plain, decimal_word, brackets_again, parts_again, bracketed_plain, is_item, name_item, name_plain}
+use Rattle.script_text.proofs.PrintedValues.{not_letters}
+use Rattle.script_text.proofs.PrintedRegions.{name_read, name_again}
+use Rattle.script_text.proofs.PrintedAttributes.{type_plain, type_read, type_word_again}
+
+-- ---- hints
+
+abbrev pub is_value_of : HintForm → ℕ → Bool
+is_value_of (Within low high unit) n = nat_le low n && nat_le n high && n % unit == 0
+is_value_of (Either zero_word one_word) n = n == 0 || n == 1
+
+within_read : (low high unit : ℕ) (w : List ℕ) (n : ℕ) → number_within low high unit w ≡ Some n → is_value_of (Within low high unit) n ≡ true
+within_read low high unit w n h = by (size_of_text w) h
+  where
+    by_test : (m : ℕ) (b : Bool) → (nat_le low m && nat_le m high && m % unit == 0) ≡ b → cond {A = Option ℕ} b (Some m) None ≡ Some n → (nat_le low n && nat_le n high && n % unit == 0) ≡ true
+    by_test m true e k = let same : m ≡ n = cc in subst (λ x. (nat_le low x && nat_le x high && x % unit == 0) ≡ true) same e
+    by_test m false e k = absurd (cc)
+    by : (o : Option ℕ) → elim o as (λ x. Option ℕ) [ None ↦ None | Some m ↦ cond (nat_le low m && nat_le m high && m % unit == 0) (Some m) None ] ≡ Some n → (nat_le low n && nat_le n high && n % unit == 0) ≡ true
+    by None k = absurd (cc)
+    by (Some m) k = by_test m (nat_le low m && nat_le m high && m % unit == 0) refl k
+
+abbrev within_by : ℕ → ℕ → ℕ → Option ℕ → Option ℕ
+within_by low high unit o = elim o [ None ↦ None | Some m ↦ cond (nat_le low m && nat_le m high && m % unit == 0) (Some m) None ]
+
+within_low : (low high unit n : ℕ) → is_value_of (Within low high unit) n ≡ true → high < 2 ^ 63 → n < 2 ^ 63
+within_low low high unit n h top =
+    let both = and_parts (nat_le low n && nat_le n high) (n % unit == 0) h in
+    let most = leb-true n high (and_parts (nat_le low n) (nat_le n high) both.0).1 in
+    omega arith
+
+pub within_again : (low high unit n : ℕ) → is_value_of (Within low high unit) n ≡ true → high < 2 ^ 63 → number_within low high unit (decimal n) ≡ Some n
+within_again low high unit n h top = ap (within_by low high unit) (size_again n (within_low low high unit n h top)) ∙ cond-true _ _ _ h
+
+pub within_plain : (low high unit n : ℕ) → is_value_of (Within low high unit) n ≡ true → high < 2 ^ 63 → is_plain (decimal n) ≡ true
+within_plain low high unit n h top = size_plain n (within_low low high unit n h top)
+
+either_read : (a b w : List ℕ) (n : ℕ) → one_of_two a b w ≡ Some n → is_value_of (Either a b) n ≡ true
+either_read a b w n h = by (bytes_eq w a) (bytes_eq w b) h
+  where
+    by : (x y : Bool) → cond {A = Option ℕ} x (Some 0) (cond y (Some 1) None) ≡ Some n → (n == 0 || n == 1) ≡ true
+    by true y k = let same : 0 ≡ n = cc in subst (λ m. (m == 0 || m == 1) ≡ true) same refl
+    by false true k = let same : 1 ≡ n = cc in subst (λ m. (m == 0 || m == 1) ≡ true) same refl
+    by false false k = absurd (cc)
+
+value_read : (f : HintForm) (ws : List Word) (r : ℕ × List Word) → hint_value f ws ≡ Ok r → is_value_of f r.0 ≡ true
+value_read (Within low high unit) ws r h = let w = read_word (number_within low high unit) kind.BadNumber ws r h in within_read low high unit w.0 r.0 w.1
+value_read (Either a b) ws r h = let w = read_word (one_of_two a b) kind.UnknownWord ws r h in either_read a b w.0 r.0 w.1
+
+-- the values that were given are of the forms, one for one
+abbrev pub are_hints : List (List ℕ × HintForm) → List (Option ℕ) → Bool
+are_hints [] [] = true
+are_hints [] (o ∷ os) = false
+are_hints (f ∷ fs) [] = false
+are_hints (f ∷ fs) (None ∷ os) = are_hints fs os
+are_hints (f ∷ fs) (Some n ∷ os) = is_value_of f.1 n && are_hints fs os
+
+abbrev form_at : List (List ℕ × HintForm) → ℕ → HintForm
+form_at fs h = elim (slice_get fs h) [ None ↦ Within 0 0 1 | Some f ↦ f.1 ]
+
+hints_set : (fs : List (List ℕ × HintForm)) (os : List (Option ℕ)) (h v : ℕ) → are_hints fs os ≡ true → is_value_of (form_at fs h) v ≡ true → are_hints fs (slice_set os h (Some v)) ≡ true
+hints_set [] [] h v a b = refl
+hints_set [] (o ∷ os) h v a b = absurd (cc)
+hints_set (f ∷ fs) [] h v a b = absurd (cc)
+hints_set (f ∷ fs) (None ∷ os) zero v a b = and_from _ _ b a
+hints_set (f ∷ fs) (Some n ∷ os) zero v a b = and_from _ _ b (and_parts (is_value_of f.1 n) (are_hints fs os) a).1
+hints_set (f ∷ fs) (None ∷ os) (suc h) v a b = hints_set fs os h v a b
+hints_set (f ∷ fs) (Some n ∷ os) (suc h) v a b =
+    let both = and_parts (is_value_of f.1 n) (are_hints fs os) a in
+    and_from _ _ both.0 (hints_set fs os h v both.1 b)
+
+pub hint_read : (hints : List (Option ℕ)) (ws : List Word) (r : ℕ × ℕ) → are_hints hint_forms hints ≡ true → hint_line hints ws ≡ Ok r → are_hints hint_forms (slice_set hints r.0 (Some r.1)) ≡ true
+hint_read hints ws r all h =
+    let a = went (reads_as hint_of_text kind.UnknownWord ws) _ r h in
+    let b = went (refuse_if (is_some (hint_in a.value.0 hints)) kind.TwiceNamed) _ r a.rest in
+    let c = went (hint_value (hint_form a.value.0) a.value.1) _ r b.rest in
+    let d = went (ended c.value.1) _ r c.rest in
+    subst (λ (x : ℕ × ℕ). are_hints hint_forms (slice_set hints x.0 (Some x.1)) ≡ true) (same_ok (a.value.0, c.value.0) r d.rest)
+    (hints_set hint_forms hints a.value.0 c.value.0 all (value_read (hint_form a.value.0) a.value.1 c.value c.first))
+
+pub hint_or_fits : (fs : List (List ℕ × HintForm)) (os : List (Option ℕ)) (k d : ℕ) → are_hints fs os ≡ true → is_value_of (form_at fs k) d ≡ true → is_value_of (form_at fs k) (unwrap_or (hint_in k os) d) ≡ true
+hint_or_fits [] [] k d a b = b
+hint_or_fits [] (o ∷ os) k d a b = absurd (cc)
+hint_or_fits (f ∷ fs) [] k d a b = absurd (cc)
+hint_or_fits (f ∷ fs) (None ∷ os) zero d a b = b
+hint_or_fits (f ∷ fs) (Some n ∷ os) zero d a b = (and_parts (is_value_of f.1 n) (are_hints fs os) a).0
+hint_or_fits (f ∷ fs) (None ∷ os) (suc k) d a b = hint_or_fits fs os k d a b
+hint_or_fits (f ∷ fs) (Some n ∷ os) (suc k) d a b = hint_or_fits fs os k d (and_parts (is_value_of f.1 n) (are_hints fs os) a).1 b
+
+-- ---- the number of ranks
+
+pub ranks_read : (ranks : Option ℕ) (ws : List Word) (n : ℕ) → ranks_line ranks ws ≡ Ok n → is_value_of (Within 1 64 1) n ≡ true
+ranks_read ranks ws n h =
+    let a = went (refuse_if (is_some ranks) kind.TwiceNamed) _ n h in
+    let b = went (reads_as (number_within 1 64 1) kind.BadNumber ws) _ n a.rest in
+    let w = read_word (number_within 1 64 1) kind.BadNumber ws b.value b.first in
+    subst (λ x. is_value_of (Within 1 64 1) x ≡ true) (whole_value b.value n b.rest).0 (within_read 1 64 1 w.0 b.value.0 w.1)
+
+pub ranks_again : (n : ℕ) → is_value_of (Within 1 64 1) n ≡ true → ranks_line None (Plain (decimal n) ∷ []) ≡ Ok n
+ranks_again n h =
+    go_on (reads_as (number_within 1 64 1) kind.BadNumber (Plain (decimal n) ∷ [])) _ (n, []) n
+    (word_read (number_within 1 64 1) kind.BadNumber (decimal n) n [] (within_again 1 64 1 n h (omega arith))) refl
+
+-- ---- dimensions
+
+abbrev pub length_word : ℕ → List ℕ
+length_word n = cond (n == 0) (codes "unlimited") (decimal n)
+
+abbrev pub dim_tokens : Dim → List Word
+dim_tokens d = Plain d.name ∷ Plain (length_word d.len) ∷ []
+
+abbrev length_by : Option ℕ → Option ℕ
+length_by o = elim o [ None ↦ None | Some n ↦ cond (n == 0) None (Some n) ]
+
+-- a length that is read: unlimited, or a number within the limit
+length_is : (version : ℕ) (w : List ℕ) (n : ℕ) → length_of_text version w ≡ Some n → (n ≡ 0) ⊎ (((n == 0) ≡ false) × (n < length_limit version) × (n < 2 ^ 63))
+length_is version w n h = by (bytes_eq w (codes "unlimited")) h
+  where
+    by_zero : (m : ℕ) (b : Bool) → (m == 0) ≡ b → size_of_text w ≡ Some m → m < length_limit version → cond {A = Option ℕ} b None (Some m) ≡ Some n → (n ≡ 0) ⊎ (((n == 0) ≡ false) × (n < length_limit version) × (n < 2 ^ 63))
+    by_zero m true e s low k = absurd (cc)
+    by_zero m false e s low k =
+        let same : m ≡ n = cc in
+        Rattle.std.proofs.Common.inr (subst (λ x. ((x == 0) ≡ false) × (x < length_limit version) × (x < 2 ^ 63)) same (e, low, size_bound w m s))
+    by_size : (o : Option ℕ) → below (length_limit version) (size_of_text w) ≡ o → length_by o ≡ Some n → (n ≡ 0) ⊎ (((n == 0) ≡ false) × (n < length_limit version) × (n < 2 ^ 63))
+    by_size None e k = absurd (cc)
+    by_size (Some m) e k = let b = below_bound (length_limit version) (size_of_text w) m e in by_zero m (m == 0) refl b.0 b.1 k
+    by : (b : Bool) → cond {A = Option ℕ} b (Some 0) (length_by (below (length_limit version) (size_of_text w))) ≡ Some n → (n ≡ 0) ⊎ (((n == 0) ≡ false) × (n < length_limit version) × (n < 2 ^ 63))
+    by true k = let same : 0 ≡ n = cc in Rattle.std.proofs.Common.inl (sym same)
+    by false k = by_size (below (length_limit version) (size_of_text w)) refl k
+
+record LengthAgain (version n : ℕ) : Type 0 where
+  plain : is_plain (length_word n) ≡ true
+  again : length_of_text version (length_word n) ≡ Some n
+
+length_again : (version : ℕ) (w : List ℕ) (n : ℕ) → length_of_text version w ≡ Some n → LengthAgain version n
+length_again version w n h = ⊎_elim
+    (λ (e : n ≡ 0). subst (LengthAgain version) (sym e) (record { plain = refl; again = refl }))
+    (λ (k : ((n == 0) ≡ false) × (n < length_limit version) × (n < 2 ^ 63)).
+    let word : length_word n ≡ decimal n = cond-false _ _ _ k.0 in
+    let letters = not_letters (decimal n) 117 (110 ∷ 108 ∷ 105 ∷ 109 ∷ 105 ∷ 116 ∷ 101 ∷ 100 ∷ []) (decimal_word n (omega (arith, k.2))) (omega arith) in
+    let small = below_again (length_limit version) (size_of_text (decimal n)) n (size_again n k.2) k.1 in
+    record {
+      plain = ap is_plain word ∙ size_plain n k.2;
+      again = ap (length_of_text version) word ∙ (cond-false _ _ _ letters ∙ (ap length_by small ∙ cond-false _ _ _ k.0));
+    })
+    (length_is version w n h)
+
+-- the dimension, printed, is read again after these
+pub record DimAgain (version : ℕ) (dims : List Dim) (d : Dim) : Type 0 where
+  pub good : list_all is_good (dim_tokens d) ≡ true
+  pub again : dim_line version dims (dim_tokens d) ≡ Ok d
+
+pub dim_read : (version : ℕ) (dims : List Dim) (ws : List Word) (d : Dim) → dim_line version dims ws ≡ Ok d → DimAgain version dims d
+dim_read version dims ws d h =
+    let a = went (name ws) _ d h in
+    let b = went (refuse_if (is_among a.value.0 (dim_names dims)) kind.TwiceNamed) _ d a.rest in
+    let c = went (refuse_if (nat_le most_dims (length dims)) (kind.Limit limit.Dims)) _ d b.rest in
+    let e = went (reads_as (length_of_text version) kind.BadNumber a.value.1) _ d c.rest in
+    let f = went (refuse_if (e.value.0 == 0 && list_any is_unlimited dims) kind.BadShape) _ d e.rest in
+    let g = went (ended e.value.1) _ d f.rest in
+    let n = a.value.0 in
+    let len = e.value.0 in
+    let hn = name_read ws a.value a.first in
+    let lw = read_word (length_of_text version) kind.BadNumber a.value.1 e.value e.first in
+    let hl = length_again version lw.0 len lw.1 in
+    let rest = Plain (length_word len) ∷ [] in
+    let x : Dim = record { name = n; len = len } in
+    subst (DimAgain version dims) (same_ok x d g.rest) (record {
+      good = and_from _ _ (name_plain n hn) (and_from _ _ hl.plain refl);
+      again = go_on (name (Plain n ∷ rest)) _ (n, rest) x (name_again n rest hn)
+          (go_on (refuse_if (is_among n (dim_names dims)) kind.TwiceNamed) _ tt x (passed _ _ (not_refused _ _ b.value b.first))
+          (go_on (refuse_if (nat_le most_dims (length dims)) (kind.Limit limit.Dims)) _ tt x (passed _ _ (not_refused _ _ c.value c.first))
+          (go_on (reads_as (length_of_text version) kind.BadNumber rest) _ (len, []) x (word_read (length_of_text version) kind.BadNumber (length_word len) len [] hl.again)
+          (go_on (refuse_if (len == 0 && list_any is_unlimited dims) kind.BadShape) _ tt x (passed _ _ (not_refused _ _ f.value f.first)) refl))));
+    })
+
+-- ---- what begins a variable
+
+pub record HeadAgain (version : ℕ) (names : List (List ℕ)) (t : NcType) (n : List ℕ) : Type 0 where
+  pub known : type_of version (type_word t) ≡ Some t
+  pub named : is_name n ≡ true
+  pub fresh : is_among n names ≡ false
+  pub room : nat_le most_vars (length names) ≡ false
+
+pub head_read : (version : ℕ) (names : List (List ℕ)) (ws : List Word) (r : (NcType × List ℕ) × List Word) → var_head version names ws ≡ Ok r → HeadAgain version names r.0.0 r.0.1
+head_read version names ws r h =
+    let a = went (reads_as (type_of version) kind.UnknownWord ws) _ r h in
+    let b = went (name a.value.1) _ r a.rest in
+    let c = went (refuse_if (is_among b.value.0 names) kind.TwiceNamed) _ r b.rest in
+    let d = went (refuse_if (nat_le most_vars (length names)) (kind.Limit limit.Vars)) _ r c.rest in
+    subst (λ (x : (NcType × List ℕ) × List Word). HeadAgain version names x.0.0 x.0.1) (same_ok ((a.value.0, b.value.0), b.value.1) r d.rest) (record {
+      known = type_read version ws a.value a.first;
+      named = name_read a.value.1 b.value b.first;
+      fresh = not_refused _ _ c.value c.first;
+      room = not_refused _ _ d.value d.first;
+    })
+
+pub head_again : (version : ℕ) (names : List (List ℕ)) (t : NcType) (n : List ℕ) (more : List Word) → HeadAgain version names t n
+    → var_head version names (Plain (type_word t) ∷ Plain n ∷ more) ≡ Ok ((t, n), more)
+head_again version names t n more h =
+    go_on (reads_as (type_of version) kind.UnknownWord (Plain (type_word t) ∷ Plain n ∷ more)) _ (t, Plain n ∷ more) ((t, n), more) (type_word_again version t (Plain n ∷ more) h.known)
+    (go_on (name (Plain n ∷ more)) _ (n, more) ((t, n), more) (name_again n more h.named)
+    (go_on (refuse_if (is_among n names) kind.TwiceNamed) _ tt ((t, n), more) (passed _ _ h.fresh)
+    (go_on (refuse_if (nat_le most_vars (length names)) (kind.Limit limit.Vars)) _ tt ((t, n), more) (passed _ _ h.room) refl)))
+
+pub names_read : (ws : List Word) (r : List (List ℕ) × List Word) → name_list ws ≡ Ok r → list_all is_name r.0 ≡ true
+names_read ws r h =
+    let a = went (reads_as between_brackets kind.BadNumber ws) _ r h in
+    let b = went (refuse_if (not (list_all is_name (parts a.value.0))) kind.BadName) _ r a.rest in
+    subst (λ (x : List (List ℕ) × List Word). list_all is_name x.0 ≡ true) (same_ok (parts a.value.0, a.value.1) r b.rest) (not-false _ (not_refused _ _ b.value b.first))
+
+pub names_plain : (ns : List (List ℕ)) → list_all is_name ns ≡ true → is_plain (bracketed ns) ≡ true
+names_plain ns h = bracketed_plain ns (all_more is_name is_item name_item ns h)
+
+pub names_again : (ns : List (List ℕ)) (more : List Word) → list_all is_name ns ≡ true → name_list (Plain (bracketed ns) ∷ more) ≡ Ok (ns, more)
+names_again ns more h =
+    let inside = Rattle.script_spec.specs.Texts.joined 44 ns in
+    let again : parts inside ≡ ns = parts_again ns (all_more is_name is_item name_item ns h) in
+    go_on (reads_as between_brackets kind.BadNumber (Plain (bracketed ns) ∷ more)) _ (inside, more) (ns, more) (word_read between_brackets kind.BadNumber (bracketed ns) inside more (brackets_again inside))
+    (go_on (refuse_if (not (list_all is_name (parts inside))) kind.BadName) _ tt (ns, more) (passed _ _ (ap (λ (xs : List (List ℕ)). not (list_all is_name xs)) again ∙ ap not h))
+    (ap (λ (xs : List (List ℕ)). Ok (xs, more)) again))

@@ -1,0 +1,332 @@
+-- Names, regions, ids and choices that are printed are read again.
+use Rattle.std.proofs.Common.{◌≡◌, ◌⊎◌, ◌∙◌, ℕ, zero, suc, ◌+◌, ◌-◌, ◌^◌, ◌≤◌, ◌<◌, List, [], ◌∷◌, ◌++◌, map, length, flat_map, Bool, true, false, not, cond, nat_lt, nat_le, ◌==◌, ◌&&◌, Option, Some, None, Result, Ok, Err, refl, sym, ap, subst, append_assoc, append-nil, length-append, arith, bytes_eq, codes, decimal}
+use Rattle.std.specs.List.{list_all}
+use Rattle.std.proofs.lemmas.Bool.{and_parts, and_from, cond-true, ne_eqb}
+use Rattle.std.proofs.lemmas.Grind.{common_steps}
+use borrow.Author.Tests.{ltb-true, ltb-false, lt-ltb, le-ltb, eqb-false}
+use Rattle.nc_base.specs.declared.errors.ScriptKind.{ScriptKind}
+use Rattle.nc_base.specs.declared.errors.ScriptKind.TheVariants as kind
+use Rattle.nc_base.specs.declared.errors.LimitName.TheVariants as limit
+use Rattle.nc_base.specs.declared.request.Form.{Form}
+use Rattle.nc_base.specs.declared.request.Form.TheVariants as form
+use Rattle.nc_base.specs.declared.request.Given.{Given}
+use Rattle.nc_base.specs.declared.request.Part.{Part}
+use Rattle.nc_base.specs.declared.request.Choice.{Choice}
+use Rattle.nc_base.specs.declared.request.Choice.TheVariants.{Every, Listed}
+use Rattle.serial_spec.specs.Lawful.{most_parts}
+use Rattle.script_spec.specs.Shown.{size_list, part_words, form_words, choice_words}
+use Rattle.script_spec.specs.ScriptWords.{Word, Plain, Quoted, Broken, is_word, is_name, size_of_text, list_of_text, below}
+use Rattle.script_spec.specs.ScriptSteps.{◌>>=◌, refuse_if, or_fault, bare, reads_as, size, list, name, name_of_text, ended, whole}
+use Rattle.script_spec.specs.ScriptCalls.{given_of, given_parts, part, part_list, many_regions, region, id_of_text, one_id, ids, choice}
+use Rattle.script_text.proofs.Steps.{Went, went, go_on, same_ok, not_refused, passed, no_fault, faultless, Read, read_word, word_read, word_before, is_end, whole_value, carry, carried, carry_on, by_true, by_false}
+use Rattle.script_text.proofs.Lexing.{spelling, is_plain, is_good}
+use Rattle.script_text.proofs.Lines.{all_joined}
+use Rattle.script_text.proofs.Numerals.{IsNumberWord, decimal_word, below_bound, below_again, size_bound, size_again, size_plain, is_size, list_bound, list_again, list_plain, name_plain}
+use Rattle.script_text.proofs.PrintedValues.{plain_spelled, not_letters}
+
+-- what holds of each word holds of each that follows the one that is read
+pub kept : {A : Type 0} (p : Word → Bool) (f : List ℕ → Option A) (e : ScriptKind) (ws : List Word) (r : A × List Word) → reads_as f e ws ≡ Ok r → list_all p ws ≡ true → list_all p r.1 ≡ true
+kept p f e ws r h all =
+    let b = word_before f e ws r h in
+    (and_parts (p b.0) (list_all p r.1) (subst (λ xs. list_all p xs ≡ true) b.1 all)).1
+
+-- ---- names
+
+name_of : (w n : List ℕ) (b : Bool) → is_name w ≡ b → cond {A = Option (List ℕ)} b (Some w) None ≡ Some n → is_name n ≡ true
+name_of w n true e h = let same : w ≡ n = cc in subst (λ x. is_name x ≡ true) same e
+name_of w n false e h = absurd (cc)
+
+pub name_read : (ws : List Word) (r : List ℕ × List Word) → name ws ≡ Ok r → is_name r.0 ≡ true
+name_read ws r h = let w = read_word name_of_text kind.BadName ws r h in name_of w.0 r.0 (is_name w.0) refl w.1
+
+pub name_again : (n : List ℕ) (more : List Word) → is_name n ≡ true → name (Plain n ∷ more) ≡ Ok (n, more)
+name_again n more h = word_read name_of_text kind.BadName n n more (cond-true _ _ _ h)
+
+-- ---- sizes and lists
+
+pub size_read : (ws : List Word) (r : ℕ × List Word) → size ws ≡ Ok r → r.0 < 2 ^ 63
+size_read ws r h = let w = read_word size_of_text kind.BadNumber ws r h in size_bound w.0 r.0 w.1
+
+pub size_word : (n : ℕ) (more : List Word) → n < 2 ^ 63 → size (Plain (decimal n) ∷ more) ≡ Ok (n, more)
+size_word n more h = word_read size_of_text kind.BadNumber (decimal n) n more (size_again n h)
+
+abbrev pub are_sizes : List ℕ → Bool
+are_sizes ns = list_all is_size ns
+
+list_read : (ws : List Word) (r : List ℕ × List Word) → list ws ≡ Ok r → are_sizes r.0 ≡ true
+list_read ws r h = let w = read_word list_of_text kind.BadNumber ws r h in list_bound w.0 r.0 w.1
+
+list_word : (ns : List ℕ) (more : List Word) → are_sizes ns ≡ true → list (Plain (size_list ns) ∷ more) ≡ Ok (ns, more)
+list_word ns more h = word_read list_of_text kind.BadNumber (size_list ns) ns more (list_again ns h)
+
+list_kept : (p : Word → Bool) (ws : List Word) (r : List ℕ × List Word) → list ws ≡ Ok r → list_all p ws ≡ true → list_all p r.1 ≡ true
+list_kept p ws r h all = kept p list_of_text kind.BadNumber ws r h all
+
+-- ---- parts
+
+abbrev pub part_tokens : Part → List Word
+part_tokens p = Plain (size_list p.start) ∷ Plain (size_list p.count) ∷ []
+
+abbrev is_part : Part → Bool
+is_part p = are_sizes p.start && are_sizes p.count
+
+part_read : (ws : List Word) (r : Part × List Word) → part ws ≡ Ok r → is_part r.0 ≡ true
+part_read ws r h =
+    let a = went (list ws) _ r h in
+    let b = went (list a.value.1) _ r a.rest in
+    let same = ap (λ (x : Part × List Word). x.0) (same_ok (record { start = a.value.0; count = b.value.0 }, b.value.1) r b.rest) in
+    subst (λ p. is_part p ≡ true) same (and_from _ _ (list_read ws a.value a.first) (list_read a.value.1 b.value b.first))
+
+part_kept : (p : Word → Bool) (ws : List Word) (r : Part × List Word) → part ws ≡ Ok r → list_all p ws ≡ true → list_all p r.1 ≡ true
+part_kept p ws r h all =
+    let a = went (list ws) _ r h in
+    let b = went (list a.value.1) _ r a.rest in
+    let same = ap (λ (x : Part × List Word). x.1) (same_ok (record { start = a.value.0; count = b.value.0 }, b.value.1) r b.rest) in
+    subst (λ xs. list_all p xs ≡ true) same (list_kept p a.value.1 b.value b.first (list_kept p ws a.value a.first all))
+
+part_again : (p : Part) (more : List Word) → is_part p ≡ true → part (Plain (size_list p.start) ∷ Plain (size_list p.count) ∷ more) ≡ Ok (p, more)
+part_again p more h =
+    let both = and_parts (are_sizes p.start) (are_sizes p.count) h in
+    go_on (list (Plain (size_list p.start) ∷ Plain (size_list p.count) ∷ more)) _ (p.start, Plain (size_list p.count) ∷ more) (p, more) (list_word p.start _ both.0)
+    (go_on (list (Plain (size_list p.count) ∷ more)) _ (p.count, more) (p, more) (list_word p.count more both.1) refl)
+
+part_pushed : (found : List Part) (p : Part) → list_all is_part found ≡ true → is_part p ≡ true → list_all is_part (found ++ p ∷ []) ≡ true
+part_pushed found p a b = all_joined is_part found (p ∷ []) a (and_from _ _ b refl)
+
+parts_read : (n : ℕ) (found : List Part) (ws : List Word) (r : List Part × List Word) → list_all is_part found ≡ true → part_list n found ws ≡ Ok r → (list_all is_part r.0 ≡ true) × (length found + n ≡ length r.0)
+parts_read zero found ws r h e =
+    let same = ap (λ (x : List Part × List Word). x.0) (same_ok (found, ws) r e) in
+    (subst (λ ps. list_all is_part ps ≡ true) same h, omega (arith, ap length same))
+parts_read (suc n) found ws r h e =
+    let a = carried (part ws) (λ p. part_list n (found ++ p.0 ∷ []) p.1) r e in
+    let more = parts_read n (found ++ a.value.0 ∷ []) a.value.1 r (part_pushed found a.value.0 h (part_read ws a.value a.first)) a.rest in
+    (more.0, omega (arith, more.1, length-append found (a.value.0 ∷ [])))
+
+parts_kept : (p : Word → Bool) (n : ℕ) (found : List Part) (ws : List Word) (r : List Part × List Word) → part_list n found ws ≡ Ok r → list_all p ws ≡ true → list_all p r.1 ≡ true
+parts_kept p zero found ws r e all = subst (λ xs. list_all p xs ≡ true) (ap (λ (x : List Part × List Word). x.1) (same_ok (found, ws) r e)) all
+parts_kept p (suc n) found ws r e all =
+    let a = carried (part ws) (λ q. part_list n (found ++ q.0 ∷ []) q.1) r e in
+    parts_kept p n (found ++ a.value.0 ∷ []) a.value.1 r a.rest (part_kept p ws a.value a.first all)
+
+parts_again : (ps found : List Part) (more : List Word) → list_all is_part ps ≡ true → part_list (length ps) found (flat_map part_tokens ps ++ more) ≡ Ok (found ++ ps, more)
+parts_again [] found more h = ap (λ (xs : List Part). Ok (xs, more)) (sym (append-nil found))
+parts_again (p ∷ ps) found more h =
+    let both = and_parts (is_part p) (list_all is_part ps) h in
+    let rest = flat_map part_tokens ps ++ more in
+    carry_on (part (Plain (size_list p.start) ∷ Plain (size_list p.count) ∷ rest)) (λ q. part_list (length ps) (found ++ q.0 ∷ []) q.1) (p, rest) _ (part_again p rest both.0)
+    (parts_again ps (found ++ p ∷ []) more both.1 ∙ ap (λ (xs : List Part). Ok (xs, more)) (append_assoc found (p ∷ []) ps))
+
+parts_spelled : (ps : List Part) → map spelling (flat_map part_tokens ps) ≡ flat_map part_words ps
+parts_spelled [] = refl
+parts_spelled (p ∷ ps) = ap (λ (ws : List (List ℕ)). size_list p.start ∷ size_list p.count ∷ ws) (parts_spelled ps)
+
+parts_good : (ps : List Part) → list_all is_part ps ≡ true → list_all is_good (flat_map part_tokens ps) ≡ true
+parts_good [] h = refl
+parts_good (p ∷ ps) h =
+    let both = and_parts (is_part p) (list_all is_part ps) h in
+    let two = and_parts (are_sizes p.start) (are_sizes p.count) both.0 in
+    and_from _ _ (list_plain p.start two.0) (and_from _ _ (list_plain p.count two.1) (parts_good ps both.1))
+
+-- ---- regions
+
+abbrev pub region_tokens : Form → Given → List Word
+region_tokens form.Var g = []
+region_tokens form.Var1 g = Plain (size_list g.start) ∷ []
+region_tokens form.Vara g = Plain (size_list g.start) ∷ Plain (size_list g.count) ∷ []
+region_tokens form.Vars g = Plain (size_list g.start) ∷ Plain (size_list g.count) ∷ Plain (size_list g.stride) ∷ []
+region_tokens form.Varm g = Plain (size_list g.start) ∷ Plain (size_list g.count) ∷ Plain (size_list g.stride) ∷ Plain (size_list g.imap) ∷ []
+region_tokens form.Varn g = Plain (decimal (length g.parts)) ∷ flat_map part_tokens g.parts
+
+pub region_spelled : (f : Form) (g : Given) → map spelling (region_tokens f g) ≡ form_words f g
+region_spelled form.Var g = refl
+region_spelled form.Var1 g = refl
+region_spelled form.Vara g = refl
+region_spelled form.Vars g = refl
+region_spelled form.Varm g = refl
+region_spelled form.Varn g = ap (λ (ws : List (List ℕ)). decimal (length g.parts) ∷ ws) (parts_spelled g.parts)
+
+pub record RegionAgain (f : Form) (g : Given) : Type 0 where
+  pub same_form : f ≡ g.form
+  pub good : list_all is_good (region_tokens f g) ≡ true
+  pub again : (more : List Word) → region f (region_tokens f g ++ more) ≡ Ok (g, more)
+
+var1_again : (s : List ℕ) → are_sizes s ≡ true → RegionAgain form.Var1 (given_of form.Var1 s [] [] [])
+var1_again s hs = record {
+      same_form = refl;
+      good = and_from _ _ (list_plain s hs) refl;
+      again = λ more. go_on (list (Plain (size_list s) ∷ more)) _ (s, more) _ (list_word s more hs) refl;
+    }
+
+vara_again : (s c : List ℕ) → are_sizes s ≡ true → are_sizes c ≡ true → RegionAgain form.Vara (given_of form.Vara s c [] [])
+vara_again s c hs hc = record {
+      same_form = refl;
+      good = and_from _ _ (list_plain s hs) (and_from _ _ (list_plain c hc) refl);
+      again = λ more. go_on (list (Plain (size_list s) ∷ Plain (size_list c) ∷ more)) _ (s, Plain (size_list c) ∷ more) _ (list_word s _ hs)
+          (go_on (list (Plain (size_list c) ∷ more)) _ (c, more) _ (list_word c more hc) refl);
+    }
+
+vars_again : (s c d : List ℕ) → are_sizes s ≡ true → are_sizes c ≡ true → are_sizes d ≡ true → RegionAgain form.Vars (given_of form.Vars s c d [])
+vars_again s c d hs hc hd = record {
+      same_form = refl;
+      good = and_from _ _ (list_plain s hs) (and_from _ _ (list_plain c hc) (and_from _ _ (list_plain d hd) refl));
+      again = λ more. go_on (list (Plain (size_list s) ∷ Plain (size_list c) ∷ Plain (size_list d) ∷ more)) _ (s, Plain (size_list c) ∷ Plain (size_list d) ∷ more) _ (list_word s _ hs)
+          (go_on (list (Plain (size_list c) ∷ Plain (size_list d) ∷ more)) _ (c, Plain (size_list d) ∷ more) _ (list_word c _ hc)
+          (go_on (list (Plain (size_list d) ∷ more)) _ (d, more) _ (list_word d more hd) refl));
+    }
+
+varm_again : (s c d m : List ℕ) → are_sizes s ≡ true → are_sizes c ≡ true → are_sizes d ≡ true → are_sizes m ≡ true → RegionAgain form.Varm (given_of form.Varm s c d m)
+varm_again s c d m hs hc hd hm = record {
+      same_form = refl;
+      good = and_from _ _ (list_plain s hs) (and_from _ _ (list_plain c hc) (and_from _ _ (list_plain d hd) (and_from _ _ (list_plain m hm) refl)));
+      again = λ more. go_on (list (Plain (size_list s) ∷ Plain (size_list c) ∷ Plain (size_list d) ∷ Plain (size_list m) ∷ more)) _ (s, Plain (size_list c) ∷ Plain (size_list d) ∷ Plain (size_list m) ∷ more) _ (list_word s _ hs)
+          (go_on (list (Plain (size_list c) ∷ Plain (size_list d) ∷ Plain (size_list m) ∷ more)) _ (c, Plain (size_list d) ∷ Plain (size_list m) ∷ more) _ (list_word c _ hc)
+          (go_on (list (Plain (size_list d) ∷ Plain (size_list m) ∷ more)) _ (d, Plain (size_list m) ∷ more) _ (list_word d _ hd)
+          (go_on (list (Plain (size_list m) ∷ more)) _ (m, more) _ (list_word m more hm) refl)));
+    }
+
+varn_again : (ps : List Part) → list_all is_part ps ≡ true → (length ps == 0) ≡ false → nat_lt most_parts (length ps) ≡ false → RegionAgain form.Varn (given_parts ps)
+varn_again ps h some few =
+    let low : length ps < 2 ^ 63 = let b = ltb-false most_parts (length ps) few in omega arith in
+    record {
+      same_form = refl;
+      good = and_from _ _ (size_plain (length ps) low) (parts_good ps h);
+      again = λ more. go_on (size (Plain (decimal (length ps)) ∷ (flat_map part_tokens ps ++ more))) _ (length ps, flat_map part_tokens ps ++ more) _ (size_word (length ps) _ low)
+          (go_on (refuse_if (length ps == 0) kind.BadNumber) _ tt _ (passed _ _ some)
+          (go_on (refuse_if (nat_lt most_parts (length ps)) (kind.Limit limit.Parts)) _ tt _ (passed _ _ few)
+          (go_on (part_list (length ps) [] (flat_map part_tokens ps ++ more)) _ (ps, more) _ (parts_again ps [] more h) refl)));
+    }
+
+pub region_again : (f : Form) (ws : List Word) (r : Given × List Word) → region f ws ≡ Ok r → RegionAgain f r.0
+region_again form.Var ws r h =
+    subst (RegionAgain form.Var) (ap (λ (x : Given × List Word). x.0) (same_ok (given_of form.Var [] [] [] [], ws) r h)) (record { same_form = refl; good = refl; again = λ more. refl })
+region_again form.Var1 ws r h =
+    let a = went (list ws) _ r h in
+    subst (RegionAgain form.Var1) (ap (λ (x : Given × List Word). x.0) (same_ok (given_of form.Var1 a.value.0 [] [] [], a.value.1) r a.rest)) (var1_again a.value.0 (list_read ws a.value a.first))
+region_again form.Vara ws r h =
+    let a = went (list ws) _ r h in
+    let b = went (list a.value.1) _ r a.rest in
+    subst (RegionAgain form.Vara) (ap (λ (x : Given × List Word). x.0) (same_ok (given_of form.Vara a.value.0 b.value.0 [] [], b.value.1) r b.rest))
+    (vara_again a.value.0 b.value.0 (list_read ws a.value a.first) (list_read a.value.1 b.value b.first))
+region_again form.Vars ws r h =
+    let a = went (list ws) _ r h in
+    let b = went (list a.value.1) _ r a.rest in
+    let c = went (list b.value.1) _ r b.rest in
+    subst (RegionAgain form.Vars) (ap (λ (x : Given × List Word). x.0) (same_ok (given_of form.Vars a.value.0 b.value.0 c.value.0 [], c.value.1) r c.rest))
+    (vars_again a.value.0 b.value.0 c.value.0 (list_read ws a.value a.first) (list_read a.value.1 b.value b.first) (list_read b.value.1 c.value c.first))
+region_again form.Varm ws r h =
+    let a = went (list ws) _ r h in
+    let b = went (list a.value.1) _ r a.rest in
+    let c = went (list b.value.1) _ r b.rest in
+    let d = went (list c.value.1) _ r c.rest in
+    subst (RegionAgain form.Varm) (ap (λ (x : Given × List Word). x.0) (same_ok (given_of form.Varm a.value.0 b.value.0 c.value.0 d.value.0, d.value.1) r d.rest))
+    (varm_again a.value.0 b.value.0 c.value.0 d.value.0 (list_read ws a.value a.first) (list_read a.value.1 b.value b.first) (list_read b.value.1 c.value c.first) (list_read c.value.1 d.value d.first))
+region_again form.Varn ws r h =
+    let a = went (size ws) _ r h in
+    let b = went (refuse_if (a.value.0 == 0) kind.BadNumber) _ r a.rest in
+    let c = went (refuse_if (nat_lt most_parts a.value.0) (kind.Limit limit.Parts)) _ r b.rest in
+    let d = went (part_list a.value.0 [] a.value.1) _ r c.rest in
+    let parts = parts_read a.value.0 [] a.value.1 d.value refl d.first in
+    let long : a.value.0 ≡ length d.value.0 = omega (arith, parts.1) in
+    subst (RegionAgain form.Varn) (ap (λ (x : Given × List Word). x.0) (same_ok (given_parts d.value.0, d.value.1) r d.rest))
+    (varn_again d.value.0 parts.0 (subst (λ n. (n == 0) ≡ false) long (not_refused _ _ b.value b.first)) (subst (λ n. nat_lt most_parts n ≡ false) long (not_refused _ _ c.value c.first)))
+
+pub region_kept : (p : Word → Bool) (f : Form) (ws : List Word) (r : Given × List Word) → region f ws ≡ Ok r → list_all p ws ≡ true → list_all p r.1 ≡ true
+region_kept p form.Var ws r h all = subst (λ xs. list_all p xs ≡ true) (ap (λ (x : Given × List Word). x.1) (same_ok (given_of form.Var [] [] [] [], ws) r h)) all
+region_kept p form.Var1 ws r h all =
+    let a = went (list ws) _ r h in
+    subst (λ xs. list_all p xs ≡ true) (ap (λ (x : Given × List Word). x.1) (same_ok (given_of form.Var1 a.value.0 [] [] [], a.value.1) r a.rest)) (list_kept p ws a.value a.first all)
+region_kept p form.Vara ws r h all =
+    let a = went (list ws) _ r h in
+    let b = went (list a.value.1) _ r a.rest in
+    subst (λ xs. list_all p xs ≡ true) (ap (λ (x : Given × List Word). x.1) (same_ok (given_of form.Vara a.value.0 b.value.0 [] [], b.value.1) r b.rest))
+    (list_kept p a.value.1 b.value b.first (list_kept p ws a.value a.first all))
+region_kept p form.Vars ws r h all =
+    let a = went (list ws) _ r h in
+    let b = went (list a.value.1) _ r a.rest in
+    let c = went (list b.value.1) _ r b.rest in
+    subst (λ xs. list_all p xs ≡ true) (ap (λ (x : Given × List Word). x.1) (same_ok (given_of form.Vars a.value.0 b.value.0 c.value.0 [], c.value.1) r c.rest))
+    (list_kept p b.value.1 c.value c.first (list_kept p a.value.1 b.value b.first (list_kept p ws a.value a.first all)))
+region_kept p form.Varm ws r h all =
+    let a = went (list ws) _ r h in
+    let b = went (list a.value.1) _ r a.rest in
+    let c = went (list b.value.1) _ r b.rest in
+    let d = went (list c.value.1) _ r c.rest in
+    subst (λ xs. list_all p xs ≡ true) (ap (λ (x : Given × List Word). x.1) (same_ok (given_of form.Varm a.value.0 b.value.0 c.value.0 d.value.0, d.value.1) r d.rest))
+    (list_kept p c.value.1 d.value d.first (list_kept p b.value.1 c.value c.first (list_kept p a.value.1 b.value b.first (list_kept p ws a.value a.first all))))
+region_kept p form.Varn ws r h all =
+    let a = went (size ws) _ r h in
+    let b = went (refuse_if (a.value.0 == 0) kind.BadNumber) _ r a.rest in
+    let c = went (refuse_if (nat_lt most_parts a.value.0) (kind.Limit limit.Parts)) _ r b.rest in
+    let d = went (part_list a.value.0 [] a.value.1) _ r c.rest in
+    subst (λ xs. list_all p xs ≡ true) (ap (λ (x : Given × List Word). x.1) (same_ok (given_parts d.value.0, d.value.1) r d.rest))
+    (parts_kept p a.value.0 [] a.value.1 d.value d.first (kept p size_of_text kind.BadNumber ws a.value a.first all))
+
+-- ---- ids
+
+abbrev is_id : ℕ → Bool
+is_id n = nat_lt n (2 ^ 32)
+
+pub id_bound : (w : List ℕ) (n : ℕ) → id_of_text w ≡ Some n → n < 2 ^ 32
+id_bound w n h = (below_bound (2 ^ 32) (size_of_text w) n h).1
+
+pub id_again : (n : ℕ) → n < 2 ^ 32 → id_of_text (decimal n) ≡ Some n
+id_again n h = below_again (2 ^ 32) (size_of_text (decimal n)) n (size_again n (omega arith)) h
+
+pub id_plain : (n : ℕ) → n < 2 ^ 32 → is_plain (decimal n) ≡ true
+id_plain n h = size_plain n (omega arith)
+
+one_id_read : (w : Word) (n : ℕ) → one_id w ≡ Ok n → is_id n ≡ true
+one_id_read w n h =
+    let a = went (bare w) _ n h in
+    lt-ltb n (2 ^ 32) (id_bound a.value n (no_fault kind.BadNumber (id_of_text a.value) n a.rest))
+
+ids_read : (ws : List Word) (found r : List ℕ) → list_all is_id found ≡ true → ids found ws ≡ Ok r → list_all is_id r ≡ true
+ids_read [] found r h e = subst (λ xs. list_all is_id xs ≡ true) (same_ok found r e) h
+ids_read (w ∷ ws) found r h e =
+    let a = carried (one_id w) (λ x. ids (found ++ x ∷ []) ws) r e in
+    ids_read ws (found ++ a.value ∷ []) r (all_joined is_id found (a.value ∷ []) h (and_from _ _ (one_id_read w a.value a.first) refl)) a.rest
+
+ids_again : (ns found : List ℕ) → list_all is_id ns ≡ true → ids found (map (λ n. Plain (decimal n)) ns) ≡ Ok (found ++ ns)
+ids_again [] found h = ap (λ (xs : List ℕ). Ok xs) (sym (append-nil found))
+ids_again (n ∷ ns) found h =
+    let both = and_parts (is_id n) (list_all is_id ns) h in
+    carry_on (one_id (Plain (decimal n))) (λ x. ids (found ++ x ∷ []) (map (λ k. Plain (decimal k)) ns)) n _ (faultless kind.BadNumber (id_of_text (decimal n)) n (id_again n (ltb-true n (2 ^ 32) both.0)))
+    (ids_again ns (found ++ n ∷ []) both.1 ∙ ap (λ (xs : List ℕ). Ok xs) (append_assoc found (n ∷ []) ns))
+
+ids_good : (ns : List ℕ) → list_all is_id ns ≡ true → list_all is_good (map (λ n. Plain (decimal n)) ns) ≡ true
+ids_good [] h = refl
+ids_good (n ∷ ns) h =
+    let both = and_parts (is_id n) (list_all is_id ns) h in
+    and_from _ _ (id_plain n (ltb-true n (2 ^ 32) both.0)) (ids_good ns both.1)
+
+-- ---- choices
+
+abbrev pub choice_tokens : Choice → List Word
+choice_tokens Every = Plain (codes "all") ∷ []
+choice_tokens (Listed ns) = map (λ n. Plain (decimal n)) ns
+
+pub choice_spelled : (c : Choice) → map spelling (choice_tokens c) ≡ choice_words c
+choice_spelled Every = refl
+choice_spelled (Listed ns) = plain_spelled decimal ns
+
+pub record ChoiceAgain (c : Choice) : Type 0 where
+  pub good : list_all is_good (choice_tokens c) ≡ true
+  pub again : choice (choice_tokens c) ≡ Ok c
+
+listed_again : (ns : List ℕ) → list_all is_id ns ≡ true → choice (choice_tokens (Listed ns)) ≡ Ok (Listed ns)
+listed_again [] h = refl
+listed_again (n ∷ ns) h =
+    let low = ltb-true n (2 ^ 32) (and_parts (is_id n) (list_all is_id ns) h).0 in
+    by_false (bytes_eq (decimal n) (codes "all")) _ _ (not_letters (decimal n) 97 (108 ∷ 108 ∷ []) (decimal_word n (omega arith)) (omega arith))
+    ∙ go_on (ids [] (map (λ k. Plain (decimal k)) (n ∷ ns))) (λ found. Ok (Listed found)) (n ∷ ns) (Listed (n ∷ ns)) (ids_again (n ∷ ns) [] h) refl
+
+pub choice_read : (ws : List Word) (c : Choice) → choice ws ≡ Ok c → ChoiceAgain c
+choice_read [] c h = subst ChoiceAgain (same_ok (Listed []) c h) (record { good = refl; again = refl })
+choice_read (w ∷ ws) c h = by (is_word (codes "all") w) h
+  where
+    by : (b : Bool) → elim b as (λ x. Result Choice ScriptKind) [ true ↦ whole (Every, ws) | false ↦ (ids [] (w ∷ ws) >>= λ found. Ok (Listed found)) ] ≡ Ok c → ChoiceAgain c
+    by true k = subst ChoiceAgain (whole_value (Every, ws) c k).0 (record { good = refl; again = refl })
+    by false k =
+        let a = went (ids [] (w ∷ ws)) (λ found. Ok (Listed found)) c k in
+        let all = ids_read (w ∷ ws) [] a.value refl a.first in
+        subst ChoiceAgain (same_ok (Listed a.value) c a.rest) (record { good = ids_good a.value all; again = listed_again a.value all })

@@ -1,0 +1,165 @@
+-- The texts on the lines of bytes have bytes.
+use Rattle.std.proofs.Common.{◌≡◌, ◌⊎◌, ◌∙◌, ℕ, zero, suc, ◌+◌, ◌-◌, ◌*◌, ◌≤◌, ◌<◌, List, [], ◌∷◌, ◌++◌, length, take, drop, flat_map, Bool, true, false, not, cond, nat_lt, nat_le, ◌==◌, ◌&&◌, ◌||◌, Option, Some, None, option_map, refl, sym, ap, subst, arith}
+use Rattle.std.specs.List.{list_all, slice_split, onto_first, enumerate_from, position_or_len}
+use Rattle.std.proofs.lemmas.Bool.{and_parts, and_from, cond_both}
+use borrow.Author.Tests.{lt-ltb}
+use Rattle.script_spec.specs.ScriptWords.{Word, Plain, Quoted, Broken, Line, is_blank, is_comment, is_newline, begins_blank, after_blanks, first_word, quoted_word, text_from, Within, Between, AfterBackslash, FirstHex, SecondHex, words, words_within, hex_value, escape, last_line, without_empty_end, text_lines, line_of, significant, significant_of}
+use Rattle.script_text.proofs.Lexing.{is_byte}
+use Rattle.script_text.proofs.Lines.{all_joined}
+use Rattle.script_text.proofs.Numerals.{hex_value_bound}
+use Rattle.script_text.proofs.PrintedValues.{is_read}
+use Rattle.script_text.proofs.CallLines.{are_read}
+
+abbrev are_bytes : List ℕ → Bool
+are_bytes cs = list_all is_byte cs
+
+-- ---- a text
+
+abbrev BytesOf : Option (List ℕ × List ℕ) → Type 0
+BytesOf None = Unit {0}
+BytesOf (Some t) = (are_bytes t.0 ≡ true) × (are_bytes t.1 ≡ true)
+
+abbrev StateOk : Within → Type 0
+StateOk Between = Unit {0}
+StateOk AfterBackslash = Unit {0}
+StateOk FirstHex = Unit {0}
+StateOk (SecondHex g) = g < 16
+
+with_byte : (x : ℕ) (o : Option (List ℕ × List ℕ)) → is_byte x ≡ true → BytesOf o → BytesOf (option_map (λ r. (x ∷ r.0, r.1)) o)
+with_byte x None b h = tt
+with_byte x (Some t) b h = (and_from _ _ b h.0, h.1)
+
+escape_byte : (c x : ℕ) → is_byte c ≡ true → escape c ≡ Some x → is_byte x ≡ true
+escape_byte c x b h = by (c == 34 || c == 92) (c == 110) (c == 116) h
+  where
+    by : (i j k : Bool) → cond {A = Option ℕ} i (Some c) (cond j (Some 10) (cond k (Some 9) None)) ≡ Some x → is_byte x ≡ true
+    by true j k e = let same : c ≡ x = cc in subst (λ y. is_byte y ≡ true) same b
+    by false true k e = let same : 10 ≡ x = cc in subst (λ y. is_byte y ≡ true) same refl
+    by false false true e = let same : 9 ≡ x = cc in subst (λ y. is_byte y ≡ true) same refl
+    by false false false e = absurd (cc)
+
+text_bytes : (state : Within) (cs : List ℕ) → StateOk state → are_bytes cs ≡ true → BytesOf (text_from state cs)
+text_bytes state [] ok h = tt
+text_bytes Between (c ∷ cs) ok h =
+    let both = and_parts (is_byte c) (are_bytes cs) h in
+    by (c == 34) (c == 92) both.0 both.1 (text_bytes AfterBackslash cs tt both.1) (text_bytes Between cs tt both.1)
+  where
+    by : (i j : Bool) → is_byte c ≡ true → are_bytes cs ≡ true → BytesOf (text_from AfterBackslash cs) → BytesOf (text_from Between cs)
+        → BytesOf (elim i as (λ z. Option (List ℕ × List ℕ)) [
+      | true ↦ Some ([], cs)
+      | false ↦ elim j as (λ z. Option (List ℕ × List ℕ)) [ true ↦ text_from AfterBackslash cs | false ↦ option_map (λ r. (c ∷ r.0, r.1)) (text_from Between cs) ]
+    ])
+    by true j b rest one two = (refl, rest)
+    by false true b rest one two = one
+    by false false b rest one two = with_byte c (text_from Between cs) b two
+text_bytes AfterBackslash (c ∷ cs) ok h =
+    let both = and_parts (is_byte c) (are_bytes cs) h in
+    by (c == 120) (escape c) refl both.0 (text_bytes FirstHex cs tt both.1) (text_bytes Between cs tt both.1)
+  where
+    by : (i : Bool) (o : Option ℕ) → escape c ≡ o → is_byte c ≡ true → BytesOf (text_from FirstHex cs) → BytesOf (text_from Between cs)
+        → BytesOf (elim i as (λ z. Option (List ℕ × List ℕ)) [
+      | true ↦ text_from FirstHex cs
+      | false ↦ elim o as (λ z. Option (List ℕ × List ℕ)) [ None ↦ None | Some x ↦ option_map (λ r. (x ∷ r.0, r.1)) (text_from Between cs) ]
+    ])
+    by true o e b one two = one
+    by false None e b one two = tt
+    by false (Some x) e b one two = with_byte x (text_from Between cs) (escape_byte c x b e) two
+text_bytes FirstHex (c ∷ cs) ok h =
+    let both = and_parts (is_byte c) (are_bytes cs) h in
+    by (hex_value c) refl (λ g low. text_bytes (SecondHex g) cs low both.1)
+  where
+    by : (o : Option ℕ) → hex_value c ≡ o → ((g : ℕ) → g < 16 → BytesOf (text_from (SecondHex g) cs)) → BytesOf (elim o as (λ z. Option (List ℕ × List ℕ)) [ None ↦ None | Some g ↦ text_from (SecondHex g) cs ])
+    by None e more = tt
+    by (Some g) e more = more g (hex_value_bound c g e)
+text_bytes (SecondHex g) (c ∷ cs) ok h =
+    let both = and_parts (is_byte c) (are_bytes cs) h in
+    by (hex_value c) refl (text_bytes Between cs tt both.1)
+  where
+    by : (o : Option ℕ) → hex_value c ≡ o → BytesOf (text_from Between cs) → BytesOf (elim o as (λ z. Option (List ℕ × List ℕ)) [ None ↦ None | Some k ↦ option_map (λ r. ((16 * g + k) ∷ r.0, r.1)) (text_from Between cs) ])
+    by None e more = tt
+    by (Some k) e more =
+        let low = hex_value_bound c k e in
+        with_byte (16 * g + k) (text_from Between cs) (lt-ltb (16 * g + k) 256 (omega arith)) more
+
+-- ---- a word
+
+abbrev WordOk : Word × List ℕ → Type 0
+WordOk w = (is_read w.0 ≡ true) × (are_bytes w.1 ≡ true)
+
+quoted_ok : (o : Option (List ℕ × List ℕ)) → BytesOf o → WordOk (quoted_word o)
+quoted_ok None h = (refl, refl)
+quoted_ok (Some t) h = by (begins_blank t.1)
+  where
+    by : (b : Bool) → WordOk (cond b (Quoted t.0, t.1) (Broken, []))
+    by true = h
+    by false = (refl, refl)
+
+all_dropped : (n : ℕ) (cs : List ℕ) → are_bytes cs ≡ true → are_bytes (drop n cs) ≡ true
+all_dropped zero cs h = h
+all_dropped (suc n) [] h = refl
+all_dropped (suc n) (c ∷ cs) h = all_dropped n cs (and_parts (is_byte c) (are_bytes cs) h).1
+
+first_ok : (c : ℕ) (cs : List ℕ) → are_bytes cs ≡ true → WordOk (first_word c cs)
+first_ok c cs h = by (c == 34)
+  where
+    by : (b : Bool) → WordOk (elim b as (λ z. Word × List ℕ) [ true ↦ quoted_word (text_from Between cs) | false ↦ (Plain (c ∷ take (position_or_len is_blank cs) cs), drop (position_or_len is_blank cs) cs) ])
+    by true = quoted_ok (text_from Between cs) (text_bytes Between cs tt h)
+    by false = (refl, all_dropped (position_or_len is_blank cs) cs h)
+
+words_read : (n : ℕ) (line : List ℕ) → are_bytes line ≡ true → list_all is_read (words_within n line) ≡ true
+words_read zero line h = refl
+words_read (suc n) line h = by (after_blanks line) (all_dropped (position_or_len (λ c. not (is_blank c)) line) line h) (λ rest. words_read n rest)
+  where
+    by : (rest : List ℕ) → are_bytes rest ≡ true → ((tail : List ℕ) → are_bytes tail ≡ true → list_all is_read (words_within n tail) ≡ true)
+        → list_all is_read (elim rest as (λ z. List Word) [ [] ↦ [] | c ∷ cs ↦ (first_word c cs).0 ∷ words_within n (first_word c cs).1 ]) ≡ true
+    by [] b more = refl
+    by (c ∷ cs) b more =
+        let w = first_ok c cs (and_parts (is_byte c) (are_bytes cs) b).1 in
+        and_from _ _ w.0 (more (first_word c cs).1 w.1)
+
+-- ---- lines
+
+abbrev are_texts : List (List ℕ) → Bool
+are_texts lines = list_all are_bytes lines
+
+onto_bytes : (x : ℕ) (parts : List (List ℕ)) → is_byte x ≡ true → are_texts parts ≡ true → are_texts (onto_first x parts) ≡ true
+onto_bytes x [] b h = and_from _ _ (and_from _ _ b refl) refl
+onto_bytes x (part ∷ parts) b h =
+    let both = and_parts (are_bytes part) (are_texts parts) h in
+    and_from _ _ (and_from _ _ b both.0) both.1
+
+split_bytes : (p : ℕ → Bool) (text : List ℕ) → are_bytes text ≡ true → are_texts (slice_split p text) ≡ true
+split_bytes p [] h = refl
+split_bytes p (x ∷ text) h =
+    let both = and_parts (is_byte x) (are_bytes text) h in
+    by (p x) both.0 (split_bytes p text both.1)
+  where
+    by : (b : Bool) → is_byte x ≡ true → are_texts (slice_split p text) ≡ true → are_texts (cond b ([] ∷ slice_split p text) (onto_first x (slice_split p text))) ≡ true
+    by true b h = h
+    by false b h = onto_bytes x (slice_split p text) b h
+
+kept_bytes : (lines : List (List ℕ)) → are_texts lines ≡ true → are_texts (without_empty_end lines) ≡ true
+kept_bytes [] h = refl
+kept_bytes ([] ∷ []) h = refl
+kept_bytes ((c ∷ cs) ∷ []) h = h
+kept_bytes (x ∷ y ∷ more) h =
+    let both = and_parts (are_bytes x) (are_texts (y ∷ more)) h in
+    and_from _ _ both.0 (kept_bytes (y ∷ more) both.1)
+
+line_read : (n : ℕ) (ws : List Word) → list_all is_read ws ≡ true → are_read (line_of n ws) ≡ true
+line_read n [] h = refl
+line_read n (w ∷ ws) h = by (is_comment w) (and_parts (is_read w) (list_all is_read ws) h).1
+  where
+    by : (b : Bool) → list_all is_read ws ≡ true → are_read (cond {A = List Line} b [] (record { number = n; first = w; rest = ws } ∷ [])) ≡ true
+    by true k = refl
+    by false k = and_from _ _ k refl
+
+lines_read : (n : ℕ) (lines : List (List ℕ)) → are_texts lines ≡ true → are_read (significant_of (enumerate_from n lines)) ≡ true
+lines_read n [] h = refl
+lines_read n (line ∷ lines) h =
+    let both = and_parts (are_bytes line) (are_texts lines) h in
+    all_joined (λ (l : Line). list_all is_read l.rest) (line_of n (words line)) (significant_of (enumerate_from (n + 1) lines))
+    (line_read n (words line) (words_read (length line) line both.0)) (lines_read (n + 1) lines both.1)
+
+pub significant_read : (text : List ℕ) → list_all is_byte text ≡ true → are_read (significant text) ≡ true
+significant_read text h = lines_read 1 (text_lines text) (kept_bytes (slice_split is_newline text) (split_bytes is_newline text h))

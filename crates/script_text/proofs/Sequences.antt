@@ -1,0 +1,121 @@
+-- The terms of a sequence lie between its first and its last, so that what holds of these two holds of them.
+use Rattle.std.proofs.Common.{◌≡◌, ◌⊎◌, ◌∙◌, ℕ, zero, suc, ◌+◌, ◌-◌, ◌*◌, ◌^◌, ◌≤◌, ◌<◌, List, [], ◌∷◌, map, length, Bool, true, false, nat_lt, ◌==◌, ◌&&◌, ◌||◌, Option, Some, None, ℤ, pos, negsuc, neg_ℤ, ◌+ℤ◌, ◌*ℤ◌, unsigned_abs, refl, sym, ap, subst, ⊎_elim, inl, inr, arith}
+use Rattle.std.specs.List.{list_all, range_with_len}
+use Rattle.std.proofs.lemmas.Bool.{and_parts, and_from, or_cases, cases_Bool}
+use Rattle.std.proofs.lemmas.Grind.{common_steps}
+use Rattle.std.proofs.lemmas.Int.{ints}
+use Rattle.std.proofs.lemmas.List.Folds.{list_all-map}
+use Rattle.std.proofs.lemmas.List.FromFn.{length-map-range_with_len}
+use borrow.Author.Tests.{ltb-true, lt-ltb}
+use lib.Signed.{◌≤ℤ◌}
+use native.Mathlib.Nat.{mul-le-mul_left}
+use Rattle.nc_base.specs.declared.header.NcType.{NcType}
+use Rattle.nc_base.specs.declared.request.Value.{Value}
+use Rattle.nc_base.specs.declared.request.Value.TheVariants as value
+use Rattle.serial_spec.specs.ExternalForm.{Class, Signed, Unsigned, Text, Pattern, class_of, size_of, fits_in}
+use Rattle.script_spec.specs.ScriptValues.{may_have, sequence, last_number, is_term, pattern_sequence, last_pattern, is_pattern_term}
+
+-- a number that may stand here, and has few digits
+abbrev pub is_fit_number : Option NcType → ℤ → Bool
+is_fit_number t z = nat_lt (unsigned_abs z) (10 ^ 20) && may_have t (value.Number z)
+
+abbrev pub is_fit_pattern : Option NcType → ℕ → Bool
+is_fit_pattern t n = nat_lt n (2 ^ 64) && may_have t (value.Bits n)
+
+-- ---- what is nearer to zero fits too
+
+positive_in : (c : Class) (size m n : ℕ) → m ≤ n → fits_in c size (value.Number (pos n)) ≡ true → fits_in c size (value.Number (pos m)) ≡ true
+positive_in Signed size m n le h = let b = ltb-true (2 * n) (256 ^ size) h in lt-ltb (2 * m) (256 ^ size) (omega arith)
+positive_in Unsigned size m n le h = let b = ltb-true n (256 ^ size) h in lt-ltb m (256 ^ size) (omega arith)
+positive_in Text size m n le h = absurd (cc)
+positive_in Pattern size m n le h = absurd (cc)
+
+negative_in : (c : Class) (size m n : ℕ) → m ≤ n → fits_in c size (value.Number (negsuc n)) ≡ true → fits_in c size (value.Number (negsuc m)) ≡ true
+negative_in Signed size m n le h = let b = ltb-true (2 * n) (256 ^ size) h in lt-ltb (2 * m) (256 ^ size) (omega arith)
+negative_in Unsigned size m n le h = absurd (cc)
+negative_in Text size m n le h = absurd (cc)
+negative_in Pattern size m n le h = absurd (cc)
+
+positive_may : (t : Option NcType) (m n : ℕ) → m ≤ n → may_have t (value.Number (pos n)) ≡ true → may_have t (value.Number (pos m)) ≡ true
+positive_may None m n le h = refl
+positive_may (Some k) m n le h = positive_in (class_of k) (size_of k) m n le h
+
+negative_may : (t : Option NcType) (m n : ℕ) → m ≤ n → may_have t (value.Number (negsuc n)) ≡ true → may_have t (value.Number (negsuc m)) ≡ true
+negative_may None m n le h = refl
+negative_may (Some k) m n le h = negative_in (class_of k) (size_of k) m n le h
+
+positive_fit : (t : Option NcType) (m n : ℕ) → m ≤ n → is_fit_number t (pos n) ≡ true → is_fit_number t (pos m) ≡ true
+positive_fit t m n le h =
+    let both = and_parts (nat_lt n (10 ^ 20)) (may_have t (value.Number (pos n))) h in
+    let b = ltb-true n (10 ^ 20) both.0 in
+    and_from _ _ (lt-ltb m (10 ^ 20) (omega arith)) (positive_may t m n le both.1)
+
+negative_fit : (t : Option NcType) (m n : ℕ) → m ≤ n → is_fit_number t (negsuc n) ≡ true → is_fit_number t (negsuc m) ≡ true
+negative_fit t m n le h =
+    let both = and_parts (nat_lt (suc n) (10 ^ 20)) (may_have t (value.Number (negsuc n))) h in
+    let b = ltb-true (suc n) (10 ^ 20) both.0 in
+    and_from _ _ (lt-ltb (suc m) (10 ^ 20) (omega arith)) (negative_may t m n le both.1)
+
+between : (t : Option NcType) (a z c : ℤ) → a ≤ℤ z → z ≤ℤ c → is_fit_number t a ≡ true → is_fit_number t c ≡ true → is_fit_number t z ≡ true
+between t a (pos m) (pos n) low high h k = positive_fit t m n (omega (arith, ints)) k
+between t a (pos m) (negsuc n) low high h k = absurd (omega (arith, ints))
+between t (negsuc n) (negsuc m) c low high h k = negative_fit t m n (omega (arith, ints)) h
+between t (pos n) (negsuc m) c low high h k = absurd (omega (arith, ints))
+
+-- ---- terms of a sequence of numbers
+
+further : (t : Option NcType) (a : ℤ) (p q : ℕ) → p ≤ q → is_fit_number t a ≡ true → is_fit_number t (a +ℤ pos q) ≡ true → is_fit_number t (a +ℤ pos p) ≡ true
+further t a p q le h k = between t a (a +ℤ pos p) (a +ℤ pos q) (omega (arith, ints)) (omega (arith, ints)) h k
+
+back : (t : Option NcType) (a : ℤ) (p q : ℕ) → p ≤ q → is_fit_number t a ≡ true → is_fit_number t (a +ℤ neg_ℤ (pos q)) ≡ true → is_fit_number t (a +ℤ neg_ℤ (pos p)) ≡ true
+back t a p q le h k = between t (a +ℤ neg_ℤ (pos q)) (a +ℤ neg_ℤ (pos p)) a (omega (arith, ints)) (omega (arith, ints)) k h
+
+term_fits : (t : Option NcType) (a b : ℤ) (k n : ℕ) → k ≤ n → is_fit_number t a ≡ true → is_fit_number t (a +ℤ (b *ℤ pos n)) ≡ true → is_fit_number t (a +ℤ (b *ℤ pos k)) ≡ true
+term_fits t a (pos x) k n le first last = further t a (x * k) (x * n) (mul-le-mul_left x le) first last
+term_fits t a (negsuc x) k n le first last = back t a (suc x * k) (suc x * n) (mul-le-mul_left (suc x) le) first last
+
+all_range : (p : ℕ → Bool) (a n m : ℕ) → a + n ≡ m → ((k : ℕ) → k < m → p k ≡ true) → list_all p (range_with_len a n) ≡ true
+all_range p a zero m e each = refl
+all_range p a (suc n) m e each = and_from _ _ (each a (omega arith)) (all_range p (a + 1) n m (omega arith) each)
+
+pub numbers_fit : (t : Option NcType) (a b : ℤ) (n : ℕ) → is_term t n a ≡ true → is_term t n (last_number a b n) ≡ true → list_all (is_fit_number t) (sequence a b n) ≡ true
+numbers_fit t a b zero first last = refl
+numbers_fit t a b (suc n) first last = list_all-map (is_fit_number t) (λ k. a +ℤ (b *ℤ pos k)) (range_with_len 0 (suc n))
+    ∙ all_range (λ k. is_fit_number t (a +ℤ (b *ℤ pos k))) 0 (suc n) (suc n) (omega arith)
+    (λ k low. term_fits t a b k (suc n - 1) (omega arith) (fit_term t n a first) (fit_term t n (last_number a b (suc n)) last))
+  where
+    fit_term : (t : Option NcType) (n : ℕ) (z : ℤ) → is_term t (suc n) z ≡ true → is_fit_number t z ≡ true
+    fit_term t n z h = ⊎_elim (λ (e : (suc n == 0) ≡ true). absurd (grind (arith, common_steps))) (λ (f : is_fit_number t z ≡ true). f) (or_cases (suc n == 0) (is_fit_number t z) h)
+
+pub length-sequence : (a b : ℤ) (n : ℕ) → length (sequence a b n) ≡ n
+length-sequence a b n = length-map-range_with_len (λ k. a +ℤ (b *ℤ pos k)) 0 n
+
+-- ---- terms of a sequence of bits
+
+bits_in : (c : Class) (size m n : ℕ) → m ≤ n → fits_in c size (value.Bits n) ≡ true → fits_in c size (value.Bits m) ≡ true
+bits_in Signed size m n le h = absurd (cc)
+bits_in Unsigned size m n le h = absurd (cc)
+bits_in Text size m n le h = absurd (cc)
+bits_in Pattern size m n le h = let b = ltb-true n (256 ^ size) h in lt-ltb m (256 ^ size) (omega arith)
+
+bits_may : (t : Option NcType) (m n : ℕ) → m ≤ n → may_have t (value.Bits n) ≡ true → may_have t (value.Bits m) ≡ true
+bits_may None m n le h = refl
+bits_may (Some k) m n le h = bits_in (class_of k) (size_of k) m n le h
+
+bits_fit : (t : Option NcType) (m n : ℕ) → m ≤ n → is_fit_pattern t n ≡ true → is_fit_pattern t m ≡ true
+bits_fit t m n le h =
+    let both = and_parts (nat_lt n (2 ^ 64)) (may_have t (value.Bits n)) h in
+    let b = ltb-true n (2 ^ 64) both.0 in
+    and_from _ _ (lt-ltb m (2 ^ 64) (omega arith)) (bits_may t m n le both.1)
+
+pub patterns_fit : (t : Option NcType) (a b n : ℕ) → is_pattern_term t n (last_pattern a b n) ≡ true → list_all (is_fit_pattern t) (pattern_sequence a b n) ≡ true
+patterns_fit t a b zero last = refl
+patterns_fit t a b (suc n) last = list_all-map (is_fit_pattern t) (λ k. a + b * k) (range_with_len 0 (suc n))
+    ∙ all_range (λ k. is_fit_pattern t (a + b * k)) 0 (suc n) (suc n) (omega arith)
+    (λ k low. bits_fit t (a + b * k) (a + b * (suc n - 1)) (let le : b * k ≤ b * (suc n - 1) = mul-le-mul_left b (omega arith) in omega arith) (fit_term (last_pattern a b (suc n)) last))
+  where
+    fit_term : (x : ℕ) → is_pattern_term t (suc n) x ≡ true → is_fit_pattern t x ≡ true
+    fit_term x h = ⊎_elim (λ (e : (suc n == 0) ≡ true). absurd (grind (arith, common_steps))) (λ (f : is_fit_pattern t x ≡ true). f) (or_cases (suc n == 0) (is_fit_pattern t x) h)
+
+pub length-pattern_sequence : (a b n : ℕ) → length (pattern_sequence a b n) ≡ n
+length-pattern_sequence a b n = length-map-range_with_len (λ k. a + b * k) 0 n

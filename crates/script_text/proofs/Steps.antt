@@ -1,0 +1,101 @@
+-- Steps from word to word, forwards and backwards.
+use Rattle.std.proofs.Common.{◌≡◌, ◌∙◌, ℕ, List, [], ◌∷◌, Bool, true, false, Option, Some, None, Result, Ok, Err, refl, sym, ap}
+use Rattle.nc_base.specs.declared.errors.ScriptKind.{ScriptKind}
+use Rattle.script_spec.specs.ScriptWords.{Word, Plain, Quoted, Broken}
+use Rattle.script_spec.specs.ScriptSteps.{◌>>=◌, refuse_if, or_fault, bare, next, reads_as, ended, whole}
+
+-- ---- what a step that gave something says of its parts
+
+pub record Went {A B E : Type 0} (r : Result A E) (f : A → Result B E) (y : B) : Type 0 where
+  pub value : A
+  pub first : r ≡ Ok value
+  pub rest : f value ≡ Ok y
+
+pub went : {A B E : Type 0} (r : Result A E) (f : A → Result B E) (y : B) → (r >>= f) ≡ Ok y → Went r f y
+went (Ok x) f y h = record { value = x; first = refl; rest = h }
+went (Err e) f y h = absurd (cc)
+
+pub go_on : {A B E : Type 0} (r : Result A E) (f : A → Result B E) (x : A) (y : B) → r ≡ Ok x → f x ≡ Ok y → (r >>= f) ≡ Ok y
+go_on r f x y e h = ap (λ (s : Result _ _). s >>= f) e ∙ h
+
+abbrev ok_or : {A E : Type 0} → A → Result A E → A
+ok_or d (Ok x) = x
+ok_or d (Err e) = d
+
+pub same_ok : {A E : Type 0} (x y : A) → ◌≡◌ {A = Result A E} (Ok x) (Ok y) → x ≡ y
+same_ok x y h = ap (ok_or x) h
+
+pub not_refused : (b : Bool) (e : ScriptKind) (u : Unit {0}) → refuse_if b e ≡ Ok u → b ≡ false
+not_refused false e u h = refl
+not_refused true e u h = absurd (cc)
+
+pub passed : (b : Bool) (e : ScriptKind) → b ≡ false → refuse_if b e ≡ Ok tt
+passed false e h = refl
+passed true e h = absurd (cc)
+
+pub no_fault : {A : Type 0} (e : ScriptKind) (o : Option A) (x : A) → or_fault e o ≡ Ok x → o ≡ Some x
+no_fault e (Some y) x h = ap (λ (z : _). Some z) (same_ok y x h)
+no_fault e None x h = absurd (cc)
+
+pub faultless : {A : Type 0} (e : ScriptKind) (o : Option A) (x : A) → o ≡ Some x → or_fault e o ≡ Ok x
+faultless e o x h = ap (or_fault e) h
+
+-- ---- a word that is read
+
+-- some text is read as this
+abbrev pub Read : {A : Type 0} → (List ℕ → Option A) → A → Type 0
+Read f x = (w : List ℕ) × (f w ≡ Some x)
+
+pub read_word : {A : Type 0} (f : List ℕ → Option A) (e : ScriptKind) (ws : List Word) (r : A × List Word) → reads_as f e ws ≡ Ok r → Read f r.0
+read_word f e ws r h =
+    let a = went (next ws) _ r h in
+    let b = went (or_fault e (f a.value.0)) _ r a.rest in
+    let same = ap (λ (p : _ × List Word). p.0) (same_ok (b.value, a.value.1) r b.rest) in
+    (a.value.0, no_fault e (f a.value.0) b.value b.first ∙ ap (λ (z : _). Some z) same)
+
+pub word_read : {A : Type 0} (f : List ℕ → Option A) (e : ScriptKind) (w : List ℕ) (x : A) (more : List Word) → f w ≡ Some x → reads_as f e (Plain w ∷ more) ≡ Ok (x, more)
+word_read f e w x more h = ap (λ (o : Option _). or_fault e o >>= λ y. Ok (y, more)) h
+
+pub is_end : (ws : List Word) (u : Unit {0}) → ended ws ≡ Ok u → ws ≡ []
+is_end [] u h = refl
+is_end (Plain w ∷ ws) u h = absurd (cc)
+is_end (Quoted w ∷ ws) u h = absurd (cc)
+is_end (Broken ∷ ws) u h = absurd (cc)
+
+pub whole_value : {A : Type 0} (p : A × List Word) (x : A) → whole p ≡ Ok x → (p.0 ≡ x) × (p.1 ≡ [])
+whole_value p x h =
+    let a = went (ended p.1) _ x h in
+    (same_ok p.0 x a.rest, is_end p.1 a.value a.first)
+
+-- the words after a word that is read
+pub word_before : {A : Type 0} (f : List ℕ → Option A) (e : ScriptKind) (ws : List Word) (r : A × List Word) → reads_as f e ws ≡ Ok r → (w : Word) × (ws ≡ w ∷ r.1)
+word_before f e [] r h = absurd (cc)
+word_before f e (w ∷ ws) r h =
+    let a = went (next (w ∷ ws)) _ r h in
+    let b = went (or_fault e (f a.value.0)) _ r a.rest in
+    let last = ap (λ (p : _ × List Word). p.1) (same_ok (b.value, a.value.1) r b.rest) in
+    let c = went (bare w) (λ x. Ok (x, ws)) a.value a.first in
+    let behind = ap (λ (p : List ℕ × List Word). p.1) (same_ok (c.value, ws) a.value c.rest) in
+    (w, ap (λ (more : List Word). w ∷ more) (behind ∙ last))
+
+-- ---- a step by cases, as a step that goes on
+
+abbrev pub carry : {A B E : Type 0} → Result A E → (A → Result B E) → Result B E
+carry r f = elim r [ Err e ↦ Err e | Ok x ↦ f x ]
+
+pub carried : {A B E : Type 0} (r : Result A E) (f : A → Result B E) (y : B) → carry r f ≡ Ok y → Went r f y
+carried (Ok x) f y h = record { value = x; first = refl; rest = h }
+carried (Err e) f y h = absurd (cc)
+
+pub carry_on : {A B E : Type 0} (r : Result A E) (f : A → Result B E) (x : A) (y : B) → r ≡ Ok x → f x ≡ Ok y → carry r f ≡ Ok y
+carry_on r f x y e h = ap (λ (s : Result _ _). carry s f) e ∙ h
+
+-- ---- what comes of two tests, one after the other
+
+pub by_true : {A : Type 0} (b : Bool) (x y : A) → b ≡ true → elim b as (λ t. A) [ true ↦ x | false ↦ y ] ≡ x
+by_true true x y h = refl
+by_true false x y h = absurd (cc)
+
+pub by_false : {A : Type 0} (b : Bool) (x y : A) → b ≡ false → elim b as (λ t. A) [ true ↦ x | false ↦ y ] ≡ y
+by_false false x y h = refl
+by_false true x y h = absurd (cc)

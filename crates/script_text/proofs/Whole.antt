@@ -1,0 +1,429 @@
+-- A whole script: what is printed of what was read is read as the same script.
+use Rattle.std.proofs.Common.{◌≡◌, ◌⊎◌, ◌∙◌, ℕ, zero, suc, ◌+◌, ◌%◌, ◌^◌, ◌≤◌, ◌<◌, List, [], ◌∷◌, ◌++◌, map, replicate, length, flat_map, Bool, true, false, not, cond, nat_lt, nat_le, ◌==◌, ◌&&◌, ◌||◌, Option, Some, None, Result, Ok, Err, refl, sym, ap, subst, ⊎_elim, inl, inr, append_assoc, append-nil, length-append, arith, bytes_eq, codes, decimal}
+use Rattle.std.specs.List.{list_all, enumerate_from}
+use Rattle.std.specs.Str.Lossy.{utf8_valid_len}
+use Rattle.std.proofs.lemmas.Bool.{and_parts, and_from, or_cases, cond-true, ne_eqb, eqb-true}
+use borrow.Author.Tests.{leb-true, ltb-false, le-ltb}
+use Rattle.nc_base.specs.declared.errors.ScriptKind.{ScriptKind}
+use Rattle.nc_base.specs.declared.errors.ScriptKind.TheVariants as kind
+use Rattle.nc_base.specs.declared.errors.ScriptErr.{ScriptErr}
+use Rattle.nc_base.specs.declared.header.Header.{Header}
+use Rattle.nc_base.specs.declared.header.Attr.{Attr}
+use Rattle.nc_base.specs.declared.header.Var.{Var}
+use Rattle.nc_base.specs.declared.script.Hints.{Hints}
+use Rattle.nc_base.specs.declared.script.Extra.{Extra}
+use Rattle.nc_base.specs.declared.script.Script.{Script}
+use Rattle.nc_base.specs.declared.request.Call.{Call}
+use Rattle.serial_spec.specs.HeaderGrammar.{is_version}
+use Rattle.serial_spec.specs.History.{kinds}
+use Rattle.serial_spec.specs.Lawful.{most_values}
+use Rattle.script_spec.specs.Texts.{line}
+use Rattle.script_spec.specs.Shown.{shown, shown_hints, shown_extra, shown_dim, shown_var, shown_attr, shown_definitions, shown_call}
+use Rattle.script_spec.specs.ScriptWords.{Word, Plain, Quoted, Broken, Line, is_word, size_of_text, text_lines, significant}
+use Rattle.script_spec.specs.ScriptSteps.{◌>>=◌, bare, reads_as, whole}
+use Rattle.script_spec.specs.ScriptDefinitions.{HintForm, Within, Either, hint_forms, Defined, no_definition, Added, nothing_added, Known, nothing_known, ranks_line}
+use Rattle.script_spec.specs.ScriptCalls.{Called, mismatch}
+use Rattle.script_spec.specs.ScriptGrammar.{at_line, version_of_text, version_line, head, data_line, definition_step, definitions, call_step, data_part, finish, hints_of, header_of, script_of, no_calls, script_of_lines, most_bytes, most_lines, newlines, too_many_lines, within_lines, script_of_utf8, script_of_text, Reads}
+use Rattle.script_text.proofs.Steps.{Went, went, go_on, same_ok, read_word, word_read, whole_value, by_true, by_false}
+use Rattle.script_text.proofs.Lexing.{spelling, is_plain, is_good}
+use Rattle.script_text.proofs.Lines.{is_line, spelled, numbered, all_joined, significant_lines, valid_lines, valid_bytes}
+use Rattle.script_text.proofs.Numerals.{size_again, size_plain}
+use Rattle.script_text.proofs.PrintedDefinitions.{is_value_of, ranks_again, within_plain}
+use Rattle.script_text.proofs.CallLines.{Chains, count_all, Holds, DataEnd, are_read, data_holds, call_lines, flat_joined, calls_spelled, calls_are_lines, data_again, line_ok}
+use Rattle.script_text.proofs.AddedLines.{Leads, Runs, runs_on, run_again, Replay, replay_runs, replay_lines, extra_line, extras_spelled, att_spelled}
+use Rattle.script_text.proofs.DefinedChains.{DefinedOk, count_attrs, count_own}
+use Rattle.script_text.proofs.DefinedLines.{at_state, leads_by, line_of_dim, line_of_var, line_of_att, lines_of_own, definition_lines, told_again, nothing_but, definitions_run, definitions_are_lines}
+use Rattle.script_text.proofs.ReadWords.{significant_read}
+use Rattle.script_text.proofs.KnownLines.{hint_tokens, mapped_spelled, hints_spelled, hint_table, hints_again, HintsFit, hints_fit, with_hints, hints_run, hints_are_lines, What, KnownOk, nothing_ok, AtData, definitions_read}
+
+-- ---- a script, as its lines
+
+abbrev ranks_words : ℕ → List Word
+ranks_words n = Plain (codes "ranks") ∷ Plain (decimal n) ∷ []
+
+abbrev fill_lines : Bool → List (List Word)
+fill_lines true = (Plain (codes "fill") ∷ []) ∷ []
+fill_lines false = []
+
+-- the lines between the head and `data`
+abbrev before_data : ℕ → Hints → List Extra → Defined → List (List Word)
+before_data n h es d = ranks_words n ∷ (hint_tokens h ++ (fill_lines d.filled ++ (map extra_line es ++ definition_lines d)))
+
+abbrev from_data : List (List Call) → List (List Word)
+from_data calls = (Plain (codes "data") ∷ []) ∷ (call_lines 0 calls ++ (Plain (codes "end") ∷ []) ∷ [])
+
+-- of an existing dataset, or of a new one of this version
+abbrev head_words : Bool → ℕ → List Word
+head_words true version = Plain (codes "open") ∷ []
+head_words false version = Plain (codes "create") ∷ Plain (decimal version) ∷ []
+
+abbrev all_lines : Bool → ℕ → ℕ → Hints → List Extra → Defined → List (List Call) → List (List Word)
+all_lines b version n h es d calls = head_words b version ∷ (before_data n h es d ++ from_data calls)
+
+abbrev script_with : ℕ → ℕ → Hints → Defined → List Extra → List (List Call) → Script
+script_with version n h d es calls = record { fresh = not (version == 0); header = header_of version d; ranks = n; hints = h; filled = d.filled; extra = es; calls = calls }
+
+-- ---- they spell what is shown
+
+flat_then : (xs ys : List (List Word)) (text rest : List ℕ) → flat_map spelled xs ≡ text → flat_map spelled ys ≡ rest → flat_map spelled (xs ++ ys) ≡ text ++ rest
+flat_then xs ys text rest a b = flat_joined spelled xs ys ∙ (ap (λ (t : List ℕ). t ++ flat_map spelled ys) a ∙ ap (λ (t : List ℕ). text ++ t) b)
+
+own_spelled : (vs : List Var) → flat_map spelled (lines_of_own vs) ≡ flat_map (λ v. flat_map (shown_attr v.name) v.attrs) vs
+own_spelled [] = refl
+own_spelled (v ∷ vs) = flat_then (map (line_of_att v.name) v.attrs) (lines_of_own vs) (flat_map (shown_attr v.name) v.attrs) (flat_map (λ v. flat_map (shown_attr v.name) v.attrs) vs)
+    (mapped_spelled (shown_attr v.name) (line_of_att v.name) (att_spelled v.name) v.attrs) (own_spelled vs)
+
+abbrev definitions_text : Header → List ℕ
+definitions_text header =
+    flat_map shown_dim header.dims ++ (flat_map (shown_var header) header.vars ++ (flat_map (shown_attr (codes ":")) header.attrs ++ flat_map (λ v. flat_map (shown_attr v.name) v.attrs) header.vars))
+
+definitions_spelled : (version : ℕ) (d : Defined) → flat_map spelled (definition_lines d) ≡ definitions_text (header_of version d)
+definitions_spelled version d =
+    flat_then (map line_of_dim d.dims) _ _ _ (mapped_spelled shown_dim line_of_dim (λ x. refl) d.dims)
+    (flat_then (map (line_of_var d.dims) d.vars) _ _ _ (mapped_spelled (shown_var (header_of version d)) (line_of_var d.dims) (λ x. refl) d.vars)
+    (flat_then (map (line_of_att (codes ":")) d.attrs) (lines_of_own d.vars) _ _ (mapped_spelled (shown_attr (codes ":")) (line_of_att (codes ":")) (att_spelled (codes ":")) d.attrs) (own_spelled d.vars)))
+
+abbrev fill_text : Bool → List ℕ
+fill_text filled = cond filled (line (codes "fill" ∷ [])) []
+
+fill_spelled : (filled : Bool) → flat_map spelled (fill_lines filled) ≡ fill_text filled
+fill_spelled true = refl
+fill_spelled false = refl
+
+abbrev head_text : Bool → ℕ → List ℕ
+head_text fresh version = cond fresh (line (codes "create" ∷ decimal version ∷ [])) (line (codes "open" ∷ []))
+
+head_spelled : (b : Bool) (version : ℕ) → spelled (head_words b version) ≡ head_text (not b) version
+head_spelled true version = refl
+head_spelled false version = refl
+
+regrouped : (a b c d e f g h i j k l : List ℕ) → a ++ ((b ++ (c ++ (d ++ (e ++ (f ++ (g ++ (h ++ i))))))) ++ (j ++ (k ++ l))) ≡ a ++ b ++ c ++ d ++ e ++ (f ++ g ++ h ++ i) ++ j ++ k ++ l
+regrouped a b c d e f g h i j k l = simp append_assoc
+
+all_spelled : (b : Bool) (version n : ℕ) (h : Hints) (es : List Extra) (d : Defined) (calls : List (List Call)) → (version == 0) ≡ b
+    → flat_map spelled (all_lines b version n h es d calls) ≡ shown (script_with version n h d es calls)
+all_spelled b version n h es d calls test =
+    let header = header_of version d in
+    let ranks = line (codes "ranks" ∷ decimal n ∷ []) in
+    let data_text = line (codes "data" ∷ []) in
+    let end_text = line (codes "end" ∷ []) in
+    let calls_text = flat_map (λ p. flat_map (shown_call p.0) p.1) (enumerate_from 0 calls) in
+    let extras = flat_map shown_extra es in
+    let before : flat_map spelled (before_data n h es d) ≡ ranks ++ (shown_hints h ++ (fill_text d.filled ++ (extras ++ definitions_text header))) =
+    ap (λ (text : List ℕ). ranks ++ text)
+    (flat_then (hint_tokens h) _ (shown_hints h) _ (hints_spelled h)
+    (flat_then (fill_lines d.filled) _ (fill_text d.filled) _ (fill_spelled d.filled)
+    (flat_then (map extra_line es) (definition_lines d) extras _ (extras_spelled es) (definitions_spelled version d)))) in
+    let rest : flat_map spelled (from_data calls) ≡ data_text ++ (calls_text ++ end_text) =
+    ap (λ (text : List ℕ). data_text ++ text) (flat_then (call_lines 0 calls) ((Plain (codes "end") ∷ []) ∷ []) calls_text end_text (calls_spelled 0 calls) (append-nil end_text)) in
+    ap (λ (text : List ℕ). text ++ flat_map spelled (before_data n h es d ++ from_data calls)) (head_spelled b version ∙ ap (λ (x : Bool). head_text (not x) version) (sym test))
+    ∙ (ap (λ (text : List ℕ). head_text (not (version == 0)) version ++ text) (flat_then (before_data n h es d) (from_data calls) _ _ before rest)
+    ∙ regrouped (head_text (not (version == 0)) version) ranks (shown_hints h) (fill_text d.filled) extras (flat_map shown_dim d.dims) (flat_map (shown_var header) d.vars) (flat_map (shown_attr (codes ":")) d.attrs)
+    (flat_map (λ v. flat_map (shown_attr v.name) v.attrs) d.vars) data_text calls_text end_text)
+
+-- ---- what is known at `data` is known again
+
+abbrev with_ranks : ℕ → Known
+with_ranks n = record nothing_known { ranks = Some n }
+
+ranks_lead : (version n : ℕ) → is_value_of (Within 1 64 1) n ≡ true → Leads version nothing_known (ranks_words n) (with_ranks n)
+ranks_lead version n h = (refl, go_on (ranks_line None (Plain (decimal n) ∷ [])) (λ x. Ok (record nothing_known { ranks = Some x })) n (with_ranks n) (ranks_again n h) refl)
+
+pub record KnownAgain (version n : ℕ) (h : Hints) (es : List Extra) (d : Defined) (values : ℕ) : Type 0 where
+  pub last : Known
+  pub run : Runs version nothing_known (before_data n h es d) last
+  pub ranks : last.ranks ≡ Some n
+  pub counted : last.values ≡ values
+  pub same : (calls : List (List Call)) → script_of version n last calls ≡ script_with version n h d es calls
+  pub lines : list_all is_line (before_data n h es d) ≡ true
+
+fill_run : (version : ℕ) (k : Known) (filled : Bool) → (version == 0) ≡ false → Runs version (at_state k (nothing_but false) 0) (fill_lines filled) (at_state k (nothing_but filled) 0)
+fill_run version k false new = refl
+fill_run version k true new = (at_state k (nothing_but true) 0, leads_by version (at_state k (nothing_but false) 0) (codes "fill") [] (0, nothing_but true) new refl refl refl refl, refl)
+
+fill_are_lines : (filled : Bool) → list_all is_line (fill_lines filled) ≡ true
+fill_are_lines true = refl
+fill_are_lines false = refl
+
+before_are_lines : (n : ℕ) (h : Hints) (es : List Extra) (d : Defined) → is_value_of (Within 1 64 1) n ≡ true → HintsFit h → list_all is_line (map extra_line es) ≡ true → list_all is_line (definition_lines d) ≡ true
+    → list_all is_line (before_data n h es d) ≡ true
+before_are_lines n h es d r fit a b =
+    let plain = within_plain 1 64 1 n r (omega arith) in
+    and_from _ _ (and_from _ _ plain refl)
+    (all_joined is_line (hint_tokens h) (fill_lines d.filled ++ (map extra_line es ++ definition_lines d)) (hints_are_lines h fit)
+    (all_joined is_line (fill_lines d.filled) (map extra_line es ++ definition_lines d) (fill_are_lines d.filled) (all_joined is_line (map extra_line es) (definition_lines d) a b)))
+
+open_again : (n values : ℕ) (h : Hints) (added : Added) → is_value_of (Within 1 64 1) n ≡ true → HintsFit h → Replay 0 nothing_added added.extras values added → KnownAgain 0 n h added.extras no_definition values
+open_again n values h added r fit replay =
+    let k = with_ranks n in
+    let k2 = with_hints k (hint_table h) in
+    let last : Known = record k2 { added = added; values = values } in
+    let extras = replay_runs 0 values nothing_added added added.extras k2 replay in
+    record {
+      last = last;
+      run = (k, ranks_lead 0 n r, runs_on 0 k k2 last (hint_tokens h) _ (hints_run 0 k h fit) (runs_on 0 k2 last last (map extra_line added.extras) [] extras refl));
+      ranks = refl;
+      counted = refl;
+      same = λ calls. ap (λ (x : Hints). script_with 0 n x no_definition added.extras calls) (hints_again n h);
+      lines = before_are_lines n h added.extras no_definition r fit (replay_lines 0 values nothing_added added added.extras replay) refl;
+    }
+
+create_again : (version n values : ℕ) (h : Hints) (d : Defined) → (version == 0) ≡ false → is_value_of (Within 1 64 1) n ≡ true → HintsFit h → DefinedOk version values d → values ≤ most_values → KnownAgain version n h [] d values
+create_again version n values h d new r fit ok few =
+    let k = with_ranks n in
+    let k2 = with_hints k (hint_table h) in
+    let k3 = at_state k2 (nothing_but d.filled) 0 in
+    let last : Known = at_state k2 (told_again d) values in
+    let defined = definitions_run version values k2 d new ok.dims ok.vars ok.attrs ok.own ok.counted few in
+    record {
+      last = last;
+      run = (k, ranks_lead version n r, runs_on version k k2 last (hint_tokens h) _ (hints_run version k h fit) (runs_on version k2 k3 last (fill_lines d.filled) _ (fill_run version k2 d.filled new) defined));
+      ranks = refl;
+      counted = refl;
+      same = λ calls. ap (λ (x : Hints). script_with version n x d [] calls) (hints_again n h);
+      lines = before_are_lines n h [] d r fit refl (definitions_are_lines version d ok.dims ok.vars ok.attrs ok.own);
+    }
+
+-- ---- the head
+
+abbrev HeadLine : Bool → ℕ → Type 0
+HeadLine true version = version ≡ 0
+HeadLine false version = is_version version ≡ true
+
+pub record HeadIs (version : ℕ) : Type 0 where
+  pub existing : Bool
+  pub test : (version == 0) ≡ existing
+  pub told : HeadLine existing version
+
+version_head : (version : ℕ) → is_version version ≡ true → HeadIs version
+version_head zero h = absurd (cc)
+version_head (suc n) h = record { existing = false; test = ne_eqb (suc n) 0 (omega arith); told = h }
+
+version_known : (o : Option ℕ) (version : ℕ) → elim o as (λ x. Option ℕ) [ None ↦ None | Some n ↦ cond (is_version n) (Some n) None ] ≡ Some version → is_version version ≡ true
+version_known None version h = absurd (cc)
+version_known (Some n) version h = by (is_version n) refl h
+  where
+    by : (b : Bool) → is_version n ≡ b → cond {A = Option ℕ} b (Some n) None ≡ Some version → is_version version ≡ true
+    by true e k = let same : n ≡ version = cc in subst (λ x. is_version x ≡ true) same e
+    by false e k = absurd (cc)
+
+head_read : (w : Word) (ws : List Word) (version : ℕ) → head w ws ≡ Ok version → HeadIs version
+head_read w ws version h = by (is_word (codes "create") w) (is_word (codes "open") w) h
+  where
+    by : (i j : Bool) → elim i as (λ x. Result ℕ ScriptKind) [
+      | true ↦ version_line ws
+      | false ↦ elim j as (λ x. Result ℕ ScriptKind) [ true ↦ whole (0, ws) | false ↦ Err kind.NoHead ]
+    ] ≡ Ok version → HeadIs version
+    by true j e =
+        let a = went (reads_as version_of_text kind.BadNumber ws) (λ v. whole v) version e in
+        let r = read_word version_of_text kind.BadNumber ws a.value a.first in
+        version_head version (subst (λ x. is_version x ≡ true) (whole_value a.value version a.rest).0 (version_known (size_of_text r.0) a.value.0 r.1))
+    by false true e = subst HeadIs (whole_value (0, ws) version e).0 (record { existing = true; test = refl; told = refl })
+    by false false e = absurd (cc)
+
+version_low : (version : ℕ) → is_version version ≡ true → version < 2 ^ 63
+version_low version h = ⊎_elim
+    (λ a. ⊎_elim (λ b. let e = eqb-true version 1 b in omega arith) (λ b. let e = eqb-true version 2 b in omega arith) (or_cases (version == 1) (version == 2) a))
+    (λ a. let e = eqb-true version 5 a in omega arith)
+    (or_cases (version == 1 || version == 2) (version == 5) h)
+
+abbrev version_by : Option ℕ → Option ℕ
+version_by o = elim o [ None ↦ None | Some n ↦ cond (is_version n) (Some n) None ]
+
+version_again : (version : ℕ) → is_version version ≡ true → version_of_text (decimal version) ≡ Some version
+version_again version h = ap version_by (size_again version (version_low version h)) ∙ cond-true _ _ _ h
+
+head_is_line : (b : Bool) (version : ℕ) → HeadLine b version → is_line (head_words b version) ≡ true
+head_is_line true version h = refl
+head_is_line false version h = and_from _ _ (size_plain version (version_low version h)) refl
+
+-- the script that the lines after the head tell
+abbrev told_after : ℕ → ℕ → List Line → Result Script ScriptErr
+told_after past version lines =
+    definitions past version nothing_known lines
+    >>= (λ d. data_part past (no_calls d.0 d.1.0) d.1.1 >>= (λ c. finish c.0 c.1.0.calls c.1.1 >>= (λ u. Ok (script_of version d.0 d.1.0 c.1.0.calls))))
+
+head_again : (b : Bool) (past version : ℕ) (wss : List (List Word)) (script : Script) → HeadLine b version → told_after past version (numbered 2 wss) ≡ Ok script → script_of_lines past (numbered 1 (head_words b version ∷ wss)) ≡ Ok script
+head_again true past version wss script e h = subst (λ v. told_after past v (numbered 2 wss) ≡ Ok script) e h
+head_again false past version wss script e h =
+    let read : version_line (Plain (decimal version) ∷ []) ≡ Ok version =
+    go_on (reads_as version_of_text kind.BadNumber (Plain (decimal version) ∷ [])) (λ v. whole v) (version, []) version (word_read version_of_text kind.BadNumber (decimal version) version [] (version_again version e)) refl in
+    go_on (at_line 1 (version_line (Plain (decimal version) ∷ []))) (λ v. told_after past v (numbered 2 wss)) version script (ap (at_line 1) read) h
+
+-- ---- the script again
+
+chains_empty : (ranks r n : ℕ) → Chains ranks r (replicate n [])
+chains_empty ranks r zero = tt
+chains_empty ranks r (suc n) = (tt, chains_empty ranks (r + 1) n)
+
+count_empty : (n : ℕ) → count_all (replicate n []) ≡ 0
+count_empty zero = refl
+count_empty (suc n) = omega (arith, count_empty n)
+
+length_empty : (n : ℕ) → length (replicate {A = List Call} n []) ≡ n
+length_empty zero = refl
+length_empty (suc n) = ap suc (length_empty n)
+
+agreed : (n : ℕ) (calls : List (List Call)) (lines : List Line) (u : Unit {0}) → finish n calls lines ≡ Ok u → mismatch (map (λ own. kinds own) calls) ≡ None
+agreed n calls (l ∷ lines) u h = absurd (cc)
+agreed n calls [] u h = by (mismatch (map (λ own. kinds own) calls)) refl h
+  where
+    by : (o : Option ScriptKind) → mismatch (map (λ own. kinds own) calls) ≡ o → elim o as (λ x. Result (Unit {0}) ScriptErr) [ None ↦ Ok tt | Some e ↦ Err (record { line = n; kind = e }) ] ≡ Ok u
+        → mismatch (map (λ own. kinds own) calls) ≡ None
+    by None e k = e
+    by (Some x) e k = absurd (cc)
+
+abbrev finish_by : ℕ → Option ScriptKind → Result (Unit {0}) ScriptErr
+finish_by n o = elim o [ None ↦ Ok tt | Some e ↦ Err (record { line = n; kind = e }) ]
+
+abbrev ranked : ℕ → ℕ → ℕ → Known → List Line → Option ℕ → Result (ℕ × (Known × List Line)) ScriptErr
+ranked past version m k lines o =
+    definitions past version (record k { ranks = o }) (record { number = m; first = Plain (codes "data"); rest = [] } ∷ lines)
+
+at_data : (past version m n : ℕ) (k : Known) (lines : List Line) → k.ranks ≡ Some n → definitions past version k (record { number = m; first = Plain (codes "data"); rest = [] } ∷ lines) ≡ Ok (n, (record k { ranks = Some n }, lines))
+at_data past version m n k lines h = ap (ranked past version m k lines) h
+
+-- the lines of a script, which it is read of again
+pub record Whole (script : Script) : Type 0 where
+  pub drafted : List (List Word)
+  pub lines : list_all is_line drafted ≡ true
+  pub text : flat_map spelled drafted ≡ shown script
+  pub again : (past : ℕ) → script_of_lines past (numbered 1 drafted) ≡ Ok script
+
+told_again_after : (past version n values : ℕ) (h : Hints) (es : List Extra) (d : Defined) (calls : List (List Call)) → n ≤ 64 → KnownAgain version n h es d values → DataEnd n values calls
+    → mismatch (map (λ own. kinds own) calls) ≡ None → told_after past version (numbered 2 (before_data n h es d ++ from_data calls)) ≡ Ok (script_with version n h d es calls)
+told_again_after past version n values h es d calls small again end agree =
+    let m = 2 + length (before_data n h es d) in
+    let k = again.last in
+    let k2 : Known = record k { ranks = Some n } in
+    let lines = numbered (m + 1) (call_lines 0 calls ++ (Plain (codes "end") ∷ []) ∷ []) in
+    let defined : definitions past version nothing_known (numbered 2 (before_data n h es d ++ from_data calls)) ≡ Ok (n, (k2, lines)) =
+    run_again past version 2 m nothing_known k (before_data n h es d) (from_data calls) refl again.run ∙ at_data past version m n k lines again.ranks in
+    let final = data_again n past (m + 1) values calls small end in
+    let called : data_part past (no_calls n k2) lines ≡ Ok (final.0, (record { calls = calls; values = values + count_all calls }, [])) =
+    ap (λ (v : ℕ). data_part past (record { calls = replicate n []; values = v }) lines) again.counted ∙ final.1 in
+    let same : script_of version n k2 calls ≡ script_with version n h d es calls = again.same calls in
+    go_on (definitions past version nothing_known (numbered 2 (before_data n h es d ++ from_data calls))) _ (n, (k2, lines)) (script_with version n h d es calls) defined
+    (go_on (data_part past (no_calls n k2) lines) _ (final.0, (record { calls = calls; values = values + count_all calls }, [])) (script_with version n h d es calls) called
+    (go_on (finish final.0 calls []) _ tt (script_with version n h d es calls) (ap (finish_by final.0) agree) (ap (λ (s : Script). Ok s) same)))
+
+whole_from : (version n values : ℕ) (h : Hints) (es : List Extra) (d : Defined) (calls : List (List Call)) → HeadIs version → n ≤ 64 → KnownAgain version n h es d values → DataEnd n values calls
+    → mismatch (map (λ own. kinds own) calls) ≡ None → Whole (script_with version n h d es calls)
+whole_from version n values h es d calls first small again end agree =
+    let call_text = calls_are_lines n 0 calls (omega (arith, end.long)) end.chains in
+    record {
+      drafted = all_lines first.existing version n h es d calls;
+      lines = and_from _ _ (head_is_line first.existing version first.told)
+          (all_joined is_line (before_data n h es d) (from_data calls) again.lines (all_joined is_line (call_lines 0 calls) ((Plain (codes "end") ∷ []) ∷ []) call_text refl));
+      text = all_spelled first.existing version n h es d calls first.test;
+      again = λ past. head_again first.existing past version (before_data n h es d ++ from_data calls) (script_with version n h d es calls) first.told
+          (told_again_after past version n values h es d calls small again end agree);
+    }
+
+-- the mode of the script decides what its definitions are
+known_again : (b : Bool) (version n : ℕ) (h : Hints) (k : Known) → (version == 0) ≡ b → is_value_of (Within 1 64 1) n ≡ true → HintsFit h → k.values ≤ most_values → What b version k → KnownAgain version n h k.added.extras k.defined k.values
+known_again true version n h k test r fit few what =
+    let zero_version : version ≡ 0 = eqb-true version 0 test in
+    subst (λ v. KnownAgain v n h k.added.extras k.defined k.values) (sym zero_version)
+    (subst (λ (d : Defined). KnownAgain 0 n h k.added.extras d k.values) (sym what.0) (open_again n k.values h k.added r fit what.1))
+known_again false version n h k test r fit few what =
+    subst (λ (added : Added). KnownAgain version n h added.extras k.defined k.values) (sym what.0) (create_again version n k.values h k.defined test r fit what.1 few)
+
+at_most_64 : (n : ℕ) → is_value_of (Within 1 64 1) n ≡ true → n ≤ 64
+at_most_64 n h = leb-true n 64 (and_parts (nat_le 1 n) (nat_le n 64) (and_parts (nat_le 1 n && nat_le n 64) (n % 1 == 0) h).0).1
+
+pub whole_read : (past : ℕ) (lines : List Line) (script : Script) → are_read lines ≡ true → script_of_lines past lines ≡ Ok script → Whole script
+whole_read past [] script read h = absurd (cc)
+whole_read past (l ∷ lines) script read h =
+    let a = went (at_line l.number (head l.first l.rest)) (λ v. told_after past v lines) script h in
+    let d = went (definitions past a.value nothing_known lines) _ script a.rest in
+    let c = went (data_part past (no_calls d.value.0 d.value.1.0) d.value.1.1) _ script d.rest in
+    let f = went (finish c.value.0 c.value.1.0.calls c.value.1.1) _ script c.rest in
+    let version = a.value in
+    let n = d.value.0 in
+    let k = d.value.1.0 in
+    let calls = c.value.1.0.calls in
+    let first = head_read l.first l.rest version (line_ok l.number (head l.first l.rest) version a.first) in
+    let known = definitions_read past version lines nothing_known d.value (and_parts _ _ read).1 (nothing_ok version) d.first in
+    let r : is_value_of (Within 1 64 1) n ≡ true = ranks_of k.ranks n known.ranks known.known.ranks in
+    let begin : Holds n k.values (no_calls n k) = record { long = length_empty n; chains = chains_empty n 0 n; counted = omega (arith, count_empty n); few = known.known.few } in
+    let holds = data_holds n k.values past d.value.1.1 (no_calls n k) c.value begin known.read c.first in
+    let end : DataEnd n k.values calls = record { long = holds.long; chains = holds.chains; few = omega (arith, holds.counted, holds.few) } in
+    let h2 = hints_of n k.hints in
+    let again = known_again (version == 0) version n h2 k refl r (hints_fit n k.hints r known.known.hints) known.known.few known.known.what in
+    subst Whole (same_ok (script_of version n k calls) script f.rest)
+    (whole_from version n k.values h2 k.added.extras k.defined calls first (at_most_64 n r) again end (agreed c.value.0 calls c.value.1.1 f.value f.first))
+  where
+    ranks_of : (o : Option ℕ) (n : ℕ) → o ≡ Some n → elim o as (λ x. Bool) [ None ↦ true | Some m ↦ is_value_of (Within 1 64 1) m ] ≡ true → is_value_of (Within 1 64 1) n ≡ true
+    ranks_of None n e h = absurd (cc)
+    ranks_of (Some m) n e h = let same : m ≡ n = cc in subst (λ x. is_value_of (Within 1 64 1) x ≡ true) same h
+
+-- ---- a whole text
+
+within_told : (n : ℕ) (told : Result Script ScriptErr) (script : Script) → within_lines n told ≡ Ok script → told ≡ Ok script
+within_told n told script h = by (nat_lt most_lines n) told h
+  where
+    by_line : (e : ScriptErr) (b : Bool) → elim b as (λ x. Result Script ScriptErr) [ true ↦ Err e | false ↦ too_many_lines ] ≡ Ok script → ⊥
+    by_line e true k = absurd (cc)
+    by_line e false k = absurd (cc)
+    by : (b : Bool) (told : Result Script ScriptErr) → elim b as (λ x. Result Script ScriptErr) [
+      | false ↦ told
+      | true ↦ elim told as (λ x. Result Script ScriptErr) [
+        | Ok s ↦ too_many_lines
+        | Err e ↦ elim (nat_le e.line most_lines && not (Rattle.script_spec.specs.ScriptGrammar.is_mismatch e.kind)) as (λ x. Result Script ScriptErr) [ true ↦ Err e | false ↦ too_many_lines ]
+      ]
+    ] ≡ Ok script → told ≡ Ok script
+    by false told k = k
+    by true (Ok s) k = absurd (cc)
+    by true (Err e) k = absurd (by_line e (nat_le e.line most_lines && not (Rattle.script_spec.specs.ScriptGrammar.is_mismatch e.kind)) k)
+
+pub record IsText (text : List ℕ) (script : Script) : Type 0 where
+  pub valid : (utf8_valid_len text == length text) ≡ true
+  pub told : script_of_lines (length (text_lines text) + 1) (significant text) ≡ Ok script
+
+is_text : (text : List ℕ) (script : Script) → Reads text script → IsText text script
+is_text text script h = by (nat_lt most_bytes (length text)) (utf8_valid_len text == length text) refl h
+  where
+    by : (i j : Bool) → (utf8_valid_len text == length text) ≡ j → elim i as (λ x. Result Script ScriptErr) [
+      | true ↦ Err (record { line = 1; kind = kind.Limit Rattle.nc_base.specs.declared.errors.LimitName.TheVariants.Script })
+      | false ↦ elim j as (λ x. Result Script ScriptErr) [
+        | false ↦ Err (record { line = newlines (Rattle.std.proofs.Common.take (utf8_valid_len text) text) + 1; kind = kind.NotUtf8 })
+        | true ↦ script_of_utf8 text
+      ]
+    ] ≡ Ok script → IsText text script
+    by true j e k = absurd (cc)
+    by false false e k = absurd (cc)
+    by false true e k = record { valid = e; told = within_told (length (text_lines text)) (script_of_lines (length (text_lines text) + 1) (significant text)) script k }
+
+abbrev within_by : Bool → Result Script ScriptErr → Result Script ScriptErr
+within_by b told = elim b [
+  | false ↦ told
+  | true ↦ elim told [
+    | Ok script ↦ too_many_lines
+    | Err e ↦ elim (nat_le e.line most_lines && not (Rattle.script_spec.specs.ScriptGrammar.is_mismatch e.kind)) [ true ↦ Err e | false ↦ too_many_lines ]
+  ]
+]
+
+abbrev text_by : Bool → Bool → List ℕ → Result Script ScriptErr
+text_by i j text = elim i [
+  | true ↦ Err (record { line = 1; kind = kind.Limit Rattle.nc_base.specs.declared.errors.LimitName.TheVariants.Script })
+  | false ↦ elim j [
+    | false ↦ Err (record { line = newlines (Rattle.std.proofs.Common.take (utf8_valid_len text) text) + 1; kind = kind.NotUtf8 })
+    | true ↦ script_of_utf8 text
+  ]
+]
+
+text_again : (text : List ℕ) (script : Script) → length text ≤ most_bytes → (utf8_valid_len text == length text) ≡ true → length (text_lines text) ≤ most_lines
+    → script_of_lines (length (text_lines text) + 1) (significant text) ≡ Ok script → Reads text script
+text_again text script short valid few told =
+    ap (λ (i : Bool). text_by i (utf8_valid_len text == length text) text) (le-ltb most_bytes (length text) short)
+    ∙ (ap (λ (j : Bool). text_by false j text) valid
+    ∙ (ap (λ (b : Bool). within_by b (script_of_lines (length (text_lines text) + 1) (significant text))) (le-ltb most_lines (length (text_lines text)) few) ∙ told))
+
+pub shown_again : (text : List ℕ) (script : Script) → Reads text script → length (shown script) ≤ most_bytes → length (text_lines (shown script)) ≤ most_lines → Reads (shown script) script
+shown_again text script reads short few =
+    let t = is_text text script reads in
+    let w = whole_read (length (text_lines text) + 1) (significant text) script (significant_read text (valid_bytes text t.valid)) t.told in
+    let valid = subst (λ (x : List ℕ). (utf8_valid_len x == length x) ≡ true) w.text (valid_lines w.drafted w.lines) in
+    let lines : significant (shown script) ≡ numbered 1 w.drafted = ap significant (sym w.text) ∙ significant_lines w.drafted w.lines in
+    text_again (shown script) script short valid few (ap (script_of_lines (length (text_lines (shown script)) + 1)) lines ∙ w.again (length (text_lines (shown script)) + 1))
