@@ -3,19 +3,22 @@ use Rattle.std.proofs.Common.{◌≡◌, ◌<◌, ◌+◌, ◌*◌, ⊥, ℕ, ze
 use Rattle.std.specs.List.{flat_map, list_all}
 use Rattle.std.specs.Fmt.{signed_decimal}
 use Rattle.std.specs.Int.{w8, w16, w32, w64, from_be_bytes, cast_signed}
+use Rattle.std.proofs.lemmas.Bool.{eqb-true}
 use Rattle.std.proofs.lemmas.List.{append-nil, append_assoc}
 use Rattle.std.proofs.lemmas.List.Concat.{flat_map-append}
 use Rattle.std.proofs.lemmas.List.Folds.{list_all_at}
+use Rattle.nc_base.specs.declared.header.Attr.{Attr}
 use Rattle.nc_base.specs.declared.header.NcType.{NcType}
 use Rattle.nc_base.specs.declared.header.NcType.TheVariants.{Byte, Char, Short, Int, Float, Double, UByte, UShort, UInt, Int64, UInt64}
 use Rattle.nc_base.specs.declared.request.Value.TheVariants as value
 use Rattle.nc_base.specs.declared.request.Values.{Values}
-use Rattle.serial_spec.specs.ExternalForm.{class_of, val}
+use Rattle.serial_spec.specs.ExternalForm.{class_of, size_of, val}
+use Rattle.serial_spec.specs.Lawful.{is_whole_attr}
 use Rattle.serial_spec.specs.Request.{code_in, gathered, number_in}
-use Rattle.script_spec.specs.Shown.{pieces, shown_values}
-use Rattle.script_spec.specs.Texts.{hex, joined}
+use Rattle.script_spec.specs.Shown.{attr_values, pieces, shown_values}
+use Rattle.script_spec.specs.Texts.{hex, joined, quoted}
 use Rattle.printed_text.specs.Spaced.{spaced}
-use Rattle.printed_text.proofs.WordLaws.{joined_spaced, item_words}
+use Rattle.printed_text.proofs.WordLaws.{joined_spaced, item_words, spaced_one}
 use Rattle.script_text.specs.Printing.{value_word}
 
 -- what each item passes, one passes
@@ -102,6 +105,25 @@ chars_back (suc n) (c ∷ cs) h =
     let less : length cs ≡ n = omega arith in
     ap (λ (d : ℕ). d ∷ map code_in (map (λ b. Some (val Char b)) (pieces n 1 cs))) (char_back c)
     ∙ ap (λ (ds : List ℕ). c ∷ ds) (chars_back n cs less)
+
+-- a text is one word
+text_of : (kind : NcType) (n : ℕ) (bytes : List ℕ) → kind ≡ Char → length bytes ≡ n * size_of kind → spaced (shown_values (as_values kind (pieces n (size_of kind) bytes))) ≡ 32 ∷ quoted bytes
+text_of Char n bytes h e =
+    let long : length bytes ≡ n = omega (arith, e) in
+    ap (λ (cs : List ℕ). spaced (quoted cs ∷ [])) (chars_back n bytes long) ∙ spaced_one (quoted bytes)
+text_of Byte n bytes h e = absurd (cc)
+text_of Short n bytes h e = absurd (cc)
+text_of Int n bytes h e = absurd (cc)
+text_of Float n bytes h e = absurd (cc)
+text_of Double n bytes h e = absurd (cc)
+text_of UByte n bytes h e = absurd (cc)
+text_of UShort n bytes h e = absurd (cc)
+text_of UInt n bytes h e = absurd (cc)
+text_of Int64 n bytes h e = absurd (cc)
+text_of UInt64 n bytes h e = absurd (cc)
+
+pub text_pushed : (a : Attr) → a.kind ≡ Char → is_whole_attr a ≡ true → spaced (shown_values (attr_values a)) ≡ 32 ∷ quoted a.bytes
+text_pushed a h whole = text_of a.kind a.count a.bytes h (eqb-true _ _ whole)
 
 -- ---- a piece
 

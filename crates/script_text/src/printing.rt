@@ -1,5 +1,5 @@
 // The canonical text of a script.
-ghost use Rattle.std.specs.Prelude.{◌≡◌, ◌*◌, ◌++◌, ◌∷◌, ◌==◌, [], true, IfOk, OnOk, if◌then◌else◌, codes, decimal, flat_map, length, map};
+ghost use Rattle.std.specs.Prelude.{◌≡◌, ◌≢◌, ◌*◌, ◌++◌, ◌∷◌, ◌==◌, [], true, IfOk, OnOk, if◌then◌else◌, codes, decimal, flat_map, length, map};
 ghost use Rattle.std.specs.List.{enumerate_from, list_all};
 ghost use Rattle.nc_base.specs.declared.header.Var.{Var};
 ghost use Rattle.serial_spec.specs.ExternalForm.{size_of, val};
@@ -172,12 +172,7 @@ fn push_extra(out: &mut Vec<u8>, extra: &Extra) -> Result<(), Memory>
 }
 
 /// The line of a variable whose dimensions are named.
-fn push_named_var(
-    out: &mut Vec<u8>,
-    kind: NcType,
-    name: &[u8],
-    dims: &[Name],
-) -> Result<(), Memory>
+fn push_named_var(out: &mut Vec<u8>, kind: NcType, name: &[u8], dims: &[Name]) -> Result<(), Memory>
     ensures { OnOk result (out.new.items ≡ out.old.items ++ shown_extra (Extra.Var kind name.now dims.now)) }
 {
     push_var_title(out, kind, name)?;
@@ -373,12 +368,30 @@ fn push_attr_values(out: &mut Vec<u8>, attr: &Attr) -> Result<(), Memory>
     ensures { OnOk result (out.new.items ≡ out.old.items ++ spaced (shown_values (attr_values attr.now))) }
 {
     match attr.kind {
-        NcType::Char => {
-            out.push(b' ')?;
-            push_quoted(out, attr.bytes.as_slice())
-        }
-        kind => push_pieces(out, kind, attr.count, attr.bytes.as_slice()),
+        NcType::Char => push_text(out, attr),
+        _ => push_other_values(out, attr),
     }
+}
+
+/// The bytes of a char attribute as one text.
+fn push_text(out: &mut Vec<u8>, attr: &Attr) -> Result<(), Memory>
+    requires whole { is_whole_attr attr.now ≡ true }
+    requires kind { attr.now.kind ≡ NcType.Char }
+    ensures { OnOk result (out.new.items ≡ out.old.items ++ spaced (shown_values (attr_values attr.now))) }
+{
+    out.push(b' ')?;
+    push_quoted(out, attr.bytes.as_slice())?;
+    Ok(())
+}
+
+/// The values of an attribute of another type.
+fn push_other_values(out: &mut Vec<u8>, attr: &Attr) -> Result<(), Memory>
+    requires whole { is_whole_attr attr.now ≡ true }
+    requires kind { attr.now.kind ≢ NcType.Char }
+    ensures { OnOk result (out.new.items ≡ out.old.items ++ spaced (shown_values (attr_values attr.now))) }
+{
+    push_pieces(out, attr.kind, attr.count, attr.bytes.as_slice())?;
+    Ok(())
 }
 
 /// So many values in external form.
@@ -455,7 +468,10 @@ fn push_call_words(out: &mut Vec<u8>, call: &Call) -> Result<(), Memory>
 {
     match call {
         Call::Put {
-            var, given, values, ..
+            var,
+            given,
+            values,
+            ..
         } => push_access(out, var.as_slice(), given, values),
         Call::Get { var, given, .. } => push_place(out, var.as_slice(), given),
         Call::Post {
@@ -484,12 +500,7 @@ fn push_place(out: &mut Vec<u8>, var: &[u8], given: &Given) -> Result<(), Memory
 }
 
 /// A variable, a region and values.
-fn push_access(
-    out: &mut Vec<u8>,
-    var: &[u8],
-    given: &Given,
-    values: &Values,
-) -> Result<(), Memory>
+fn push_access(out: &mut Vec<u8>, var: &[u8], given: &Given, values: &Values) -> Result<(), Memory>
     ensures { OnOk result (out.new.items ≡ out.old.items ++ spaced (var.now ∷ region_words given.now ++ shown_values values.now)) }
 {
     push_place(out, var, given)?;

@@ -7,8 +7,8 @@ ghost use Rattle.serial_spec.specs.Lawful.{has_whole_attrs, is_whole_attr, is_wh
 use crate::print_script;
 use nc_base::{
     Attr, AttrList, BitList, Blob, Call, CallList, CallTable, Choice, Dim, DimList, Extra,
-    ExtraList, Form, Given, Header, Hints, IdList, Name, NameList, NcType, NumberList,
-    OverlapRule, Part, PartList, PostKind, Script, SizeList, Values, Var, VarList,
+    ExtraList, Form, Given, Header, Hints, IdList, Name, NameList, NcType, NumberList, OverlapRule,
+    Part, PartList, PostKind, Script, SizeList, Values, Var, VarList,
 };
 use std::alloc::{AllocError, Global};
 use std::test::Fail;
@@ -178,9 +178,10 @@ fn post_bits(alloc: Global) -> Result<Call, AllocError> {
         kind: PostKind::Bput,
         var: name(alloc, b"s")?,
         given: two_parts(alloc)?,
-        values: Values::Bits(BitList::from_vec(
-            Vec::from_slice(alloc, &[1, 18446744073709551615])?,
-        )),
+        values: Values::Bits(BitList::from_vec(Vec::from_slice(
+            alloc,
+            &[1, 18446744073709551615],
+        )?)),
     })
 }
 
@@ -232,13 +233,25 @@ fn fill(alloc: Global) -> Result<Call, AllocError> {
 }
 
 fn waits(alloc: Global) -> Result<CallList, AllocError> {
-    let calls = vec![in alloc; wait_two(alloc)?, wait_all(), cancel_none(alloc), length_of(alloc)?, fill(alloc)?]?;
+    let calls = vec![in alloc;
+        wait_two(alloc)?,
+        wait_all(),
+        cancel_none(alloc),
+        length_of(alloc)?,
+        fill(alloc)?,
+    ]?;
     Ok(CallList::from_vec(calls))
 }
 
 /// The other calls.
 fn plain_calls(alloc: Global) -> Result<CallList, AllocError> {
-    let calls = vec![in alloc; Call::Attach { size: 64 }, Call::Detach, Call::BeginIndep, Call::EndIndep, Call::SyncRecords]?;
+    let calls = vec![in alloc;
+        Call::Attach { size: 64 },
+        Call::Detach,
+        Call::BeginIndep,
+        Call::EndIndep,
+        Call::SyncRecords,
+    ]?;
     Ok(CallList::from_vec(calls))
 }
 
@@ -376,7 +389,12 @@ fn extras(alloc: Global) -> Result<ExtraList, AllocError>
         owner: Some(name(alloc, b"w")?),
         attr: attr(alloc, b'u', NcType::UByte, 1, b"\x80")?,
     };
-    let items = vec![in alloc; variable, named_var(alloc)?, Extra::Dim(dim(alloc, b'y', 0)?), dataset]?;
+    let items = vec![in alloc;
+        variable,
+        named_var(alloc)?,
+        Extra::Dim(dim(alloc, b'y', 0)?),
+        dataset,
+    ]?;
     Ok(ExtraList::from_vec(items))
 }
 
