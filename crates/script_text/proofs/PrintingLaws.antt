@@ -1,12 +1,13 @@
 -- What is pushed of a script.
-use Rattle.std.proofs.Common.{◌≡◌, ◌<◌, ◌+◌, ◌*◌, ⊥, ℕ, zero, suc, List, [], ◌∷◌, ◌++◌, map, length, take, drop, get_or, Bool, true, false, Some, ℤ, pos, refl, sym, ap, ◌∙◌, arith}
-use Rattle.std.specs.List.{flat_map, list_all}
+use Rattle.std.proofs.Common.{◌≡◌, ◌<◌, ◌+◌, ◌*◌, ℕ, zero, suc, List, [], ◌∷◌, ◌++◌, map, length, take, drop, get_or, Bool, true, false, Some, ℤ, pos, refl, sym, ap, ◌∙◌, arith}
+use Rattle.std.specs.List.{enumerate_from, flat_map, list_all}
 use Rattle.std.specs.Fmt.{signed_decimal}
 use Rattle.std.specs.Int.{w8, w16, w32, w64, from_be_bytes, cast_signed}
 use Rattle.std.proofs.lemmas.Bool.{eqb-true}
 use Rattle.std.proofs.lemmas.List.{append-nil, append_assoc}
 use Rattle.std.proofs.lemmas.List.Concat.{flat_map-append}
 use Rattle.std.proofs.lemmas.List.Folds.{list_all_at}
+use Rattle.std.proofs.lemmas.List.FromFn.{length-enumerate_from, get_or-enumerate_from}
 use Rattle.nc_base.specs.declared.header.Attr.{Attr}
 use Rattle.nc_base.specs.declared.header.NcType.{NcType}
 use Rattle.nc_base.specs.declared.header.NcType.TheVariants.{Byte, Char, Short, Int, Float, Double, UByte, UShort, UInt, Int64, UInt64}
@@ -18,7 +19,7 @@ use Rattle.serial_spec.specs.Request.{code_in, gathered, number_in}
 use Rattle.script_spec.specs.Shown.{attr_values, pieces, shown_values}
 use Rattle.script_spec.specs.Texts.{hex, joined, quoted}
 use Rattle.printed_text.specs.Spaced.{spaced}
-use Rattle.printed_text.proofs.WordLaws.{joined_spaced, item_words, spaced_one}
+use Rattle.printed_text.proofs.WordLaws.{all_pushed, item_words, joined_spaced, next_pushed, spaced_one}
 use Rattle.script_text.specs.Printing.{value_word}
 
 -- what each item passes, one passes
@@ -129,7 +130,7 @@ text_pushed a h whole = text_of a.kind a.count a.bytes h (eqb-true _ _ whole)
 
 pub pieces_last : (n m size r s : ℕ) → n ≡ suc m → r ≡ n * size → s + size ≡ r → s ≡ m * size
 pieces_last n m size r s one whole less =
-    let more : n * size ≡ size + m * size = ap (λ (k : ℕ). k * size) one in
+    let all : r ≡ suc m * size = whole ∙ ap (λ (k : ℕ). k * size) one in
     omega arith
 
 -- the next piece is pushed, and what is left still gives the whole
@@ -143,3 +144,24 @@ piece_pushed w size now next whole n m rest piece others one front back pushed s
     ∙ ap (λ (t : List ℕ). now ++ (w (take size rest) ++ flat_map w (pieces m size t))) back
     ∙ ap (λ (k : ℕ). now ++ flat_map w (pieces k size rest)) (sym one)
     ∙ so_far
+
+-- ---- ranks
+
+abbrev with_number : {A : Type 0} → ℕ → A → ℕ × A
+with_number k x = (k, x)
+
+-- an item that goes last, with its number
+pub rank_pushed : {A : Type 0} (f : ℕ × A → List ℕ) (front now next : List ℕ) (xs : List A) (i : ℕ) (x : A) → i < length xs → x ≡ get_or xs i x
+    → now ≡ front ++ flat_map f (take i (enumerate_from 0 xs)) → next ≡ now ++ f (i, x) → next ≡ front ++ flat_map f (take (i + 1) (enumerate_from 0 xs))
+rank_pushed {A} f front now next xs i x within is so_far pushed =
+    let long : length (enumerate_from 0 xs) ≡ length xs = length-enumerate_from 0 xs in
+    let low : i < length (enumerate_from 0 xs) = omega arith in
+    let first : 0 + i ≡ i = omega arith in
+    let item : ℕ × A = (i, x) in
+    next_pushed f front now next (enumerate_from 0 xs) i (i + 1) item low
+    (sym (get_or-enumerate_from 0 xs i item within ∙ ap (λ (k : ℕ). with_number k (get_or xs i x)) first ∙ ap (λ (y : A). with_number i y) (sym is)))
+    refl so_far pushed
+
+pub ranks_pushed : {A : Type 0} (f : ℕ × A → List ℕ) (front now : List ℕ) (xs : List A) (n : ℕ) → n ≡ length xs
+    → now ≡ front ++ flat_map f (take n (enumerate_from 0 xs)) → now ≡ front ++ flat_map f (enumerate_from 0 xs)
+ranks_pushed f front now xs n whole so_far = all_pushed f front now (enumerate_from 0 xs) n (whole ∙ sym (length-enumerate_from 0 xs)) so_far
