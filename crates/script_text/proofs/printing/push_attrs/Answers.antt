@@ -5,4 +5,4 @@ use Rattle.script_text.proofs.printing.push_attrs.Goals as goal
 
 pub push_attr-requires : goal.push_attr-requires
 push_attr-requires c =
-    ap is_whole_attr c.attr-attr.is ∙ all_at is_whole_attr c.args.attrs.now c.loop-attr.attr-index c.attr-attr.result c.requires (omega arith)
+    ap is_whole_attr c.attr-item.is ∙ all_at is_whole_attr c.args.attrs.now c.loop-attr.attr-index c.attr-item.result c.requires (omega arith)

@@ -1,4 +1,4 @@
-use Rattle.std.proofs.Common.{List, ℕ, ◌++◌, cond, codes, decimal}
+use Rattle.std.proofs.Common.{List, ℕ, ◌++◌, codes, decimal}
 use Rattle.printed_text.proofs.Appends.{then_append}
 use Rattle.script_text.specs.Printing.{shown_hint}
 use Rattle.script_text.proofs.printing.push_buffer_hints.Goals as goal

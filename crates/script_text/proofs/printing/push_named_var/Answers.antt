@@ -1,4 +1,4 @@
-use Rattle.std.proofs.Common.{List, ℕ, [], ◌∷◌, ◌++◌, codes, map, ap, ◌∙◌}
+use Rattle.std.proofs.Common.{List, ℕ, [], ◌∷◌, ◌++◌, codes, ap, ◌∙◌}
 use Rattle.script_spec.specs.Shown.{bracketed}
 use Rattle.script_spec.specs.Texts.{joined, type_word}
 use Rattle.printed_text.proofs.Appends.{then_append}

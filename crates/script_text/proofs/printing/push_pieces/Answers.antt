@@ -1,4 +1,4 @@
-use Rattle.std.proofs.Common.{◌≡◌, ◌-◌, ◌<◌, ◌∙◌, ap, ℕ, List, ◌∷◌, ◌++◌, length, take, drop, suc, arith}
+use Rattle.std.proofs.Common.{◌≡◌, ◌-◌, ◌∙◌, ap, ℕ, List, ◌∷◌, ◌++◌, length, take, drop, suc, arith}
 use Rattle.nc_base.specs.declared.request.Value.{Value}
 use Rattle.serial_spec.specs.ExternalForm.{size_of, val}
 use Rattle.script_text.specs.Printing.{value_word}

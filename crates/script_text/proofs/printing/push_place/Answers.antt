@@ -1,4 +1,4 @@
-use Rattle.std.proofs.Common.{List, ℕ, ◌∷◌}
+use Rattle.std.proofs.Common.{◌∷◌}
 use Rattle.script_spec.specs.Shown.{region_words}
 use Rattle.printed_text.proofs.Appends.{then_append}
 use Rattle.printed_text.specs.Spaced.{spaced}

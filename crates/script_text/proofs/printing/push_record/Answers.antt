@@ -1,7 +1,6 @@
-use Rattle.std.proofs.Common.{List, ℕ, [], ◌∷◌, ◌++◌, decimal, sym, ap, ◌∙◌}
+use Rattle.std.proofs.Common.{List, ℕ, ◌∷◌, ◌++◌, decimal, sym, ap, ◌∙◌}
 use Rattle.printed_text.proofs.WordLaws.{spaced_one}
 use Rattle.printed_text.proofs.Appends.{then_append}
-use Rattle.printed_text.specs.Spaced.{spaced}
 use Rattle.script_text.proofs.printing.push_record.Goals as goal
 
 pub returns : goal.returns

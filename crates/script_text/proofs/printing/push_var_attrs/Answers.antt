@@ -8,6 +8,6 @@ use Rattle.script_text.proofs.printing.push_var_attrs.Goals as goal
 
 pub push_attrs-requires : goal.push_attrs-requires
 push_attrs-requires c =
-    ap (λ (attrs : List Attr). list_all is_whole_attr attrs) c.as_slice-2.ensures
-    ∙ ap (λ (v : Var). list_all is_whole_attr v.attrs) c.var-var.is
-    ∙ all_at (λ (v : Var). list_all is_whole_attr v.attrs) c.args.vars.now c.loop-var.var-index c.var-var.result c.requires (omega arith)
+    ap (λ (attrs : List Attr). list_all is_whole_attr attrs) c.as_slice-in-loop-var.ensures
+    ∙ ap (λ (v : Var). list_all is_whole_attr v.attrs) c.var-item.is
+    ∙ all_at (λ (v : Var). list_all is_whole_attr v.attrs) c.args.vars.now c.loop-var.var-index c.var-item.result c.requires (omega arith)
