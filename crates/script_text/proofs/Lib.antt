@@ -16,3 +16,4 @@ pub mod DefinedLines
 pub mod ReadWords
 pub mod KnownLines
 pub mod Whole
+pub mod PrintingLaws

@@ -1,0 +1,167 @@
+-- What is pushed of a script.
+use Rattle.std.proofs.Common.{◌≡◌, ◌<◌, ◌+◌, ◌*◌, ℕ, zero, suc, List, [], ◌∷◌, ◌++◌, map, length, take, drop, get_or, Bool, true, false, Some, ℤ, pos, refl, sym, ap, ◌∙◌, arith}
+use Rattle.std.specs.List.{enumerate_from, flat_map, list_all}
+use Rattle.std.specs.Fmt.{signed_decimal}
+use Rattle.std.specs.Int.{w8, w16, w32, w64, from_be_bytes, cast_signed}
+use Rattle.std.proofs.lemmas.Bool.{eqb-true}
+use Rattle.std.proofs.lemmas.List.{append-nil, append_assoc}
+use Rattle.std.proofs.lemmas.List.Concat.{flat_map-append}
+use Rattle.std.proofs.lemmas.List.Folds.{list_all_at}
+use Rattle.std.proofs.lemmas.List.FromFn.{length-enumerate_from, get_or-enumerate_from}
+use Rattle.nc_base.specs.declared.header.Attr.{Attr}
+use Rattle.nc_base.specs.declared.header.NcType.{NcType}
+use Rattle.nc_base.specs.declared.header.NcType.TheVariants.{Byte, Char, Short, Int, Float, Double, UByte, UShort, UInt, Int64, UInt64}
+use Rattle.nc_base.specs.declared.request.Value.TheVariants as value
+use Rattle.nc_base.specs.declared.request.Values.{Values}
+use Rattle.serial_spec.specs.ExternalForm.{class_of, size_of, val}
+use Rattle.serial_spec.specs.Lawful.{is_whole_attr}
+use Rattle.serial_spec.specs.Request.{code_in, gathered, number_in}
+use Rattle.script_spec.specs.Shown.{attr_values, pieces, shown_values}
+use Rattle.script_spec.specs.Texts.{hex, joined, quoted}
+use Rattle.printed_text.specs.Spaced.{spaced}
+use Rattle.printed_text.proofs.WordLaws.{all_pushed, item_words, joined_spaced, next_pushed, spaced_one}
+use Rattle.script_text.specs.Printing.{value_word}
+
+-- what each item passes, one passes
+pub all_at : {A : Type 0} (test : A → Bool) (xs : List A) (i : ℕ) (d : A) → list_all test xs ≡ true → i < length xs → test (get_or xs i d) ≡ true
+all_at {A} test xs i d all within = by (test (get_or xs i d)) refl
+  where
+    by : (b : Bool) → test (get_or xs i d) ≡ b → b ≡ true
+    by true e = refl
+    by false e = absurd (cc (list_all_at test xs i d within e))
+
+-- the first part stands by itself, each other one behind the byte
+pub joined_parts : (c : ℕ) (w : List ℕ) (ws : List (List ℕ)) → joined c (w ∷ ws) ≡ w ++ flat_map (λ x. c ∷ x) ws
+joined_parts c w [] = sym (append-nil w)
+joined_parts c w (x ∷ xs) = ap (λ (t : List ℕ). w ++ c ∷ t) (joined_parts c x xs)
+
+-- words of items, an item at a time
+pub spaced_parts : {A : Type 0} (f : A → List (List ℕ)) (xs : List A) → flat_map (λ x. spaced (f x)) xs ≡ spaced (flat_map f xs)
+spaced_parts f [] = refl
+spaced_parts f (x ∷ xs) = ap (λ (t : List ℕ). spaced (f x) ++ t) (spaced_parts f xs) ∙ sym (flat_map-append (λ w. 32 ∷ w) (f x) (flat_map f xs))
+
+-- ---- lines
+
+regroup : (a b c d e : List ℕ) → (((a ++ b) ++ c) ++ d) ++ e ≡ a ++ (b ++ (c ++ (d ++ e)))
+regroup a b c d e = simp append_assoc
+
+-- an attribute's words
+pub attr_words : (a b c d : List ℕ) (ws : List (List ℕ)) → (((a ++ 32 ∷ b) ++ 32 ∷ c) ++ 32 ∷ d) ++ spaced ws ≡ joined 32 (a ∷ b ∷ c ∷ d ∷ ws)
+attr_words a b c d ws = regroup a (32 ∷ b) (32 ∷ c) (32 ∷ d) (spaced ws) ∙ sym (joined_spaced a (b ∷ c ∷ d ∷ ws))
+
+-- a call's words
+pub line_words : (r c : List ℕ) (ws : List (List ℕ)) → ((r ++ 32 ∷ []) ++ c) ++ spaced ws ≡ joined 32 (r ∷ c ∷ ws)
+line_words r c ws = ap (λ (t : List ℕ). t ++ spaced ws) (append_assoc r (32 ∷ []) c) ∙ item_words r c ws
+
+-- a variable's type and name, and its dimensions
+pub title_then : (t n b : List ℕ) → ((t ++ 32 ∷ n) ++ 32 ∷ []) ++ b ≡ t ++ 32 ∷ (n ++ 32 ∷ b)
+title_then t n b = append_assoc (t ++ 32 ∷ n) (32 ∷ []) b ∙ append_assoc t (32 ∷ n) (32 ∷ b)
+
+-- the lines of the hints in three parts
+pub ten_parts : (a b c d e f g h i j : List ℕ)
+    → (((a ++ b) ++ c) ++ d) ++ ((e ++ f) ++ g) ++ ((h ++ i) ++ j) ≡ a ++ (b ++ (c ++ (d ++ (e ++ (f ++ (g ++ (h ++ (i ++ (j ++ [])))))))))
+ten_parts a b c d e f g h i j = simp (append_assoc, append-nil)
+
+-- ---- values of an attribute
+
+numbers_pushed : (f : List ℕ → ℤ) (bs : List (List ℕ))
+    → flat_map (λ b. 32 ∷ signed_decimal (f b)) bs ≡ spaced (map signed_decimal (map number_in (map (λ b. Some (value.Number (f b))) bs)))
+numbers_pushed f [] = refl
+numbers_pushed f (b ∷ bs) = ap (λ (t : List ℕ). 32 ∷ signed_decimal (f b) ++ t) (numbers_pushed f bs)
+
+bits_pushed : (f : List ℕ → ℕ) (bs : List (List ℕ))
+    → flat_map (λ b. 32 ∷ 120 ∷ hex 16 (f b)) bs ≡ spaced (map (λ n. 120 ∷ hex 16 n) (map code_in (map (λ b. Some (value.Bits (f b))) bs)))
+bits_pushed f [] = refl
+bits_pushed f (b ∷ bs) = ap (λ (t : List ℕ). 32 ∷ 120 ∷ hex 16 (f b) ++ t) (bits_pushed f bs)
+
+abbrev pub by_pieces : NcType → List (List ℕ) → List ℕ
+by_pieces kind bs = flat_map (λ b. 32 ∷ value_word (val kind b)) bs
+
+abbrev pub as_values : NcType → List (List ℕ) → Values
+as_values kind bs = gathered (class_of kind) (map (λ b. Some (val kind b)) bs)
+
+-- the words of the values are those of their bytes, one after another
+pub values_pushed : (kind : NcType) (bs : List (List ℕ)) → (kind ≡ Char → ⊥) → by_pieces kind bs ≡ spaced (shown_values (as_values kind bs))
+values_pushed Byte bs h = numbers_pushed (λ b. cast_signed w8 (from_be_bytes w8 b)) bs
+values_pushed Char bs h = absurd (h refl)
+values_pushed Short bs h = numbers_pushed (λ b. cast_signed w16 (from_be_bytes w16 b)) bs
+values_pushed Int bs h = numbers_pushed (λ b. cast_signed w32 (from_be_bytes w32 b)) bs
+values_pushed Float bs h = bits_pushed (λ b. from_be_bytes w32 b) bs
+values_pushed Double bs h = bits_pushed (λ b. from_be_bytes w64 b) bs
+values_pushed UByte bs h = numbers_pushed (λ b. pos (from_be_bytes w8 b)) bs
+values_pushed UShort bs h = numbers_pushed (λ b. pos (from_be_bytes w16 b)) bs
+values_pushed UInt bs h = numbers_pushed (λ b. pos (from_be_bytes w32 b)) bs
+values_pushed Int64 bs h = numbers_pushed (λ b. cast_signed w64 (from_be_bytes w64 b)) bs
+values_pushed UInt64 bs h = numbers_pushed (λ b. pos (from_be_bytes w64 b)) bs
+
+char_back : (c : ℕ) → from_be_bytes w8 (c ∷ []) ≡ c
+char_back c = omega arith
+
+-- the bytes of a text are its values
+pub chars_back : (n : ℕ) (bytes : List ℕ) → length bytes ≡ n → map code_in (map (λ b. Some (val Char b)) (pieces n 1 bytes)) ≡ bytes
+chars_back zero [] h = refl
+chars_back zero (c ∷ cs) h = absurd (omega arith)
+chars_back (suc n) [] h = absurd (omega arith)
+chars_back (suc n) (c ∷ cs) h =
+    let less : length cs ≡ n = omega arith in
+    ap (λ (d : ℕ). d ∷ map code_in (map (λ b. Some (val Char b)) (pieces n 1 cs))) (char_back c)
+    ∙ ap (λ (ds : List ℕ). c ∷ ds) (chars_back n cs less)
+
+-- a text is one word
+text_of : (kind : NcType) (n : ℕ) (bytes : List ℕ) → kind ≡ Char → length bytes ≡ n * size_of kind → spaced (shown_values (as_values kind (pieces n (size_of kind) bytes))) ≡ 32 ∷ quoted bytes
+text_of Char n bytes h e =
+    let long : length bytes ≡ n = omega (arith, e) in
+    ap (λ (cs : List ℕ). spaced (quoted cs ∷ [])) (chars_back n bytes long) ∙ spaced_one (quoted bytes)
+text_of Byte n bytes h e = absurd (cc)
+text_of Short n bytes h e = absurd (cc)
+text_of Int n bytes h e = absurd (cc)
+text_of Float n bytes h e = absurd (cc)
+text_of Double n bytes h e = absurd (cc)
+text_of UByte n bytes h e = absurd (cc)
+text_of UShort n bytes h e = absurd (cc)
+text_of UInt n bytes h e = absurd (cc)
+text_of Int64 n bytes h e = absurd (cc)
+text_of UInt64 n bytes h e = absurd (cc)
+
+pub text_pushed : (a : Attr) → a.kind ≡ Char → is_whole_attr a ≡ true → spaced (shown_values (attr_values a)) ≡ 32 ∷ quoted a.bytes
+text_pushed a h whole = text_of a.kind a.count a.bytes h (eqb-true _ _ whole)
+
+-- ---- a piece
+
+pub pieces_last : (n m size r s : ℕ) → n ≡ suc m → r ≡ n * size → s + size ≡ r → s ≡ m * size
+pieces_last n m size r s one whole less =
+    let all : r ≡ suc m * size = whole ∙ ap (λ (k : ℕ). k * size) one in
+    omega arith
+
+-- the next piece is pushed, and what is left still gives the whole
+pub piece_pushed : (w : List ℕ → List ℕ) (size : ℕ) (now next whole : List ℕ) (n m : ℕ) (rest piece others : List ℕ) → n ≡ suc m
+    → piece ≡ take size rest → others ≡ drop size rest → next ≡ now ++ w piece → now ++ flat_map w (pieces n size rest) ≡ whole
+    → next ++ flat_map w (pieces m size others) ≡ whole
+piece_pushed w size now next whole n m rest piece others one front back pushed so_far =
+    ap (λ (t : List ℕ). t ++ flat_map w (pieces m size others)) pushed
+    ∙ append_assoc now (w piece) (flat_map w (pieces m size others))
+    ∙ ap (λ (t : List ℕ). now ++ (w t ++ flat_map w (pieces m size others))) front
+    ∙ ap (λ (t : List ℕ). now ++ (w (take size rest) ++ flat_map w (pieces m size t))) back
+    ∙ ap (λ (k : ℕ). now ++ flat_map w (pieces k size rest)) (sym one)
+    ∙ so_far
+
+-- ---- ranks
+
+abbrev with_number : {A : Type 0} → ℕ → A → ℕ × A
+with_number k x = (k, x)
+
+-- an item that goes last, with its number
+pub rank_pushed : {A : Type 0} (f : ℕ × A → List ℕ) (front now next : List ℕ) (xs : List A) (i : ℕ) (x : A) → i < length xs → x ≡ get_or xs i x
+    → now ≡ front ++ flat_map f (take i (enumerate_from 0 xs)) → next ≡ now ++ f (i, x) → next ≡ front ++ flat_map f (take (i + 1) (enumerate_from 0 xs))
+rank_pushed {A} f front now next xs i x within is so_far pushed =
+    let long : length (enumerate_from 0 xs) ≡ length xs = length-enumerate_from 0 xs in
+    let low : i < length (enumerate_from 0 xs) = omega arith in
+    let first : 0 + i ≡ i = omega arith in
+    let item : ℕ × A = (i, x) in
+    next_pushed f front now next (enumerate_from 0 xs) i (i + 1) item low
+    (sym (get_or-enumerate_from 0 xs i item within ∙ ap (λ (k : ℕ). with_number k (get_or xs i x)) first ∙ ap (λ (y : A). with_number i y) (sym is)))
+    refl so_far pushed
+
+pub ranks_pushed : {A : Type 0} (f : ℕ × A → List ℕ) (front now : List ℕ) (xs : List A) (n : ℕ) → n ≡ length xs
+    → now ≡ front ++ flat_map f (take n (enumerate_from 0 xs)) → now ≡ front ++ flat_map f (enumerate_from 0 xs)
+ranks_pushed f front now xs n whole so_far = all_pushed f front now (enumerate_from 0 xs) n (whole ∙ sym (length-enumerate_from 0 xs)) so_far
