@@ -16,6 +16,7 @@ use Rattle.nc_base.specs.declared.plan.Owned.{Owned}
 use Rattle.overlay_laws.specs.Entries.{In}
 use Rattle.overlay_laws.proofs.EntryLaws.{same_permuted}
 use Rattle.overlap_report.specs.declared.serial.Claim.{Claim}
+use Rattle.overlap_report.specs.Parts.{IsPartOfOne}
 use Rattle.overlap_report.specs.Sweep.{owned_of, entries_of, part_of, claim_cmp, AreFit, StandsBy, Swept, IsTop}
 use Rattle.overlap_report.proofs.SweepSteps.{swept_empty, swept_without, swept_part, swept_more}
 use Rattle.overlap_report.proofs.OriginSteps.{resolved_by}
@@ -185,6 +186,9 @@ pub all_resolved : (list out pool : List Owned) (i top : ℕ) → length list �
 all_resolved list out pool i top h cap ends once s =
     let w = whole_swept list out pool i top h s in
     resolved_by list out once w.won (λ q y m c. (let high = c.1 in let e = ends q.extent (in_extents list q m) in w.served q y m (omega arith) c))
+
+pub all_parts : (list out pool : List Owned) (i top : ℕ) → length list ≤ i → Swept (take i list) out pool top → (o : Owned) → In out o → IsPartOfOne list o
+all_parts list out pool i top h s = (whole_swept list out pool i top h s).parts
 
 pub all_ends : (list out pool : List Owned) (i top : ℕ) → length list ≤ i → EndBelow (2 ^ 62) (extents list) → Swept (take i list) out pool top → EndBelow (2 ^ 62) (extents out)
 all_ends list out pool i top h ends s e m =

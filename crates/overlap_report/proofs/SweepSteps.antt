@@ -7,6 +7,7 @@ use Rattle.nc_base.specs.declared.plan.Owned.{Owned}
 use Rattle.overlay_laws.specs.Entries.{In}
 use Rattle.overlay_laws.specs.Lines.{extents, IsInLine}
 use Rattle.overlay_laws.proofs.HullLaws.{in_either, in_left, in_right}
+use Rattle.overlap_report.specs.Parts.{IsPartOf, IsPartOfOne}
 use Rattle.overlap_report.specs.Sharing.{Covers}
 use Rattle.overlap_report.specs.Sweep.{part_of, AreFit, StandsBy, Winner, Swept}
 use Rattle.overlap_report.proofs.KeySteps.{IsNext}
@@ -21,6 +22,7 @@ swept_empty seen out p stop h s = record {
   pooled = s.pooled;
   low = λ o m. (let r = s.low o m in let l = r.0 in (omega arith, r.1));
   line = s.line;
+  parts = s.parts;
   begun = λ o m. (let l = s.begun o m in omega arith);
 }
   where
@@ -39,6 +41,7 @@ swept_without seen out pool rest top p ended there back s = record {
   pooled = λ o m. s.pooled o (back o (inr m));
   low = s.low;
   line = s.line;
+  parts = s.parts;
   begun = s.begun;
 }
   where
@@ -85,11 +88,18 @@ swept_part seen out pool top p end inside greatest room high s = record {
     | inr g ↦ subst (λ (z : Owned). (z.extent.at + z.extent.len ≤ end) × (1 ≤ z.extent.len)) (one_of (part_of top p end) o g) (omega arith, omega arith)
   ];
   line = subst IsInLine (sym (extents_joined out (part_of top p end))) (line_more out (record { at = p; len = end - p }) s.line (λ o m. (s.low o m).0));
+  parts = λ o m. elim (in_either out (part_of top p end ∷ []) o m) [
+    | inl g ↦ s.parts o g
+    | inr g ↦ subst (λ (z : Owned). IsPartOfOne seen z) (one_of (part_of top p end) o g) (top, s.pooled top inside, cut)
+  ];
   begun = λ o m. (let l = s.begun o m in omega arith);
 }
   where
     begins : top.extent.at ≤ p
     begins = s.begun top (s.pooled top inside)
+
+    cut : IsPartOf top (part_of top p end)
+    cut = record { begins = begins; ends = omega arith; rank = refl; request = refl; slot = refl; from = refl }
 
     wins : (y : ℕ) → Covers (part_of top p end) y → Winner seen (part_of top p end) y
     wins y c =
@@ -129,6 +139,7 @@ swept_more seen more out pool next o is_next there back s = record {
   pooled = λ q m. by_one q (there q m);
   low = s.low;
   line = s.line;
+  parts = λ z m. (let r = s.parts z m in (r.0, is_next.keeps r.0 r.1, r.2));
   begun = λ q m. elim (is_next.splits q m) [
     | inl g ↦ s.begun q g
     | inr g ↦ subst (λ (z : Owned). z.extent.at ≤ o.extent.at) (sym g) (omega arith)
@@ -162,5 +173,6 @@ nothing_swept seen none = record {
   pooled = λ o m. absurd m;
   low = λ o m. absurd m;
   line = tt;
+  parts = λ o m. absurd m;
   begun = λ o m. absurd (none o m);
 }

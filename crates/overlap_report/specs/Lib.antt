@@ -1,4 +1,5 @@
 pub mod Sorted
+pub mod Parts
 pub mod Sharing
 pub mod Reaching
 pub mod Holding

@@ -10,6 +10,7 @@ use Rattle.nc_base.specs.declared.plan.Owned.{Owned}
 use Rattle.overlay_laws.specs.Entries.{In}
 use Rattle.overlay_laws.specs.Lines.{extents, IsInLine}
 use Rattle.overlap_report.specs.declared.serial.Claim.{Claim}
+use Rattle.overlap_report.specs.Parts.{IsPartOfOne}
 use Rattle.overlap_report.specs.Sharing.{Covers}
 
 abbrev pub owned_of : Claim → Owned
@@ -50,6 +51,7 @@ pub record Swept (seen out pool : List Owned) (p : ℕ) : Type 0 where
   pub pooled : (o : Owned) → In pool o → In seen o
   pub low : (o : Owned) → In out o → (o.extent.at + o.extent.len ≤ p) × (1 ≤ o.extent.len)
   pub line : IsInLine (extents out)
+  pub parts : (o : Owned) → In out o → IsPartOfOne seen o
   pub begun : (o : Owned) → In seen o → o.extent.at ≤ p
 
 -- the first claim of a heap, after which none stands

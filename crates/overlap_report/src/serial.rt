@@ -7,6 +7,7 @@ ghost use Rattle.overlap_report.specs.declared.serial.Claim.{Claim};
 ghost use Rattle.overlay_laws.specs.Entries.{In};
 ghost use Rattle.overlay_laws.specs.Lines.{extents, IsByPlace, IsInLine, EndBelow};
 ghost use Rattle.overlay_laws.specs.Origins.{origins, IsOnceEach, IsResolved};
+ghost use Rattle.overlap_report.specs.Parts.{IsPartOfOne};
 ghost use Rattle.overlap_report.specs.Sweep.{entries_of, owned_of, part_of, claim_cmp, IsTop, Swept, AreFit};
 
 use nc_base::{Extent, Memory, Owned, OwnedList};
@@ -21,6 +22,7 @@ pub fn resolve(alloc: Global, list: &[Owned]) -> Result<OwnedList, Memory>
     requires found { (o : Owned) → In list.now o → o.from + o.extent.len < 2 ^ 62 }
     requires once { IsOnceEach (origins list.now) }
     ensures resolved { IfOk result (λ os. IsResolved list.now os) }
+    ensures parts { IfOk result (λ os. (o : Owned) → In os o → IsPartOfOne list.now o) }
     ensures line { IfOk result (λ os. IsInLine (extents os)) }
     ensures held { IfOk result (λ os. (o : Owned) → In os o → 1 ≤ o.extent.len) }
     ensures ends { IfOk result (λ os. EndBelow (2 ^ 62) (extents os)) }

@@ -5,10 +5,11 @@ use Rattle.nc_base.specs.declared.plan.Owned.{Owned}
 use Rattle.overlay_laws.specs.Entries.{In}
 use Rattle.overlay_laws.specs.Lines.{extents, IsInLine, EndBelow}
 use Rattle.overlay_laws.specs.Origins.{IsResolved}
+use Rattle.overlap_report.specs.Parts.{IsPartOfOne}
 use Rattle.overlap_report.specs.Sweep.{entries_of}
 use Rattle.overlap_report.proofs.CoverSteps.{entry_ends}
 use Rattle.overlap_report.proofs.KeySteps.{nothing, next_at, in_at}
-use Rattle.overlap_report.proofs.ClaimSteps.{pushed_fit, pushed_swept, at_dropped, later_begin, all_resolved, all_ends}
+use Rattle.overlap_report.proofs.ClaimSteps.{pushed_fit, pushed_swept, at_dropped, later_begin, all_resolved, all_parts, all_ends}
 use Rattle.overlap_report.proofs.serial.resolve.Goals as goal
 
 pub serve-requires-clause-order : goal.serve-requires-clause-order
@@ -40,6 +41,12 @@ returns-clause-resolved c =
     subst (λ (os : List Owned). IsResolved c.args.list.now os) (sym c.from_vec.ensures)
     (all_resolved c.args.list.now c.serve-2.new.whole.items (entries_of (heap_items c.serve-2.new.heap)) c.loop-entry.entry-index (2 ^ 64 - 1) (omega arith) (omega arith)
     c.requires.ends c.requires.once (c.in_ok-serve-2.ensures.swept (take c.loop-entry.entry-index c.args.list.now) c.loop-entry.invariant.swept))
+
+pub returns-clause-parts : goal.returns-clause-parts
+returns-clause-parts c =
+    subst (λ (os : List Owned). (o : Owned) → In os o → IsPartOfOne c.args.list.now o) (sym c.from_vec.ensures)
+    (all_parts c.args.list.now c.serve-2.new.whole.items (entries_of (heap_items c.serve-2.new.heap)) c.loop-entry.entry-index (2 ^ 64 - 1) (omega arith)
+    (c.in_ok-serve-2.ensures.swept (take c.loop-entry.entry-index c.args.list.now) c.loop-entry.invariant.swept))
 
 pub returns-clause-line : goal.returns-clause-line
 returns-clause-line c =
