@@ -1,5 +1,5 @@
 -- What is printed is read as the script that was read.
-use Rattle.std.proofs.Common.{◌≡◌, ◌≤◌, ℕ, List, length, subst, sym}
+use Rattle.std.proofs.Common.{◌≤◌, ℕ, List, length, subst, sym}
 use Rattle.nc_base.specs.declared.script.Script.{Script}
 use Rattle.script_spec.specs.ScriptWords.{text_lines}
 use Rattle.script_spec.specs.ScriptGrammar.{Reads, most_bytes, most_lines}
