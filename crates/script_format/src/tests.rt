@@ -51,6 +51,26 @@ data
 end
 ";
 
+const ADDITIONS: &[u8] = b"open
+ranks 1
+hint cb_nodes 1
+hint cb_buffer_size 16777216
+hint ind_rd_buffer_size 4194304
+hint ind_wr_buffer_size 524288
+hint line_room 2
+hint threads on
+hint overlap refuse
+hint nc_header_align_size 4
+hint nc_var_align_size 4
+hint striping_unit 1
+att w u ubyte 128
+var uint64 w [time,y]
+dim y unlimited
+att : h byte -128
+data
+end
+";
+
 const LOOSE: &[u8] = b"# a field
 create\t1
  hint cb_nodes 2
@@ -94,6 +114,11 @@ fn becomes(alloc: Global, text: &[u8], want: &[u8]) -> bool {
 #[test]
 fn every_call_is_read_and_printed(rt: HostRuntime) {
     assert!(rt; becomes(rt.alloc(), EVERY_CALL, EVERY_CALL));
+}
+
+#[test]
+fn additions_are_read_and_printed(rt: HostRuntime) {
+    assert!(rt; becomes(rt.alloc(), ADDITIONS, ADDITIONS));
 }
 
 #[test]

@@ -17,6 +17,3 @@ pub fn shown_law()
     ensures { (text : List ℕ) (script : Script) → Reads text script → length (shown script) ≤ most_bytes
         → length (text_lines (shown script)) ≤ most_lines → Reads (shown script) script }
 {}
-
-#[cfg(test)]
-mod tests;
