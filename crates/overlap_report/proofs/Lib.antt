@@ -6,3 +6,4 @@ pub mod PairSteps
 pub mod OriginSteps
 pub mod SweepSteps
 pub mod ClaimSteps
+pub mod TestSteps
