@@ -1,6 +1,8 @@
 ghost use Rattle.std.specs.Prelude.{◌≡◌, ◌≤◌, ℕ, None, IfOk};
 ghost use Rattle.serial_spec.specs.RankMachine.{status_of};
 
+mod cases;
+
 use crate::Queue;
 use nc_base::{
     Blob, CallErr, Choice, Code, IdList, ItemList, Memory, Post, PostKind, Region, SizeList,
@@ -9,24 +11,18 @@ use std::alloc::Global;
 use std::process::Abort;
 use std::test::Fail;
 
-/// A post of one element of the first variable, with four bytes.
-fn one_int(alloc: Global, id: u32) -> Result<Post, Memory>
+/// A post of `count` ints of the first variable from the index `at`, with four bytes each.
+fn ints(alloc: Global, id: u32, at: u64, count: u16) -> Result<Post, Memory>
     ensures { IfOk result (λ post. post.id ≡ id) }
 {
-    let mut start = SizeList::new(alloc);
-    start.push(0)?;
-    let mut count = SizeList::new(alloc);
-    count.push(1)?;
-    let mut stride = SizeList::new(alloc);
-    stride.push(1)?;
     let region = Region {
-        start,
-        count,
-        stride,
+        start: sizes(alloc, at)?,
+        count: sizes(alloc, u64::from(count))?,
+        stride: sizes(alloc, 1)?,
         imap: SizeList::new(alloc),
         packed: true,
     };
-    let bytes = Blob::from_vec(vec![in alloc; 7; 4]?);
+    let bytes = Blob::from_vec(vec![in alloc; 7; usize::from(count) * 4]?);
     Ok(Post {
         id,
         var: 0,
@@ -35,14 +31,28 @@ fn one_int(alloc: Global, id: u32) -> Result<Post, Memory>
     })
 }
 
+/// The list of one size.
+fn sizes(alloc: Global, size: u64) -> Result<SizeList, Memory> {
+    let mut list = SizeList::new(alloc);
+    list.push(size)?;
+    Ok(list)
+}
+
+fn one_int(alloc: Global, id: u32) -> Result<Post, Memory>
+    ensures { IfOk result (λ post. post.id ≡ id) }
+{
+    ints(alloc, id, 0, 1)
+}
+
 fn listed(alloc: Global, ids: &[u32]) -> Result<Choice, Memory> {
     Ok(Choice::Listed(IdList::from_vec(Vec::from_slice(alloc, ids)?)))
 }
 
-fn expect_codes(rt: &impl Abort, items: &ItemList, codes: &[Code]) {
-    assert_eq!(rt; items.len(), codes.len());
-    for (item, code) in items.as_slice().iter().zip(codes) {
-        assert!(rt; item.code == *code);
+fn expect_items(rt: &impl Abort, items: &ItemList, wanted: &[(u32, Code)]) {
+    assert_eq!(rt; items.len(), wanted.len());
+    for (item, (id, code)) in items.as_slice().iter().zip(wanted) {
+        assert_eq!(rt; item.id, *id);
+        assert!(rt; item.code == *code, "of {id}");
     }
 }
 
@@ -57,15 +67,15 @@ fn items_stand_as_listed(rt: HostRuntime) -> Result<(), Fail> {
     let taken = queue.take(alloc, &listed(alloc, &[1, 0, 2, 0, 5])?)?;
     assert_eq!(rt; taken.batch.puts.len(), 1);
     assert_eq!(rt; taken.batch.gets.len(), 1);
-    expect_codes(
+    expect_items(
         &rt,
         &taken.items,
         &[
-            Code::Ok,
-            Code::Ok,
-            Code::Null,
-            Code::EInvalRequest,
-            Code::EInvalRequest,
+            (1, Code::Ok),
+            (0, Code::Ok),
+            (2, Code::Null),
+            (0, Code::EInvalRequest),
+            (5, Code::EInvalRequest),
         ],
     );
     assert_eq!(rt; queue.pending(), 0);
