@@ -1,0 +1,128 @@
+-- A run of ranks at their next offers is that of ranks which wait where they heard their last reply.
+use Rattle.std.proofs.Common.{◌≡◌, ℕ, zero, suc, refl, sym, ◌∙◌, ap, List, [], ◌∷◌, ◌++◌, map, set, Option, Some, None}
+use Rattle.std.specs.Prelude.{slice_get, zip, fold, nat_lt}
+use Rattle.nc_base.specs.declared.header.Header.{Header}
+use Rattle.nc_base.specs.declared.request.Call.{Call}
+use Rattle.nc_base.specs.declared.script.Hints.{Hints}
+use Rattle.nc_base.specs.declared.script.Script.{Script}
+use Rattle.nc_base.specs.declared.step.DiskCall.{DiskCall}
+use Rattle.nc_base.specs.declared.step.Mark.{Mark}
+use Rattle.nc_base.specs.declared.step.Mark.TheVariants.{Meet, Solo}
+use Rattle.nc_base.specs.declared.step.Offer.{Offer}
+use Rattle.serial_spec.specs.DeviceCalls.{mark_calls, solo_calls, store_records, run_calls}
+use Rattle.serial_spec.specs.FileStep.{Setting, Counted, meeting}
+use Rattle.serial_spec.specs.SerialEnd.{Going, advance, hears, offers_of, solo_of, after_mark, first_going, first_state, setting_of, closed, serial_from}
+use Rattle.run_laws.specs.Standing.{calls_so_far, close_by}
+use Rattle.run_laws.specs.Arrivals.{Arrived, Stand, solo_to, step_to, step_calls, calls_over, ended_from, all_calls_over, first_stand}
+use Rattle.run_laws.proofs.OrderLaws.{calls_close}
+
+-- each rank goes up to its next offer
+abbrev pub gone_up : Setting → Counted × List Going → Stand
+gone_up s state = (state.0, map (advance s.header) state.1)
+
+map_two : {X Y Z : Type 0} (f : Y → Z) (g : X → Y) (xs : List X) → map f (map g xs) ≡ map (λ x. f (g x)) xs
+map_two f g [] = refl
+map_two f g (x ∷ xs) = ap (λ (zs : List _). f (g x) ∷ zs) (map_two f g xs)
+
+map_set : {X Y : Type 0} (f : X → Y) (xs : List X) (r : ℕ) (x : X) → set (map f xs) r (f x) ≡ map f (set xs r x)
+map_set f [] r x = refl
+map_set f (y ∷ xs) zero x = refl
+map_set f (y ∷ xs) (suc r) x = ap (λ (ys : List _). f y ∷ ys) (map_set f xs r x)
+
+abbrev up : Setting → Option Going → Option Arrived
+up s None = None
+up s (Some g) = Some (advance s.header g)
+
+get_up : (s : Setting) (goings : List Going) (r : ℕ) → slice_get (map (advance s.header) goings) r ≡ up s (slice_get goings r)
+get_up s [] r = refl
+get_up s (g ∷ goings) zero = refl
+get_up s (g ∷ goings) (suc r) = get_up s goings r
+
+-- ---- one step
+
+abbrev stand_at : Setting → ℕ → Counted → List Arrived → Option Arrived → Stand
+stand_at s r c ranks m = elim m [ None ↦ (c, ranks) | Some a ↦ solo_to s r c ranks a ]
+
+abbrev state_at : Setting → ℕ → Counted → List Going → Option Going → Counted × List Going
+state_at s r c goings m = elim m [
+  | None ↦ (c, goings)
+  | Some g ↦ ((solo_of s r c (advance s.header g)).0, set goings r (solo_of s r c (advance s.header g)).1)
+]
+
+pub arrival_step : (s : Setting) (state : Counted × List Going) (m : Mark) → step_to s (gone_up s state) m ≡ gone_up s (after_mark s state m)
+arrival_step s (c, goings) (Meet k) =
+    let stepped = meeting s (offers_of (map (advance s.header) goings)) c in
+    ap (λ (ranks : List Arrived). (stepped.0, ranks))
+    (sym (map_two (advance s.header) (λ p. hears s.header p.0.0 p.1) (zip (map (advance s.header) goings) stepped.1)))
+arrival_step s (c, goings) (Solo r n) =
+    ap (stand_at s r c (map (advance s.header) goings)) (get_up s goings r) ∙ by (slice_get goings r)
+  where
+    by : (m : Option Going) → stand_at s r c (map (advance s.header) goings) (up s m) ≡ gone_up s (state_at s r c goings m)
+    by None = refl
+    by (Some g) =
+        let done = solo_of s r c (advance s.header g) in
+        ap (λ (ranks : List Arrived). (done.0, ranks)) (map_set (advance s.header) goings r done.1)
+
+abbrev offer_of : Option Arrived → Option Offer
+offer_of m = elim m [ None ↦ None | Some a ↦ a.1 ]
+
+abbrev calls_at : Hints → Setting → ℕ → Counted → Option Offer → List DiskCall
+calls_at hints s r c m = elim m [ None ↦ [] | Some o ↦ solo_calls hints s r o c ]
+
+pub arrival_call : (hints : Hints) (s : Setting) (state : Counted × List Going) (m : Mark) → step_calls hints s (gone_up s state) m ≡ mark_calls hints s state m
+arrival_call hints s (c, goings) (Meet k) = refl
+arrival_call hints s (c, goings) (Solo r n) =
+    ap (λ (m : Option Arrived). calls_at hints s r c (offer_of m)) (get_up s goings r) ∙ by (slice_get goings r)
+  where
+    by : (m : Option Going) → calls_at hints s r c (offer_of (up s m)) ≡ calls_at hints s r c (elim m [ None ↦ None | Some g ↦ (advance s.header g).1 ])
+    by None = refl
+    by (Some g) = refl
+
+-- ---- a run
+
+pub arrival_steps : (s : Setting) (state : Counted × List Going) (order : List Mark)
+    → fold (step_to s) (gone_up s state) order ≡ gone_up s (fold (after_mark s) state order)
+arrival_steps s state [] = refl
+arrival_steps s state (m ∷ order) =
+    ap (λ (stand : Stand). fold (step_to s) stand order) (arrival_step s state m) ∙ arrival_steps s (after_mark s state m) order
+
+pub arrival_calls : (hints : Hints) (s : Setting) (state : Counted × List Going) (order : List Mark)
+    → calls_over hints s (gone_up s state) order ≡ calls_so_far hints s state order
+arrival_calls hints s state [] = refl
+arrival_calls hints s state (m ∷ order) =
+    let first = arrival_call hints s state m in
+    let next = arrival_step s state m in
+    (λ i. first i ++ calls_over hints s (next i) order)
+    ∙ ap (λ (cs : List DiskCall). mark_calls hints s state m ++ cs) (arrival_calls hints s (after_mark s state m) order)
+
+arrival_end : (s : Setting) (state : Counted × List Going) (order : List Mark)
+    → ended_from s (gone_up s state) order ≡ closed s (fold (after_mark s) state order)
+arrival_end s state order =
+    ap (λ (stand : Stand). close_by s stand.0 (map (λ a. a.0) stand.1)) (arrival_steps s state order)
+    ∙ ap (λ (gs : List Going). close_by s (fold (after_mark s) state order).0 gs)
+    (map_two (λ (a : Arrived). a.0) (advance s.header) (fold (after_mark s) state order).1)
+
+first_up : (header : Header) (s : Setting) (file : List ℕ) (calls : List (List Call)) → s.header ≡ header
+    → first_stand header file calls ≡ gone_up s (first_state header file calls)
+first_up header s file calls e =
+    ap (λ (ranks : List Arrived). (record { file = file; records = header.records }, ranks))
+    (sym (map_two (advance header) (first_going header) calls) ∙ ap (λ (h : Header). map (advance h) (map (first_going header) calls)) (sym e))
+
+pub serial_of_arrivals : (script : Script) (header : Header) (file : List ℕ) (order : List Mark)
+    → serial_from script header file order ≡ ended_from (setting_of script header) (first_stand header file script.calls) order
+serial_of_arrivals script header file order =
+    sym (ap (λ (stand : Stand). ended_from (setting_of script header) stand order) (first_up header (setting_of script header) file script.calls refl)
+    ∙ arrival_end (setting_of script header) (first_state header file script.calls) order)
+
+pub calls_of_arrivals : (script : Script) (header : Header) (file : List ℕ) (order : List Mark)
+    → run_calls script header file order ≡ all_calls_over script.hints (setting_of script header) (first_stand header file script.calls) order
+calls_of_arrivals script header file order =
+    let s = setting_of script header in
+    let state = first_state header file script.calls in
+    let up = first_up header s file script.calls refl in
+    let calls = arrival_calls script.hints s state order in
+    let steps = arrival_steps s state order in
+    let last = arrival_end s state order in
+    calls_close script.hints s state order
+    ∙ sym (ap (λ (stand : Stand). all_calls_over script.hints s stand order) up
+    ∙ (λ i. calls i ++ store_records s (nat_lt (steps i).0.records (last i).records)))

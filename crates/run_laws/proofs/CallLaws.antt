@@ -1,0 +1,310 @@
+-- One call of a rank: its mode, its kind, its mark, its offer and its requests.
+use Rattle.std.proofs.Common.{◌≡◌, ℕ, refl, sym, ◌∙◌, ap, subst, List, [], ◌∷◌, ◌++◌, map, Bool, true, false, cond, not, ◌&&◌, max, Option, Some, None}
+use Rattle.std.specs.Prelude.{◌==◌, if◌then◌else◌, is_none, is_some, IfSome, find, option_map}
+use Rattle.nc_base.specs.declared.header.Header.{Header}
+use Rattle.nc_base.specs.declared.request.Call.{Call}
+use Rattle.nc_base.specs.declared.request.Call.TheVariants as call
+use Rattle.nc_base.specs.declared.answer.Code.{Code}
+use Rattle.nc_base.specs.declared.answer.Code.TheVariants as code
+use Rattle.nc_base.specs.declared.answer.Answer.{Answer}
+use Rattle.nc_base.specs.declared.plan.Batch.{Batch}
+use Rattle.nc_base.specs.declared.plan.Post.{Post}
+use Rattle.nc_base.specs.declared.step.Offer.{Offer}
+use Rattle.nc_base.specs.declared.step.OfferKind.{OfferKind}
+use Rattle.nc_base.specs.declared.step.OfferKind.TheVariants as offer
+use Rattle.nc_base.specs.declared.step.MeetKind.{MeetKind}
+use Rattle.nc_base.specs.declared.step.MeetKind.TheVariants as meets
+use Rattle.nc_base.specs.declared.step.Reply.{Reply}
+use Rattle.nc_base.specs.declared.step.Want.{Want}
+use Rattle.nc_base.specs.declared.step.Want.TheVariants as want
+use Rattle.serial_spec.specs.RankMachine.{Rank, Open, Look, Refused, Empty, Asks, Posted, Status, Gone, NullRequest, Waiting, step, hear, hear_open, look, posts, post_after, attach_code, detach_code, buffer_code, bytes_in, values_of_post, status_of, is_chosen, named, without_chosen, with_posted}
+use Rattle.serial_spec.specs.RegionCheck.{is_ok_code}
+use Rattle.serial_spec.specs.History.{is_collective, is_data, mode_after, kind_of_call}
+use Rattle.serial_spec.specs.Lawful.{id_posted}
+
+-- ---- the ids that were posted
+
+abbrev pub is_free : List Posted → ℕ → Bool
+is_free posted id = is_none (status_of posted id)
+
+-- an id that the call does not post
+abbrev pub is_other : Option ℕ → ℕ → Bool
+is_other None id = true
+is_other (Some n) id = not (n == id)
+
+abbrev pub Frees : Rank → Call → Rank → Type 0
+Frees r c r' = (id : ℕ) → is_other (id_posted c) id ≡ true → is_free r.posted id ≡ true → is_free r'.posted id ≡ true
+
+free_after : (posted : List Posted) (p : Posted) (id : ℕ) → not (p.id == id) ≡ true → is_free posted id ≡ true → is_free (posted ++ p ∷ []) id ≡ true
+free_after [] p id e h = by (p.id == id) e
+  where
+    by : (t : Bool) → not t ≡ true → is_none (option_map (λ q. q.status) (cond t (Some p) None)) ≡ true
+    by true w = cc
+    by false w = refl
+free_after (q ∷ posted) p id e h = by (q.id == id) h (free_after posted p id e)
+  where
+    by : (t : Bool) → is_none (option_map (λ x. x.status) (cond t (Some q) (find (λ x. x.id == id) posted))) ≡ true
+        → (is_free posted id ≡ true → is_free (posted ++ p ∷ []) id ≡ true)
+        → is_none (option_map (λ x. x.status) (cond t (Some q) (find (λ x. x.id == id) (posted ++ p ∷ [])))) ≡ true
+    by true w again = cc
+    by false w again = again w
+
+free_gone : (c : Posted → Bool) (posted : List Posted) (id : ℕ) → is_free posted id ≡ true
+    → is_free (map (λ p. if c p then record p { status = Gone } else p) posted) id ≡ true
+free_gone c [] id h = refl
+free_gone c (q ∷ posted) id h = by_chosen (c q) h (free_gone c posted id)
+  where
+    by : (t : Bool) (q' : Posted) (m m' : Option Posted) → is_none (option_map (λ x. x.status) (cond t (Some q) m)) ≡ true
+        → (is_none (option_map (λ x. x.status) m) ≡ true → is_none (option_map (λ x. x.status) m') ≡ true)
+        → is_none (option_map (λ x. x.status) (cond t (Some q') m')) ≡ true
+    by true q' m m' w again = cc
+    by false q' m m' w again = again w
+
+    gone : List Posted
+    gone = map (λ p. if c p then record p { status = Gone } else p) posted
+
+    by_chosen : (t : Bool) → is_free (q ∷ posted) id ≡ true → (is_free posted id ≡ true → is_free gone id ≡ true)
+        → is_free (cond t (record q { status = Gone }) q ∷ gone) id ≡ true
+    by_chosen true w again = by (q.id == id) (record q { status = Gone }) _ _ w again
+    by_chosen false w again = by (q.id == id) q _ _ w again
+
+-- ---- what a call does
+
+pub record Alone (r : Rank) (c : Call) (r' : Rank) : Type 0 where
+  pub mode : r'.independent ≡ r.independent
+  pub known : r'.known ≡ r.known
+  pub still : r'.«open» ≡ r.«open»
+  pub solo : (r.independent && is_data c) ≡ false
+  pub alone : is_collective c ≡ false
+  pub kind : kind_of_call c ≡ None
+  pub frees : Frees r c r'
+
+pub record Asking (r : Rank) (c : Call) (r' : Rank) (o : Offer) : Type 0 where
+  pub known : r'.known ≡ r.known
+  pub told : o.known ≡ r.known
+  pub open_with : Open
+  pub is_open : r'.«open» ≡ Some open_with
+  pub mode : open_with.independent ≡ mode_after r.independent c
+  pub gets : open_with.gets ≡ o.batch.gets
+  pub kept : r'.independent ≡ r.independent
+  pub frees : Frees r c r'
+
+pub record Meeting (r : Rank) (c : Call) (r' : Rank) (o : Offer) : Type 0 where
+  pub asking : Asking r c r' o
+  pub of_kind : MeetKind
+  pub kind : kind_of_call c ≡ Some of_kind
+  pub meets : o.kind ≡ offer.Meet of_kind
+  pub together : is_collective c ≡ true
+
+pub record AloneAsking (r : Rank) (c : Call) (r' : Rank) (o : Offer) : Type 0 where
+  pub asking : Asking r c r' o
+  pub kind : kind_of_call c ≡ None
+  pub is_solo : o.kind ≡ offer.Solo
+  pub alone : is_collective c ≡ false
+  pub solo : (r.independent && is_data c) ≡ true
+
+abbrev pub Says : Rank → Call → Rank × Want → Type 0
+Says r c (r', want.Answered a) = Alone r c r'
+Says r c (r', want.Meet o) = Meeting r c r' o
+Says r c (r', want.Solo o) = AloneAsking r c r' o
+
+either : {X : Type 0} (P : X → Type 0) (t : Bool) (a b : X) → (t ≡ true → P a) → (t ≡ false → P b) → P (cond t a b)
+either P true a b f g = f refl
+either P false a b f g = g refl
+
+and_false : (b : Bool) → (b && false) ≡ false
+and_false true = refl
+and_false false = refl
+
+with_true : (b t : Bool) → b ≡ t → (b && true) ≡ t
+with_true true t e = e
+with_true false t e = e
+
+answered_alone : (r : Rank) (c : Call) (r' : Rank) → r'.independent ≡ r.independent → r'.known ≡ r.known → r'.«open» ≡ r.«open» → is_data c ≡ false
+    → is_collective c ≡ false → kind_of_call c ≡ None → Frees r c r' → Alone r c r'
+answered_alone r c r' mode known still of_data alone kind frees = record {
+  mode = mode;
+  known = known;
+  still = still;
+  solo = ap (λ (b : Bool). r.independent && b) of_data ∙ and_false r.independent;
+  alone = alone;
+  kind = kind;
+  frees = frees;
+}
+
+refused_alone : (r : Rank) (c : Call) → r.independent ≡ false → is_data c ≡ true → is_collective c ≡ false → kind_of_call c ≡ None → Alone r c r
+refused_alone r c e of_data alone kind = record {
+  mode = refl;
+  known = refl;
+  still = refl;
+  solo = ap (λ (b : Bool). r.independent && b) of_data ∙ with_true r.independent false e;
+  alone = alone;
+  kind = kind;
+  frees = λ id h f. f;
+}
+
+asks_with : (r : Rank) (c : Call) (k : OfferKind) (b : Batch) (o : Open) → o.independent ≡ mode_after r.independent c → o.gets ≡ b.gets
+    → Asking r c (record r { «open» = Some o }) (record { kind = k; known = r.known; batch = b })
+asks_with r c k b o e f = record { known = refl; told = refl; open_with = o; is_open = refl; mode = e; gets = f; kept = refl; frees = λ id h g. g }
+
+meets_with : (r : Rank) (c : Call) (k : MeetKind) (b : Batch) (o : Open) → o.independent ≡ mode_after r.independent c → o.gets ≡ b.gets
+    → kind_of_call c ≡ Some k → is_collective c ≡ true
+    → Meeting r c (record r { «open» = Some o }) (record { kind = offer.Meet k; known = r.known; batch = b })
+meets_with r c k b o e f kind together = record { asking = asks_with r c (offer.Meet k) b o e f; of_kind = k; kind = kind; meets = refl; together = together }
+
+solo_with : (r : Rank) (c : Call) (b : Batch) (o : Open) → o.independent ≡ mode_after r.independent c → o.gets ≡ b.gets
+    → kind_of_call c ≡ None → is_collective c ≡ false → is_data c ≡ true → r.independent ≡ true
+    → AloneAsking r c (record r { «open» = Some o }) (record { kind = offer.Solo; known = r.known; batch = b })
+solo_with r c b o e f kind alone of_data mode = record {
+  asking = asks_with r c offer.Solo b o e f;
+  kind = kind;
+  is_solo = refl;
+  alone = alone;
+  solo = ap (λ (t : Bool). r.independent && t) of_data ∙ with_true r.independent true mode;
+}
+
+-- after those of the chosen are gone
+gone_asks : (r : Rank) (c : Call) (r' r'' : Rank) (o : Offer) → id_posted c ≡ None → r'.independent ≡ r.independent → r'.known ≡ r.known
+    → ((id : ℕ) → is_free r.posted id ≡ true → is_free r'.posted id ≡ true) → Asking r' c r'' o → Asking r c r'' o
+gone_asks r c r' r'' o none mode known frees w = record {
+  known = w.known ∙ known;
+  told = w.told ∙ known;
+  open_with = w.open_with;
+  is_open = w.is_open;
+  mode = w.mode ∙ ap (λ (b : Bool). mode_after b c) mode;
+  gets = w.gets;
+  kept = w.kept ∙ mode;
+  frees = λ id h f. w.frees id h (frees id f);
+}
+
+post_frees : (r : Rank) (c : Call) (id : ℕ) (s : Status) → id_posted c ≡ Some id → Frees r c (with_posted r id s)
+post_frees r c id s e n other free =
+    free_after r.posted (record { id = id; status = s }) n (sym (ap (λ (m : Option ℕ). is_other m n) e) ∙ other) free
+
+pub step_says : (header : Header) (r : Rank) (c : Call) → Says r c (step header r c)
+step_says header r (call.Put true name given values) =
+    either (Says r (call.Put true name given values)) r.independent _ _ (λ e. meets_with r _ meets.Put _ _ refl refl refl refl) (λ e. meets_with r _ meets.Put _ _ refl refl refl refl)
+step_says header r (call.Put false name given values) =
+    either (Says r (call.Put false name given values)) r.independent _ _ (λ e. solo_with r _ _ _ refl refl refl refl refl e) (λ e. refused_alone r _ e refl refl refl)
+step_says header r (call.Get true name given) =
+    either (Says r (call.Get true name given)) r.independent _ _ (λ e. meets_with r _ meets.Get _ _ refl refl refl refl) (λ e. meets_with r _ meets.Get _ _ refl refl refl refl)
+step_says header r (call.Get false name given) =
+    either (Says r (call.Get false name given)) r.independent _ _ (λ e. solo_with r _ _ _ refl refl refl refl refl e) (λ e. refused_alone r _ e refl refl refl)
+step_says header r (call.Post id kind name given values) = by_look (look header r.known id name given (values_of_post kind values))
+  where
+    this : Call
+    this = call.Post id kind name given values
+
+    same : Alone r (call.Post id kind name given values) r
+    same = answered_alone r (call.Post id kind name given values) r refl refl refl refl refl refl (λ n h f. f)
+
+    more : (s : Status) → Alone r (call.Post id kind name given values) (with_posted r id s)
+    more s = answered_alone r (call.Post id kind name given values) (with_posted r id s) refl refl refl refl refl refl (post_frees r (call.Post id kind name given values) id s refl)
+
+    by_code : (asked : List Post) (x : Code) → Says r (call.Post id kind name given values) (post_after r id kind asked x)
+    by_code asked code.Ok = more (Waiting kind asked)
+    by_code asked x = same
+
+    by_look : (l : Look) → Says r (call.Post id kind name given values) (posts r id kind l)
+    by_look (Refused x) = same
+    by_look Empty = more NullRequest
+    by_look (Asks asked) = by_code asked (buffer_code r kind (bytes_in asked))
+step_says header r (call.Wait true choice) =
+    either (Says r (call.Wait true choice)) r.independent _ _ (λ e. meets_with r _ meets.Wait _ _ refl refl refl refl)
+    (λ e. record {
+      asking = gone_asks r (call.Wait true choice) (without_chosen r choice) _ _ refl refl refl (λ id f. free_gone (is_chosen (named r choice)) r.posted id f)
+          (asks_with (without_chosen r choice) _ _ _ _ refl refl);
+      of_kind = meets.Wait;
+      kind = refl;
+      meets = refl;
+      together = refl;
+    })
+step_says header r (call.Wait false choice) =
+    either (Says r (call.Wait false choice)) r.independent _ _
+    (λ e. record {
+      asking = gone_asks r (call.Wait false choice) (without_chosen r choice) _ _ refl refl refl (λ id f. free_gone (is_chosen (named r choice)) r.posted id f)
+          (asks_with (without_chosen r choice) _ _ _ _ refl refl);
+      kind = refl;
+      is_solo = refl;
+      alone = refl;
+      solo = with_true r.independent true e;
+    })
+    (λ e. refused_alone r _ e refl refl refl)
+step_says header r (call.Cancel choice) =
+    answered_alone r (call.Cancel choice) (without_chosen r choice) refl refl refl refl refl refl (λ id h f. free_gone (is_chosen (named r choice)) r.posted id f)
+step_says header r (call.Attach size) =
+    either (λ (x : Rank). Alone r (call.Attach size) x) (is_ok_code (attach_code r.attached size)) _ _
+    (λ e. answered_alone r (call.Attach size) _ refl refl refl refl refl refl (λ n h f. f))
+    (λ e. answered_alone r (call.Attach size) r refl refl refl refl refl refl (λ n h f. f))
+step_says header r call.Detach =
+    either (λ (x : Rank). Alone r call.Detach x) (is_ok_code (detach_code r)) _ _
+    (λ e. answered_alone r call.Detach _ refl refl refl refl refl refl (λ n h f. f))
+    (λ e. answered_alone r call.Detach r refl refl refl refl refl refl (λ n h f. f))
+step_says header r call.BeginIndep = meets_with r call.BeginIndep meets.Begin _ _ refl refl refl refl
+step_says header r call.EndIndep = meets_with r call.EndIndep meets.End _ _ refl refl refl refl
+step_says header r call.SyncRecords = meets_with r call.SyncRecords meets.Sync _ _ refl refl refl refl
+step_says header r (call.InqDim name) = answered_alone r (call.InqDim name) r refl refl refl refl refl refl (λ n h f. f)
+step_says header r (call.FillRec name number share ranks) =
+    either (Says r (call.FillRec name number share ranks)) r.independent _ _
+    (λ e. meets_with r _ meets.Put _ _ refl refl refl refl) (λ e. meets_with r _ meets.Put _ _ refl refl refl refl)
+
+-- what is known where the step is
+pub says_at : (header : Header) (r : Rank) (c : Call) (p : Rank × Want) → p ≡ step header r c → Says r c p
+says_at header r c p e = subst (λ (x : Rank × Want). Says r c x) (sym e) (step_says header r c)
+
+-- ---- what is told of the offers
+
+pub alone_keeps : (header : Header) (rank next : Rank) (c : Call) (a : Answer) → (next, want.Answered a) ≡ step header rank c
+    → (next.known ≡ rank.known) × (next.«open» ≡ rank.«open»)
+alone_keeps header rank next c a e = let w = says_at header rank c (next, want.Answered a) e in (w.known, w.still)
+
+abbrev pub Keeps : Option Open → Offer → Type 0
+Keeps m o = (is_some m ≡ true) × IfSome m (λ x. x.gets ≡ o.batch.gets)
+
+keeps_gets : (m : Option Open) (o : Offer) (w : Open) → m ≡ Some w → w.gets ≡ o.batch.gets → Keeps m o
+keeps_gets None o w e f = cc
+keeps_gets (Some v) o w e f = let a : v ≡ w = cc in (refl, ap (λ (x : Open). x.gets) a ∙ f)
+
+pub meets_keeps : (header : Header) (rank next : Rank) (c : Call) (o : Offer) → (next, want.Meet o) ≡ step header rank c
+    → (next.known ≡ rank.known) × ((o.known ≡ rank.known) × Keeps next.«open» o)
+meets_keeps header rank next c o e =
+    let w = (says_at header rank c (next, want.Meet o) e).asking in
+    (w.known, (w.told, keeps_gets next.«open» o w.open_with w.is_open w.gets))
+
+pub solo_keeps : (header : Header) (rank next : Rank) (c : Call) (o : Offer) → (next, want.Solo o) ≡ step header rank c
+    → (o.kind ≡ offer.Solo) × ((next.known ≡ rank.known) × ((o.known ≡ rank.known) × Keeps next.«open» o))
+solo_keeps header rank next c o e =
+    let v = says_at header rank c (next, want.Solo o) e in
+    let w = v.asking in
+    (v.is_solo, (w.known, (w.told, keeps_gets next.«open» o w.open_with w.is_open w.gets)))
+
+-- ---- hearing
+
+-- the rank after a reply that it waited for
+pub record Heard (rank heard : Rank) (reply : Reply) (o : Open) : Type 0 where
+  pub known : heard.known ≡ max rank.known reply.records
+  pub closed : heard.«open» ≡ None
+  pub posted : heard.posted ≡ rank.posted
+  pub mode : heard.independent ≡ o.independent
+
+pub heard_at : (header : Header) (rank heard : Rank) (reply : Reply) (a : Answer) (o : Open) → rank.«open» ≡ Some o → (heard, a) ≡ hear header rank reply
+    → Heard rank heard reply o
+heard_at header rank heard reply a o e f =
+    let g : (heard, a) ≡ hear_open header rank reply (Some o) = f ∙ ap (λ (m : Option Open). hear_open header rank reply m) e in
+    record {
+      known = ap (λ (p : Rank × Answer). p.0.known) g;
+      closed = ap (λ (p : Rank × Answer). p.0.«open») g;
+      posted = ap (λ (p : Rank × Answer). p.0.posted) g;
+      mode = ap (λ (p : Rank × Answer). p.0.independent) g;
+    }
+
+open_some : {X : Type 0} (m : Option X) → is_some m ≡ true → (x : X) × (m ≡ Some x)
+open_some None e = cc
+open_some (Some x) e = (x, refl)
+
+pub hears_keeps : (header : Header) (rank heard : Rank) (reply : Reply) (a : Answer) → is_some rank.«open» ≡ true → (heard, a) ≡ hear header rank reply
+    → (heard.known ≡ max rank.known reply.records) × ((heard.«open» ≡ None) × (heard.posted ≡ rank.posted))
+hears_keeps header rank heard reply a e f =
+    let o = open_some rank.«open» e in
+    let w = heard_at header rank heard reply a o.0 o.1 f in
+    (w.known, (w.closed, w.posted))

@@ -1,0 +1,172 @@
+-- What a rank on its way has at its next call, and that all ranks meet and end together.
+use Rattle.std.proofs.Common.{◌≡◌, ℕ, zero, suc, ◌+◌, ◌*◌, ◌^◌, ◌<◌, ◌≤◌, ◌≢◌, refl, sym, ◌∙◌, ap, subst, List, [], ◌∷◌, ◌++◌, length, drop, true, Option, Some, None, arith, length-drop}
+use Rattle.std.proofs.lemmas.List.{append-nil}
+use Rattle.std.proofs.lemmas.List.Folds.{list_all-append}
+use Rattle.std.proofs.lemmas.Bool.Decides.{nat_tests}
+use Rattle.std.specs.Prelude.{slice_get, ◌==◌, nat_lt, filter, is_none}
+use Rattle.std.specs.List.{list_all}
+use Rattle.nc_base.specs.declared.request.Call.{Call}
+use Rattle.nc_base.specs.declared.request.Call.TheVariants as call
+use Rattle.nc_base.specs.declared.script.Script.{Script}
+use Rattle.nc_base.specs.declared.step.Mark.{Mark}
+use Rattle.nc_base.specs.declared.step.Mark.TheVariants.{Meet, Solo}
+use Rattle.nc_base.specs.declared.step.MeetKind.{MeetKind}
+use Rattle.nc_base.specs.declared.step.Offer.{Offer}
+use Rattle.nc_base.specs.declared.step.OfferKind.TheVariants as offer
+use Rattle.serial_spec.specs.RankMachine as machine
+use Rattle.serial_spec.specs.RankMachine.{Open}
+use Rattle.serial_spec.specs.SerialEnd.{Going}
+use Rattle.serial_spec.specs.History.{kinds, marks, marks_from, concerns, is_of_rank_below, IsLegal}
+use Rattle.serial_spec.specs.Lawful.{is_lawful, is_lawful_call, most_calls, most_parts, posted_ids}
+use Rattle.run_laws.specs.Requests.{IsFresh, IsShare, posts_held}
+use Rattle.run_laws.specs.Ways.{meetings, kinds_of, Waits, IsOnWay}
+use Rattle.run_laws.proofs.CallLaws.{is_free, Keeps}
+use Rattle.run_laws.proofs.LawfulLaws.{and_front, and_back, and_both, same_number, ranks_lawful}
+use Rattle.run_laws.proofs.WayLaws.{kind_some, calls_long}
+
+-- ---- the next call
+
+none_waits : (m : Option Open) → Waits m None → m ≡ None
+none_waits None h = refl
+none_waits (Some w) h = absurd h
+
+pub call_idle : (script : Script) (order : List Mark) (r : ℕ) (s : Going) → IsOnWay script order r s None → s.rank.«open» ≡ None
+call_idle script order r s w = none_waits s.rank.«open» w.waits
+
+free_none : {X : Type 0} (m : Option X) → is_none m ≡ true → m ≡ None
+free_none None e = refl
+free_none (Some x) e = cc
+
+fresh_first : (r : machine.Rank) (c : Call) (calls : List Call) → list_all (is_free r.posted) (posted_ids (c ∷ calls)) ≡ true → IsFresh r c
+fresh_first r (call.Post id kind name given values) calls h = free_none _ (and_front (is_free r.posted id) _ h)
+fresh_first r c calls h = tt
+
+pub call_fresh : (script : Script) (order : List Mark) (r : ℕ) (s : Going) (c : Call) (calls : List Call) → IsOnWay script order r s None → s.calls ≡ c ∷ calls
+    → IsFresh s.rank c
+call_fresh script order r s c calls w e =
+    fresh_first s.rank c calls (subst (λ (cs : List Call). list_all (is_free s.rank.posted) (posted_ids cs) ≡ true) e w.new.fresh)
+
+pub call_lawful : (script : Script) (order : List Mark) (r : ℕ) (s : Going) (c : Call) (calls : List Call) → IsOnWay script order r s None → s.calls ≡ c ∷ calls
+    → is_lawful_call script.ranks r c ≡ true
+call_lawful script order r s c calls w e =
+    and_front (is_lawful_call script.ranks r c) _ (sym (ap (λ (cs : List Call). list_all (is_lawful_call script.ranks r) cs) e) ∙ w.lawful)
+
+share_of : (ranks r : ℕ) (c : Call) → r < ranks → ranks ≤ 64 → is_lawful_call ranks r c ≡ true → IsShare c
+share_of ranks r (call.FillRec name number share others) l m h =
+    let one = same_number share r (and_back _ _ (and_front _ (others == ranks) h)) in
+    let all = same_number others ranks (and_back _ _ h) in
+    (below share r ranks others one l all, few others ranks all m)
+  where
+    below : (a b c d : ℕ) → a ≡ b → b < c → d ≡ c → a < d
+    below a b c d e k f = omega arith
+
+    few : (a b : ℕ) → a ≡ b → b ≤ 64 → a ≤ 64
+    few a b e k = omega arith
+share_of ranks r c l m h = tt
+
+pub call_share : (script : Script) (order : List Mark) (r : ℕ) (s : Going) (c : Call) (calls : List Call) → is_lawful script ≡ true → r < script.ranks
+    → IsOnWay script order r s None → s.calls ≡ c ∷ calls → IsShare c
+call_share script order r s c calls h l w e = share_of script.ranks r c l (ranks_lawful script h).most (call_lawful script order r s c calls w e)
+
+below_most : (a b n : ℕ) → b ≡ suc n → a + b ≤ most_calls → a < most_calls
+below_most a b n e h = omega arith
+
+room_left : (held a : ℕ) → held ≤ most_parts * a → a < most_calls → held + most_parts ≤ 2 ^ 30
+room_left held a h l = omega arith
+
+pub call_number : (script : Script) (order : List Mark) (r : ℕ) (s : Going) (c : Call) (calls : List Call) → IsOnWay script order r s None → s.calls ≡ c ∷ calls
+    → length s.answers < most_calls
+call_number script order r s c calls w e = below_most _ _ _ (calls_long s c calls e) w.few
+
+pub call_posts : (script : Script) (order : List Mark) (r : ℕ) (s : Going) (c : Call) (calls : List Call) → IsOnWay script order r s None → s.calls ≡ c ∷ calls
+    → posts_held s.rank + most_parts ≤ 2 ^ 30
+call_posts script order r s c calls w e = room_left _ _ w.posts (call_number script order r s c calls w e)
+
+pub call_waits : (script : Script) (order : List Mark) (r : ℕ) (s : Going) (o : Offer) → IsOnWay script order r s (Some o) → Keeps s.rank.«open» o
+call_waits script order r s o w = by s.rank.«open» w.waits
+  where
+    by : (m : Option Open) → Waits m (Some o) → Keeps m o
+    by None h = absurd h
+    by (Some v) h = (refl, h)
+
+-- ---- all together
+
+-- the kinds that are left to a rank which holds the offer of a meeting
+holds : (script : Script) (order : List Mark) (r : ℕ) (s : Going) (o : Offer) → IsOnWay script order r s (Some o)
+    → (kind : MeetKind) × ((o.kind ≡ offer.Meet kind) × (kind ∷ kinds s.calls ≡ drop (meetings order) (kinds_of script)))
+holds script order r s o w =
+    let k = kind_some o w.meets in
+    (k.0, (k.1.0, sym (ap (λ (ks : List MeetKind). ks ++ kinds s.calls) k.1.1) ∙ w.kinds))
+
+not_over : (calls : List Call) (kind : MeetKind) (ks : List MeetKind) → kind ∷ ks ≡ kinds calls → calls ≢ []
+not_over [] kind ks e f = cc
+not_over (c ∷ calls) kind ks e f = cc
+
+pub together_all : (script : Script) (order : List Mark) (r q : ℕ) (s t : Going) (o : Offer) → IsOnWay script order r s (Some o) → IsOnWay script order q t None
+    → t.calls ≢ []
+together_all script order r q s t o w v =
+    let h = holds script order r s o w in
+    not_over t.calls h.0 (kinds s.calls) (h.1.1 ∙ sym v.kinds)
+
+first_same : {X : Type 0} (x y : X) (xs ys : List X) → x ∷ xs ≡ y ∷ ys → x ≡ y
+first_same x y xs ys e = cc
+
+pub together_kind : (script : Script) (order : List Mark) (r q : ℕ) (s t : Going) (o p : Offer) → IsOnWay script order r s (Some o) → IsOnWay script order q t (Some p)
+    → p.kind ≡ o.kind
+together_kind script order r q s t o p w v =
+    let h = holds script order r s o w in
+    let g = holds script order q t p v in
+    g.1.0 ∙ ap offer.Meet (first_same g.0 h.0 (kinds t.calls) (kinds s.calls) (g.1.1 ∙ sym h.1.1)) ∙ sym h.1.0
+
+dropped : {X : Type 0} (k : ℕ) (xs : List X) (x : X) (ys : List X) → x ∷ ys ≡ drop k xs → k < length xs
+dropped k xs x ys e =
+    let a = ap (λ (zs : List _). length zs) e in
+    let b = length-drop k xs in
+    omega arith
+
+pub together_number : (script : Script) (order : List Mark) (r : ℕ) (s : Going) (o : Offer) → is_lawful script ≡ true → IsOnWay script order r s (Some o)
+    → meetings order < most_calls
+together_number script order r s o l w =
+    let h = holds script order r s o w in
+    within (meetings order) (length (kinds_of script)) (dropped (meetings order) (kinds_of script) h.0 (kinds s.calls) h.1.1) (ranks_lawful script l).kinds_few
+  where
+    within : (a b : ℕ) → a < b → b ≤ most_calls → a < most_calls
+    within a b h k = omega arith
+
+-- ---- a legal order
+
+all_more : (ranks : ℕ) (order : List Mark) (m : Mark) → is_of_rank_below ranks m ≡ true → list_all (is_of_rank_below ranks) order ≡ true
+    → list_all (is_of_rank_below ranks) (order ++ m ∷ []) ≡ true
+all_more ranks order m e h = list_all-append (is_of_rank_below ranks) order (m ∷ []) ∙ and_both _ _ h (and_both _ true e refl)
+
+pub solo_of_known : (ranks r n : ℕ) (order : List Mark) → r < ranks → list_all (is_of_rank_below ranks) order ≡ true
+    → list_all (is_of_rank_below ranks) (order ++ Solo r n ∷ []) ≡ true
+solo_of_known ranks r n order l h = all_more ranks order (Solo r n) (below r ranks l) h
+  where
+    below : (a b : ℕ) → a < b → nat_lt a b ≡ true
+    below a b k = grind (arith, nat_tests)
+
+pub meeting_of_known : (ranks k : ℕ) (order : List Mark) → list_all (is_of_rank_below ranks) order ≡ true
+    → list_all (is_of_rank_below ranks) (order ++ Meet k ∷ []) ≡ true
+meeting_of_known ranks k order h = all_more ranks order (Meet k) refl h
+
+get_below : {X : Type 0} (xs : List X) (q : ℕ) → q < length xs → (x : X) × (slice_get xs q ≡ Some x)
+get_below [] q l = absurd (omega arith)
+get_below (x ∷ xs) zero l = (x, refl)
+get_below (x ∷ xs) (suc q) l = get_below xs q (omega arith)
+
+at_end : (script : Script) (order : List Mark) (r : ℕ) (s : Going) → IsOnWay script order r s None → s.calls ≡ [] → filter (concerns r) order ≡ marks script.calls r
+at_end script order r s w e =
+    sym (append-nil (filter (concerns r) order))
+    ∙ sym (ap (λ (cs : List Call). filter (concerns r) order ++ marks_from r (length s.answers) (meetings order) s.rank.independent cs) e)
+    ∙ w.marks
+
+pub order_legal : (script : Script) (order : List Mark) (ss : List Going) → length ss ≡ script.ranks → list_all (is_of_rank_below script.ranks) order ≡ true
+    → ((r : ℕ) (s : Going) → slice_get ss r ≡ Some s → IsOnWay script order r s None × (s.calls ≡ [])) → IsLegal script order
+order_legal script order ss e known f = record { known_ranks = known; each_rank = each }
+  where
+    each : (r : ℕ) → r < script.ranks → filter (concerns r) order ≡ marks script.calls r
+    each r l =
+        let s = get_below ss r (omega arith) in
+        let w = f r s.0 s.1 in
+        at_end script order r s.0 w.0 w.1

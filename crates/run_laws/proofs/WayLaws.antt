@@ -1,0 +1,349 @@
+-- A rank on its way: how it begins, how its calls and its replies change what is left to it, and what others leave as it was.
+use Rattle.std.proofs.Common.{◌≡◌, ℕ, zero, suc, ◌+◌, ◌*◌, ◌≤◌, ◌≢◌, refl, sym, ◌∙◌, ap, subst, inl, inr, ◌⊎◌, List, [], ◌∷◌, ◌++◌, length, drop, Bool, true, false, not, cond, ◌&&◌, ◌||◌, Option, Some, None, arith, true≢false, append_assoc, length-append}
+use Rattle.std.proofs.lemmas.List.{append-nil}
+use Rattle.std.proofs.lemmas.List.Sums.{sum_by-append}
+use Rattle.std.proofs.lemmas.List.Elements.{filter-append}
+use Rattle.std.proofs.lemmas.Bool.{eq-eqb}
+use Rattle.std.proofs.lemmas.Bool.Decides.{eqb_tells}
+use Rattle.std.specs.Prelude.{slice_get, ◌==◌, filter, is_some}
+use Rattle.std.specs.List.{list_all, list_any, cons_option}
+use Rattle.nc_base.specs.declared.header.Header.{Header}
+use Rattle.nc_base.specs.declared.request.Call.{Call}
+use Rattle.nc_base.specs.declared.request.Call.TheVariants as call
+use Rattle.nc_base.specs.declared.answer.Answer.{Answer}
+use Rattle.nc_base.specs.declared.script.Script.{Script}
+use Rattle.nc_base.specs.declared.step.Mark.{Mark}
+use Rattle.nc_base.specs.declared.step.Mark.TheVariants.{Meet, Solo}
+use Rattle.nc_base.specs.declared.step.MeetKind.{MeetKind}
+use Rattle.nc_base.specs.declared.step.Offer.{Offer}
+use Rattle.nc_base.specs.declared.step.OfferKind.{OfferKind}
+use Rattle.nc_base.specs.declared.step.OfferKind.TheVariants as offer
+use Rattle.nc_base.specs.declared.step.Reply.{Reply}
+use Rattle.nc_base.specs.declared.step.Want.TheVariants as want
+use Rattle.serial_spec.specs.RankMachine as machine
+use Rattle.serial_spec.specs.RankMachine.{Open, Posted, new_rank, step, hear}
+use Rattle.serial_spec.specs.SerialEnd.{Going, first_going}
+use Rattle.serial_spec.specs.History.{kinds, marks_from, concerns, kind_of_call, kind_of_meeting, mode_after, is_collective, is_data}
+use Rattle.serial_spec.specs.Lawful.{is_lawful, is_lawful_call, most_calls, most_parts, are_different, posted_ids, id_posted}
+use Rattle.run_laws.specs.Requests.{posts_held}
+use Rattle.run_laws.specs.Standing.{answered, asking, is_solo_of}
+use Rattle.run_laws.specs.Ways.{is_meeting, meetings, mode_heard, marks_left, kind_of_offer, kinds_of, Waits, AreNew, IsOnWay}
+use Rattle.run_laws.proofs.CallLaws.{Frees, is_free, is_other, says_at, heard_at}
+use Rattle.run_laws.proofs.LawfulLaws.{and_front, and_back, and_both, same_number, own_lawful}
+
+-- ---- the marks of an order
+
+filter_one : (r : ℕ) (order : List Mark) (m : Mark) → concerns r m ≡ true → filter (concerns r) (order ++ m ∷ []) ≡ filter (concerns r) order ++ m ∷ []
+filter_one r order m e =
+    filter-append (concerns r) order (m ∷ []) ∙ ap (λ (b : Bool). filter (concerns r) order ++ cond b (m ∷ []) []) e
+
+filter_none : (r : ℕ) (order more : List Mark) → filter (concerns r) more ≡ [] → filter (concerns r) (order ++ more) ≡ filter (concerns r) order
+filter_none r order more e =
+    filter-append (concerns r) order more ∙ ap (λ (ms : List Mark). filter (concerns r) order ++ ms) e ∙ append-nil (filter (concerns r) order)
+
+meetings_more : (order more : List Mark) (n : ℕ) → meetings more ≡ n → meetings (order ++ more) ≡ meetings order + n
+meetings_more order more n e = sum_by-append (λ (m : Mark). cond (is_meeting m) 1 0) order more ∙ ap (λ (k : ℕ). meetings order + k) e
+
+pub meetings_met : (order : List Mark) (k : ℕ) → meetings (order ++ Meet k ∷ []) ≡ suc (meetings order)
+meetings_met order k = let e = meetings_more order (Meet k ∷ []) 1 refl in omega arith
+
+meetings_same : (order more : List Mark) → meetings more ≡ 0 → meetings (order ++ more) ≡ meetings order
+meetings_same order more e = let f = meetings_more order more 0 e in omega arith
+
+not_own : (q r : ℕ) → q ≢ r → (q == r) ≡ false
+not_own q r n = by (eqb_tells q r)
+  where
+    by : (((q == r) ≡ true) × (q ≡ r)) ⊎ (((q == r) ≡ false) × (q ≡ r → ⊥)) → (q == r) ≡ false
+    by (inl (e, f)) = absurd (n f)
+    by (inr (e, f)) = e
+
+-- ---- one step of the marks and kinds that are left
+
+longer : (answers : List Answer) (a : Answer) → length (answers ++ a ∷ []) ≡ suc (length answers)
+longer answers a = length-append answers (a ∷ []) ∙ (omega arith)
+
+kinds_skip : (c : Call) (calls : List Call) → kind_of_call c ≡ None → kinds (c ∷ calls) ≡ kinds calls
+kinds_skip c calls e = ap (λ (m : Option MeetKind). cons_option m (kinds calls)) e
+
+kinds_take : (c : Call) (calls : List Call) (kind : MeetKind) → kind_of_call c ≡ Some kind → kinds (c ∷ calls) ≡ kind ∷ kinds calls
+kinds_take c calls kind e = ap (λ (m : Option MeetKind). cons_option m (kinds calls)) e
+
+marks_meet : (q n k : ℕ) (ind : Bool) (c : Call) (calls : List Call) → is_collective c ≡ true
+    → marks_from q n k ind (c ∷ calls) ≡ Meet k ∷ marks_from q (suc n) (suc k) (mode_after ind c) calls
+marks_meet q n k ind c calls e = rw (e, marks_from) refl
+
+marks_alone : (q n k : ℕ) (ind : Bool) (c : Call) (calls : List Call) → is_collective c ≡ false → (ind && is_data c) ≡ false
+    → marks_from q n k ind (c ∷ calls) ≡ marks_from q (suc n) k ind calls
+marks_alone q n k ind c calls e f = rw (e, marks_from) (rw f refl)
+
+marks_solo : (q n k : ℕ) (ind : Bool) (c : Call) (calls : List Call) → is_collective c ≡ false → (ind && is_data c) ≡ true
+    → marks_from q n k ind (c ∷ calls) ≡ Solo q n ∷ marks_from q (suc n) k ind calls
+marks_solo q n k ind c calls e f = rw (e, marks_from) (rw f refl)
+
+mode_alone : (ind : Bool) (c : Call) → kind_of_call c ≡ None → mode_after ind c ≡ ind
+mode_alone ind call.BeginIndep e = cc
+mode_alone ind call.EndIndep e = cc
+mode_alone ind c e = refl
+
+-- ---- ids of its own
+
+ids_apart : (n m : ℕ) → (m == n) ≡ false → not (n == m) ≡ true
+ids_apart n m e = by (eqb_tells n m)
+  where
+    by : (((n == m) ≡ true) × (n ≡ m)) ⊎ (((n == m) ≡ false) × (n ≡ m → ⊥)) → not (n == m) ≡ true
+    by (inl (f, g)) = absurd (true≢false (sym (eq-eqb m n (sym g)) ∙ e))
+    by (inr (f, g)) = ap not f
+
+neither : (a b : Bool) → not (a || b) ≡ true → (a ≡ false) × (not b ≡ true)
+neither true b e = cc
+neither false b e = (refl, e)
+
+still_free : (r r' : machine.Rank) (n : Option ℕ) (ids : List ℕ) → ((id : ℕ) → is_other n id ≡ true → is_free r.posted id ≡ true → is_free r'.posted id ≡ true)
+    → list_all (is_other n) ids ≡ true → list_all (is_free r.posted) ids ≡ true → list_all (is_free r'.posted) ids ≡ true
+still_free r r' n [] f o h = refl
+still_free r r' n (id ∷ ids) f o h =
+    and_both _ _ (f id (and_front (is_other n id) _ o) (and_front (is_free r.posted id) _ h))
+    (still_free r r' n ids f (and_back (is_other n id) _ o) (and_back (is_free r.posted id) _ h))
+
+all_other : (n : ℕ) (ids : List ℕ) → not (list_any (λ m. m == n) ids) ≡ true → list_all (is_other (Some n)) ids ≡ true
+all_other n [] h = refl
+all_other n (m ∷ ids) h =
+    let w = neither (m == n) _ h in
+    and_both _ _ (ids_apart n m w.0) (all_other n ids w.1)
+
+none_other : (ids : List ℕ) → list_all (is_other None) ids ≡ true
+none_other [] = refl
+none_other (id ∷ ids) = none_other ids
+
+abbrev New : machine.Rank → List ℕ → Type 0
+New r ids = (are_different ids ≡ true) × (list_all (is_free r.posted) ids ≡ true)
+
+new_next : (r r' : machine.Rank) (n : Option ℕ) (ids : List ℕ) → ((id : ℕ) → is_other n id ≡ true → is_free r.posted id ≡ true → is_free r'.posted id ≡ true)
+    → New r (cons_option n ids) → New r' ids
+new_next r r' None ids f w = (w.0, still_free r r' None ids f (none_other ids) w.1)
+new_next r r' (Some n) ids f w =
+    (and_back _ _ w.0, still_free r r' (Some n) ids f (all_other n ids (and_front _ _ w.0)) (and_back (is_free r.posted n) _ w.1))
+
+are_new : (s : Going) (r' : machine.Rank) (c : Call) (calls : List Call) → AreNew s → s.calls ≡ c ∷ calls → Frees s.rank c r' → New r' (posted_ids calls)
+are_new s r' c calls w e f =
+    new_next s.rank r' (id_posted c) (posted_ids calls) f
+    (subst (λ (cs : List Call). New s.rank (posted_ids cs)) e (w.different, w.fresh))
+
+new_as : (r r' : machine.Rank) (ids : List ℕ) → r'.posted ≡ r.posted → New r ids → New r' ids
+new_as r r' ids e w = (w.0, subst (λ (ps : List Posted). list_all (is_free ps) ids ≡ true) (sym e) w.1)
+
+all_free : (ids : List ℕ) → list_all (is_free []) ids ≡ true
+all_free [] = refl
+all_free (id ∷ ids) = all_free ids
+
+-- ---- counts
+
+moved : (a b c d most : ℕ) → a ≡ suc b → c ≡ suc d → b + c ≤ most → a + d ≤ most
+moved a b c d most e f h = omega arith
+
+held_more : (a b n m : ℕ) → m ≡ suc n → a ≤ b + most_parts → b ≤ most_parts * n → a ≤ most_parts * m
+held_more a b n m e h k = omega arith
+
+pub calls_long : (s : Going) (c : Call) (calls : List Call) → s.calls ≡ c ∷ calls → length s.calls ≡ suc (length calls)
+calls_long s c calls e = ap (λ (cs : List Call). length cs) e ∙ (omega arith)
+
+-- ---- the beginning
+
+from_none : (n : ℕ) → n ≤ most_calls → 0 + n ≤ most_calls
+from_none n h = omega arith
+
+pub way_begins : (script : Script) (header : Header) (r : ℕ) (own : List Call) → is_lawful script ≡ true → slice_get script.calls r ≡ Some own
+    → IsOnWay script [] r (first_going header own) None
+way_begins script header r own h e =
+    let w = own_lawful script r own h e in
+    record {
+      marks = sym (ap (λ (m : Option (List Call)). elim m [ None ↦ [] | Some calls ↦ marks_from r 0 0 false calls ]) e);
+      kinds = w.agreed;
+      waits = tt;
+      meets = tt;
+      lawful = w.lawful;
+      new = record { different = w.different; fresh = all_free (posted_ids own) };
+      few = from_none (length own) w.few;
+      posts = omega arith;
+    }
+
+-- ---- its own calls
+
+pub way_answers : (script : Script) (order : List Mark) (r : ℕ) (header : Header) (s : Going) (next : machine.Rank) (a : Answer) (c : Call) (calls : List Call)
+    → IsOnWay script order r s None → s.calls ≡ c ∷ calls → (next, want.Answered a) ≡ step header s.rank c → posts_held next ≤ posts_held s.rank + most_parts
+    → IsOnWay script order r (answered s next a calls) None
+way_answers script order r header s next a c calls w e f p =
+    let says = says_at header s.rank c (next, want.Answered a) f in
+    let new = are_new s next c calls w.new e says.frees in
+    let long = longer s.answers a in
+    let k = meetings order in
+    let left = (λ i. marks_from r (long i) k (says.mode i) calls)
+    ∙ sym (marks_alone r (length s.answers) k s.rank.independent c calls says.alone says.solo)
+    ∙ ap (λ (cs : List Call). marks_from r (length s.answers) k s.rank.independent cs) (sym e) in
+    record {
+      marks = ap (λ (ms : List Mark). filter (concerns r) order ++ ms) left ∙ w.marks;
+      kinds = sym (kinds_skip c calls says.kind) ∙ sym (ap (λ (cs : List Call). kinds cs) e) ∙ w.kinds;
+      waits = subst (λ (m : Option Open). Waits m None) (sym says.still) w.waits;
+      meets = tt;
+      lawful = and_back (is_lawful_call script.ranks r c) _ (sym (ap (λ (cs : List Call). list_all (is_lawful_call script.ranks r) cs) e) ∙ w.lawful);
+      new = record { different = new.0; fresh = new.1 };
+      few = moved _ _ _ _ most_calls long (calls_long s c calls e) w.few;
+      posts = held_more _ _ _ _ long p w.posts;
+    }
+
+some_meeting : (o : Offer) (kind : MeetKind) → o.kind ≡ offer.Meet kind → is_some (kind_of_meeting o.kind) ≡ true
+some_meeting o kind e = ap (λ (k : OfferKind). is_some (kind_of_meeting k)) e
+
+waits_for : (m : Option Open) (w : Open) (o : Offer) → m ≡ Some w → w.gets ≡ o.batch.gets → Waits m (Some o)
+waits_for m w o e f = subst (λ (x : Option Open). Waits x (Some o)) (sym e) f
+
+mode_with : (r : machine.Rank) (w : Open) → r.«open» ≡ Some w → mode_heard r ≡ w.independent
+mode_with r w e = ap (λ (m : Option Open). elim m [ None ↦ r.independent | Some o ↦ o.independent ]) e
+
+pub way_meets : (script : Script) (order : List Mark) (r : ℕ) (header : Header) (s : Going) (next : machine.Rank) (o : Offer) (c : Call) (calls : List Call)
+    → IsOnWay script order r s None → s.calls ≡ c ∷ calls → (next, want.Meet o) ≡ step header s.rank c → posts_held next ≤ posts_held s.rank + most_parts
+    → IsOnWay script order r (asking s next calls) (Some o)
+way_meets script order r header s next o c calls w e f p =
+    let says = says_at header s.rank c (next, want.Meet o) f in
+    let asks = says.asking in
+    let new = are_new s next c calls w.new e asks.frees in
+    let k = meetings order in
+    let n = length s.answers in
+    let left = ap (λ (b : Bool). Meet k ∷ marks_from r (suc n) (suc k) b calls) (mode_with next asks.open_with asks.is_open ∙ asks.mode)
+    ∙ sym (marks_meet r n k s.rank.independent c calls says.together)
+    ∙ ap (λ (cs : List Call). marks_from r n k s.rank.independent cs) (sym e) in
+    let kind = ap (λ (x : OfferKind). elim (kind_of_meeting x) [ None ↦ [] | Some y ↦ y ∷ [] ] ++ kinds calls) says.meets in
+    record {
+      marks = ap (λ (ms : List Mark). filter (concerns r) order ++ ms) left ∙ w.marks;
+      kinds = kind ∙ sym (kinds_take c calls says.of_kind says.kind) ∙ sym (ap (λ (cs : List Call). kinds cs) e) ∙ w.kinds;
+      waits = waits_for next.«open» asks.open_with o asks.is_open asks.gets;
+      meets = some_meeting o says.of_kind says.meets;
+      lawful = and_back (is_lawful_call script.ranks r c) _ (sym (ap (λ (cs : List Call). list_all (is_lawful_call script.ranks r) cs) e) ∙ w.lawful);
+      new = record { different = new.0; fresh = new.1 };
+      few = moved _ _ _ _ most_calls refl (calls_long s c calls e) w.few;
+      posts = held_more _ _ _ _ refl p w.posts;
+    }
+
+-- ---- replies
+
+held_same : (r r' : machine.Rank) (n : ℕ) → r'.posted ≡ r.posted → posts_held r ≤ n → posts_held r' ≤ n
+held_same r r' n e h = subst (λ (m : ℕ). m ≤ n) (ap (λ (ps : List Posted). posts_held (record r { posted = ps })) (sym e)) h
+
+pub way_solo : (script : Script) (order : List Mark) (r : ℕ) (header : Header) (s : Going) (next heard : machine.Rank) (o : Offer) (reply : Reply) (a : Answer) (c : Call)
+    (calls : List Call) → IsOnWay script order r s None → s.calls ≡ c ∷ calls → (next, want.Solo o) ≡ step header s.rank c
+    → posts_held next ≤ posts_held s.rank + most_parts → (heard, a) ≡ hear header next reply
+    → IsOnWay script (order ++ Solo r (length s.answers) ∷ []) r (answered s heard a calls) None
+way_solo script order r header s next heard o reply a c calls w e f p g =
+    let says = says_at header s.rank c (next, want.Solo o) f in
+    let asks = says.asking in
+    let hears = heard_at header next heard reply a asks.open_with asks.is_open g in
+    let new = new_as next heard (posted_ids calls) hears.posted (are_new s next c calls w.new e asks.frees) in
+    let long = longer s.answers a in
+    let n = length s.answers in
+    let k = meetings order in
+    let mode = hears.mode ∙ asks.mode ∙ mode_alone s.rank.independent c says.kind in
+    let same = meetings_same order (Solo r n ∷ []) refl in
+    let left = ap (λ (ms : List Mark). Solo r n ∷ ms) (λ i. marks_from r (long i) (same i) (mode i) calls)
+    ∙ sym (marks_solo r n k s.rank.independent c calls says.alone says.solo)
+    ∙ ap (λ (cs : List Call). marks_from r n k s.rank.independent cs) (sym e) in
+    let done = filter_one r order (Solo r n) (eq-eqb r r refl) in
+    record {
+      marks = ap (λ (ms : List Mark). ms ++ marks_from r (length (s.answers ++ a ∷ [])) (meetings (order ++ Solo r n ∷ [])) heard.independent calls) done
+          ∙ append_assoc (filter (concerns r) order) (Solo r n ∷ []) _
+          ∙ ap (λ (ms : List Mark). filter (concerns r) order ++ ms) left ∙ w.marks;
+      kinds = sym (kinds_skip c calls says.kind) ∙ sym (ap (λ (cs : List Call). kinds cs) e) ∙ w.kinds ∙ ap (λ (j : ℕ). drop j (kinds_of script)) (sym same);
+      waits = subst (λ (m : Option Open). Waits m None) (sym hears.closed) tt;
+      meets = tt;
+      lawful = and_back (is_lawful_call script.ranks r c) _ (sym (ap (λ (cs : List Call). list_all (is_lawful_call script.ranks r) cs) e) ∙ w.lawful);
+      new = record { different = new.0; fresh = new.1 };
+      few = moved _ _ _ _ most_calls long (calls_long s c calls e) w.few;
+      posts = held_same next heard _ hears.posted (held_more _ _ _ _ long p w.posts);
+    }
+
+drop_next : {X : Type 0} (k : ℕ) (xs ys : List X) (x : X) → x ∷ xs ≡ drop k ys → xs ≡ drop (suc k) ys
+drop_next zero xs [] x e = cc
+drop_next zero xs (y ∷ ys) x e = cc
+drop_next (suc k) xs [] x e = cc
+drop_next (suc k) xs (y ∷ ys) x e = drop_next k xs ys x e
+
+-- the offer of a meeting is of a kind
+pub kind_some : (o : Offer) → is_some (kind_of_meeting o.kind) ≡ true → (kind : MeetKind) × ((o.kind ≡ offer.Meet kind) × (kind_of_offer o ≡ kind ∷ []))
+kind_some o e = by o.kind refl e
+  where
+    by : (k : OfferKind) → o.kind ≡ k → is_some (kind_of_meeting k) ≡ true → (kind : MeetKind) × ((o.kind ≡ offer.Meet kind) × (kind_of_offer o ≡ kind ∷ []))
+    by (offer.Meet kind) f g = (kind, (f, ap (λ (x : OfferKind). elim (kind_of_meeting x) [ None ↦ [] | Some y ↦ y ∷ [] ]) f))
+    by offer.Solo f g = cc
+
+pub waits_open : (m : Option Open) (o : Offer) → Waits m (Some o) → (w : Open) × ((m ≡ Some w) × (w.gets ≡ o.batch.gets))
+waits_open None o h = absurd h
+waits_open (Some w) o h = (w, (refl, h))
+
+pub way_hears : (script : Script) (order : List Mark) (r : ℕ) (header : Header) (s : Going) (heard : machine.Rank) (o : Offer) (reply : Reply) (a : Answer)
+    → IsOnWay script order r s (Some o) → (heard, a) ≡ hear header s.rank reply
+    → IsOnWay script (order ++ Meet (meetings order) ∷ []) r (answered s heard a s.calls) None
+way_hears script order r header s heard o reply a w g =
+    let was = waits_open s.rank.«open» o w.waits in
+    let hears = heard_at header s.rank heard reply a was.0 was.1.0 g in
+    let new = new_as s.rank heard (posted_ids s.calls) hears.posted (w.new.different, w.new.fresh) in
+    let long = longer s.answers a in
+    let n = length s.answers in
+    let k = meetings order in
+    let mode = hears.mode ∙ sym (mode_with s.rank was.0 was.1.0) in
+    let next = meetings_met order k in
+    let kind = kind_some o w.meets in
+    let left = ap (λ (ms : List Mark). Meet k ∷ ms) (λ i. marks_from r (long i) (next i) (mode i) s.calls) in
+    let done = filter_one r order (Meet k) refl in
+    record {
+      marks = ap (λ (ms : List Mark). ms ++ marks_from r (length (s.answers ++ a ∷ [])) (meetings (order ++ Meet k ∷ [])) heard.independent s.calls) done
+          ∙ append_assoc (filter (concerns r) order) (Meet k ∷ []) _
+          ∙ ap (λ (ms : List Mark). filter (concerns r) order ++ ms) left ∙ w.marks;
+      kinds = drop_next k (kinds s.calls) (kinds_of script) kind.0 (sym (ap (λ (ks : List MeetKind). ks ++ kinds s.calls) kind.1.1) ∙ w.kinds)
+          ∙ ap (λ (j : ℕ). drop j (kinds_of script)) (sym next);
+      waits = subst (λ (m : Option Open). Waits m None) (sym hears.closed) tt;
+      meets = tt;
+      lawful = w.lawful;
+      new = record { different = new.0; fresh = new.1 };
+      few = subst (λ (j : ℕ). j + length s.calls ≤ most_calls) (sym long) w.few;
+      posts = held_same s.rank heard _ hears.posted (subst (λ (j : ℕ). posts_held s.rank ≤ most_parts * j) (sym long) w.posts);
+    }
+
+-- ---- the solo steps of others
+
+way_same : (script : Script) (order order' : List Mark) (r : ℕ) (s : Going) (held : Option Offer) → filter (concerns r) order' ≡ filter (concerns r) order
+    → meetings order' ≡ meetings order → IsOnWay script order r s held → IsOnWay script order' r s held
+way_same script order order' r s held e f w = record {
+  marks = (λ i. e i ++ marks_left r (f i) s held) ∙ w.marks;
+  kinds = w.kinds ∙ ap (λ (j : ℕ). drop j (kinds_of script)) (sym f);
+  waits = w.waits;
+  meets = w.meets;
+  lawful = w.lawful;
+  new = w.new;
+  few = w.few;
+  posts = w.posts;
+}
+
+one_of : (q n : ℕ) → list_all (is_solo_of q) (Solo q n ∷ []) ≡ true
+one_of q n = and_both (q == q) true (eq-eqb q q refl) refl
+
+others_filter : (q r : ℕ) (more : List Mark) → q ≢ r → list_all (is_solo_of q) more ≡ true → filter (concerns r) more ≡ []
+others_filter q r [] n h = refl
+others_filter q r (Meet k ∷ more) n h = cc
+others_filter q r (Solo p m ∷ more) n h =
+    let p_is = same_number p q (and_front (p == q) _ h) in
+    ap (λ (b : Bool). cond b (Solo p m ∷ filter (concerns r) more) (filter (concerns r) more)) (not_own p r (λ z. n (sym p_is ∙ z)))
+    ∙ others_filter q r more n (and_back (p == q) _ h)
+
+others_meetings : (q : ℕ) (more : List Mark) → list_all (is_solo_of q) more ≡ true → meetings more ≡ 0
+others_meetings q [] h = refl
+others_meetings q (Meet k ∷ more) h = cc
+others_meetings q (Solo p m ∷ more) h = others_meetings q more (and_back (p == q) _ h)
+
+pub way_others : (script : Script) (order more : List Mark) (r q : ℕ) (s : Going) (held : Option Offer) → q ≢ r → list_all (is_solo_of q) more ≡ true
+    → IsOnWay script order r s held → IsOnWay script (order ++ more) r s held
+way_others script order more r q s held n h w =
+    way_same script order (order ++ more) r s held (filter_none r order more (others_filter q r more n h))
+    (meetings_same order more (others_meetings q more h)) w
+
+pub way_beside : (script : Script) (order : List Mark) (r q n : ℕ) (s : Going) (held : Option Offer) → q ≢ r → IsOnWay script order r s held
+    → IsOnWay script (order ++ Solo q n ∷ []) r s held
+way_beside script order r q n s held f w = way_others script order (Solo q n ∷ []) r q s held f (one_of q n) w

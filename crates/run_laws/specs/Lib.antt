@@ -1,0 +1,4 @@
+pub mod Requests
+pub mod Standing
+pub mod Ways
+pub mod Arrivals
