@@ -1,0 +1,283 @@
+-- The boxes of a range, as they are found row by row.
+use Rattle.std.proofs.Common.{◌≡◌, ℕ, zero, suc, ◌+◌, ◌-◌, ◌*◌, ◌/◌, ◌%◌, ◌<◌, ◌≤◌, refl, sym, ◌∙◌, ap, inl, inr, ◌⊎◌, List, [], ◌∷◌, ◌++◌, length, map, replicate, take, drop, Bool, true, false, append_assoc, length-append, arith, Result, Ok, Err}
+use Rattle.std.specs.Prelude.{nat_lt, ◌==◌, OnOk}
+use Rattle.std.proofs.Math.Nat.{mul-div_cancel, mul-mod_left, zero-mod}
+use Rattle.std.proofs.lemmas.Bool.{eqb-false}
+use Rattle.std.proofs.lemmas.List.{map-append, append-nil}
+use Rattle.std.proofs.Math.Seq.{take_all}
+use Rattle.std.proofs.lemmas.Nat.{div-add-mod', mod_below, div_below}
+use borrow.Author.Tests.{eqb-true, ltb-true, ltb-false}
+use Rattle.nc_base.specs.declared.request.Part.{Part}
+use Rattle.serial_spec.specs.Layout.{product}
+use Rattle.serial_spec.specs.Fill.{boxes, in_row, whole_rows}
+use Rattle.serial_spec.proofs.ElementLaws.{map_long}
+use Rattle.fill_records.specs.Filling.{at_row, boxes_before}
+
+-- ---- boxes in a row
+
+one_more : (n : ℕ) (xs : List ℕ) → replicate (suc n) 1 ++ xs ≡ replicate n 1 ++ 1 ∷ xs
+one_more zero xs = refl
+one_more (suc n) xs = ap (λ ys. 1 ∷ ys) (one_more n xs)
+
+at_row_more : (row : List ℕ) (i : ℕ) (p : Part) → at_row (row ++ i ∷ []) p ≡ at_row row (record { start = i ∷ p.start; count = 1 ∷ p.count })
+at_row_more row i p = λ t. record { start = starts t; count = counts t }
+  where
+    starts : (row ++ i ∷ []) ++ p.start ≡ row ++ i ∷ p.start
+    starts = append_assoc row (i ∷ []) p.start
+
+    counts : replicate (length (row ++ i ∷ [])) 1 ++ p.count ≡ replicate (length row) 1 ++ 1 ∷ p.count
+    counts =
+        let long : length (row ++ i ∷ []) ≡ suc (length row) = length-append row (i ∷ []) ∙ omega arith in
+        ap (λ (n : ℕ). replicate n 1 ++ p.count) long ∙ one_more (length row) p.count
+
+pub in_row_more : (row : List ℕ) (i : ℕ) (parts : List Part) → map (λ p. at_row (row ++ i ∷ []) p) parts ≡ map (λ p. at_row row p) (in_row i parts)
+in_row_more row i [] = refl
+in_row_more row i (p ∷ parts) = λ t. at_row_more row i p t ∷ in_row_more row i parts t
+
+at_none : (p : Part) → at_row [] p ≡ p
+at_none p = refl
+
+pub at_first : (parts : List Part) → map (λ p. at_row [] p) parts ≡ parts
+at_first [] = refl
+at_first (p ∷ parts) = λ t. at_none p t ∷ at_first parts t
+
+-- ---- rows
+
+-- what the boxes of rows are, by what their tests say
+pub one_row : (n : ℕ) (lengths : List ℕ) (from to : ℕ) → from / product lengths ≡ to / product lengths
+    → boxes (n ∷ lengths) from to ≡ in_row (from / product lengths) (boxes lengths (from % product lengths) (to % product lengths))
+one_row n lengths from to e = by_test (from / product lengths == to / product lengths) refl
+  where
+    by_test : (t : Bool) → (from / product lengths == to / product lengths) ≡ t
+        → elim t as (λ v. List Part) [
+          | true ↦ in_row (from / product lengths) (boxes lengths (from % product lengths) (to % product lengths))
+          | false ↦ elim (from % product lengths == 0) as (λ v. List Part) [
+            | true ↦ whole_rows lengths (from / product lengths) (to / product lengths) ++ in_row (to / product lengths) (boxes lengths 0 (to % product lengths))
+            | false ↦ in_row (from / product lengths) (boxes lengths (from % product lengths) (product lengths))
+                ++ whole_rows lengths (from / product lengths + 1) (to / product lengths) ++ in_row (to / product lengths) (boxes lengths 0 (to % product lengths))
+          ]
+        ] ≡ in_row (from / product lengths) (boxes lengths (from % product lengths) (to % product lengths))
+    by_test true s = refl
+    by_test false s = absurd (eqb-false _ _ s e)
+
+pub more_rows : (n : ℕ) (lengths : List ℕ) (from to : ℕ) → (from / product lengths ≡ to / product lengths → ⊥)
+    → boxes (n ∷ lengths) from to ≡ boxes_before lengths from (to / product lengths) ++ in_row (to / product lengths) (boxes lengths 0 (to % product lengths))
+more_rows n lengths from to e = by_test (from / product lengths == to / product lengths) refl (from % product lengths == 0)
+  where
+    by_test : (t : Bool) → (from / product lengths == to / product lengths) ≡ t → (u : Bool)
+        → elim t as (λ v. List Part) [
+          | true ↦ in_row (from / product lengths) (boxes lengths (from % product lengths) (to % product lengths))
+          | false ↦ elim u as (λ v. List Part) [
+            | true ↦ whole_rows lengths (from / product lengths) (to / product lengths) ++ in_row (to / product lengths) (boxes lengths 0 (to % product lengths))
+            | false ↦ in_row (from / product lengths) (boxes lengths (from % product lengths) (product lengths))
+                ++ whole_rows lengths (from / product lengths + 1) (to / product lengths) ++ in_row (to / product lengths) (boxes lengths 0 (to % product lengths))
+          ]
+        ] ≡ elim u as (λ v. List Part) [
+          | true ↦ whole_rows lengths (from / product lengths) (to / product lengths)
+          | false ↦ in_row (from / product lengths) (boxes lengths (from % product lengths) (product lengths)) ++ whole_rows lengths (from / product lengths + 1) (to / product lengths)
+        ] ++ in_row (to / product lengths) (boxes lengths 0 (to % product lengths))
+    by_test true s u = absurd (e (eqb-true _ _ s))
+    by_test false s true = refl
+    by_test false s false = refl
+
+-- ---- no element
+
+same_below : (x : ℕ) → nat_lt x x ≡ false
+same_below x = by_test (nat_lt x x) refl
+  where
+    by_test : (t : Bool) → nat_lt x x ≡ t → t ≡ false
+    by_test true e = let h = ltb-true _ _ e in absurd (omega arith)
+    by_test false e = refl
+
+pub no_boxes : (lengths : List ℕ) (x : ℕ) → boxes lengths x x ≡ []
+no_boxes [] x = ap (λ (t : Bool). elim t as (λ u. List Part) [ true ↦ record { start = []; count = [] } ∷ [] | false ↦ [] ]) (same_below x)
+no_boxes (n ∷ lengths) x = one_row n lengths x x refl ∙ ap (λ parts. in_row (x / product lengths) parts) (no_boxes lengths (x % product lengths))
+
+pub found_none : (row lengths : List ℕ) (from to : ℕ) (old : List Part) → from ≡ to → old ≡ old ++ map (λ p. at_row row p) (boxes lengths from to)
+found_none row lengths from to old e =
+    sym (ap (λ ps. old ++ map (λ p. at_row row p) ps) (ap (λ (x : ℕ). boxes lengths x to) e ∙ no_boxes lengths to) ∙ append-nil old)
+
+-- ---- what a step of the cutting found
+
+pub on_ok : {A E : Type 0} {P Q : Type 0} (r : Result A E) → (P → Q) → OnOk r P → OnOk r Q
+on_ok (Ok x) f p = f p
+on_ok (Err e) f p = tt
+
+pub found_row : (row below : List ℕ) (i : ℕ) (parts old new : List Part) → below ≡ row ++ i ∷ [] → new ≡ old ++ map (λ p. at_row below p) parts
+    → new ≡ old ++ map (λ p. at_row row p) (in_row i parts)
+found_row row below i parts old new e f =
+    f ∙ ap (λ (b : List ℕ). old ++ map (λ p. at_row b p) parts) e ∙ ap (λ ps. old ++ ps) (in_row_more row i parts)
+
+pub found_rows : (row later : List ℕ) (lengths : List ℕ) (n size from to : ℕ) (old mid new : List Part) → size ≡ product lengths
+    → (from / size ≡ to / size → ⊥) → later ≡ row
+    → mid ≡ old ++ map (λ p. at_row row p) (boxes_before lengths from (to / size))
+    → new ≡ mid ++ map (λ p. at_row later p) (in_row (to / size) (boxes lengths 0 (to % size)))
+    → new ≡ old ++ map (λ p. at_row row p) (boxes (n ∷ lengths) from to)
+found_rows row later lengths n size from to old mid new s e r f g =
+    g
+    ∙ ap (λ (b : List ℕ). mid ++ map (λ p. at_row b p) (in_row (to / size) (boxes lengths 0 (to % size)))) r
+    ∙ ap (λ ps. ps ++ map (λ p. at_row row p) (in_row (to / size) (boxes lengths 0 (to % size)))) f
+    ∙ append_assoc old (map (λ p. at_row row p) (boxes_before lengths from (to / size))) (map (λ p. at_row row p) (in_row (to / size) (boxes lengths 0 (to % size))))
+    ∙ ap (λ ps. old ++ ps)
+    (sym (map-append (λ p. at_row row p) (boxes_before lengths from (to / size)) (in_row (to / size) (boxes lengths 0 (to % size))))
+    ∙ ap (λ ps. map (λ p. at_row row p) ps)
+    (ap (λ (z : ℕ). boxes_before lengths from (to / z) ++ in_row (to / z) (boxes lengths 0 (to % z))) s ∙ sym (more_rows n lengths from to apart)))
+  where
+    apart : from / product lengths ≡ to / product lengths → ⊥
+    apart h = e (ap (λ (z : ℕ). from / z) s ∙ h ∙ ap (λ (z : ℕ). to / z) (sym s))
+
+pub found_counts : (row counts : List ℕ) (from to : ℕ) (old new : List Part) → 1 ≤ length counts
+    → ((count : ℕ) → new ≡ old ++ map (λ p. at_row row p) (boxes (count ∷ take (length counts - 1) (drop 1 counts)) from to)) → new ≡ old ++ map (λ p. at_row row p) (boxes counts from to)
+found_counts row [] from to old new h f = absurd (omega arith)
+found_counts row (n ∷ counts) from to old new h f =
+    let all : length counts ≤ suc (length counts) - 1 = omega arith in
+    f n ∙ ap (λ (ls : List ℕ). old ++ map (λ p. at_row row p) (boxes (n ∷ ls) from to)) (take_all (suc (length counts) - 1) counts all)
+
+-- the boxes of the whole range
+pub found_first : (row lengths counts : List ℕ) (from to : ℕ) (none found result : List Part) → row ≡ [] → none ≡ [] → counts ≡ lengths
+    → found ≡ none ++ map (λ p. at_row row p) (boxes counts from to) → result ≡ found → result ≡ boxes lengths from to
+found_first row lengths counts from to none found result e n s f g =
+    g ∙ f ∙ (λ t. n t ++ map (λ p. at_row (e t) p) (boxes (s t) from to)) ∙ at_first (boxes lengths from to)
+
+-- ---- how many there are
+
+in_row_long : (i : ℕ) (parts : List Part) → length (in_row i parts) ≡ length parts
+in_row_long i parts = map_long (λ (p : Part). let q : Part = record { start = i ∷ p.start; count = 1 ∷ p.count } in q) parts
+
+whole_few : (lengths : List ℕ) (first last : ℕ) → length (whole_rows lengths first last) ≤ 1
+whole_few lengths first last = by_test (nat_lt first last)
+  where
+    by_test : (t : Bool) → length (elim t as (λ v. List Part) [
+      | false ↦ []
+      | true ↦ record { start = first ∷ replicate (length lengths) 0; count = (last - first) ∷ lengths } ∷ []
+    ]) ≤ 1
+    by_test true = omega arith
+    by_test false = omega arith
+
+-- the boxes before row `last`, where those of the first row's part are few
+before_few : (lengths : List ℕ) (from last few : ℕ) → length (boxes lengths (from % product lengths) (product lengths)) ≤ few → length (boxes_before lengths from last) ≤ few + 1
+before_few lengths from last few h = by_test (from % product lengths == 0)
+  where
+    by_test : (t : Bool) → length (elim t as (λ v. List Part) [
+      | true ↦ whole_rows lengths (from / product lengths) last
+      | false ↦ in_row (from / product lengths) (boxes lengths (from % product lengths) (product lengths)) ++ whole_rows lengths (from / product lengths + 1) last
+    ]) ≤ few + 1
+    by_test true = let w = whole_few lengths (from / product lengths) last in omega arith
+    by_test false =
+        let w = whole_few lengths (from / product lengths + 1) last in
+        let r = in_row_long (from / product lengths) (boxes lengths (from % product lengths) (product lengths)) in
+        let both = length-append (in_row (from / product lengths) (boxes lengths (from % product lengths) (product lengths))) (whole_rows lengths (from / product lengths + 1) last) in
+        omega arith
+
+-- those of rows, by those of one row and by those of the first and the last row's parts
+rows_few : (n : ℕ) (lengths : List ℕ) (from to few first last : ℕ)
+    → (from / product lengths ≡ to / product lengths → length (boxes lengths (from % product lengths) (to % product lengths)) ≤ few)
+    → length (boxes_before lengths from (to / product lengths)) ≤ first → length (boxes lengths 0 (to % product lengths)) ≤ last → first + last ≤ few
+    → length (boxes (n ∷ lengths) from to) ≤ few
+rows_few n lengths from to few first last same before after sum = by_test (from / product lengths == to / product lengths) refl
+  where
+    by_test : (t : Bool) → (from / product lengths == to / product lengths) ≡ t → length (boxes (n ∷ lengths) from to) ≤ few
+    by_test true e =
+        let q = eqb-true _ _ e in
+        let long = ap (λ parts. length parts) (one_row n lengths from to q) ∙ in_row_long (from / product lengths) (boxes lengths (from % product lengths) (to % product lengths)) in
+        let h = same q in
+        omega arith
+    by_test false e =
+        let long = ap (λ parts. length parts) (more_rows n lengths from to (eqb-false _ _ e))
+        ∙ length-append (boxes_before lengths from (to / product lengths)) (in_row (to / product lengths) (boxes lengths 0 (to % product lengths))) in
+        let r = in_row_long (to / product lengths) (boxes lengths 0 (to % product lengths)) in
+        omega arith
+
+-- ---- the bound
+
+some_size : (n size x : ℕ) → x < n * size → 0 < size
+some_size n zero x h = absurd (omega arith)
+some_size n (suc size) x h = omega arith
+
+less_or_same : (a b : ℕ) → a ≤ b → (a ≡ b) ⊎ (a < b)
+less_or_same a b h = by_test (nat_lt a b) refl
+  where
+    by_test : (t : Bool) → nat_lt a b ≡ t → (a ≡ b) ⊎ (a < b)
+    by_test true e = inr (ltb-true _ _ e)
+    by_test false e = let low : b ≤ a = ltb-false _ _ e in inl (omega arith)
+
+none_few : (lengths : List ℕ) (from to few : ℕ) → from ≡ to → length (boxes lengths from to) ≤ few
+none_few lengths from to few e =
+    let long = ap (λ (x : ℕ). length (boxes lengths x to)) e ∙ ap (λ parts. length parts) (no_boxes lengths to) in
+    omega arith
+
+-- the numbers below `to`
+front_few : (lengths : List ℕ) (to : ℕ) → length (boxes lengths 0 to) ≤ length lengths + 1
+front_few [] to = by_test (nat_lt 0 to)
+  where
+    by_test : (t : Bool) → length (elim t as (λ u. List Part) [ true ↦ record { start = []; count = [] } ∷ [] | false ↦ [] ]) ≤ 1
+    by_test true = omega arith
+    by_test false = omega arith
+front_few (n ∷ lengths) to =
+    let rest = front_few lengths (to % product lengths) in
+    let rest_of_0 = ap (λ (x : ℕ). length (boxes lengths x (to % product lengths))) (zero-mod (product lengths)) in
+    rows_few n lengths 0 to (suc (length lengths) + 1) 1 (length lengths + 1) (λ e. omega arith) (whole_before (0 % product lengths == 0) refl) rest (omega arith)
+  where
+    whole_before : (t : Bool) → (0 % product lengths == 0) ≡ t → length (elim t as (λ v. List Part) [
+      | true ↦ whole_rows lengths (0 / product lengths) (to / product lengths)
+      | false ↦ in_row (0 / product lengths) (boxes lengths (0 % product lengths) (product lengths)) ++ whole_rows lengths (0 / product lengths + 1) (to / product lengths)
+    ]) ≤ 1
+    whole_before true e = whole_few lengths (0 / product lengths) (to / product lengths)
+    whole_before false e = absurd (eqb-false _ _ e (zero-mod (product lengths)))
+
+-- the numbers from `from` to the last one
+back_few : (lengths : List ℕ) (from : ℕ) → from ≤ product lengths → length (boxes lengths from (product lengths)) ≤ length lengths + 1
+back_few [] from h = by_test (nat_lt from 1)
+  where
+    by_test : (t : Bool) → length (elim t as (λ u. List Part) [ true ↦ record { start = []; count = [] } ∷ [] | false ↦ [] ]) ≤ 1
+    by_test true = omega arith
+    by_test false = omega arith
+back_few (n ∷ lengths) from h = by_cases (back_few lengths (from % product lengths)) (less_or_same from (n * product lengths) h)
+  where
+    by_cases : (from % product lengths ≤ product lengths → length (boxes lengths (from % product lengths) (product lengths)) ≤ length lengths + 1)
+        → (from ≡ n * product lengths) ⊎ (from < n * product lengths) → length (boxes (n ∷ lengths) from (n * product lengths)) ≤ suc (length lengths) + 1
+    by_cases ih (inl e) = none_few (n ∷ lengths) from (n * product lengths) (suc (length lengths) + 1) e
+    by_cases ih (inr l) =
+        let some = some_size n (product lengths) from l in
+        let last : n * product lengths / product lengths ≡ n = mul-div_cancel n some in
+        let below : from / product lengths < n = div_below from (product lengths) n some l in
+        let r = mod_below from (product lengths) some in
+        let first = ih (omega arith) in
+        let whole : n * product lengths % product lengths ≡ 0 = mul-mod_left n (product lengths) in
+        rows_few n lengths from (n * product lengths) (suc (length lengths) + 1) (length lengths + 1 + 1) 0 (λ e. absurd (omega arith))
+        (before_few lengths from (n * product lengths / product lengths) (length lengths + 1) first)
+        (none_few lengths 0 (n * product lengths % product lengths) 0 (sym whole)) (omega arith)
+
+pub boxes_few : (lengths : List ℕ) (from to : ℕ) → from ≤ to → to ≤ product lengths → length (boxes lengths from to) ≤ 2 * length lengths + 1
+boxes_few [] from to h k = by_test (nat_lt from to)
+  where
+    by_test : (t : Bool) → length (elim t as (λ u. List Part) [ true ↦ record { start = []; count = [] } ∷ [] | false ↦ [] ]) ≤ 1
+    by_test true = omega arith
+    by_test false = omega arith
+boxes_few (n ∷ lengths) from to h k = by_cases (boxes_few lengths (from % product lengths) (to % product lengths)) (less_or_same from to h)
+  where
+    IH : Type 0
+    IH =
+        from % product lengths ≤ to % product lengths → to % product lengths ≤ product lengths
+        → length (boxes lengths (from % product lengths) (to % product lengths)) ≤ 2 * length lengths + 1
+
+    by_cases : IH → (from ≡ to) ⊎ (from < to) → length (boxes (n ∷ lengths) from to) ≤ 2 * suc (length lengths) + 1
+    by_cases ih (inl e) = none_few (n ∷ lengths) from to (2 * suc (length lengths) + 1) e
+    by_cases ih (inr l) =
+        let some = some_size n (product lengths) from (omega arith) in
+        let r = mod_below from (product lengths) some in
+        let s = mod_below to (product lengths) some in
+        rows_few n lengths from to (2 * suc (length lengths) + 1) (length lengths + 1 + 1) (length lengths + 1)
+        (λ e. same_row e)
+        (before_few lengths from (to / product lengths) (length lengths + 1) (back_few lengths (from % product lengths) (omega arith)))
+        (front_few lengths (to % product lengths)) (omega arith)
+      where
+        same_row : from / product lengths ≡ to / product lengths → length (boxes lengths (from % product lengths) (to % product lengths)) ≤ 2 * suc (length lengths) + 1
+        same_row e =
+            let some = some_size n (product lengths) from (omega arith) in
+            let s = mod_below to (product lengths) some in
+            let a = div-add-mod' from (product lengths) in
+            let b = div-add-mod' to (product lengths) in
+            let q = ap (λ (x : ℕ). x * product lengths) e in
+            let few = ih (omega arith) (omega arith) in
+            omega arith

@@ -1,0 +1,23 @@
+-- The product of the counts so far, where none is 0.
+use Rattle.std.proofs.Common.{◌≡◌, ℕ, zero, suc, ◌+◌, ◌*◌, ◌<◌, ◌≤◌, sym, ap, ◌∙◌, List, [], ◌∷◌, length, take, drop, get_or, arith}
+use Rattle.std.proofs.Math.Nat.{mul-one}
+use Rattle.std.proofs.lemmas.List.{take_more, take-append-drop}
+use Rattle.serial_spec.specs.Layout.{product}
+use Rattle.var_layout.proofs.Capping.{product-append}
+
+pub product_more : (counts : List ℕ) (i size : ℕ) → i < length counts → size ≡ product (take i counts) → size * get_or counts i 0 ≡ product (take (i + 1) counts)
+product_more counts i size h e =
+    ap (λ (n : ℕ). n * get_or counts i 0) e
+    ∙ ap (λ (n : ℕ). product (take i counts) * n) (sym (mul-one (get_or counts i 0)))
+    ∙ sym (ap (λ ns. product ns) (take_more counts i 0 h) ∙ product-append (take i counts) (get_or counts i 0 ∷ []))
+
+some_part : (a b : ℕ) → 1 ≤ a * b → a ≤ a * b
+some_part a zero h = absurd (omega arith)
+some_part a (suc b) h = omega arith
+
+pub product_part : (counts : List ℕ) (i : ℕ) → 1 ≤ product counts → product (take i counts) ≤ product counts
+product_part counts i h =
+    let whole = ap (λ ns. product ns) (take-append-drop i counts) in
+    let parts = product-append (take i counts) (drop i counts) in
+    let part = some_part (product (take i counts)) (product (drop i counts)) (omega arith) in
+    omega arith

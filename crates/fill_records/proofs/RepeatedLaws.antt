@@ -1,0 +1,85 @@
+-- A value's bytes over and over.
+use Rattle.std.proofs.Common.{◌≡◌, ℕ, zero, suc, ◌+◌, ◌-◌, ◌*◌, ◌%◌, ◌<◌, ◌≤◌, refl, sym, ◌∙◌, ap, List, ◌∷◌, ◌++◌, length, take, drop, get_or, arith}
+use Rattle.std.specs.Prelude.{slice_index}
+use Rattle.std.specs.List.{repeat, each_same, AllZip}
+use Rattle.std.proofs.Math.Nat.{add-mod_right, add-mod-mod, mod-eq_of_lt}
+use Rattle.std.proofs.lemmas.Grind.{same_number_lists}
+use Rattle.std.proofs.lemmas.List.{take_at, drop_at}
+use Rattle.std.proofs.lemmas.List.FromFn.{length-map-range_with_len, get_or-map-range_with_len}
+use Rattle.fill_records.specs.Filling.{repeated}
+
+pub repeated_long : (value : List ℕ) (from len : ℕ) → length (repeated value from len) ≡ len
+repeated_long value from len = length-map-range_with_len (λ (i : ℕ). slice_index value (i % length value)) from len
+
+pub at_repeated : (value : List ℕ) (from len i : ℕ) → i < len → get_or (repeated value from len) i 0 ≡ get_or value ((from + i) % length value) 0
+at_repeated value from len i h = get_or-map-range_with_len (λ (j : ℕ). slice_index value (j % length value)) from len i (from + i) 0 h refl
+
+pub repeated_more : (value : List ℕ) (from m n : ℕ) → repeated value from (m + n) ≡ repeated value from m ++ repeated value (from + m) n
+repeated_more value from zero n =
+    let all : 0 + n ≡ n = omega arith in
+    let same : from ≡ from + 0 = omega arith in
+    λ t. repeated value (same t) (all t)
+repeated_more value from (suc m) n =
+    let one : suc m + n ≡ suc (m + n) = omega arith in
+    let next : from + 1 + m ≡ from + suc m = omega arith in
+    ap (λ (k : ℕ). repeated value from k) one
+    ∙ ap (λ bytes. slice_index value (from % length value) ∷ bytes)
+    (repeated_more value (from + 1) m n ∙ ap (λ (k : ℕ). repeated value (from + 1) m ++ repeated value k n) next)
+
+-- two places that stand at one byte of the value
+pub same_phase : (value : List ℕ) (a b n : ℕ) → a % length value ≡ b % length value → repeated value a n ≡ repeated value b n
+same_phase value a b n e =
+    same_number_lists (repeated value a n) (repeated value b n) (repeated_long value a n ∙ sym (repeated_long value b n)) (λ k h.
+    let long = repeated_long value a n in
+    let low : k < n = omega arith in
+    at_repeated value a n k low ∙ ap (λ (i : ℕ). get_or value i 0) (later k) ∙ sym (at_repeated value b n k low))
+  where
+    later : (k : ℕ) → (a + k) % length value ≡ (b + k) % length value
+    later k =
+        let turn_a : a + k ≡ k + a = omega arith in
+        let turn_b : k + b ≡ b + k = omega arith in
+        ap (λ (i : ℕ). i % length value) turn_a ∙ sym (add-mod-mod k a (length value)) ∙ ap (λ (i : ℕ). (k + i) % length value) e
+        ∙ add-mod-mod k b (length value) ∙ ap (λ (i : ℕ). i % length value) turn_b
+
+pub once : (value : List ℕ) → repeated value 0 (length value) ≡ value
+once value =
+    same_number_lists (repeated value 0 (length value)) value (repeated_long value 0 (length value)) (λ k h.
+    let long = repeated_long value 0 (length value) in
+    let low : k < length value = omega arith in
+    at_repeated value 0 (length value) k low ∙ ap (λ (i : ℕ). get_or value i 0) (same k low))
+  where
+    same : (k : ℕ) → k < length value → (0 + k) % length value ≡ k
+    same k h = let plain : 0 + k ≡ k = omega arith in ap (λ (i : ℕ). i % length value) plain ∙ mod-eq_of_lt h
+
+-- one value, and more
+pub value_first : (value : List ℕ) (n m : ℕ) → m ≡ length value + n → value ++ repeated value 0 n ≡ repeated value 0 m
+value_first value n m e =
+    (λ t. sym (once value) t ++ same_phase value 0 (0 + length value) n whole t) ∙ sym (ap (λ (k : ℕ). repeated value 0 k) e ∙ repeated_more value 0 (length value) n)
+  where
+    whole : 0 % length value ≡ (0 + length value) % length value
+    whole = sym (add-mod_right 0 (length value))
+
+pub copies : (value : List ℕ) (n : ℕ) → repeat n value ≡ repeated value 0 (n * length value)
+copies value zero = let none : 0 ≡ zero * length value = omega arith in ap (λ (k : ℕ). repeated value 0 k) none
+copies value (suc n) =
+    ap (λ bytes. value ++ bytes) (copies value n)
+    ∙ value_first value (n * length value) (suc n * length value) (omega arith)
+
+-- some of the copies
+pub part_of_copies : (value : List ℕ) (k n m : ℕ) → k + n ≤ m → take n (drop k (repeated value 0 m)) ≡ repeated value k n
+part_of_copies value k n m h =
+    let split : m ≡ k + (n + (m - k - n)) = omega arith in
+    let first : 0 + k ≡ k = omega arith in
+    ap (λ (l : ℕ). take n (drop k (repeated value 0 l))) split
+    ∙ ap (λ bytes. take n (drop k bytes)) (repeated_more value 0 k (n + (m - k - n)))
+    ∙ ap (λ bytes. take n bytes) (drop_at (repeated value 0 k) (repeated value (0 + k) (n + (m - k - n))) k (repeated_long value 0 k))
+    ∙ ap (λ (j : ℕ). take n (repeated value j (n + (m - k - n)))) first
+    ∙ ap (λ bytes. take n bytes) (repeated_more value k n (m - k - n))
+    ∙ take_at (repeated value k n) (repeated value (k + n) (m - k - n)) n (repeated_long value k n)
+
+-- the copies that the code makes, where a clone of a byte is the byte
+pub all_copies : (value made : List ℕ) (n : ℕ) → AllZip (λ x y. y ≡ x) (repeat n value) made → made ≡ repeated value 0 (length made)
+all_copies value made n h =
+    let same : made ≡ repeated value 0 (n * length value) = each_same (repeat n value) made h ∙ copies value n in
+    let long : n * length value ≡ length made = sym (ap (λ (bytes : List ℕ). length bytes) same ∙ repeated_long value 0 (n * length value)) in
+    same ∙ ap (λ (k : ℕ). repeated value 0 k) long

@@ -1,0 +1,124 @@
+-- The fixed variables of a sound header, one after another.
+use Rattle.std.proofs.Common.{◌≡◌, ℕ, zero, suc, ◌+◌, ◌*◌, ◌<◌, ◌≤◌, ◌-◌, refl, sym, ◌∙◌, ap, subst, List, [], ◌∷◌, ◌++◌, length, map, take, length-take, get_or, Bool, true, false, not, cond, Option, Some, arith}
+use Rattle.std.specs.Prelude.{◌==◌, IfSome, slice_get, fold, flat_map}
+use Rattle.std.proofs.lemmas.Grind.{flat_map-append}
+use Rattle.std.proofs.lemmas.List.{append-nil}
+use Rattle.std.proofs.lemmas.List.Elements.{filter-append}
+use Rattle.std.proofs.lemmas.List.Sums.{fold-append}
+use Rattle.nc_base.specs.declared.header.Header.{Header}
+use Rattle.nc_base.specs.declared.header.NcType.{NcType}
+use Rattle.nc_base.specs.declared.header.NcType.TheVariants.{Byte, Char, Short, Int, Float, Double, UByte, UShort, UInt, Int64, UInt64}
+use Rattle.nc_base.specs.declared.header.Var.{Var}
+use Rattle.serial_spec.specs.DeviceCalls.{stores}
+use Rattle.serial_spec.specs.ExternalForm.{size_of}
+use Rattle.serial_spec.specs.File.{written}
+use Rattle.serial_spec.specs.Fill.{fill_bytes, fill_var}
+use Rattle.serial_spec.specs.Layout.{greatest, is_record, slab, vsize, end_of, end_of_var, fixed_variables, recsize, last_share}
+use Rattle.serial_spec.proofs.ElementLaws.{get_map}
+use Rattle.var_layout.proofs.Soundness.{slab_below}
+use Rattle.fill_records.specs.Filling.{repeated, filled_variable, variable_stores}
+use Rattle.fill_records.proofs.WriteLaws.{var_filled}
+
+-- ---- items of a list
+
+pub got : {A : Type 0} (xs ys : List A) (k : ℕ) (x : A) → ys ≡ xs → k < length xs → x ≡ get_or ys k x → slice_get xs k ≡ Some x
+got {A = A} xs ys k x e h g = got_at xs k x h (g ∙ ap (λ zs. get_or zs k x) e)
+  where
+    got_at : (zs : List A) (i : ℕ) (z : A) → i < length zs → z ≡ get_or zs i z → slice_get zs i ≡ Some z
+    got_at [] i z l f = absurd (omega arith)
+    got_at (w ∷ zs) zero z l f = ap Some (sym f)
+    got_at (w ∷ zs) (suc i) z l f = got_at zs i z (omega arith) f
+
+pub from_some : {A : Type 0} (P : A → Type 0) (o : Option A) (x : A) → o ≡ Some x → IfSome o P → P x
+from_some P o x e h = subst (λ q. IfSome q P) e h
+
+-- the item with a number, and what is known of it
+pub known_at : {A : Type 0} (P : A → Type 0) (xs : List A) (k : ℕ) → k < length xs → IfSome (slice_get xs k) P
+    → (x : A) × (take (k + 1) xs ≡ take k xs ++ x ∷ []) × P x
+known_at P [] k h p = absurd (omega arith)
+known_at P (x ∷ xs) zero h p = (x, refl, p)
+known_at P (x ∷ xs) (suc k) h p =
+    let rest = known_at P xs k (omega arith) p in
+    let on : suc k + 1 ≡ suc (k + 1) = omega arith in
+    (rest.0, ap (λ (n : ℕ). take n (x ∷ xs)) on ∙ ap (λ ys. x ∷ ys) (rest.1), rest.2)
+
+-- ---- sizes and ends
+
+size_most : (kind : NcType) → size_of kind ≤ 8
+size_most Byte = omega arith
+size_most Char = omega arith
+size_most Short = omega arith
+size_most Int = omega arith
+size_most Float = omega arith
+size_most Double = omega arith
+size_most UByte = omega arith
+size_most UShort = omega arith
+size_most UInt = omega arith
+size_most Int64 = omega arith
+size_most UInt64 = omega arith
+
+-- the bytes that are taken of an array for the value
+pub room_long : (kind : NcType) (n : ℕ) → n ≡ size_of kind → length {A = ℕ} (take n (0 ∷ 0 ∷ 0 ∷ 0 ∷ 0 ∷ 0 ∷ 0 ∷ 0 ∷ [])) ≡ size_of kind
+room_long kind n e = let most = size_most kind in length-take n (0 ∷ 0 ∷ 0 ∷ 0 ∷ 0 ∷ 0 ∷ 0 ∷ 0 ∷ []) ∙ omega arith
+
+greatest_holds : (ns : List ℕ) (k n : ℕ) → slice_get ns k ≡ Some n → n ≤ greatest ns
+greatest_holds [] k n h = absurd cc
+greatest_holds (m ∷ ns) zero n h = let same : m ≡ n = cc in omega arith
+greatest_holds (m ∷ ns) (suc k) n h = let l = greatest_holds ns k n h in omega arith
+
+pub fixed_end : (header : Header) (first k : ℕ) (v : Var) → slice_get header.vars k ≡ Some v → is_record header v ≡ false → v.begin + slab header v ≤ end_of header first 0
+fixed_end header first k v h e =
+    let own : end_of_var header 0 v ≡ v.begin + vsize header v =
+    ap (λ (b : Bool). cond b (cond (0 == 0) 0 (v.begin + (0 - 1) * recsize header + last_share header v)) (v.begin + vsize header v)) e in
+    let below = slab_below header v in
+    let all = greatest_holds (map (λ w. end_of_var header 0 w) header.vars) k (end_of_var header 0 v) (get_map (λ w. end_of_var header 0 w) header.vars k v h) in
+    omega arith
+
+-- ---- one variable
+
+one_fixed : (header : Header) (v : Var) → is_record header v ≡ false → fixed_variables header (v ∷ []) ≡ v ∷ []
+one_fixed header v e = ap (λ (b : Bool). cond (not b) (v ∷ []) []) e
+
+none_fixed : (header : Header) (v : Var) → is_record header v ≡ true → fixed_variables header (v ∷ []) ≡ []
+none_fixed header v e = ap (λ (b : Bool). cond (not b) (v ∷ []) []) e
+
+pub record_kept : (header : Header) (v : Var) (file : List ℕ) → is_record header v ≡ true → file ≡ filled_variable header v file
+record_kept header v file e = sym (ap (λ vs. fold (fill_var header) file vs) (none_fixed header v e))
+
+pub fixed_filled : (header : Header) (v : Var) (value file : List ℕ) (len : ℕ) → is_record header v ≡ false → value ≡ fill_bytes v → length value ≡ size_of v.kind
+    → len ≡ slab header v → v.begin + len ≤ length file → written file v.begin (repeated value 0 len) ≡ filled_variable header v file
+fixed_filled header v value file len e f l s h =
+    ap (λ (n : ℕ). written file v.begin (repeated value 0 n)) s
+    ∙ sym (var_filled header v value file e f l (omega arith))
+    ∙ sym (ap (λ vs. fold (fill_var header) file vs) (one_fixed header v e))
+
+pub record_stores : (size : ℕ) (header : Header) (v : Var) → is_record header v ≡ true → variable_stores size header v ≡ []
+record_stores size header v e = ap (λ vs. flat_map (λ w. stores size w.begin (slab header w)) vs) (none_fixed header v e)
+
+pub fixed_stores : (size : ℕ) (header : Header) (v : Var) (len : ℕ) → is_record header v ≡ false → len ≡ slab header v
+    → stores size v.begin len ≡ variable_stores size header v
+fixed_stores size header v len e s =
+    ap (λ (n : ℕ). stores size v.begin n) s
+    ∙ sym (append-nil (stores size v.begin (slab header v)))
+    ∙ sym (ap (λ vs. flat_map (λ w. stores size w.begin (slab header w)) vs) (one_fixed header v e))
+
+-- ---- one more variable
+
+fixed_more : (header : Header) (k : ℕ) (v : Var) → take (k + 1) header.vars ≡ take k header.vars ++ v ∷ []
+    → fixed_variables header (take (k + 1) header.vars) ≡ fixed_variables header (take k header.vars) ++ fixed_variables header (v ∷ [])
+fixed_more header k v e =
+    ap (λ vs. fixed_variables header vs) e ∙ filter-append (λ w. not (is_record header w)) (take k header.vars) (v ∷ [])
+
+pub filled_more : (header : Header) (k : ℕ) (v : Var) (file : List ℕ) → take (k + 1) header.vars ≡ take k header.vars ++ v ∷ []
+    → filled_variable header v (fold (fill_var header) file (fixed_variables header (take k header.vars)))
+    ≡ fold (fill_var header) file (fixed_variables header (take (k + 1) header.vars))
+filled_more header k v file e =
+    sym (ap (λ vs. fold (fill_var header) file vs) (fixed_more header k v e)
+    ∙ fold-append (fill_var header) file (fixed_variables header (take k header.vars)) (fixed_variables header (v ∷ [])))
+
+pub fill_stores_more : (size : ℕ) (header : Header) (k : ℕ) (v : Var) → take (k + 1) header.vars ≡ take k header.vars ++ v ∷ []
+    → flat_map (λ w. stores size w.begin (slab header w)) (fixed_variables header (take k header.vars)) ++ variable_stores size header v
+    ≡ flat_map (λ w. stores size w.begin (slab header w)) (fixed_variables header (take (k + 1) header.vars))
+fill_stores_more size header k v e =
+    sym (ap (λ vs. flat_map (λ w. stores size w.begin (slab header w)) vs) (fixed_more header k v e)
+    ∙ flat_map-append (λ w. stores size w.begin (slab header w)) (fixed_variables header (take k header.vars)) (fixed_variables header (v ∷ [])))

@@ -1,0 +1,155 @@
+-- Writes of a value one after another are one write of its bytes over and over.
+use Rattle.std.proofs.Common.{◌≡◌, ℕ, zero, suc, ◌+◌, ◌*◌, ◌≤◌, refl, sym, ◌∙◌, ap, List, [], ◌∷◌, ◌++◌, length, map, take, drop, false, append_assoc, length-append, arith}
+use Rattle.std.specs.Prelude.{flat_map, fold}
+use Rattle.std.specs.List.{range_with_len}
+use Rattle.std.proofs.lemmas.List.{append-nil, take_at, map-append, drop-drop, take-append-drop, places}
+use Rattle.std.proofs.Math.Seq.{drop-append-add}
+use Rattle.std.proofs.lemmas.List.Folds.{fold-map}
+use Rattle.nc_base.specs.declared.header.Header.{Header}
+use Rattle.nc_base.specs.declared.header.Var.{Var}
+use Rattle.serial_spec.specs.ExternalForm.{size_of}
+use Rattle.serial_spec.specs.File.{written}
+use Rattle.serial_spec.specs.Fill.{fill_bytes, fill_var}
+use Rattle.serial_spec.specs.Layout.{product, inner_lengths, is_record, slab}
+use Rattle.serial_spec.specs.Place.{row, place}
+use Rattle.serial_spec.specs.Request.{coordinates}
+use Rattle.serial_spec.proofs.FileLaws.{written-inside, length-written_inside}
+use Rattle.var_layout.proofs.ElementPlaces.{place_fixed}
+use Rattle.fill_records.specs.Filling.{repeated}
+use Rattle.fill_records.proofs.RepeatedLaws.{repeated_long, value_first}
+
+-- ---- two writes
+
+pub write_none : (file : List ℕ) (place : ℕ) → place ≤ length file → written file place [] ≡ file
+write_none file place h =
+    let same : place + 0 ≡ place = omega arith in
+    written-inside file place [] (omega arith)
+    ∙ (λ t. append-nil (take place file) t ++ drop (same t) file)
+    ∙ take-append-drop place file
+
+-- the second write begins where the first one ends
+pub write_next : (file xs ys : List ℕ) (place next : ℕ) → next ≡ place + length xs → next + length ys ≤ length file
+    → written (written file place xs) next ys ≡ written file place (xs ++ ys)
+write_next file xs ys place next e h =
+    let first = written-inside file place xs (omega arith) in
+    let long = length-written_inside file place xs (omega arith) in
+    let both : length (xs ++ ys) ≡ length xs + length ys = length-append xs ys in
+    written-inside (written file place xs) next ys (omega arith)
+    ∙ (λ t. front first t ++ ys ++ back first t)
+    ∙ ap (λ bytes. bytes ++ drop (next + length ys) file) (append_assoc (take place file) xs ys)
+    ∙ ap (λ (n : ℕ). take place file ++ (xs ++ ys) ++ drop n file) (end both)
+    ∙ sym (written-inside file place (xs ++ ys) (omega arith))
+  where
+    head_long : length (take place file ++ xs) ≡ next
+    head_long = grind (arith, places)
+
+    front : written file place xs ≡ take place file ++ xs ++ drop (place + length xs) file → take next (written file place xs) ≡ take place file ++ xs
+    front f = ap (λ bytes. take next bytes) f ∙ take_at (take place file ++ xs) (drop (place + length xs) file) next head_long
+
+    back : written file place xs ≡ take place file ++ xs ++ drop (place + length xs) file → drop (next + length ys) (written file place xs) ≡ drop (next + length ys) file
+    back f =
+        let split : next + length ys ≡ length (take place file ++ xs) + length ys = omega (arith, head_long) in
+        let whole : place + length xs + length ys ≡ next + length ys = omega arith in
+        ap (λ bytes. drop (next + length ys) bytes) f
+        ∙ ap (λ (n : ℕ). drop n (take place file ++ xs ++ drop (place + length xs) file)) split
+        ∙ drop-append-add (take place file ++ xs) (drop (place + length xs) file) (length ys)
+        ∙ drop-drop (length ys) (place + length xs) file
+        ∙ ap (λ (n : ℕ). drop n file) whole
+
+    end : length (xs ++ ys) ≡ length xs + length ys → next + length ys ≡ place + length (xs ++ ys)
+    end both = omega arith
+
+-- ---- elements in row-major order
+
+pub range_joined : (a m n k : ℕ) → k ≡ m + n → range_with_len a m ++ range_with_len (a + m) n ≡ range_with_len a k
+range_joined a zero n k e =
+    let first : a + 0 ≡ a = omega arith in
+    let all : n ≡ k = omega arith in
+    λ t. range_with_len (first t) (all t)
+range_joined a (suc m) n zero e = absurd (omega arith)
+range_joined a (suc m) n (suc k) e =
+    let next : a + suc m ≡ a + 1 + m = omega arith in
+    ap (λ (b : ℕ). a ∷ range_with_len (a + 1) m ++ range_with_len b n) next
+    ∙ ap (λ ns. a ∷ ns) (range_joined (a + 1) m n k (omega arith))
+
+range_moved : (b a n : ℕ) → map (λ k. b + k) (range_with_len a n) ≡ range_with_len (b + a) n
+range_moved b a zero = refl
+range_moved b a (suc n) =
+    let next : b + (a + 1) ≡ b + a + 1 = omega arith in
+    ap (λ ns. (b + a) ∷ ns) (range_moved b (a + 1) n ∙ ap (λ (k : ℕ). range_with_len k n) next)
+
+map_twice : {A B C : Type 0} (f : B → C) (g : A → B) (xs : List A) → map f (map g xs) ≡ map (λ x. f (g x)) xs
+map_twice f g [] = refl
+map_twice f g (x ∷ xs) = ap (λ ys. f (g x) ∷ ys) (map_twice f g xs)
+
+pub map_same : {A B : Type 0} (f g : A → B) → ((x : A) → f x ≡ g x) → (xs : List A) → map f xs ≡ map g xs
+map_same f g h [] = refl
+map_same f g h (x ∷ xs) = λ t. h x t ∷ map_same f g h xs t
+
+pub rows_in_order : (lengths : List ℕ) → map (λ index. row lengths index) (coordinates lengths) ≡ range_with_len 0 (product lengths)
+rows_in_order [] = refl
+rows_in_order (n ∷ lengths) =
+    let none : 0 * product lengths ≡ 0 = omega arith in
+    from_row (rows_in_order lengths) 0 n ∙ ap (λ (a : ℕ). range_with_len a (n * product lengths)) none
+  where
+    one_row : map (λ index. row lengths index) (coordinates lengths) ≡ range_with_len 0 (product lengths)
+        → (a : ℕ) → map (λ index. row (n ∷ lengths) index) (map (λ c. a ∷ c) (coordinates lengths)) ≡ range_with_len (a * product lengths) (product lengths)
+    one_row ih a =
+        let first : a * product lengths + 0 ≡ a * product lengths = omega arith in
+        map_twice (λ index. row (n ∷ lengths) index) (λ (c : List ℕ). a ∷ c) (coordinates lengths)
+        ∙ sym (map_twice (λ k. a * product lengths + k) (λ index. row lengths index) (coordinates lengths))
+        ∙ ap (λ ks. map (λ k. a * product lengths + k) ks) ih
+        ∙ range_moved (a * product lengths) 0 (product lengths)
+        ∙ ap (λ (k : ℕ). range_with_len k (product lengths)) first
+
+    from_row : map (λ index. row lengths index) (coordinates lengths) ≡ range_with_len 0 (product lengths)
+        → (a k : ℕ) → map (λ index. row (n ∷ lengths) index) (flat_map (λ i. map (λ c. i ∷ c) (coordinates lengths)) (range_with_len a k))
+        ≡ range_with_len (a * product lengths) (k * product lengths)
+    from_row ih a zero = let none : 0 ≡ zero * product lengths = omega arith in ap (λ (m : ℕ). range_with_len (a * product lengths) m) none
+    from_row ih a (suc k) =
+        let next : (a + 1) * product lengths ≡ a * product lengths + product lengths = omega arith in
+        map-append (λ index. row (n ∷ lengths) index) (map (λ c. a ∷ c) (coordinates lengths)) (flat_map (λ i. map (λ c. i ∷ c) (coordinates lengths)) (range_with_len (a + 1) k))
+        ∙ (λ t. one_row ih a t ++ from_row ih (a + 1) k t)
+        ∙ ap (λ (m : ℕ). range_with_len (a * product lengths) (product lengths) ++ range_with_len m (k * product lengths)) next
+        ∙ range_joined (a * product lengths) (product lengths) (k * product lengths) (suc k * product lengths) (omega arith)
+
+-- ---- a variable
+
+-- the places of elements that follow one another
+write_each : (value : List ℕ) (begin a n : ℕ) (file : List ℕ) → begin + (a + n) * length value ≤ length file
+    → fold (λ f p. written f p value) file (map (λ k. begin + k * length value) (range_with_len a n))
+    ≡ written file (begin + a * length value) (repeated value 0 (n * length value))
+write_each value begin a zero file h =
+    let none : zero * length value ≡ 0 = omega arith in
+    let room : begin + a * length value ≤ length file = omega arith in
+    sym (ap (λ (k : ℕ). written file (begin + a * length value) (repeated value 0 k)) none ∙ write_none file (begin + a * length value) room)
+write_each value begin a (suc n) file h =
+    let next : begin + (a + 1) * length value ≡ begin + a * length value + length value = omega arith in
+    let all : (a + suc n) * length value ≡ a * length value + length value + n * length value = omega arith in
+    let rest : (a + 1 + n) * length value ≡ a * length value + length value + n * length value = omega arith in
+    let more : suc n * length value ≡ length value + n * length value = omega arith in
+    let long = length-written_inside file (begin + a * length value) value (omega arith) in
+    let bytes = repeated_long value 0 (n * length value) in
+    write_each value begin (a + 1) n (written file (begin + a * length value) value) (omega arith)
+    ∙ write_next file value (repeated value 0 (n * length value)) (begin + a * length value) (begin + (a + 1) * length value) next (omega arith)
+    ∙ ap (λ b. written file (begin + a * length value) b) (value_first value (n * length value) (suc n * length value) more)
+
+pub var_filled : (header : Header) (v : Var) (value file : List ℕ) → is_record header v ≡ false → value ≡ fill_bytes v → length value ≡ size_of v.kind
+    → v.begin + slab header v ≤ length file → fill_var header file v ≡ written file v.begin (repeated value 0 (slab header v))
+var_filled header v value file fixed e long h =
+    let width : (0 + product (inner_lengths header v)) * length value ≡ slab header v = ap (λ (n : ℕ). (0 + product (inner_lengths header v)) * n) long ∙ omega arith in
+    let first : v.begin + 0 * length value ≡ v.begin = omega arith in
+    let bytes : product (inner_lengths header v) * length value ≡ slab header v = ap (λ (n : ℕ). product (inner_lengths header v) * n) long in
+    ap (λ (b : List ℕ). fold (λ f index. written f (place header v index) b) file (coordinates (inner_lengths header v))) (sym e)
+    ∙ sym (fold-map (λ f p. written f p value) (λ index. place header v index) file (coordinates (inner_lengths header v)))
+    ∙ ap (λ ps. fold (λ f p. written f p value) file ps) all_places
+    ∙ write_each value v.begin 0 (product (inner_lengths header v)) file (omega arith)
+    ∙ (λ t. written file (first t) (repeated value 0 (bytes t)))
+  where
+    all_places : map (λ index. place header v index) (coordinates (inner_lengths header v))
+        ≡ map (λ k. v.begin + k * length value) (range_with_len 0 (product (inner_lengths header v)))
+    all_places =
+        map_same (λ index. place header v index) (λ index. v.begin + row (inner_lengths header v) index * length value)
+        (λ index. place_fixed header v index fixed ∙ ap (λ (n : ℕ). v.begin + row (inner_lengths header v) index * n) (sym long)) (coordinates (inner_lengths header v))
+        ∙ sym (map_twice (λ k. v.begin + k * length value) (λ index. row (inner_lengths header v) index) (coordinates (inner_lengths header v)))
+        ∙ ap (λ ks. map (λ k. v.begin + k * length value) ks) (rows_in_order (inner_lengths header v))

@@ -1,0 +1,47 @@
+-- A variable more is filled.
+use Rattle.std.proofs.Common.{◌≡◌, ◌∙◌, ◌+◌, ◌≤◌, ap, take, length, List, arith}
+use Rattle.std.specs.Prelude.{fold, flat_map}
+use Rattle.std.proofs.Math.Seq.{take_all}
+use Rattle.nc_base.specs.declared.header.Var.{Var}
+use Rattle.nc_outside.specs.Told.{after, with_end}
+use Rattle.serial_spec.specs.DeviceCalls.{stores}
+use Rattle.serial_spec.specs.Fill.{fill_var}
+use Rattle.serial_spec.specs.Layout.{slab, fixed_variables}
+use Rattle.fill_records.specs.Filling.{filled_variable, variable_stores}
+use Rattle.fill_records.proofs.VariableLaws.{known_at, filled_more, fill_stores_more}
+use Rattle.fill_records.proofs.WindowLaws.{told_more, always_told, calls_more}
+use Rattle.fill_records.proofs.slabs.prefill.Goals as goal
+
+pub loop-var-preserved : goal.loop-var-preserved
+loop-var-preserved g c =
+    let there : c.loop-var.var ≤ length c.args.header.now.vars = omega arith in
+    let later = c.in_ok-fill_variable.ensures.cause.later in
+    let before = c.loop-var.invariant.faults in
+    let bytes = known_at (λ v. g.D.Disk.held c.fill_variable.new.disk ≡ after (filled_variable c.args.header.now v) (g.D.Disk.held c.loop-var.disk))
+    c.args.header.now.vars c.loop-var.var (omega arith) c.in_ok-fill_variable.ensures.bytes in
+    let calls = known_at (λ v. g.D.Disk.calls c.fill_variable.new.disk ≡ with_end (g.D.Disk.calls c.loop-var.disk) (variable_stores c.args.size c.args.header.now v))
+    c.args.header.now.vars c.loop-var.var (omega arith) c.in_ok-fill_variable.ensures.calls in
+    record {
+      from = c.in_ok-fill_variable.ensures.from;
+      len = c.in_ok-fill_variable.ensures.len ∙ c.loop-var.invariant.len;
+      bytes = told_more (g.D.Disk.held c.args.disk.now) (g.D.Disk.held c.loop-var.disk) (g.D.Disk.held c.fill_variable.new.disk)
+          (λ file. fold (fill_var c.args.header.now) file (fixed_variables c.args.header.now (take c.loop-var.var c.args.header.now.vars)))
+          (filled_variable c.args.header.now bytes.0)
+          (λ file. fold (fill_var c.args.header.now) file (fixed_variables c.args.header.now (take (c.loop-var.var + 1) c.args.header.now.vars)))
+          (always_told (g.D.Disk.held c.args.disk.now) (λ file. filled_more c.args.header.now c.loop-var.var bytes.0 file bytes.1))
+          c.loop-var.invariant.bytes bytes.2;
+      calls = calls_more (g.D.Disk.calls c.args.disk.now) (g.D.Disk.calls c.loop-var.disk) (g.D.Disk.calls c.fill_variable.new.disk)
+          (flat_map (λ v. stores c.args.size v.begin (slab c.args.header.now v)) (fixed_variables c.args.header.now (take c.loop-var.var c.args.header.now.vars)))
+          (variable_stores c.args.size c.args.header.now calls.0)
+          (flat_map (λ v. stores c.args.size v.begin (slab c.args.header.now v)) (fixed_variables c.args.header.now (take (c.loop-var.var + 1) c.args.header.now.vars)))
+          (fill_stores_more c.args.size c.args.header.now c.loop-var.var calls.0 calls.1)
+          c.loop-var.invariant.calls calls.2;
+      faults = omega arith;
+    }
+
+pub returns-clause-bytes : goal.returns-clause-bytes
+returns-clause-bytes g c =
+    let all : length c.args.header.now.vars ≤ c.loop-var.var = omega arith in
+    c.loop-var.invariant.bytes
+    ∙ ap (λ (vars : List Var). after (λ file. fold (fill_var c.args.header.now) file (fixed_variables c.args.header.now vars)) (g.D.Disk.held c.args.disk.now))
+    (take_all c.loop-var.var c.args.header.now.vars all)

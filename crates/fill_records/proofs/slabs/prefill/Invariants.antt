@@ -1,0 +1,18 @@
+-- The fixed variables so far are filled.
+use Rattle.std.proofs.Common.{◌≡◌, ◌≤◌, take}
+use Rattle.std.specs.Prelude.{fold, flat_map}
+use Rattle.nc_outside.specs.Told.{after, with_end}
+use Rattle.serial_spec.specs.DeviceCalls.{stores}
+use Rattle.serial_spec.specs.Fill.{fill_var}
+use Rattle.serial_spec.specs.Layout.{slab, fixed_variables}
+use Rattle.fill_records.proofs.slabs.prefill.Given as goal
+
+abbrev pub invariant-loop-var : goal.invariant-loop-var
+invariant-loop-var g l = record {
+  from : g.D.Disk.from l.disk ≡ 0;
+  len : g.D.Disk.len l.disk ≡ g.D.Disk.len l.initial.disk;
+  bytes : g.D.Disk.held l.disk ≡ after (λ file. fold (fill_var l.header) file (fixed_variables l.header (take l.var l.header.vars))) (g.D.Disk.held l.initial.disk);
+  calls : g.D.Disk.calls l.disk
+      ≡ with_end (g.D.Disk.calls l.initial.disk) (flat_map (λ v. stores l.size v.begin (slab l.header v)) (fixed_variables l.header (take l.var l.header.vars)));
+  faults : g.D.Disk.faults l.initial.disk ≤ g.D.Disk.faults l.disk;
+}

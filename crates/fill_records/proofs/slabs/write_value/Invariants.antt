@@ -1,0 +1,16 @@
+-- The windows so far have the value's bytes, and each was one store.
+use Rattle.std.proofs.Common.{◌≡◌, ◌*◌, ◌≤◌, min}
+use Rattle.nc_outside.specs.Told.{after, with_end}
+use Rattle.serial_spec.specs.File.{written}
+use Rattle.fill_records.specs.Filling.{repeated}
+use Rattle.fill_records.proofs.WindowLaws.{stores_before}
+use Rattle.fill_records.proofs.slabs.write_value.Given as goal
+
+abbrev pub invariant-loop-window : goal.invariant-loop-window
+invariant-loop-window g l = record {
+  from : g.D.Disk.from l.disk ≡ 0;
+  len : g.D.Disk.len l.disk ≡ g.D.Disk.len l.initial.disk;
+  bytes : g.D.Disk.held l.disk ≡ after (λ file. written file l.begin (repeated l.value 0 (min l.len (l.window * l.size)))) (g.D.Disk.held l.initial.disk);
+  calls : g.D.Disk.calls l.disk ≡ with_end (g.D.Disk.calls l.initial.disk) (stores_before l.size l.begin l.len l.window);
+  faults : g.D.Disk.faults l.initial.disk ≤ g.D.Disk.faults l.disk;
+}

@@ -1,0 +1,127 @@
+// The filling of a new dataset.
+ghost use Rattle.std.specs.Prelude.{◌≡◌, ◌<◌, ◌≤◌, ◌+◌, ◌%◌, ◌^◌, true, flat_map, length, take, drop, slice_get, IfSome, IfOk, OnOk};
+ghost use Rattle.fill_records.specs.Filling.{fill_stores, repeated, filled_variable, variable_stores};
+ghost use Rattle.nc_outside.specs.Cause.{HasDiskCause};
+ghost use Rattle.nc_outside.specs.Told.{after, with_end};
+ghost use Rattle.serial_spec.specs.DeviceCalls.{stores};
+ghost use Rattle.serial_spec.specs.File.{written};
+ghost use Rattle.serial_spec.specs.Fill.{filled};
+ghost use Rattle.serial_spec.specs.HeaderGrammar.{header_len, is_sound};
+ghost use Rattle.serial_spec.specs.Layout.{end_of};
+
+use crate::fill_value;
+use nc_base::{Header, Memory};
+use nc_outside::{Disk, DiskErr};
+use std::alloc::Global;
+use type_external::size_of;
+use var_layout::{is_record, slab};
+
+/// Fills the fixed variables of a new dataset, in order of definition, by writes of `size` bytes, the last of each variable shorter
+/// or equal. Bytes between variables stay. Refused, it leaves what was written before.
+///
+/// It takes memory for one write and at most two values more.
+pub fn prefill<D: Disk>(
+    alloc: Global,
+    disk: &mut D,
+    header: &Header,
+    size: u64,
+) -> Result<(), DiskErr>
+    requires sound { is_sound header.now ≡ true }
+    requires from { D.from disk.old ≡ 0 }
+    requires long { end_of header.now (header_len header.now) 0 ≤ D.len disk.old }
+    requires some { 1 ≤ size }
+    requires most { size ≤ 2 ^ 25 }
+    ensures bytes { OnOk result (D.held disk.new ≡ after (filled header.now) (D.held disk.old)) }
+    ensures calls { OnOk result (D.calls disk.new ≡ with_end (D.calls disk.old) (fill_stores size header.now)) }
+    ensures from { D.from disk.new ≡ 0 }
+    ensures len { D.len disk.new ≡ D.len disk.old }
+    ensures cause { HasDiskCause (D.faults disk.old) (D.faults disk.new) result }
+{
+    for var in 0..header.vars.len() {
+        fill_variable(alloc, disk, header, var, size)?;
+    }
+    Ok(())
+}
+
+// Fills a variable, if it is fixed.
+fn fill_variable<D: Disk>(
+    alloc: Global,
+    disk: &mut D,
+    header: &Header,
+    var: usize,
+    size: u64,
+) -> Result<(), DiskErr>
+    requires sound { is_sound header.now ≡ true }
+    requires there { var < length header.now.vars }
+    requires from { D.from disk.old ≡ 0 }
+    requires long { end_of header.now (header_len header.now) 0 ≤ D.len disk.old }
+    requires some { 1 ≤ size }
+    requires most { size ≤ 2 ^ 25 }
+    ensures bytes { OnOk result (IfSome (slice_get header.now.vars var) (λ v. D.held disk.new ≡ after (filled_variable header.now v) (D.held disk.old))) }
+    ensures calls { OnOk result (IfSome (slice_get header.now.vars var) (λ v. D.calls disk.new ≡ with_end (D.calls disk.old) (variable_stores size header.now v))) }
+    ensures from { D.from disk.new ≡ 0 }
+    ensures len { D.len disk.new ≡ D.len disk.old }
+    ensures cause { HasDiskCause (D.faults disk.old) (D.faults disk.new) result }
+{
+    let _length = disk.size();
+    let variable = &header.vars.as_slice()[var];
+    if is_record(header, variable) {
+        return Ok(());
+    }
+    let mut room = [0; 8];
+    let value = &mut room[..size_of(variable.kind) as usize];
+    fill_value(header, var, value);
+    write_value(alloc, disk, value, variable.begin, slab(header, var), size)
+}
+
+// Writes a value over and over into so many bytes from a place on, by writes of `size` bytes, the last one shorter or equal.
+fn write_value<D: Disk>(
+    alloc: Global,
+    disk: &mut D,
+    value: &[u8],
+    begin: u64,
+    len: u64,
+    size: u64,
+) -> Result<(), DiskErr>
+    requires value { 1 ≤ length value.now }
+    requires short { length value.now ≤ 8 }
+    requires from { D.from disk.old ≡ 0 }
+    requires long { begin + len ≤ D.len disk.old }
+    requires end { begin + len < 2 ^ 62 }
+    requires some { 1 ≤ size }
+    requires most { size ≤ 2 ^ 25 }
+    ensures bytes { OnOk result (D.held disk.new ≡ after (λ file. written file begin (repeated value.now 0 len)) (D.held disk.old)) }
+    ensures calls { OnOk result (D.calls disk.new ≡ with_end (D.calls disk.old) (stores size begin len)) }
+    ensures from { D.from disk.new ≡ 0 }
+    ensures len { D.len disk.new ≡ D.len disk.old }
+    ensures cause { HasDiskCause (D.faults disk.old) (D.faults disk.new) result }
+{
+    let _length = disk.size();
+    let copies = copies_of(alloc, value, size.min(len) as usize)?;
+    for window in 0..len.div_ceil(size) {
+        let at = window * size;
+        let bytes = bytes_from(&copies, value.len(), at, size.min(len - at) as usize);
+        disk.write_at(alloc, begin + at, bytes)?;
+    }
+    Ok(())
+}
+
+// So many copies of a value that each window of `len` bytes is some of theirs, wherever in a value it begins.
+fn copies_of(alloc: Global, value: &[u8], len: usize) -> Result<Vec<u8>, Memory>
+    requires value { 1 ≤ length value.now }
+    requires len { len ≤ 2 ^ 25 }
+    ensures bytes { IfOk result (λ copies. copies.items ≡ repeated value.now 0 (length copies.items)) }
+    ensures len { IfOk result (λ copies. len + length value.now ≤ length copies.items) }
+{
+    Ok(value.repeat(alloc, len.div_ceil(value.len()) + 1)?)
+}
+
+// The bytes of a window that begins `at` bytes after the first value, from copies of the value, whose length is `period`.
+fn bytes_from(copies: &[u8], period: usize, at: u64, len: usize) -> &[u8]
+    requires period { 1 ≤ period }
+    requires room { len + period ≤ length copies.now }
+    ensures { result.now ≡ take len (drop (at % period) copies.now) }
+{
+    let skipped = (at % period as u64) as usize;
+    &copies[skipped..skipped + len]
+}
