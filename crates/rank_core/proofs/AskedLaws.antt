@@ -1,0 +1,130 @@
+-- The posts that a call comes to are those of one request: there are some, under its id, of one variable.
+use Rattle.std.proofs.Common.{◌≡◌, ℕ, ◌+◌, ◌<◌, ◌≤◌, ◌∙◌, ap, sym, refl, subst, inl, inr, ◌⊎◌, List, [], ◌∷◌, map, length, Bool, true, false, cond, ltb, ◌&&◌, Option, Some, None, arith}
+use Rattle.std.specs.Prelude.{filter, slice_get}
+use Rattle.std.proofs.lemmas.Bool.{and_parts, ltb-true}
+use Rattle.nc_base.specs.declared.header.Header.{Header}
+use Rattle.nc_base.specs.declared.header.Var.{Var}
+use Rattle.nc_base.specs.declared.header.NcType.{NcType}
+use Rattle.nc_base.specs.declared.plan.Post.{Post}
+use Rattle.nc_base.specs.declared.request.Given.{Given}
+use Rattle.nc_base.specs.declared.request.Region.{Region}
+use Rattle.nc_base.specs.declared.request.Values.{Values}
+use Rattle.nc_base.specs.declared.answer.Code.{Code}
+use Rattle.nc_base.specs.declared.answer.Code.TheVariants as code
+use Rattle.overlay_laws.specs.Entries.{In}
+use Rattle.serial_spec.specs.Layout.{product}
+use Rattle.serial_spec.specs.RankMachine as machine
+use Rattle.serial_spec.specs.RankMachine.{looked, look_region, look_parts, look_at, part_posts, parts_code, data_code, data_bytes, direction_of, is_varn, find_var}
+use Rattle.serial_spec.specs.RegionCheck.{widen, check_var, check_parts, part_regions, elements_of_all, has_element, is_ok_code}
+use Rattle.rank_core.proofs.LookLaws.{length-part_posts}
+use Rattle.rank_core.specs.Looked as rank
+use Rattle.rank_core.specs.Requests.{HaveId}
+use Rattle.rank_core.specs.Stepped.{IsSomeLook}
+use Rattle.rank_core.specs.declared.looking.Look.{Look}
+use Rattle.rank_core.specs.declared.looking.Look.TheVariants as variant
+
+pub record IsOneRequest (id : ℕ) (posts : List Post) : Type 0 where
+  pub some : 0 < length posts
+  pub ids : HaveId id posts
+  pub var : (p q : Post) → In posts p → In posts q → p.var ≡ q.var
+
+abbrev IsOneLook : ℕ → machine.Look → Type 0
+IsOneLook id (machine.Asks posts) = IsOneRequest id posts
+IsOneLook id _ = Unit {0}
+
+looked_one : (id : ℕ) (asked : List Post) (c : Code) (b : Bool) (d : Code) → IsOneRequest id asked → IsOneLook id (looked asked c b d)
+looked_one id asked code.Ok false d h = tt
+looked_one id asked code.Ok true code.Ok h = h
+looked_one id asked code.Ok true d h = tt
+looked_one id asked c b d h = tt
+
+looked_none : (id : ℕ) (asked : List Post) (c d : Code) → IsOneLook id (looked asked c false d)
+looked_none id asked code.Ok d = tt
+looked_none id asked c d = tt
+
+single : (id : ℕ) (p : Post) → p.id ≡ id → IsOneRequest id (p ∷ [])
+single id p e = record { some = omega arith; ids = is_it; var = one }
+  where
+    is_it : (q : Post) → In (p ∷ []) q → q.id ≡ id
+    is_it q (inl g) = ap (λ (x : Post). x.id) (sym g) ∙ e
+    is_it q (inr g) = absurd g
+
+    one : (q r : Post) → In (p ∷ []) q → In (p ∷ []) r → q.var ≡ r.var
+    one q r (inl g) (inl h) = ap (λ (x : Post). x.var) (sym g ∙ h)
+    one q r (inl g) (inr h) = absurd h
+    one q r (inr g) h = absurd g
+
+region_one : (header : Header) (known id k : ℕ) (given : Given) (values : Option Values) (var : Var) → IsOneLook id (look_region header known id k given values var)
+region_one header known id k given values var = by_test (is_ok_code (check_var header var (widen header var given known) known (direction_of values)) && has_element (widen header var given known))
+  where
+    g : Region
+    g = widen header var given known
+
+    by_test : (b : Bool) → IsOneLook id (elim b [
+      | true ↦ looked (record { id = id; var = k; region = widen header var given known; bytes = data_bytes var.kind (widen header var given known) values } ∷ []) code.Ok true (data_code var.kind (widen header var given known) values)
+      | false ↦ looked [] (check_var header var (widen header var given known) known (direction_of values)) false code.Ok
+    ])
+    by_test true = looked_one id _ code.Ok true (data_code var.kind (widen header var given known) values) (single id _ refl)
+    by_test false = looked_none id [] (check_var header var (widen header var given known) known (direction_of values)) code.Ok
+
+-- ---- many regions
+
+part_in : (id var : ℕ) (kind : NcType) (values : Option Values) (k : ℕ) (regions : List Region) (p : Post) → In (part_posts id var kind values k regions) p → (p.id ≡ id) × (p.var ≡ var)
+part_in id var kind values k [] p m = absurd m
+part_in id var kind values k (g ∷ regions) p (inl e) = (sym (ap (λ (x : Post). x.id) e), sym (ap (λ (x : Post). x.var) e))
+part_in id var kind values k (g ∷ regions) p (inr m) = part_in id var kind values (k + product g.count) regions p m
+
+several : (id var : ℕ) (kind : NcType) (values : Option Values) (regions : List Region) → 0 < length regions → IsOneRequest id (part_posts id var kind values 0 regions)
+several id var kind values regions some = record {
+  some = omega (arith, some, length-part_posts id var kind values 0 regions);
+  ids = λ p m. (part_in id var kind values 0 regions p m).0;
+  var = λ p q m n. (part_in id var kind values 0 regions p m).1 ∙ sym (part_in id var kind values 0 regions q n).1;
+}
+
+parts_one : (header : Header) (known id k : ℕ) (given : Given) (values : Option Values) (var : Var) → IsOneLook id (look_parts header known id k given values var)
+parts_one header known id k given values var = by_test (is_ok_code (check_parts header var (part_regions var given) known (direction_of values)) && ltb 0 (length asked)) refl
+  where
+    asked : List Region
+    asked = filter has_element (part_regions var given)
+
+    by_test : (b : Bool) → (is_ok_code (check_parts header var (part_regions var given) known (direction_of values)) && ltb 0 (length (filter has_element (part_regions var given)))) ≡ b → IsOneLook id (elim b [
+      | true ↦ looked (part_posts id k var.kind values 0 (filter has_element (part_regions var given))) code.Ok true (parts_code var.kind (elements_of_all (filter has_element (part_regions var given))) values)
+      | false ↦ looked [] (check_parts header var (part_regions var given) known (direction_of values)) false code.Ok
+    ])
+    by_test true e =
+        let parts = and_parts (is_ok_code (check_parts header var (part_regions var given) known (direction_of values))) (ltb 0 (length (filter has_element (part_regions var given)))) e in
+        looked_one id _ code.Ok true (parts_code var.kind (elements_of_all (filter has_element (part_regions var given))) values)
+        (several id k var.kind values (filter has_element (part_regions var given)) (ltb-true 0 (length (filter has_element (part_regions var given))) parts.1))
+    by_test false e = looked_none id [] (check_parts header var (part_regions var given) known (direction_of values)) code.Ok
+
+-- ---- the call
+
+at_one : (header : Header) (known id k : ℕ) (given : Given) (values : Option Values) (var : Option Var) → IsOneLook id (look_at header known id k given values var)
+at_one header known id k given values None = tt
+at_one header known id k given values (Some var) = by_form (is_varn given.form)
+  where
+    by_form : (b : Bool) → IsOneLook id (elim b [ true ↦ look_parts header known id k given values var | false ↦ look_region header known id k given values var ])
+    by_form true = parts_one header known id k given values var
+    by_form false = region_one header known id k given values var
+
+look_one : (header : Header) (known id : ℕ) (name : List ℕ) (given : Given) (values : Option Values) → IsOneLook id (machine.look header known id name given values)
+look_one header known id name given values = by_place (find_var header name)
+  where
+    by_place : (o : Option ℕ) → IsOneLook id (elim o [ None ↦ machine.Refused code.ENotVar | Some k ↦ look_at header known id k given values (slice_get header.vars k) ])
+    by_place None = tt
+    by_place (Some k) = at_one header known id k given values (slice_get header.vars k)
+
+-- what a look that is the machine's has
+pub record IsLookOf (id : ℕ) (l : Look) : Type 0 where
+  pub some : IsSomeLook l
+  pub ids : HaveId id (rank.posts_of l)
+  pub var : (p q : Post) → In (rank.posts_of l) p → In (rank.posts_of l) q → p.var ≡ q.var
+
+of_look : (id : ℕ) (l : Look) → IsOneLook id (rank.as_look l) → IsLookOf id l
+of_look id (variant.Refused c) h = record { some = tt; ids = λ p m. absurd m; var = λ p q m n. absurd m }
+of_look id variant.Empty h = record { some = tt; ids = λ p m. absurd m; var = λ p q m n. absurd m }
+of_look id (variant.Asks posts) h = record { some = h.some; ids = h.ids; var = h.var }
+
+pub look_is : (header : Header) (known id : ℕ) (name : List ℕ) (given : Given) (values : Option Values) (l : Look)
+    → rank.as_look l ≡ machine.look header known id name given values → IsLookOf id l
+look_is header known id name given values l e = of_look id l (subst (IsOneLook id) (sym e) (look_one header known id name given values))

@@ -1,0 +1,283 @@
+-- The posts that fill a share of a record are puts that a step takes, and hold no byte twice.
+use Rattle.std.proofs.Common.{◌≡◌, ℕ, zero, suc, ◌+◌, ◌-◌, ◌*◌, ◌<◌, ◌≤◌, refl, sym, ap, subst, ◌∙◌, inl, inr, ◌⊎◌, List, [], ◌∷◌, length, map, replicate, Bool, true, false, not, cond, ltb, leb, eqb, ◌&&◌, ◌||◌, Option, None, Some, add-one, arith}
+use Rattle.std.specs.Prelude.{find, flat_map, slice_get, slice_index, bytes_eq}
+use Rattle.std.specs.Int.{Width, byte_len, to_be_bytes, w8, w16, w32, w64, w128}
+use Rattle.std.specs.List.{list_all, list_any, range_with_len}
+use Rattle.std.proofs.lemmas.Bool.{and_from, and_left, and_parts, and_right, cases_lt, eq-eqb, eqb-true, le-ltb, leb-false, leb-true, lt-leb, ne_eqb, not_from_true, or_from, or_parts}
+use Rattle.std.proofs.lemmas.List.{length-map, length-replicate}
+use Rattle.nc_base.specs.declared.answer.Code.{Code}
+use Rattle.nc_base.specs.declared.answer.Code.TheVariants as code
+use Rattle.nc_base.specs.declared.header.Attr.{Attr}
+use Rattle.nc_base.specs.declared.header.Header.{Header}
+use Rattle.nc_base.specs.declared.header.NcType.{NcType}
+use Rattle.nc_base.specs.declared.header.Var.{Var}
+use Rattle.nc_base.specs.declared.plan.Post.{Post}
+use Rattle.nc_base.specs.declared.request.Direction.TheVariants.{Put}
+use Rattle.nc_base.specs.declared.request.Part.{Part}
+use Rattle.nc_base.specs.declared.request.Region.{Region}
+use Rattle.fill_records.proofs.CutLaws.{boxes_few}
+use Rattle.overlay_laws.specs.Entries.{In}
+use Rattle.serial_spec.specs.ExternalForm.{class_of, code_of, ext, size_of, width_of}
+use Rattle.serial_spec.specs.Fill.{boxes, default_fill, fill_bytes, is_fill_value, share_begin}
+use Rattle.serial_spec.specs.HeaderGrammar.{counts_are_small, first_check, header_len, is_sound, is_version, number_of}
+use Rattle.serial_spec.specs.Layout.{end_of, inner_lengths, is_record, lengths, length_of, product, starts_with_zero, without_record}
+use Rattle.serial_spec.specs.Limits.{file_limit, most_elements, record_limit}
+use Rattle.serial_spec.specs.RankMachine as machine
+use Rattle.serial_spec.specs.RankMachine.{box_post, box_region, fills, find_var, is_record_past, look_fill}
+use Rattle.serial_spec.specs.Records.{records_of}
+use Rattle.serial_spec.specs.RegionCheck.{bad_edge, bad_start, bound, bounds, check_var, first_code, is_past, is_too_large, last_position, other_shape, some_edge, some_start}
+use Rattle.serial_spec.proofs.ElementLaws.{block_long}
+use Rattle.serial_spec.proofs.RoomLaws.{end_grows}
+use Rattle.rank_core.specs.declared.looking.Look.{Look}
+use Rattle.rank_core.specs.Looked.{as_look, posts_of, posts_looked, ArePutsLooked}
+use Rattle.rank_core.specs.Offered.{IsPut}
+use Rattle.rank_core.specs.Targets.{IsSmall}
+use Rattle.rank_core.proofs.FillLaws.{record_outcome, share_grows, share_within}
+use Rattle.rank_core.proofs.FillPostLaws.{boxes_fit, boxes_once, boxes_small, separate_boxes, Fits, FitsPart}
+use Rattle.rank_core.proofs.LookLaws.{alike, no_puts, put_right, puts_looked, ArePuts}
+use Rattle.rank_core.proofs.SeparateLaws.{all_in, map_from, own_once, AreSeparate, IsPostOf}
+
+-- ---- starts and ends within the lengths
+
+one_start : (n s c : ℕ) → s + c ≤ n → bad_start (bound Put 0 n) s c ≡ false
+one_start zero s c h = refl
+one_start (suc n) s zero h = or_from (ltb (suc n) s) (eqb s (suc n) && false) (le-ltb (suc n) s (omega arith)) (and_right (eqb s (suc n)) false refl)
+one_start (suc n) s (suc c) h =
+    or_from (ltb (suc n) s) (eqb s (suc n) && ltb 0 (suc c)) (le-ltb (suc n) s (omega arith)) (and_left (eqb s (suc n)) (ltb 0 (suc c)) (ne_eqb s (suc n) (λ e. omega arith)))
+
+starts_fit : (ns starts counts : List ℕ) → Fits ns starts counts → some_start (map (bound Put 0) ns) starts counts ≡ false
+starts_fit [] [] [] h = refl
+starts_fit [] [] (c ∷ counts) h = absurd h
+starts_fit [] (s ∷ starts) [] h = absurd h
+starts_fit [] (s ∷ starts) (c ∷ counts) h = absurd h
+starts_fit (n ∷ ns) [] [] h = absurd h
+starts_fit (n ∷ ns) [] (c ∷ counts) h = absurd h
+starts_fit (n ∷ ns) (s ∷ starts) [] h = absurd h
+starts_fit (n ∷ ns) (s ∷ starts) (c ∷ counts) h =
+    or_from (bad_start (bound Put 0 n) s c) (some_start (map (bound Put 0) ns) starts counts) (one_start n s c h.0) (starts_fit ns starts counts h.1)
+
+one_edge : (n s c : ℕ) → s + c ≤ n → bad_edge (bound Put 0 n) s c 1 ≡ false
+one_edge zero s c h = and_right (ltb 0 c) false refl
+one_edge (suc n) s zero h = and_left (ltb 0 0) (leb (suc n) (s + (0 - 1) * 1)) refl
+one_edge (suc n) s (suc c) h = and_right (ltb 0 (suc c)) (leb (suc n) (s + (suc c - 1) * 1)) (lt-leb (suc n) (s + (suc c - 1) * 1) (omega arith))
+
+edges_fit : (ns starts counts : List ℕ) → Fits ns starts counts → some_edge (map (bound Put 0) ns) starts counts (replicate (length counts) 1) ≡ false
+edges_fit [] [] [] h = refl
+edges_fit [] [] (c ∷ counts) h = absurd h
+edges_fit [] (s ∷ starts) [] h = absurd h
+edges_fit [] (s ∷ starts) (c ∷ counts) h = absurd h
+edges_fit (n ∷ ns) [] [] h = absurd h
+edges_fit (n ∷ ns) [] (c ∷ counts) h = absurd h
+edges_fit (n ∷ ns) (s ∷ starts) [] h = absurd h
+edges_fit (n ∷ ns) (s ∷ starts) (c ∷ counts) h =
+    or_from (bad_edge (bound Put 0 n) s c 1) (some_edge (map (bound Put 0) ns) starts counts (replicate (length counts) 1)) (one_edge n s c h.0) (edges_fit ns starts counts h.1)
+
+fits_long : (ns starts counts : List ℕ) → Fits ns starts counts → (length starts ≡ length ns) × (length counts ≡ length ns)
+fits_long [] [] [] h = (refl, refl)
+fits_long [] [] (c ∷ counts) h = absurd h
+fits_long [] (s ∷ starts) [] h = absurd h
+fits_long [] (s ∷ starts) (c ∷ counts) h = absurd h
+fits_long (n ∷ ns) [] [] h = absurd h
+fits_long (n ∷ ns) [] (c ∷ counts) h = absurd h
+fits_long (n ∷ ns) (s ∷ starts) [] h = absurd h
+fits_long (n ∷ ns) (s ∷ starts) (c ∷ counts) h = let r = fits_long ns starts counts h.1 in (ap suc r.0, ap suc r.1)
+
+no_zero : (n : ℕ) → list_any (λ d. eqb d 0) (replicate n 1) ≡ false
+no_zero zero = refl
+no_zero (suc n) = no_zero n
+
+record_lengths : (ns : List ℕ) → starts_with_zero ns ≡ true → ns ≡ 0 ∷ without_record ns
+record_lengths [] h = absurd cc
+record_lengths (zero ∷ ns) h = refl
+record_lengths (suc n ∷ ns) h = absurd (let e = eqb-true (suc n) 0 h in omega arith)
+
+-- ---- the check of a box of one record
+
+all_lengths : (header : Header) (v : Var) → is_record header v ≡ true → lengths header v ≡ 0 ∷ inner_lengths header v
+all_lengths header v is = record_lengths (lengths header v) is
+
+dims_long : (header : Header) (v : Var) → is_record header v ≡ true → length v.dims ≡ suc (length (inner_lengths header v))
+dims_long header v is = sym (length-map v.dims (λ id. length_of (slice_get header.dims id))) ∙ ap (λ (l : List ℕ). length l) (all_lengths header v is)
+
+module _ (header : Header) (v : Var) (number : ℕ) (is : is_record header v ≡ true) (past : is_record_past header number ≡ false) (p : Part)
+    (fits : FitsPart (inner_lengths header v) p) (few : product p.count ≤ most_elements) where
+  ones : ◌≡◌ {A = List ℕ} (replicate (length p.count + 1) 1) (1 ∷ replicate (length p.count) 1)
+  ones = ap (λ (n : ℕ). replicate n 1) (add-one (length p.count))
+
+  shape : other_shape (length v.dims) (box_region number p) ≡ false
+  shape =
+      let long = fits_long (inner_lengths header v) p.start p.count fits in
+      let dims = dims_long header v is in
+      let strides = length-replicate {A = ℕ} (length p.count + 1) 1 in
+      not_from_true _ (and_from _ _ (and_from _ _ (and_from _ _
+      (eq-eqb (suc (length p.start)) (length v.dims) (omega (arith, long.0, dims)))
+      (eq-eqb (suc (length p.count)) (length v.dims) (omega (arith, long.1, dims))))
+      (eq-eqb (length (replicate (length p.count + 1) 1)) (length v.dims) (omega (arith, strides, long.1, dims)))) refl)
+
+  starts : some_start (bounds header v 0 Put) (number ∷ p.start) (1 ∷ p.count) ≡ false
+  starts = ap (λ (ns : List ℕ). some_start (map (bound Put 0) ns) (number ∷ p.start) (1 ∷ p.count)) (all_lengths header v is) ∙ starts_fit (inner_lengths header v) p.start p.count fits
+
+  edges : some_edge (bounds header v 0 Put) (number ∷ p.start) (1 ∷ p.count) (replicate (length p.count + 1) 1) ≡ false
+  edges =
+      (λ i. some_edge (map (bound Put 0) (all_lengths header v is i)) (number ∷ p.start) (1 ∷ p.count) (ones i))
+      ∙ edges_fit (inner_lengths header v) p.start p.count fits
+
+  records_few : records_of header v (box_region number p) ≤ number + 1
+  records_few = by_test (not (is_record header v) || eqb (product (1 ∷ p.count)) 0)
+    where
+      by_test : (b : Bool) → cond b 0 (number + (1 - 1) * slice_index (replicate (length p.count + 1) 1) 0 + 1) ≤ number + 1
+      by_test true = omega arith
+      by_test false = omega arith
+
+  small : is_too_large header v (box_region number p) ≡ false
+  small =
+      let both = or_parts (leb (record_limit header.version) (number + 1)) (leb file_limit (end_of header (header_len header) (number + 1))) past in
+      let records = leb-false (record_limit header.version) (number + 1) both.0 in
+      let file = leb-false file_limit (end_of header (header_len header) (number + 1)) both.1 in
+      let grows = end_grows header (header_len header) (records_of header v (box_region number p)) (number + 1) records_few in
+      or_from _ _ (or_from _ _ (or_from _ _ (le-ltb most_elements (product (1 ∷ p.count)) (omega (arith, few))) refl)
+      (lt-leb (record_limit header.version) (records_of header v (box_region number p)) (omega (arith, records, records_few))))
+      (lt-leb file_limit (end_of header (header_len header) (records_of header v (box_region number p))) (omega (arith, file, grows)))
+
+  pub box_accepted : check_var header v (box_region number p) 0 Put ≡ code.Ok
+  box_accepted = λ i. first_code (
+      (shape i, code.EInvalCoords) ∷ (no_zero (length p.count + 1) i, code.EStride) ∷ (starts i, code.EInvalCoords) ∷ (edges i, code.EEdge) ∷ (small i, code.ETooLarge) ∷ [])
+
+-- ---- its bytes
+
+be_long : (w : Width) (n : ℕ) → length (to_be_bytes w n) ≡ byte_len w
+be_long w8 n = refl
+be_long w16 n = refl
+be_long w32 n = refl
+be_long w64 n = refl
+be_long w128 n = refl
+
+found_long : (kind : NcType) (attrs : List Attr) → length {A = ℕ} (elim (find (is_fill_value kind) attrs) [ None ↦ ext kind (default_fill kind) | Some a ↦ a.bytes ]) ≡ size_of kind
+found_long kind [] = be_long (width_of kind) (code_of (width_of kind) (default_fill kind))
+found_long kind (a ∷ attrs) = by_test (is_fill_value kind a) refl (found_long kind attrs)
+  where
+    by_test : (b : Bool) → is_fill_value kind a ≡ b → length {A = ℕ} (elim (find (is_fill_value kind) attrs) [ None ↦ ext kind (default_fill kind) | Some a ↦ a.bytes ]) ≡ size_of kind
+        → length {A = ℕ} (elim (cond b (Some a) (find (is_fill_value kind) attrs)) [ None ↦ ext kind (default_fill kind) | Some a ↦ a.bytes ]) ≡ size_of kind
+    by_test true e h = eqb-true (length a.bytes) (size_of kind) (and_parts _ _ e).1
+    by_test false e h = h
+
+box_bytes_long : (v : Var) (p : Part) → length (flat_map (λ m. fill_bytes v) (range_with_len 0 (product p.count))) ≡ product (1 ∷ p.count) * size_of v.kind
+box_bytes_long v p =
+    let all = block_long (λ m. fill_bytes v) (size_of v.kind) (λ m. found_long v.kind v.attrs) 0 (product p.count) in
+    let one : product (1 ∷ p.count) ≡ product p.count = omega arith in
+    all ∙ ap (λ (n : ℕ). n * size_of v.kind) (sym one)
+
+-- ---- the posts
+
+regions_of_boxes : (k : ℕ) (v : Var) (number : ℕ) (parts : List Part) → map (λ q. q.region) (map (box_post k v number) parts) ≡ map (box_region number) parts
+regions_of_boxes k v number [] = refl
+regions_of_boxes k v number (p ∷ parts) = ap (λ (l : List Region). box_region number p ∷ l) (regions_of_boxes k v number parts)
+
+all_at : (test : Var → Bool) (vs : List Var) (k : ℕ) (v : Var) → list_all test vs ≡ true → slice_get vs k ≡ Some v → test v ≡ true
+all_at test [] k v h e = absurd cc
+all_at test (w ∷ vs) zero v h e = let same : w ≡ v = cc in ap test (sym same) ∙ (and_parts (test w) (list_all test vs) h).0
+all_at test (w ∷ vs) (suc k) v h e = all_at test vs k v (and_parts (test w) (list_all test vs) h).1 e
+
+few_dims : (header : Header) (k : ℕ) (v : Var) → is_sound header ≡ true → slice_get header.vars k ≡ Some v → length v.dims ≤ 32
+few_dims header k v sound there =
+    let three = and_parts _ _ sound in
+    let two = and_parts _ _ three.0 in
+    let one = and_parts _ _ two.0 in
+    let small = and_parts _ _ one.1 in
+    leb-true (length v.dims) 32 (all_at (λ w. leb (length w.dims) 32) header.vars k v small.1 there)
+
+abbrev Right : Header → machine.Look → Type 0
+Right header m = ArePuts header 0 (machine.posts_of m) × (length (machine.posts_of m) ≤ 65)
+
+none_right : (header : Header) (m : machine.Look) → machine.posts_of m ≡ [] → Right header m
+none_right header m e = (subst (ArePuts header 0) (sym e) (no_puts header 0), subst (λ (l : List Post). length l ≤ 65) (sym e) (omega arith))
+
+posts_filled : (k : ℕ) (v : Var) (number : ℕ) (parts : List Part) → machine.posts_of (fills k v number parts) ≡ map (box_post k v number) parts
+posts_filled k v number [] = refl
+posts_filled k v number (p ∷ parts) = refl
+
+module _ (header : Header) (k : ℕ) (v : Var) (number : ℕ) (sound : is_sound header ≡ true) (there : slice_get header.vars k ≡ Some v) where
+  module _ (is : is_record header v ≡ true) (from to : ℕ) (grows : from ≤ to) (within : to ≤ product (inner_lengths header v))
+      (fit : (ltb most_elements (to - from) || is_record_past header number) ≡ false) where
+    abbrev parts : List Part
+    parts = boxes (inner_lengths header v) from to
+
+    past : is_record_past header number ≡ false
+    past = (or_parts (ltb most_elements (to - from)) (is_record_past header number) fit).1
+
+    accepted : (p : Part) → In parts p → check_var header v (box_region number p) 0 Put ≡ code.Ok
+    accepted p i =
+        box_accepted header v number is past p
+        (all_in (FitsPart (inner_lengths header v)) parts p (boxes_fit (inner_lengths header v) from to grows within) i)
+        (all_in IsSmall parts p (boxes_small header number (inner_lengths header v) from to grows within fit) i)
+
+    put_of : (q : Post) → In (map (box_post k v number) parts) q → IsPut header 0 q
+    put_of q i =
+        let p = map_from (box_post k v number) parts q i in
+        subst (IsPut header 0) p.2
+        (put_right header k v 0 there 0 (box_region number p.0) (flat_map (λ m. fill_bytes v) (range_with_len 0 (product p.0.count))) (accepted p.0 p.1) (box_bytes_long v p.0))
+
+    post_of : (q : Post) → In (map (box_post k v number) parts) q → IsPostOf header k v 0 q
+    post_of q i = let p = map_from (box_post k v number) parts q i in subst (IsPostOf header k v 0) p.2 (record { var = refl; accepted = accepted p.0 p.1 })
+
+    boxes_right : Right header (fills k v number parts)
+    boxes_right =
+        let same = posts_filled k v number parts in
+        let dims = dims_long header v is in
+        let few = boxes_few (inner_lengths header v) from to grows within in
+        let long = length-map parts (box_post k v number) in
+        let most = few_dims header k v sound there in (
+          subst (ArePuts header 0) (sym same) (record {
+            puts = put_of;
+            own = own_once header k v 0 sound there (map (box_post k v number) parts) post_of
+                (subst AreSeparate (sym (regions_of_boxes k v number parts)) (separate_boxes number parts (boxes_once (inner_lengths header v) from to grows within)));
+          }),
+          subst (λ (l : List Post). length l ≤ 65) (sym same) (omega (arith, long, few, most, dims)),
+        )
+
+  module _ (rank ranks : ℕ) (less : rank < ranks) where
+    abbrev total : ℕ
+    total = product (inner_lengths header v)
+
+    abbrev filled : machine.Look
+    filled = fills k v number (boxes (inner_lengths header v) (share_begin total rank ranks) (share_begin total (rank + 1) ranks))
+
+    abbrev large : Bool
+    large = ltb most_elements (share_begin total (rank + 1) ranks - share_begin total rank ranks) || is_record_past header number
+
+    by_size : is_record header v ≡ true → (b : Bool) → large ≡ b → Right header (record_outcome true b filled)
+    by_size is true e = none_right header (machine.Refused code.ETooLarge) refl
+    by_size is false e =
+        boxes_right is (share_begin total rank ranks) (share_begin total (rank + 1) ranks) (share_grows total rank ranks less) (share_within total rank ranks less) e
+
+    by_kind : (b : Bool) → is_record header v ≡ b → Right header (record_outcome b large filled)
+    by_kind false e = none_right header (machine.Refused code.ENotRec) refl
+    by_kind true e = by_size e large refl
+
+    record_right : Right header (machine.look_record header k number rank ranks v)
+    record_right = by_kind (is_record header v) refl
+
+module _ (header : Header) (number rank ranks : ℕ) (sound : is_sound header ≡ true) (less : rank < ranks) where
+  var_right : (k : ℕ) (o : Option Var) → slice_get header.vars k ≡ o
+      → Right header (elim o [ None ↦ machine.Refused code.ENotVar | Some v ↦ machine.look_record header k number rank ranks v ])
+  var_right k None e = none_right header (machine.Refused code.ENotVar) refl
+  var_right k (Some v) e = record_right header k v number sound e rank ranks less
+
+  place_right : (o : Option ℕ) → Right header (elim o [
+    | None ↦ machine.Refused code.ENotVar
+    | Some k ↦ elim (slice_get header.vars k) [ None ↦ machine.Refused code.ENotVar | Some v ↦ machine.look_record header k number rank ranks v ]
+  ])
+  place_right None = none_right header (machine.Refused code.ENotVar) refl
+  place_right (Some k) = var_right k (slice_get header.vars k) refl
+
+pub fill_posts : (header : Header) (name : List ℕ) (number rank ranks : ℕ) (l : Look) → is_sound header ≡ true → rank < ranks
+    → as_look l ≡ look_fill header name number rank ranks → ArePutsLooked header 0 l
+fill_posts header name number rank ranks l sound less e =
+    puts_looked header 0 l
+    (subst (ArePuts header 0) (alike (look_fill header name number rank ranks) l e) (place_right header number rank ranks sound less (find_var header name)).0)
+
+pub fill_few : (header : Header) (name : List ℕ) (number rank ranks : ℕ) (l : Look) → is_sound header ≡ true → rank < ranks
+    → as_look l ≡ look_fill header name number rank ranks → posts_looked l ≤ 65
+fill_few header name number rank ranks l sound less e =
+    subst (λ (posts : List Post). length posts ≤ 65) (alike (look_fill header name number rank ranks) l e)
+    (place_right header number rank ranks sound less (find_var header name)).1

@@ -1,0 +1,245 @@
+-- The boxes of a share of a record are regions of the variable, no two of which share an element.
+use Rattle.std.proofs.Common.{◌≡◌, ℕ, zero, suc, ◌+◌, ◌-◌, ◌*◌, ◌/◌, ◌%◌, ◌<◌, ◌≤◌, refl, sym, ap, subst, ◌∙◌, inl, inr, ◌⊎◌, List, [], ◌∷◌, ◌++◌, length, map, take, drop, replicate, min, Bool, true, false, cond, ltb, eqb, ◌||◌, Some, None, add-one, arith}
+use Rattle.std.specs.Prelude.{flat_map, slice_get, nat_lt}
+use Rattle.std.specs.List.{range_with_len, AllByRecursion}
+use Rattle.std.proofs.Math.Nat.{mul-div_cancel, mul-le-mul_left}
+use Rattle.std.proofs.lemmas.Bool.{cases_lt, eqb-true, ltb-false, ltb-true, or_parts}
+use Rattle.std.proofs.lemmas.List.{length-append, length-take, length-map}
+use Rattle.std.proofs.lemmas.Nat.{div-add-mod', div_below, mod_below}
+use Rattle.std.proofs.lemmas.Option.{slice_get_within}
+use Rattle.nc_base.specs.declared.header.Header.{Header}
+use Rattle.nc_base.specs.declared.request.Part.{Part}
+use Rattle.nc_base.specs.declared.request.Region.{Region}
+use Rattle.fill_records.proofs.CutLaws.{no_boxes}
+use Rattle.overlay_laws.specs.Entries.{In}
+use Rattle.overlay_laws.proofs.HullLaws.{div_grows, flat_in, in_flat, in_left, in_right}
+use Rattle.overlay_laws.proofs.RegionLaws.{coordinate_row}
+use Rattle.serial_spec.specs.Fill.{box_indices, boxes, in_row, shifted, whole_rows, AreBoxes}
+use Rattle.serial_spec.specs.Layout.{product}
+use Rattle.serial_spec.specs.Limits.{most_elements}
+use Rattle.serial_spec.specs.Place.{row, IsIndex}
+use Rattle.serial_spec.specs.RankMachine.{box_region, is_record_past}
+use Rattle.serial_spec.specs.Request.{coordinates, elements, index_at}
+use Rattle.serial_spec.proofs.AcceptLaws.{all_joined, coordinates_all}
+use Rattle.serial_spec.proofs.BoxLaws.{boxes_right}
+use Rattle.serial_spec.proofs.ElementLaws.{get_left, get_right, length-coordinates}
+use Rattle.rank_core.specs.Targets.{IsSmall}
+use Rattle.rank_core.proofs.SeparateLaws.{all_in, map_from, AreSeparate, ShareNone}
+
+-- ---- how many elements they have
+
+length-box_indices : (p : Part) → length (box_indices p) ≡ product p.count
+length-box_indices p = length-map (coordinates p.count) (shifted p.start) ∙ length-coordinates p.count
+
+all_small : (n : ℕ) (parts : List Part) → length (flat_map box_indices parts) ≤ n → n ≤ most_elements → AllByRecursion IsSmall parts
+all_small n [] h l = tt
+all_small n (p ∷ parts) h l =
+    let both = length-append (box_indices p) (flat_map box_indices parts) in
+    let one = length-box_indices p in
+    (omega (arith, both, one, h, l), all_small n parts (omega (arith, both, h)) l)
+
+pub boxes_small : (header : Header) (number : ℕ) (lengths : List ℕ) (from to : ℕ) → from ≤ to → to ≤ product lengths
+    → (ltb most_elements (to - from) || is_record_past header number) ≡ false → AllByRecursion IsSmall (boxes lengths from to)
+boxes_small header number lengths from to h k e =
+    let few = ltb-false most_elements (to - from) (or_parts (ltb most_elements (to - from)) (is_record_past header number) e).0 in
+    let all = ap (λ (l : List (List ℕ)). length l) (boxes_right lengths from to h k) in
+    let taken = length-take (to - from) (drop from (coordinates lengths)) in
+    all_small (to - from) (boxes lengths from to) (omega (arith, all, taken)) few
+
+-- ---- they lie within the lengths
+
+abbrev pub Fits : List ℕ → List ℕ → List ℕ → Type 0
+Fits [] [] [] = Unit {0}
+Fits (n ∷ lengths) (s ∷ starts) (c ∷ counts) = (s + c ≤ n) × Fits lengths starts counts
+Fits _ _ _ = ⊥
+
+abbrev pub FitsPart : List ℕ → Part → Type 0
+FitsPart lengths p = Fits lengths p.start p.count
+
+whole_fit : (lengths : List ℕ) → Fits lengths (replicate (length lengths) 0) lengths
+whole_fit [] = tt
+whole_fit (n ∷ lengths) = (omega arith, whole_fit lengths)
+
+rows_fit : (n : ℕ) (lengths : List ℕ) (first last : ℕ) → last ≤ n → AllByRecursion (FitsPart (n ∷ lengths)) (whole_rows lengths first last)
+rows_fit n lengths first last h = by_test (nat_lt first last) refl
+  where
+    by_test : (t : Bool) → nat_lt first last ≡ t
+        → AllByRecursion (FitsPart (n ∷ lengths)) (elim t [ false ↦ [] | true ↦ record { start = first ∷ replicate (length lengths) 0; count = (last - first) ∷ lengths } ∷ [] ])
+    by_test true e = let l = ltb-true first last e in ((omega arith, whole_fit lengths), tt)
+    by_test false e = tt
+
+row_fits : (n : ℕ) (lengths : List ℕ) (i : ℕ) (parts : List Part) → i < n → AllByRecursion (FitsPart lengths) parts → AllByRecursion (FitsPart (n ∷ lengths)) (in_row i parts)
+row_fits n lengths i [] h all = tt
+row_fits n lengths i (p ∷ parts) h all = ((omega arith, all.0), row_fits n lengths i parts h all.1)
+
+three : (P : Part → Type 0) (t u : Bool) (a b c : List Part) → (t ≡ true → AllByRecursion P a) → AllByRecursion P b → AllByRecursion P c
+    → AllByRecursion P (elim t [ true ↦ a | false ↦ elim u [ true ↦ b | false ↦ c ] ])
+three P true u a b c x y z = x refl
+three P false true a b c x y z = y
+three P false false a b c x y z = z
+
+some_factor : (n s : ℕ) → 1 ≤ n * s → 1 ≤ s
+some_factor n zero h = absurd (omega arith)
+some_factor n (suc s) h = omega arith
+
+below_factor : (q n s x : ℕ) → q * s < x → x ≤ n * s → q < n
+below_factor q n s x h k = by_case (cases_lt q n)
+  where
+    by_case : (q < n) ⊎ (n ≤ q) → q < n
+    by_case (inl l) = l
+    by_case (inr l) = let m : s * n ≤ s * q = omega (arith, mul-le-mul_left s l) in absurd (omega arith)
+
+abbrev Fitting : List ℕ → Type 0
+Fitting lengths = (from to : ℕ) → from ≤ to → to ≤ product lengths → AllByRecursion (FitsPart lengths) (boxes lengths from to)
+
+last_fit : (n : ℕ) (lengths : List ℕ) (q r to : ℕ) → AllByRecursion (FitsPart lengths) (boxes lengths 0 r) → q * product lengths + r ≡ to → to ≤ n * product lengths
+    → (0 < r) ⊎ (r ≤ 0) → AllByRecursion (FitsPart (n ∷ lengths)) (in_row q (boxes lengths 0 r))
+last_fit n lengths q r to all e k (inl m) = row_fits n lengths q (boxes lengths 0 r) (below_factor q n (product lengths) to (omega (arith, e, m)) k) all
+last_fit n lengths q r to all e k (inr m) =
+    let none : 0 ≡ r = omega (arith, m) in
+    subst (λ (ps : List Part). AllByRecursion (FitsPart (n ∷ lengths)) (in_row q ps)) (sym (ap (λ (z : ℕ). boxes lengths z r) none ∙ no_boxes lengths r)) tt
+
+rows_of : (n : ℕ) (lengths : List ℕ) (from to : ℕ) → Fitting lengths → from < to → to ≤ n * product lengths → AllByRecursion (FitsPart (n ∷ lengths)) (boxes (n ∷ lengths) from to)
+rows_of n lengths from to ih l k =
+    let size = product lengths in
+    let some : 1 ≤ product lengths = some_factor n (product lengths) (omega arith) in
+    let front = div-add-mod' from (product lengths) in
+    let back = div-add-mod' to (product lengths) in
+    let low = mod_below from (product lengths) some in
+    let high = mod_below to (product lengths) some in
+    let first : from / product lengths < n = below_factor (from / product lengths) n (product lengths) to (omega (arith, front, l)) k in
+    let whole : to / product lengths ≤ n = omega (arith, div_grows to (n * product lengths) (product lengths) some k, mul-div_cancel n {n = product lengths} some) in
+    let last = last_fit n lengths (to / size) (to % size) to (ih 0 (to % size) (omega arith) (omega (arith, high))) back k (cases_lt 0 (to % size)) in
+    three (FitsPart (n ∷ lengths)) (eqb (from / size) (to / size)) (eqb (from % size) 0)
+    (in_row (from / size) (boxes lengths (from % size) (to % size)))
+    (whole_rows lengths (from / size) (to / size) ++ in_row (to / size) (boxes lengths 0 (to % size)))
+    (in_row (from / size) (boxes lengths (from % size) size) ++ whole_rows lengths (from / size + 1) (to / size) ++ in_row (to / size) (boxes lengths 0 (to % size)))
+    (λ e. let same = ap (λ (q : ℕ). q * product lengths) (eqb-true (from / product lengths) (to / product lengths) e) in
+    row_fits n lengths (from / size) (boxes lengths (from % size) (to % size)) first
+    (ih (from % size) (to % size) (omega (arith, front, back, same, l)) (omega (arith, high))))
+    (all_joined (FitsPart (n ∷ lengths)) (whole_rows lengths (from / size) (to / size)) (in_row (to / size) (boxes lengths 0 (to % size)))
+    (rows_fit n lengths (from / size) (to / size) whole) last)
+    (all_joined (FitsPart (n ∷ lengths)) (in_row (from / size) (boxes lengths (from % size) size) ++ whole_rows lengths (from / size + 1) (to / size)) (in_row (to / size) (boxes lengths 0 (to % size)))
+    (all_joined (FitsPart (n ∷ lengths)) (in_row (from / size) (boxes lengths (from % size) size)) (whole_rows lengths (from / size + 1) (to / size))
+    (row_fits n lengths (from / size) (boxes lengths (from % size) size) first (ih (from % size) size (omega (arith, low)) (omega arith)))
+    (rows_fit n lengths (from / size + 1) (to / size) whole)) last)
+
+pub boxes_fit : (lengths : List ℕ) → Fitting lengths
+boxes_fit [] from to h k = by_test (nat_lt from to)
+  where
+    by_test : (t : Bool) → AllByRecursion (FitsPart []) (elim t [ true ↦ record { start = []; count = [] } ∷ [] | false ↦ [] ])
+    by_test true = (tt, tt)
+    by_test false = tt
+boxes_fit (n ∷ lengths) from to h k = by_order (λ x y l m. boxes_fit lengths x y l m) (cases_lt from to)
+  where
+    by_order : Fitting lengths → (from < to) ⊎ (to ≤ from) → AllByRecursion (FitsPart (n ∷ lengths)) (boxes (n ∷ lengths) from to)
+    by_order ih (inl l) = rows_of n lengths from to ih l k
+    by_order ih (inr l) =
+        let same : from ≡ to = omega arith in
+        subst (AllByRecursion (FitsPart (n ∷ lengths))) (sym (ap (λ (z : ℕ). boxes (n ∷ lengths) z to) same ∙ no_boxes (n ∷ lengths) to)) tt
+
+-- ---- no index stands twice
+
+abbrev pub StandOnce : List (List ℕ) → Type 0
+StandOnce xs = (i j : ℕ) (a : List ℕ) → slice_get xs i ≡ Some a → slice_get xs j ≡ Some a → i ≡ j
+
+taken_at : (n : ℕ) (xs : List (List ℕ)) (k : ℕ) (c : List ℕ) → slice_get (take n xs) k ≡ Some c → slice_get xs k ≡ Some c
+taken_at zero xs k c h = absurd cc
+taken_at (suc n) [] k c h = h
+taken_at (suc n) (x ∷ xs) zero c h = h
+taken_at (suc n) (x ∷ xs) (suc k) c h = taken_at n xs k c h
+
+dropped_at : (m : ℕ) (xs : List (List ℕ)) (k : ℕ) (c : List ℕ) → slice_get (drop m xs) k ≡ Some c → slice_get xs (m + k) ≡ Some c
+dropped_at zero xs k c h = let e : k ≡ zero + k = omega arith in ap (λ (i : ℕ). slice_get xs i) (sym e) ∙ h
+dropped_at (suc m) [] k c h = absurd cc
+dropped_at (suc m) (x ∷ xs) k c h = let e : suc m + k ≡ suc (m + k) = omega arith in ap (λ (i : ℕ). slice_get (x ∷ xs) i) e ∙ dropped_at m xs k c h
+
+pub boxes_once : (lengths : List ℕ) (from to : ℕ) → from ≤ to → to ≤ product lengths → StandOnce (flat_map box_indices (boxes lengths from to))
+boxes_once lengths from to h k = subst StandOnce (sym (boxes_right lengths from to h k)) once
+  where
+    number : (i : ℕ) (a : List ℕ) → slice_get (take (to - from) (drop from (coordinates lengths))) i ≡ Some a → from + i ≡ row lengths a
+    number i a e = (coordinate_row lengths (from + i) a (dropped_at from (coordinates lengths) i a (taken_at (to - from) (drop from (coordinates lengths)) i a e))).1
+
+    once : StandOnce (take (to - from) (drop from (coordinates lengths)))
+    once i j a e f = let x = number i a e in let y = number j a f in omega arith
+
+in_at : (xs : List (List ℕ)) (x : List ℕ) → In xs x → (k : ℕ) × (slice_get xs k ≡ Some x)
+in_at [] x h = absurd h
+in_at (y ∷ xs) x (inl e) = (0, ap Some e)
+in_at (y ∷ xs) x (inr h) = let r = in_at xs x h in (suc r.0, r.1)
+
+not_in_both : (xs ys : List (List ℕ)) (a : List ℕ) → StandOnce (xs ++ ys) → In xs a → In ys a → ⊥
+not_in_both xs ys a once i j =
+    let p = in_at xs a i in
+    let q = in_at ys a j in
+    let l = slice_get_within xs p.0 a p.1 in
+    let same = once p.0 (length xs + q.0) a (get_left xs ys p.0 l ∙ p.1) (get_right xs ys q.0 (length xs + q.0) refl ∙ q.1) in
+    omega (arith, l, same)
+
+later_once : (xs ys : List (List ℕ)) → StandOnce (xs ++ ys) → StandOnce ys
+later_once xs ys once i j a e f =
+    let same = once (length xs + i) (length xs + j) a (get_right xs ys i (length xs + i) refl ∙ e) (get_right xs ys j (length xs + j) refl ∙ f) in
+    omega (arith, same)
+
+-- ---- the indices of a box in a record
+
+index_long : (counts c : List ℕ) → IsIndex counts c → length c ≡ length counts
+index_long [] [] h = refl
+index_long [] (i ∷ c) h = absurd h
+index_long (n ∷ counts) [] h = absurd h
+index_long (n ∷ counts) (i ∷ c) h = ap suc (index_long counts c h.1)
+
+shifted_is : (starts c : List ℕ) (k : ℕ) → length c ≤ k → index_at starts (replicate k 1) c ≡ shifted starts c
+shifted_is [] c k h = refl
+shifted_is (s ∷ starts) [] zero h = refl
+shifted_is (s ∷ starts) [] (suc k) h = refl
+shifted_is (s ∷ starts) (i ∷ c) zero h = absurd (omega arith)
+shifted_is (s ∷ starts) (i ∷ c) (suc k) h =
+    let e : s + i * 1 ≡ s + i = omega arith in
+    (λ j. e j ∷ shifted_is starts c k (omega arith) j)
+
+in_map : {A B : Type 0} (f : A → B) (xs : List A) (x : A) → In xs x → In (map f xs) (f x)
+in_map f [] x h = absurd h
+in_map f (y ∷ ys) x (inl e) = inl (ap f e)
+in_map f (y ∷ ys) x (inr h) = inr (in_map f ys x h)
+
+record InRecord (number : ℕ) (p : Part) (a : List ℕ) : Type 0 where
+  index : List ℕ
+  is_one : In (box_indices p) index
+  is : a ≡ number ∷ index
+
+box_element : (number : ℕ) (p : Part) (a : List ℕ) → In (elements (box_region number p)) a → InRecord number p a
+box_element number p a h =
+    let c = map_from (λ c. index_at (number ∷ p.start) (replicate (length p.count + 1) 1) c) (coordinates (1 ∷ p.count)) a h in
+    let i = flat_in (λ i. map (λ d. i ∷ d) (coordinates p.count)) (range_with_len 0 1) c.0 c.1 in
+    let d = map_from (λ d. i.0 ∷ d) (coordinates p.count) c.0 i.2 in
+    let zero_is : 0 ≡ i.0 = only i.0 i.1 in
+    let long = index_long p.count d.0 (all_in (IsIndex p.count) (coordinates p.count) d.0 (coordinates_all p.count) d.1) in
+    let ones : ◌≡◌ {A = List ℕ} (replicate (length p.count + 1) 1) (1 ∷ replicate (length p.count) 1) = ap (λ (n : ℕ). replicate n 1) (add-one (length p.count)) in
+    let first : number + 0 * 1 ≡ number = omega arith in
+    record {
+      index = shifted p.start d.0;
+      is_one = in_map (shifted p.start) (coordinates p.count) d.0 d.1;
+      is = sym c.2 ∙ (λ j. index_at (number ∷ p.start) (ones j) (sym d.2 j)) ∙ (λ j. index_at (number ∷ p.start) (1 ∷ replicate (length p.count) 1) (sym zero_is j ∷ d.0))
+          ∙ (λ j. first j ∷ shifted_is p.start d.0 (length p.count) (omega (arith, long)) j);
+    }
+  where
+    only : (i : ℕ) → In (range_with_len 0 1) i → 0 ≡ i
+    only i (inl e) = e
+    only i (inr h) = absurd h
+
+same_rest : (n : ℕ) (x y a : List ℕ) → a ≡ n ∷ x → a ≡ n ∷ y → x ≡ y
+same_rest n x y a e f = ap (λ (l : List ℕ). drop 1 l) (sym e ∙ f)
+
+pub separate_boxes : (number : ℕ) (parts : List Part) → StandOnce (flat_map box_indices parts) → AreSeparate (map (box_region number) parts)
+separate_boxes number [] once = tt
+separate_boxes number (p ∷ parts) once = (
+  λ h i a j k.
+      let q = map_from (box_region number) parts h i in
+      let x = box_element number p a j in
+      let y = box_element number q.0 a (subst (λ (g : Region). In (elements g) a) (sym q.2) k) in
+      let same = same_rest number x.index y.index a x.is y.is in
+      not_in_both (box_indices p) (flat_map box_indices parts) x.index once x.is_one
+      (in_flat box_indices parts q.0 x.index q.1 (subst (λ (b : List ℕ). In (box_indices q.0) b) (sym same) y.is_one)),
+  separate_boxes number parts (later_once (box_indices p) (flat_map box_indices parts) once),
+)

@@ -1,0 +1,191 @@
+-- The values of the gets, added one after another by the ids of their requests.
+use Rattle.std.proofs.Common.{◌≡◌, ℕ, zero, suc, ◌+◌, ◌<◌, ◌≤◌, ◌∙◌, ap, sym, refl, subst, inl, inr, ◌⊎◌, List, [], ◌∷◌, ◌++◌, map, length, get_or, drop, zip, Bool, true, false, cond, eqb, Option, Some, None, arith}
+use Rattle.std.specs.Prelude.{filter_map, option_map, slice_get}
+use Rattle.std.specs.List.{cons_option}
+use Rattle.std.proofs.lemmas.Bool.{eqb-true}
+use Rattle.std.proofs.lemmas.List.{append_assoc, drop_more, get_or-map, length-map}
+use Rattle.nc_base.specs.declared.header.Header.{Header}
+use Rattle.nc_base.specs.declared.header.Var.{Var}
+use Rattle.nc_base.specs.declared.header.NcType.{NcType}
+use Rattle.nc_base.specs.declared.plan.Post.{Post}
+use Rattle.nc_base.specs.declared.request.Values.{Values}
+use Rattle.nc_base.specs.declared.request.Values.TheVariants.{Numbers, Text, Bits}
+use Rattle.nc_base.specs.declared.request.Value.{Value}
+use Rattle.overlay_laws.specs.Entries.{In}
+use Rattle.serial_spec.specs.ExternalForm as form
+use Rattle.serial_spec.specs.ExternalForm.{Class, class_of}
+use Rattle.serial_spec.specs.RankMachine.{got_values, values_for, with_more, kind_at}
+use Rattle.serial_spec.specs.Request.{spread, gathered}
+use Rattle.rank_core.specs.Heard.{joined}
+
+-- ---- the kind of values
+
+abbrev pub shape : Values → ℕ
+shape (Numbers ns) = 0
+shape (Text cs) = 1
+shape (Bits ns) = 2
+
+abbrev shape_of : Class → ℕ
+shape_of form.Signed = 0
+shape_of form.Unsigned = 0
+shape_of form.Text = 1
+shape_of form.Pattern = 2
+
+abbrev shape_some : Option Var → ℕ
+shape_some None = 0
+shape_some (Some v) = shape_of (class_of v.kind)
+
+-- that of a variable's values
+abbrev pub shape_at : Header → ℕ → ℕ
+shape_at header k = shape_some (slice_get header.vars k)
+
+gathered_shape : (c : Class) (vs : List (Option Value)) → shape (gathered c vs) ≡ shape_of c
+gathered_shape form.Signed vs = refl
+gathered_shape form.Unsigned vs = refl
+gathered_shape form.Text vs = refl
+gathered_shape form.Pattern vs = refl
+
+assoc : (a b c : Values) → shape a ≡ shape b → with_more a (with_more b c) ≡ with_more (with_more a b) c
+assoc (Numbers a) (Numbers b) (Numbers c) h = ap Numbers (sym (append_assoc a b c))
+assoc (Numbers a) (Numbers b) (Text c) h = refl
+assoc (Numbers a) (Numbers b) (Bits c) h = refl
+assoc (Text a) (Text b) (Numbers c) h = refl
+assoc (Text a) (Text b) (Text c) h = ap Text (sym (append_assoc a b c))
+assoc (Text a) (Text b) (Bits c) h = refl
+assoc (Bits a) (Bits b) (Numbers c) h = refl
+assoc (Bits a) (Bits b) (Text c) h = refl
+assoc (Bits a) (Bits b) (Bits c) h = ap Bits (sym (append_assoc a b c))
+assoc (Numbers a) (Text b) c h = absurd (omega arith)
+assoc (Numbers a) (Bits b) c h = absurd (omega arith)
+assoc (Text a) (Numbers b) c h = absurd (omega arith)
+assoc (Text a) (Bits b) c h = absurd (omega arith)
+assoc (Bits a) (Numbers b) c h = absurd (omega arith)
+assoc (Bits a) (Text b) c h = absurd (omega arith)
+
+-- ---- values so far, then those of the rest
+
+abbrev pub followed : Option Values → Option Values → Option Values
+followed None more = more
+followed (Some values) None = Some values
+followed (Some values) (Some more) = Some (with_more values more)
+
+followed_more : (m : Option Values) (v : Values) (r : Option Values) → ((w : Values) → m ≡ Some w → shape w ≡ shape v)
+    → followed m (followed (Some v) r) ≡ followed (Some (joined m v)) r
+followed_more None v r h = refl
+followed_more (Some w) v None h = refl
+followed_more (Some w) v (Some r) h = ap Some (assoc w v r (h w refl))
+
+first_is : (id q : ℕ) (v : Values) (rest : List (ℕ × Values)) → eqb id q ≡ true → values_for ((id, v) ∷ rest) q ≡ followed (Some v) (values_for rest q)
+first_is id q v rest e = rw (e, values_for) (by_rest (values_for rest q))
+  where
+    by_rest : (o : Option Values) → (elim o [ None ↦ Some v | Some more ↦ Some (with_more v more) ]) ≡ followed (Some v) o
+    by_rest None = refl
+    by_rest (Some more) = refl
+
+other_is : (id q : ℕ) (v : Values) (rest : List (ℕ × Values)) → eqb id q ≡ false → values_for ((id, v) ∷ rest) q ≡ values_for rest q
+other_is id q v rest e = rw (e, values_for) refl
+
+-- what a map has once the values v are added under id
+abbrev pub added : (ℕ → Option Values) → ℕ → Values → ℕ → Option Values
+added m id v q = cond (eqb id q) (Some (joined (m id) v)) (m q)
+
+added_is : (m : ℕ → Option Values) (id q : ℕ) (v : Values) (rest : List (ℕ × Values)) → ((w : Values) → m id ≡ Some w → shape w ≡ shape v)
+    → (b : Bool) → eqb id q ≡ b → followed (m q) (values_for ((id, v) ∷ rest) q) ≡ followed (cond b (Some (joined (m id) v)) (m q)) (values_for rest q)
+added_is m id q v rest h true e =
+    ap (followed (m q)) (first_is id q v rest e)
+    ∙ ap (λ (n : ℕ). followed (m n) (followed (Some v) (values_for rest q))) (sym (eqb-true id q e))
+    ∙ followed_more (m id) v (values_for rest q) h
+added_is m id q v rest h false e = ap (followed (m q)) (other_is id q v rest e)
+
+pub added_next : (m : ℕ → Option Values) (id q : ℕ) (v : Values) (rest : List (ℕ × Values)) → ((w : Values) → m id ≡ Some w → shape w ≡ shape v)
+    → followed (m q) (values_for ((id, v) ∷ rest) q) ≡ followed (added m id v q) (values_for rest q)
+added_next m id q v rest h = added_is m id q v rest h (eqb id q) refl
+
+pub followed_none : (m : Option Values) → followed m None ≡ m
+followed_none None = refl
+followed_none (Some v) = refl
+
+-- ---- the values of one get
+
+one_more : {Y : Type 0} (o : Option Y) (y : Y) (rest : List Y) → cons_option o [] ≡ y ∷ [] → cons_option o rest ≡ y ∷ rest
+one_more None y rest h = cc
+one_more {Y} (Some z) y rest h = let e : z ≡ y = cc in ap (λ (x : Y). x ∷ rest) e
+
+pub got_more : (header : Header) (p : Post) (b : List ℕ) (v : Values) (rest : List (Post × List ℕ)) → got_values header ((p, b) ∷ []) ≡ (p.id, v) ∷ []
+    → got_values header ((p, b) ∷ rest) ≡ (p.id, v) ∷ got_values header rest
+got_more header p b v rest h = one_more (option_map (λ (kind : NcType). (p.id, spread kind p.region b)) (kind_at header p.var)) (p.id, v) (got_values header rest) h
+
+pub got_is : (header : Header) (p : Post) (b : List ℕ) (var : Var) → slice_get header.vars p.var ≡ Some var
+    → got_values header ((p, b) ∷ []) ≡ (p.id, spread var.kind p.region b) ∷ []
+got_is header p b var e = ap (λ (o : Option Var). cons_option {X = ℕ × Values} (option_map (λ (kind : NcType). (p.id, spread kind p.region b)) (option_map (λ (v : Var). v.kind) o)) []) e
+
+abbrev first_shape : ℕ → List (ℕ × Values) → ℕ
+first_shape n [] = n
+first_shape n (v ∷ vs) = shape v.1
+
+value_shape : (p : Post) (b : List ℕ) (v : Values) (o : Option Var)
+    → cons_option {X = ℕ × Values} (option_map (λ (kind : NcType). (p.id, spread kind p.region b)) (option_map (λ (w : Var). w.kind) o)) [] ≡ (p.id, v) ∷ [] → shape v ≡ shape_some o
+value_shape p b v None h = cc
+value_shape p b v (Some var) h = sym (ap (first_shape 0) h) ∙ gathered_shape (class_of var.kind) _
+
+pub got_shape : (header : Header) (p : Post) (b : List ℕ) (v : Values) → got_values header ((p, b) ∷ []) ≡ (p.id, v) ∷ [] → shape v ≡ shape_at header p.var
+got_shape header p b v h = value_shape p b v (slice_get header.vars p.var) h
+
+-- ---- all gets
+
+-- values stand under an id that are of the kind of each get with that id
+abbrev pub HaveShapes : Header → List Post → (ℕ → Option Values) → Type 0
+HaveShapes header gets m = (q : ℕ) (w : Values) (p : Post) → m q ≡ Some w → In gets p → p.id ≡ q → shape w ≡ shape_at header p.var
+
+joined_shape : (m : Option Values) (v : Values) (n : ℕ) → ((w : Values) → m ≡ Some w → shape w ≡ n) → shape v ≡ n → shape (joined m v) ≡ n
+joined_shape None v n h e = e
+joined_shape (Some w) v n h e = longer w v (h w refl)
+  where
+    longer : (a b : Values) → shape a ≡ n → shape (with_more a b) ≡ n
+    longer (Numbers a) (Numbers b) k = k
+    longer (Text a) (Text b) k = k
+    longer (Bits a) (Bits b) k = k
+    longer (Numbers a) (Text b) k = k
+    longer (Numbers a) (Bits b) k = k
+    longer (Text a) (Numbers b) k = k
+    longer (Text a) (Bits b) k = k
+    longer (Bits a) (Numbers b) k = k
+    longer (Bits a) (Text b) k = k
+
+shape_next : (header : Header) (gets : List Post) (m : ℕ → Option Values) (g : Post) (v : Values) → In gets g → ((p q : Post) → In gets p → In gets q → p.id ≡ q.id → p.var ≡ q.var)
+    → HaveShapes header gets m → shape v ≡ shape_at header g.var
+    → (q : ℕ) (w : Values) (p : Post) (b : Bool) → eqb g.id q ≡ b → cond b (Some (joined (m g.id) v)) (m q) ≡ Some w → In gets p → p.id ≡ q → shape w ≡ shape_at header p.var
+shape_next header gets m g v here one h e q w p false t f k i = h q w p f k i
+shape_next header gets m g v here one h e q w p true t f k i =
+    let id = eqb-true g.id q t in
+    let var = one g p here k (id ∙ sym i) in
+    let w_is : joined (m g.id) v ≡ w = cc in
+    ap shape (sym w_is)
+    ∙ joined_shape (m g.id) v (shape_at header p.var) (λ u s. h g.id u p s k (i ∙ sym id)) (e ∙ ap (shape_at header) var)
+
+pub shapes_next : (header : Header) (gets : List Post) (m : ℕ → Option Values) (g : Post) (v : Values) → In gets g → ((p q : Post) → In gets p → In gets q → p.id ≡ q.id → p.var ≡ q.var)
+    → HaveShapes header gets m → shape v ≡ shape_at header g.var → HaveShapes header gets (added m g.id v)
+shapes_next header gets m g v here one h e q w p f k i = shape_next header gets m g v here one h e q w p (eqb g.id q) refl f k i
+
+pub in_at : {A : Type 0} (xs : List A) (i : ℕ) (x : A) → i < length xs → x ≡ get_or xs i x → In xs x
+in_at [] i x l e = absurd (omega arith)
+in_at (y ∷ xs) zero x l e = inl (sym e)
+in_at (y ∷ xs) (suc i) x l e = inr (in_at xs i x (omega arith) e)
+
+pub zip_next : (gets : List Post) (got : List (List ℕ)) (i : ℕ) (g : Post) (b : List ℕ) → i < length gets → i < length got → g ≡ get_or gets i g → b ≡ get_or got i b
+    → zip (drop i gets) (drop i got) ≡ (g, b) ∷ zip (drop (i + 1) gets) (drop (i + 1) got)
+zip_next gets got i g b l k e f = λ j. zip (first j) (second j)
+  where
+    first : drop i gets ≡ g ∷ drop (i + 1) gets
+    first = drop_more gets i g l ∙ ap (λ (x : Post). x ∷ drop (i + 1) gets) (sym e)
+
+    second : drop i got ≡ b ∷ drop (i + 1) got
+    second = drop_more got i b k ∙ ap (λ (x : List ℕ). x ∷ drop (i + 1) got) (sym f)
+
+pub same_at : {A B : Type 0} (f : A → ℕ) (g : B → ℕ) (xs : List A) (ys : List B) (i : ℕ) (x : A) (y : B) → map f xs ≡ map g ys → i < length xs → i < length ys
+    → x ≡ get_or xs i x → y ≡ get_or ys i y → f x ≡ g y
+same_at f g xs ys i x y h l k e d =
+    ap f e ∙ sym (get_or-map f xs i x 0 l) ∙ ap (λ (ns : List ℕ). get_or ns i 0) h ∙ get_or-map g ys i y 0 k ∙ ap g (sym d)
+
+pub same_long : {A B : Type 0} (f : A → ℕ) (g : B → ℕ) (xs : List A) (ys : List B) → map f xs ≡ map g ys → length xs ≡ length ys
+same_long f g xs ys h = sym (length-map xs f) ∙ ap length h ∙ length-map ys g

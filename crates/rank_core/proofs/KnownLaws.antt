@@ -1,0 +1,117 @@
+-- What is accepted stays so where the rank knows of more records.
+use Rattle.std.proofs.Common.{◌≡◌, ℕ, zero, suc, ◌-◌, ◌+◌, ◌*◌, ◌≤◌, ◌∙◌, ap, sym, refl, inl, inr, ◌⊎◌, List, [], ◌∷◌, map, length, Bool, true, false, cond, ltb, leb, eqb, ◌||◌, ◌&&◌, Option, Some, None, arith}
+use Rattle.std.specs.Prelude.{slice_get, zip}
+use Rattle.std.specs.List.{list_any}
+use Rattle.std.proofs.lemmas.Bool.{or_parts, or_from, ltb-false, leb-false, le-ltb, lt-leb, eqb-true, eqb-false, ne_eqb, and_cases, and_left, and_right, cases_eq, cond-false}
+use Rattle.nc_base.specs.declared.header.Header.{Header}
+use Rattle.nc_base.specs.declared.header.Var.{Var}
+use Rattle.nc_base.specs.declared.plan.Post.{Post}
+use Rattle.nc_base.specs.declared.request.Region.{Region}
+use Rattle.nc_base.specs.declared.request.Direction.{Direction}
+use Rattle.nc_base.specs.declared.request.Direction.TheVariants as way
+use Rattle.nc_base.specs.declared.answer.Code.{Code}
+use Rattle.nc_base.specs.declared.answer.Code.TheVariants as code
+use Rattle.serial_spec.specs.Layout.{lengths}
+use Rattle.serial_spec.specs.RegionCheck.{bound, bounds, is_past, bad_start, bad_edge, some_start, some_edge, other_shape, is_too_large, check, check_var, check_some}
+use Rattle.vara_extents.proofs.AcceptedLaws.{Passes, passed}
+use Rattle.rank_core.specs.Offered.{IsPut, IsGet}
+
+-- ---- one dimension
+
+start_past : (known more start count : ℕ) → known ≤ more → bad_start (Some known) start count ≡ false → bad_start (Some more) start count ≡ false
+start_past known more start count le h =
+    let parts = or_parts (ltb known start) (eqb start known && ltb 0 count) h in
+    let near = ltb-false known start parts.0 in
+    or_from (ltb more start) (eqb start more && ltb 0 count) (le-ltb more start (omega arith)) (by_count (and_cases (eqb start known) (ltb 0 count) parts.1))
+  where
+    by_count : (eqb start known ≡ false) ⊎ (ltb 0 count ≡ false) → (eqb start more && ltb 0 count) ≡ false
+    by_count (inl e) =
+        let apart = eqb-false start known e in
+        let parts = or_parts (ltb known start) (eqb start known && ltb 0 count) h in
+        let near = ltb-false known start parts.0 in
+        and_left (eqb start more) (ltb 0 count) (ne_eqb start more (λ same. apart (omega arith)))
+    by_count (inr e) = and_right (eqb start more) (ltb 0 count) e
+
+start_more : (d : Direction) (known more n start count : ℕ) → known ≤ more → bad_start (bound d known n) start count ≡ false → bad_start (bound d more n) start count ≡ false
+start_more way.Put known more zero start count le h = refl
+start_more way.Get known more zero start count le h = start_past known more start count le h
+start_more way.Put known more (suc n) start count le h = h
+start_more way.Get known more (suc n) start count le h = h
+
+edge_past : (known more start count stride : ℕ) → known ≤ more → bad_edge (Some known) start count stride ≡ false → bad_edge (Some more) start count stride ≡ false
+edge_past known more start count stride le h = by_count (and_cases (ltb 0 count) (leb known (start + (count - 1) * stride)) h)
+  where
+    by_count : (ltb 0 count ≡ false) ⊎ (leb known (start + (count - 1) * stride) ≡ false) → (ltb 0 count && leb more (start + (count - 1) * stride)) ≡ false
+    by_count (inl e) = and_left (ltb 0 count) (leb more (start + (count - 1) * stride)) e
+    by_count (inr e) =
+        let near = leb-false known (start + (count - 1) * stride) e in
+        and_right (ltb 0 count) (leb more (start + (count - 1) * stride)) (lt-leb more (start + (count - 1) * stride) (omega arith))
+
+edge_more : (d : Direction) (known more n start count stride : ℕ) → known ≤ more → bad_edge (bound d known n) start count stride ≡ false → bad_edge (bound d more n) start count stride ≡ false
+edge_more way.Put known more zero start count stride le h = h
+edge_more way.Get known more zero start count stride le h = edge_past known more start count stride le h
+edge_more way.Put known more (suc n) start count stride le h = h
+edge_more way.Get known more (suc n) start count stride le h = h
+
+-- ---- all dimensions
+
+starts_more : (d : Direction) (known more : ℕ) (ns starts counts : List ℕ) → known ≤ more
+    → some_start (map (bound d known) ns) starts counts ≡ false → some_start (map (bound d more) ns) starts counts ≡ false
+starts_more d known more [] starts counts le h = refl
+starts_more d known more (n ∷ ns) [] counts le h = refl
+starts_more d known more (n ∷ ns) (s ∷ starts) [] le h = refl
+starts_more d known more (n ∷ ns) (s ∷ starts) (c ∷ counts) le h =
+    let parts = or_parts (bad_start (bound d known n) s c) (some_start (map (bound d known) ns) starts counts) h in
+    or_from (bad_start (bound d more n) s c) (some_start (map (bound d more) ns) starts counts)
+    (start_more d known more n s c le parts.0) (starts_more d known more ns starts counts le parts.1)
+
+edges_more : (d : Direction) (known more : ℕ) (ns starts counts strides : List ℕ) → known ≤ more
+    → some_edge (map (bound d known) ns) starts counts strides ≡ false → some_edge (map (bound d more) ns) starts counts strides ≡ false
+edges_more d known more [] starts counts strides le h = refl
+edges_more d known more (n ∷ ns) [] counts strides le h = refl
+edges_more d known more (n ∷ ns) (s ∷ starts) [] strides le h = refl
+edges_more d known more (n ∷ ns) (s ∷ starts) (c ∷ counts) [] le h = refl
+edges_more d known more (n ∷ ns) (s ∷ starts) (c ∷ counts) (t ∷ strides) le h =
+    let parts = or_parts (bad_edge (bound d known n) s c t) (some_edge (map (bound d known) ns) starts counts strides) h in
+    or_from (bad_edge (bound d more n) s c t) (some_edge (map (bound d more) ns) starts counts strides)
+    (edge_more d known more n s c t le parts.0) (edges_more d known more ns starts counts strides le parts.1)
+
+-- ---- a region
+
+fails : (b : Bool) (c rest : Code) → b ≡ false → rest ≡ code.Ok → cond b c rest ≡ code.Ok
+fails b c rest e h = cond-false b c rest e ∙ h
+
+all_pass : (header : Header) (var : Var) (g : Region) (known : ℕ) (d : Direction) → Passes header var g known d → check_var header var g known d ≡ code.Ok
+all_pass header var g known d p =
+    fails (other_shape (length var.dims) g) code.EInvalCoords _ p.shape
+    (fails (list_any (λ n. eqb n 0) g.stride) code.EStride _ p.stride
+    (fails (some_start (bounds header var known d) g.start g.count) code.EInvalCoords _ p.start
+    (fails (some_edge (bounds header var known d) g.start g.count g.stride) code.EEdge _ p.edge
+    (fails (is_too_large header var g) code.ETooLarge code.Ok p.large refl))))
+
+var_more : (header : Header) (var : Var) (g : Region) (known more : ℕ) (d : Direction) → known ≤ more
+    → check_var header var g known d ≡ code.Ok → check_var header var g more d ≡ code.Ok
+var_more header var g known more d le h =
+    let p = passed header var g known d h in
+    all_pass header var g more d (record {
+      shape = p.shape;
+      stride = p.stride;
+      start = starts_more d known more (lengths header var) g.start g.count le p.start;
+      edge = edges_more d known more (lengths header var) g.start g.count g.stride le p.edge;
+      large = p.large;
+    })
+
+some_more : (header : Header) (var : Option Var) (g : Region) (known more : ℕ) (d : Direction) → known ≤ more
+    → check_some header var g known d ≡ code.Ok → check_some header var g more d ≡ code.Ok
+some_more header None g known more d le h = h
+some_more header (Some var) g known more d le h = var_more header var g known more d le h
+
+pub check_more : (header : Header) (var : ℕ) (g : Region) (known more : ℕ) (d : Direction) → known ≤ more
+    → check header var g known d ≡ code.Ok → check header var g more d ≡ code.Ok
+check_more header var g known more d le h = some_more header (slice_get header.vars var) g known more d le h
+
+pub get_more : (header : Header) (known more : ℕ) (p : Post) → known ≤ more → IsGet header known p → IsGet header more p
+get_more header known more p le h = check_more header p.var p.region known more way.Get le h
+
+pub put_more : (header : Header) (known more : ℕ) (p : Post) → known ≤ more → IsPut header known p → IsPut header more p
+put_more header known more p le h = record { accepted = check_more header p.var p.region known more way.Put le h.accepted; whole = h.whole }

@@ -1,0 +1,129 @@
+-- A region that a check accepts has its positions in memory within the limits.
+use Rattle.std.proofs.Common.{◌≡◌, ℕ, zero, suc, ◌+◌, ◌-◌, ◌*◌, ◌<◌, ◌≤◌, refl, sym, ap, subst, ◌∙◌, inl, inr, ◌⊎◌, List, [], ◌∷◌, length, map, zip, Bool, true, false, not, cond, ltb, leb, eqb, ◌&&◌, ◌||◌, max, arith}
+use Rattle.std.specs.Prelude.{sum_by}
+use Rattle.std.specs.List.{range_with_len, list_any, AllByRecursion}
+use Rattle.std.proofs.lemmas.Bool.{or_parts, and_parts, and_cases, not-false, ltb-false, leb-false, eqb-true, lt-ltb, ne_eqb, cases_lt}
+use Rattle.std.proofs.lemmas.List.Sums.{sum_by-cons}
+use Rattle.std.proofs.Math.Nat.{mul-le-mul_left}
+use Rattle.nc_base.specs.declared.answer.Code.TheVariants as code
+use Rattle.nc_base.specs.declared.header.Header.{Header}
+use Rattle.nc_base.specs.declared.header.Var.{Var}
+use Rattle.nc_base.specs.declared.request.Direction.{Direction}
+use Rattle.nc_base.specs.declared.request.Region.{Region}
+use Rattle.serial_spec.specs.HeaderGrammar.{header_len}
+use Rattle.serial_spec.specs.Layout.{end_of, greatest, product}
+use Rattle.serial_spec.specs.Limits.{file_limit, most_elements, record_limit}
+use Rattle.serial_spec.specs.Place.{IsIndex}
+use Rattle.serial_spec.specs.Records.{records_of}
+use Rattle.serial_spec.specs.RegionCheck.{check_var, is_too_large, last_position, other_shape}
+use Rattle.serial_spec.specs.Request.{coordinates, position_at, positions, reach}
+use Rattle.serial_spec.proofs.AcceptLaws.{coordinates_all}
+use Rattle.imap_extents.specs.Mapped.{IsMapped}
+use Rattle.imap_extents.proofs.PositionLaws.{no_coordinates}
+use Rattle.vara_extents.proofs.AcceptedLaws.{passed}
+
+-- ---- whether there is an element
+
+pub some_product : (counts : List ℕ) → not (list_any (λ n. eqb n 0) counts) ≡ ltb 0 (product counts)
+some_product [] = refl
+some_product (zero ∷ counts) = let none : 0 * product counts ≡ 0 = omega arith in sym (ap (λ (n : ℕ). ltb 0 n) none)
+some_product (suc n ∷ counts) =
+    ap (λ (b : Bool). not (b || list_any (λ m. eqb m 0) counts)) (ne_eqb (suc n) 0 (λ e. omega arith))
+    ∙ some_product counts ∙ sym (by_rest (product counts))
+  where
+    by_rest : (p : ℕ) → ltb 0 (suc n * p) ≡ ltb 0 p
+    by_rest zero = let none : suc n * 0 ≡ 0 = omega arith in ap (λ (n : ℕ). ltb 0 n) none
+    by_rest (suc p) = lt-ltb 0 (suc n * suc p) (omega arith) ∙ sym (lt-ltb 0 (suc p) (omega arith))
+
+-- ---- positions
+
+range_below : (a n : ℕ) → greatest (map (λ m. m + 1) (range_with_len a n)) ≤ a + n
+range_below a zero = omega arith
+range_below a (suc n) = let rest = range_below (a + 1) n in omega arith
+
+times_below : (i n s : ℕ) → i < n → s * i ≤ (n - 1) * s
+times_below i zero s h = absurd (omega arith)
+times_below i (suc n) s h =
+    let e : suc n - 1 ≡ n = omega arith in
+    let l : i ≤ n = omega arith in
+    let m : s * i ≤ n * s = omega (arith, mul-le-mul_left s l) in
+    subst (λ (k : ℕ). s * i ≤ k * s) (sym e) m
+
+position_below : (counts imap c : List ℕ) → IsIndex counts c → position_at imap c ≤ last_position counts imap
+position_below [] [] [] h = omega arith
+position_below [] (s ∷ imap) [] h = omega arith
+position_below [] imap (i ∷ c) h = absurd h
+position_below (n ∷ counts) imap [] h = absurd h
+position_below (n ∷ counts) [] (i ∷ c) h = omega arith
+position_below (n ∷ counts) (s ∷ imap) (i ∷ c) h =
+    let one = sum_by-cons (λ (p : ℕ × ℕ). p.1 * p.0) (s, i) (zip imap c) in
+    let other = sum_by-cons (λ (p : ℕ × ℕ). (p.0 - 1) * p.1) (n, s) (zip counts imap) in
+    let rest = position_below counts imap c h.1 in
+    let first = times_below i n s h.0 in
+    omega (arith, one, other, rest, first)
+
+all_positions : (counts imap : List ℕ) (cs : List (List ℕ)) → AllByRecursion (IsIndex counts) cs
+    → greatest (map (λ m. m + 1) (map (λ c. position_at imap c) cs)) ≤ last_position counts imap + 1
+all_positions counts imap [] h = omega arith
+all_positions counts imap (c ∷ cs) h =
+    let first = position_below counts imap c h.0 in
+    let rest = all_positions counts imap cs h.1 in
+    omega (arith, first, rest)
+
+by_map : (g : Region) → g.packed ≡ false → reach g ≡ greatest (map (λ m. m + 1) (map (λ c. position_at g.imap c) (coordinates g.count)))
+by_map g e = ap (λ (b : Bool). greatest (map (λ m. m + 1) (cond b (range_with_len 0 (product g.count)) (map (λ c. position_at g.imap c) (coordinates g.count))))) e
+
+in_order : (g : Region) → g.packed ≡ true → reach g ≡ greatest (map (λ m. m + 1) (range_with_len 0 (product g.count)))
+in_order g e = ap (λ (b : Bool). greatest (map (λ m. m + 1) (cond b (range_with_len 0 (product g.count)) (map (λ c. position_at g.imap c) (coordinates g.count))))) e
+
+reach_none : (g : Region) → g.packed ≡ false → product g.count ≡ 0 → reach g ≡ 0
+reach_none g e none =
+    by_map g e ∙ ap (λ (cs : List (List ℕ)). greatest (map (λ m. m + 1) (map (λ c. position_at g.imap c) cs))) (no_coordinates g.count none)
+
+-- ---- what is not too large
+
+record IsSmall (g : Region) : Type 0 where
+  few : product g.count ≤ most_elements
+  near : (not g.packed && ltb 0 (product g.count) && leb most_elements (last_position g.count g.imap)) ≡ false
+
+small : (header : Header) (v : Var) (g : Region) → is_too_large header v g ≡ false → IsSmall g
+small header v g h =
+    let a = or_parts (ltb most_elements (product g.count) || (not g.packed && ltb 0 (product g.count) && leb most_elements (last_position g.count g.imap)) || leb (record_limit header.version) (records_of header v g))
+    (leb file_limit (end_of header (header_len header) (records_of header v g))) h in
+    let b = or_parts (ltb most_elements (product g.count) || (not g.packed && ltb 0 (product g.count) && leb most_elements (last_position g.count g.imap)))
+    (leb (record_limit header.version) (records_of header v g)) a.0 in
+    let c = or_parts (ltb most_elements (product g.count)) (not g.packed && ltb 0 (product g.count) && leb most_elements (last_position g.count g.imap)) b.0 in
+    record { few = ltb-false most_elements (product g.count) c.0; near = c.1 }
+
+within : (packed some far : Bool) → packed ≡ false → some ≡ true → (not packed && some && far) ≡ false → far ≡ false
+within packed some far e f h = sym (ap (λ (b : Bool). not b && some && far) e ∙ ap (λ (b : Bool). true && b && far) f) ∙ h
+
+near_of : (g : Region) → IsSmall g → (b : Bool) → g.packed ≡ b → reach g ≤ most_elements
+near_of g s true e = let below = range_below 0 (product g.count) in omega (arith, s.few, in_order g e, below)
+near_of g s false e = by_elements (cases_lt 0 (product g.count))
+  where
+    by_elements : (0 < product g.count) ⊎ (product g.count ≤ 0) → reach g ≤ most_elements
+    by_elements (inl some) =
+        let far = within g.packed (ltb 0 (product g.count)) (leb most_elements (last_position g.count g.imap)) e (lt-ltb 0 (product g.count) some) s.near in
+        let below = leb-false most_elements (last_position g.count g.imap) far in
+        let all = all_positions g.count g.imap (coordinates g.count) (coordinates_all g.count) in
+        omega (arith, by_map g e, below, all)
+    by_elements (inr none) = omega (arith, reach_none g e (omega arith))
+
+shape_of : (dims : ℕ) (g : Region) → other_shape dims g ≡ false → g.packed ≡ false → length g.imap ≡ length g.count
+shape_of dims g h e =
+    let four = and_parts (eqb (length g.start) dims && eqb (length g.count) dims && eqb (length g.stride) dims) (g.packed || eqb (length g.imap) dims)
+    (not-false (eqb (length g.start) dims && eqb (length g.count) dims && eqb (length g.stride) dims && (g.packed || eqb (length g.imap) dims)) h) in
+    let three = and_parts (eqb (length g.start) dims && eqb (length g.count) dims) (eqb (length g.stride) dims) four.0 in
+    let two = and_parts (eqb (length g.start) dims) (eqb (length g.count) dims) three.0 in
+    let mapped : eqb (length g.imap) dims ≡ true = sym (ap (λ (b : Bool). b || eqb (length g.imap) dims) e) ∙ four.1 in
+    eqb-true (length g.imap) dims mapped ∙ sym (eqb-true (length g.count) dims two.1)
+
+pub accepted_mapped : (header : Header) (v : Var) (g : Region) (known : ℕ) (direction : Direction) → check_var header v g known direction ≡ code.Ok → IsMapped g
+accepted_mapped header v g known direction h =
+    let all = passed header v g known direction h in
+    let s = small header v g all.large in
+    record { shape = shape_of (length v.dims) g all.shape; few = s.few; near = near_of g s g.packed refl }
+
+pub accepted_few : (header : Header) (v : Var) (g : Region) (known : ℕ) (direction : Direction) → check_var header v g known direction ≡ code.Ok → product g.count ≤ most_elements
+accepted_few header v g known direction h = (small header v g (passed header v g known direction h).large).few

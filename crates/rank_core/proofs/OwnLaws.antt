@@ -1,0 +1,70 @@
+-- Requests under different ids, none of which holds a byte twice.
+use Rattle.std.proofs.Common.{◌≡◌, ℕ, zero, suc, ◌+◌, ◌-◌, ◌<◌, ◌≤◌, ◌∙◌, ap, sym, refl, subst, inl, inr, ◌⊎◌, List, [], ◌∷◌, ◌++◌, map, length, Option, Some, None, arith}
+use Rattle.std.specs.Prelude.{slice_get}
+use Rattle.std.proofs.lemmas.List.{map-append}
+use Rattle.nc_base.specs.declared.header.Header.{Header}
+use Rattle.nc_base.specs.declared.plan.Post.{Post}
+use Rattle.overlay_laws.specs.Entries.{In}
+use Rattle.serial_spec.specs.SharedByte.{Holding, Key, holdings, bytes_of, IsOwnOnce}
+
+pub none_some : {A B : Type 0} (x : A) → None ≡ Some x → B
+none_some x e = cc
+
+same : {A : Type 0} (x y : A) → Some x ≡ Some y → x ≡ y
+same x y e = cc
+
+-- an index of a list that is joined from two
+joined_at : {A : Type 0} (xs ys : List A) (i : ℕ) (x : A) → slice_get (xs ++ ys) i ≡ Some x
+    → (slice_get xs i ≡ Some x) ⊎ ((j : ℕ) × (i ≡ length xs + j) × (slice_get ys j ≡ Some x))
+joined_at [] ys i x h = inr (i, omega arith, h)
+joined_at (y ∷ xs) ys zero x h = inl h
+joined_at {A} (y ∷ xs) ys (suc i) x h = later (joined_at xs ys i x h)
+  where
+    later : (slice_get xs i ≡ Some x) ⊎ ((j : ℕ) × (i ≡ length xs + j) × (slice_get ys j ≡ Some x))
+        → (slice_get (y ∷ xs) (suc i) ≡ Some x) ⊎ ((j : ℕ) × (suc i ≡ length (y ∷ xs) + j) × (slice_get ys j ≡ Some x))
+    later (inl g) = inl g
+    later (inr g) = let e = g.1 in inr (g.0, omega arith, g.2)
+
+-- no key of the one list is a key of the other
+abbrev pub AreApart : List Holding → List Holding → Type 0
+AreApart xs ys = (i j : ℕ) (g h : Holding) → slice_get xs i ≡ Some g → slice_get ys j ≡ Some h → g.0 ≡ h.0 → ⊥
+
+pub own_append : (xs ys : List Holding) → IsOwnOnce xs → IsOwnOnce ys → AreApart xs ys → IsOwnOnce (xs ++ ys)
+own_append xs ys a b apart i j g h k l x ei ej keys ek el = by_sides (joined_at xs ys i g ei) (joined_at xs ys j h ej)
+  where
+    by_sides : (slice_get xs i ≡ Some g) ⊎ ((m : ℕ) × (i ≡ length xs + m) × (slice_get ys m ≡ Some g))
+        → (slice_get xs j ≡ Some h) ⊎ ((m : ℕ) × (j ≡ length xs + m) × (slice_get ys m ≡ Some h)) → (i ≡ j) × (k ≡ l)
+    by_sides (inl p) (inl q) = a i j g h k l x p q keys ek el
+    by_sides (inl p) (inr q) = absurd (apart i q.0 g h p q.2 keys)
+    by_sides (inr p) (inl q) = absurd (apart j p.0 h g q p.2 (sym keys))
+    by_sides (inr p) (inr q) =
+        let r = b p.0 q.0 g h k l x p.2 q.2 keys ek el in
+        let e = p.1 in
+        let f = q.1 in
+        let m = r.0 in (omega arith, r.1)
+
+pub own_none : IsOwnOnce []
+own_none i j g h k l x ei ej keys ek el = none_some g ei
+
+-- what the posts hold, under a rank
+abbrev pub held_by : Header → ℕ → List Post → List Holding
+held_by header rank posts = holdings header (map (λ p. (rank, p)) posts)
+
+pub held_append : (header : Header) (rank : ℕ) (ps qs : List Post) → held_by header rank (ps ++ qs) ≡ held_by header rank ps ++ held_by header rank qs
+held_append header rank [] qs = refl
+held_append header rank (p ∷ ps) qs = ap (λ (l : List Holding). ((rank, p.id), bytes_of header p) ∷ l) (held_append header rank ps qs)
+
+-- a holding is that of a post
+pub held_at : (header : Header) (rank : ℕ) (ps : List Post) (i : ℕ) (h : Holding) → slice_get (held_by header rank ps) i ≡ Some h
+    → (p : Post) × In ps p × (h.0 ≡ (rank, p.id))
+held_at header rank [] i h e = none_some h e
+held_at header rank (p ∷ ps) zero h e = let g = same _ h e in (p, inl refl, sym (ap (λ (x : Holding). x.0) g))
+held_at header rank (p ∷ ps) (suc i) h e = let r = held_at header rank ps i h e in (r.0, inr r.1, r.2)
+
+-- posts whose ids differ are under different keys
+pub keys_apart : (header : Header) (rank : ℕ) (ps qs : List Post) → ((p q : Post) → In ps p → In qs q → p.id ≡ q.id → ⊥) → AreApart (held_by header rank ps) (held_by header rank qs)
+keys_apart header rank ps qs differ i j g h ei ej keys =
+    let p = held_at header rank ps i g ei in
+    let q = held_at header rank qs j h ej in
+    let k : ◌≡◌ {A = Key} (rank, p.0.id) (rank, q.0.id) = sym p.2 ∙ keys ∙ q.2 in
+    differ p.0 q.0 p.1 q.1 (ap (λ (x : Key). x.1) k)

@@ -1,0 +1,284 @@
+-- What is kept of the requests of a rank.
+use Rattle.std.proofs.Common.{◌≡◌, ℕ, ◌+◌, ◌≤◌, ◌∙◌, ap, sym, refl, subst, inl, inr, ◌⊎◌, List, [], ◌∷◌, ◌++◌, map, sum, length, Bool, true, false, cond, eqb, ◌||◌, ◌&&◌, Option, Some, None, arith}
+use Rattle.std.specs.Prelude.{filter, flat_map, find, option_map}
+use Rattle.std.proofs.lemmas.Bool.{or_parts, eq-eqb, eqb-true, eqb-false, ne_eqb, cond-true, cond-false, and_parts}
+use Rattle.std.proofs.lemmas.List.{length-append}
+use Rattle.std.proofs.lemmas.List.Sums.{sum-map, sum_by-cons, sum_by_push}
+use Rattle.nc_base.specs.declared.header.Header.{Header}
+use Rattle.nc_base.specs.declared.plan.Post.{Post}
+use Rattle.nc_base.specs.declared.answer.Item.{Item}
+use Rattle.nc_base.specs.declared.plan.Batch.{Batch}
+use Rattle.nc_base.specs.declared.request.Choice.{Choice}
+use Rattle.nc_base.specs.declared.request.PostKind.{PostKind}
+use Rattle.nc_base.specs.declared.request.PostKind.TheVariants.{Iput, Iget, Bput}
+use Rattle.nc_base.specs.declared.request.Direction.{Direction}
+use Rattle.nc_base.specs.declared.request.Direction.TheVariants as way
+use Rattle.overlay_laws.specs.Entries.{In}
+use Rattle.overlay_laws.proofs.HullLaws.{filter_in, flat_in, in_either}
+use Rattle.serial_spec.specs.RankMachine as machine
+use Rattle.serial_spec.specs.RankMachine.{Posted, Status, NullRequest, Waiting, Gone, is_waiting, is_chosen, named, chosen, batch_chosen, without_chosen, puts_in, gets_in, status_of, with_posted, item_code, items_from, items_of, has_id}
+use Rattle.serial_spec.specs.RegionCheck.{is_ok_code}
+use Rattle.serial_spec.specs.SharedByte.{IsOwnOnce}
+use Rattle.request_queue.proofs.PostedLaws.{not_posted, has_posted, status_of-push}
+use Rattle.rank_core.specs.Offered.{IsPut, IsGet}
+use Rattle.run_laws.specs.Requests.{posts_of_status, posts_held}
+use Rattle.rank_core.specs.Requests.{AreGets, ArePuts, AreTowards, HaveId, IsRequest, AreRequests, AreOnce, direction_of_kind}
+use Rattle.rank_core.proofs.KnownLaws.{get_more, put_more}
+use Rattle.rank_core.proofs.OwnLaws.{own_append, own_none, held_by, held_append, keys_apart}
+
+-- ---- the rank knows of more records
+
+pub gets_more : (header : Header) (known more : ℕ) (posts : List Post) → known ≤ more → AreGets header known posts → AreGets header more posts
+gets_more header known more posts le h = record { each = λ p m. get_more header known more p le (h.each p m); var = h.var }
+
+pub puts_more : (header : Header) (known more : ℕ) (posts : List Post) → known ≤ more → ArePuts header known posts → ArePuts header more posts
+puts_more header known more posts le h = record { each = λ p m. put_more header known more p le (h.each p m); own = h.own }
+
+towards_more : (d : Direction) (header : Header) (known more : ℕ) (posts : List Post) → known ≤ more → AreTowards d header known posts → AreTowards d header more posts
+towards_more way.Put header known more posts le h = puts_more header known more posts le h
+towards_more way.Get header known more posts le h = gets_more header known more posts le h
+
+request_more : (header : Header) (known more id : ℕ) (s : Status) → known ≤ more → IsRequest header known id s → IsRequest header more id s
+request_more header known more id NullRequest le h = tt
+request_more header known more id Gone le h = tt
+request_more header known more id (Waiting kind posts) le h = (h.0, towards_more (direction_of_kind kind) header known more posts le h.1)
+
+pub requests_more : (header : Header) (known more : ℕ) (ps : List Posted) → known ≤ more → AreRequests header known ps → AreRequests header more ps
+requests_more header known more [] le h = tt
+requests_more header known more (p ∷ ps) le h = (request_more header known more p.id p.status le h.0, h.1, requests_more header known more ps le h.2)
+
+-- ---- a request more
+
+pub requests_push : (header : Header) (known : ℕ) (ps : List Posted) (id : ℕ) (s : Status) → status_of ps id ≡ None → IsRequest header known id s
+    → AreRequests header known ps → AreRequests header known (ps ++ record { id = id; status = s } ∷ [])
+requests_push header known [] id s fresh r h = (r, refl, tt)
+requests_push header known (p ∷ ps) id s fresh r h =
+    let parts = or_parts (eqb p.id id) (has_posted ps id) (not_posted (p ∷ ps) id fresh) in
+    let differ = eqb-false p.id id parts.0 in
+    let rest : status_of ps id ≡ None = rw parts.0 at fresh in (
+      h.0,
+      status_of-push ps (record { id = id; status = s }) p.id (ne_eqb id p.id (λ e. differ (sym e))) h.1,
+      requests_push header known ps id s rest r h.2,
+    )
+
+-- ---- requests that are taken
+
+abbrev pub gone_where : (Posted → Bool) → Posted → Posted
+gone_where f p = cond (f p) (record p { status = Gone }) p
+
+same_id : (f : Posted → Bool) (p : Posted) → (gone_where f p).id ≡ p.id
+same_id f p = by_test (f p)
+  where
+    by_test : (b : Bool) → (cond b (record p { status = Gone }) p).id ≡ p.id
+    by_test true = refl
+    by_test false = refl
+
+stays_new : (f : Posted → Bool) (ps : List Posted) (id : ℕ) → status_of ps id ≡ None → status_of (map (gone_where f) ps) id ≡ None
+stays_new f [] id h = refl
+stays_new f (p ∷ ps) id h =
+    let parts = or_parts (eqb p.id id) (has_posted ps id) (not_posted (p ∷ ps) id h) in
+    let other : eqb (gone_where f p).id id ≡ false = ap (λ (n : ℕ). eqb n id) (same_id f p) ∙ parts.0 in
+    let rest : status_of ps id ≡ None = rw parts.0 at h in
+    ap (option_map (λ (q : Posted). q.status)) (cond-false (eqb (gone_where f p).id id) (Some (gone_where f p)) (find (λ (q : Posted). eqb q.id id) (map (gone_where f) ps)) other)
+    ∙ stays_new f ps id rest
+
+request_gone : (header : Header) (known : ℕ) (p : Posted) (b : Bool) → IsRequest header known p.id p.status
+    → IsRequest header known (cond b (record p { status = Gone }) p).id (cond b (record p { status = Gone }) p).status
+request_gone header known p true h = tt
+request_gone header known p false h = h
+
+pub requests_without : (header : Header) (known : ℕ) (f : Posted → Bool) (ps : List Posted) → AreRequests header known ps → AreRequests header known (map (gone_where f) ps)
+requests_without header known f [] h = tt
+requests_without header known f (p ∷ ps) h = (
+  request_gone header known p (f p) h.0,
+  ap (status_of (map (gone_where f) ps)) (same_id f p) ∙ stays_new f ps p.id h.1,
+  requests_without header known f ps h.2,
+)
+
+request_in : (header : Header) (known : ℕ) (ps : List Posted) (p : Posted) → AreRequests header known ps → In ps p → IsRequest header known p.id p.status
+request_in header known [] p h m = absurd m
+request_in header known (q ∷ ps) p h (inl e) = subst (λ (x : Posted). IsRequest header known x.id x.status) e h.0
+request_in header known (q ∷ ps) p h (inr m) = request_in header known ps p h.2 m
+
+put_in : (header : Header) (known id : ℕ) (s : Status) (p : Post) → IsRequest header known id s → In (puts_in s) p → IsPut header known p × (p.id ≡ id)
+put_in header known id NullRequest p r m = absurd m
+put_in header known id Gone p r m = absurd m
+put_in header known id (Waiting Iput posts) p r m = (r.1.each p m, r.0 p m)
+put_in header known id (Waiting Bput posts) p r m = (r.1.each p m, r.0 p m)
+put_in header known id (Waiting Iget posts) p r m = absurd m
+
+get_in : (header : Header) (known id : ℕ) (s : Status) (p : Post) → IsRequest header known id s → In (gets_in s) p → IsGet header known p × (p.id ≡ id)
+get_in header known id NullRequest p r m = absurd m
+get_in header known id Gone p r m = absurd m
+get_in header known id (Waiting Iput posts) p r m = absurd m
+get_in header known id (Waiting Bput posts) p r m = absurd m
+get_in header known id (Waiting Iget posts) p r m = (r.1.each p m, r.0 p m)
+
+one_var : (header : Header) (known id : ℕ) (s : Status) (p q : Post) → IsRequest header known id s → In (gets_in s) p → In (gets_in s) q → p.id ≡ q.id → p.var ≡ q.var
+one_var header known id NullRequest p q r m n e = absurd m
+one_var header known id Gone p q r m n e = absurd m
+one_var header known id (Waiting Iput posts) p q r m n e = absurd m
+one_var header known id (Waiting Bput posts) p q r m n e = absurd m
+one_var header known id (Waiting Iget posts) p q r m n e = r.1.var p q m n e
+
+own_puts : (header : Header) (known id rank : ℕ) (s : Status) → IsRequest header known id s → IsOwnOnce (held_by header rank (puts_in s))
+own_puts header known id rank NullRequest r = own_none
+own_puts header known id rank Gone r = own_none
+own_puts header known id rank (Waiting Iput posts) r = r.1.own rank
+own_puts header known id rank (Waiting Bput posts) r = r.1.own rank
+own_puts header known id rank (Waiting Iget posts) r = own_none
+
+-- no later request has the id of an earlier one
+id_in : (ps : List Posted) (p : Posted) (id : ℕ) → status_of ps id ≡ None → In ps p → p.id ≡ id → ⊥
+id_in [] p id h m e = absurd m
+id_in (q ∷ ps) p id h (inl g) e =
+    let parts = or_parts (eqb q.id id) (has_posted ps id) (not_posted (q ∷ ps) id h) in
+    eqb-false q.id id parts.0 (ap (λ (x : Posted). x.id) g ∙ e)
+id_in (q ∷ ps) p id h (inr m) e =
+    let parts = or_parts (eqb q.id id) (has_posted ps id) (not_posted (q ∷ ps) id h) in
+    let rest : status_of ps id ≡ None = rw parts.0 at h in
+    id_in ps p id rest m e
+
+one_request : (header : Header) (known : ℕ) (ps : List Posted) (p q : Posted) → AreRequests header known ps → In ps p → In ps q → p.id ≡ q.id → p ≡ q
+one_request header known [] p q h m n e = absurd m
+one_request header known (x ∷ ps) p q h (inl a) (inl b) e = sym a ∙ b
+one_request header known (x ∷ ps) p q h (inl a) (inr n) e = absurd (id_in ps q x.id h.1 n (sym e ∙ ap (λ (y : Posted). y.id) (sym a)))
+one_request header known (x ∷ ps) p q h (inr m) (inl b) e = absurd (id_in ps p x.id h.1 m (e ∙ ap (λ (y : Posted). y.id) (sym b)))
+one_request header known (x ∷ ps) p q h (inr m) (inr n) e = one_request header known ps p q h.2 m n e
+
+abbrev pub puts_where : (Posted → Bool) → List Posted → List Post
+puts_where f ps = flat_map (λ (p : Posted). puts_in p.status) (filter f ps)
+
+abbrev pub gets_where : (Posted → Bool) → List Posted → List Post
+gets_where f ps = flat_map (λ (p : Posted). gets_in p.status) (filter f ps)
+
+differ : (header : Header) (known : ℕ) (f : Posted → Bool) (p : Posted) (ps : List Posted) → AreRequests header known (p ∷ ps)
+    → (a b : Post) → In (puts_in p.status) a → In (puts_where f ps) b → a.id ≡ b.id → ⊥
+differ header known f p ps h a b m n e =
+    let r = flat_in (λ (q : Posted). puts_in q.status) (filter f ps) b n in
+    let w = filter_in f ps r.0 r.1 in
+    let first = (put_in header known p.id p.status a h.0 m).1 in
+    let later = (put_in header known r.0.id r.0.status b (request_in header known ps r.0 h.2 w.0) r.2).1 in
+    id_in ps r.0 p.id h.1 w.0 (sym later ∙ sym e ∙ first)
+
+own_more : (header : Header) (known rank : ℕ) (f : Posted → Bool) (p : Posted) (ps : List Posted) → AreRequests header known (p ∷ ps) → IsOwnOnce (held_by header rank (puts_where f ps))
+    → (b : Bool) → IsOwnOnce (held_by header rank (flat_map (λ (q : Posted). puts_in q.status) (cond b (p ∷ filter f ps) (filter f ps))))
+own_more header known rank f p ps h rest false = rest
+own_more header known rank f p ps h rest true =
+    subst IsOwnOnce (sym (held_append header rank (puts_in p.status) (puts_where f ps)))
+    (own_append (held_by header rank (puts_in p.status)) (held_by header rank (puts_where f ps))
+    (own_puts header known p.id rank p.status h.0) rest (keys_apart header rank (puts_in p.status) (puts_where f ps) (differ header known f p ps h)))
+
+own_where : (header : Header) (known rank : ℕ) (f : Posted → Bool) (ps : List Posted) → AreRequests header known ps → IsOwnOnce (held_by header rank (puts_where f ps))
+own_where header known rank f [] h = own_none
+own_where header known rank f (p ∷ ps) h = own_more header known rank f p ps h (own_where header known rank f ps h.2) (f p)
+
+pub puts_taken : (header : Header) (known : ℕ) (f : Posted → Bool) (ps : List Posted) → AreRequests header known ps → ArePuts header known (puts_where f ps)
+puts_taken header known f ps h = record {
+  each = λ p m. let r = flat_in (λ (q : Posted). puts_in q.status) (filter f ps) p m in
+      let w = filter_in f ps r.0 r.1 in
+      (put_in header known r.0.id r.0.status p (request_in header known ps r.0 h w.0) r.2).0;
+  own = λ rank. own_where header known rank f ps h;
+}
+
+pub gets_taken : (header : Header) (known : ℕ) (f : Posted → Bool) (ps : List Posted) → AreRequests header known ps → AreGets header known (gets_where f ps)
+gets_taken header known f ps h = record {
+  each = λ p m. let r = flat_in (λ (q : Posted). gets_in q.status) (filter f ps) p m in
+      let w = filter_in f ps r.0 r.1 in
+      (get_in header known r.0.id r.0.status p (request_in header known ps r.0 h w.0) r.2).0;
+  var = both;
+}
+  where
+    both : (p q : Post) → In (gets_where f ps) p → In (gets_where f ps) q → p.id ≡ q.id → p.var ≡ q.var
+    both p q m n e =
+        let a = flat_in (λ (x : Posted). gets_in x.status) (filter f ps) p m in
+        let b = flat_in (λ (x : Posted). gets_in x.status) (filter f ps) q n in
+        let in_a = filter_in f ps a.0 a.1 in
+        let in_b = filter_in f ps b.0 b.1 in
+        let of_a = request_in header known ps a.0 h in_a.0 in
+        let of_b = request_in header known ps b.0 h in_b.0 in
+        let ids = sym (get_in header known a.0.id a.0.status p of_a a.2).1 ∙ e ∙ (get_in header known b.0.id b.0.status q of_b b.2).1 in
+        let one = one_request header known ps a.0 b.0 h in_a.0 in_b.0 ids in
+        one_var header known a.0.id a.0.status p q of_a a.2 (subst (λ (x : Posted). In (gets_in x.status) q) (sym one) b.2) e
+
+-- ---- how many posts there are
+
+abbrev pub held_posts : List Posted → ℕ
+held_posts ps = sum (map (λ (p : Posted). posts_of_status p.status) ps)
+
+first_held : (p : Posted) (ps : List Posted) → held_posts (p ∷ ps) ≡ posts_of_status p.status + held_posts ps
+first_held p ps = sum-map (λ (q : Posted). posts_of_status q.status) (p ∷ ps) ∙ sum_by-cons (λ (q : Posted). posts_of_status q.status) p ps
+    ∙ ap (λ (n : ℕ). posts_of_status p.status + n) (sym (sum-map (λ (q : Posted). posts_of_status q.status) ps))
+
+pub held_push : (ps : List Posted) (id : ℕ) (s : Status) → held_posts (ps ++ record { id = id; status = s } ∷ []) ≡ held_posts ps + posts_of_status s
+held_push ps id s =
+    sum-map (λ (q : Posted). posts_of_status q.status) (ps ++ record { id = id; status = s } ∷ [])
+    ∙ sum_by_push (λ (q : Posted). posts_of_status q.status) ps (record { id = id; status = s })
+    ∙ ap (λ (n : ℕ). n + posts_of_status s) (sym (sum-map (λ (q : Posted). posts_of_status q.status) ps))
+
+gone_fewer : (p : Posted) (b : Bool) → posts_of_status (cond b (record p { status = Gone }) p).status ≤ posts_of_status p.status
+gone_fewer p true = omega arith
+gone_fewer p false = omega arith
+
+pub held_without : (f : Posted → Bool) (ps : List Posted) → held_posts (map (gone_where f) ps) ≤ held_posts ps
+held_without f [] = omega arith
+held_without f (p ∷ ps) =
+    let rest = held_without f ps in
+    let first = gone_fewer p (f p) in
+    omega (arith, rest, first, first_held p ps, first_held (gone_where f p) (map (gone_where f) ps))
+
+status_few : (s : Status) → length (puts_in s) + length (gets_in s) ≤ posts_of_status s
+status_few NullRequest = omega arith
+status_few Gone = omega arith
+status_few (Waiting Iput posts) = omega arith
+status_few (Waiting Bput posts) = omega arith
+status_few (Waiting Iget posts) = omega arith
+
+few_more : (f : Posted → Bool) (p : Posted) (ps : List Posted) → length (puts_where f ps) + length (gets_where f ps) + held_posts (map (gone_where f) ps) ≤ held_posts ps
+    → (b : Bool) → length (flat_map (λ (q : Posted). puts_in q.status) (cond b (p ∷ filter f ps) (filter f ps)))
+    + length (flat_map (λ (q : Posted). gets_in q.status) (cond b (p ∷ filter f ps) (filter f ps)))
+    + held_posts (cond b (record p { status = Gone }) p ∷ map (gone_where f) ps) ≤ held_posts (p ∷ ps)
+few_more f p ps rest true =
+    omega (
+      arith,
+      rest,
+      status_few p.status,
+      length-append (puts_in p.status) (puts_where f ps),
+      length-append (gets_in p.status) (gets_where f ps),
+      first_held p ps,
+      first_held (record p { status = Gone }) (map (gone_where f) ps),
+    )
+few_more f p ps rest false = omega (arith, rest, first_held p ps, first_held p (map (gone_where f) ps))
+
+-- what is taken and what is left
+pub taken_few : (f : Posted → Bool) (ps : List Posted) → length (puts_where f ps) + length (gets_where f ps) + held_posts (map (gone_where f) ps) ≤ held_posts ps
+taken_few f [] = omega arith
+taken_few f (p ∷ ps) = few_more f p ps (taken_few f ps) (f p)
+
+-- ---- the items
+
+code_new : (s : Option Status) (b : Bool) → is_ok_code (item_code s b) ≡ true → b ≡ false
+code_new None b h = cc
+code_new (Some NullRequest) b h = cc
+code_new (Some Gone) b h = cc
+code_new (Some (Waiting kind posts)) true h = cc
+code_new (Some (Waiting kind posts)) false h = refl
+
+ok_new : (posted : List Posted) (earlier ids : List ℕ) (j : Item) → In (items_from posted earlier ids) j → is_ok_code j.code ≡ true → has_id earlier j.id ≡ false
+ok_new posted earlier [] j m h = absurd m
+ok_new posted earlier (id ∷ ids) j (inl e) h =
+    subst (λ (x : Item). has_id earlier x.id ≡ false) e
+    (code_new (status_of posted id) (has_id earlier id) (subst (λ (x : Item). is_ok_code x.code ≡ true) (sym e) h))
+ok_new posted earlier (id ∷ ids) j (inr m) h = (or_parts (eqb id j.id) (has_id earlier j.id) (ok_new posted (id ∷ earlier) ids j m h)).1
+
+once_from : (posted : List Posted) (earlier ids : List ℕ) → AreOnce (items_from posted earlier ids)
+once_from posted earlier [] = tt
+once_from posted earlier (id ∷ ids) = (apart, once_from posted (id ∷ earlier) ids)
+  where
+    apart : is_ok_code (item_code (status_of posted id) (has_id earlier id)) ≡ true → (j : Item) → In (items_from posted (id ∷ earlier) ids) j → is_ok_code j.code ≡ true → j.id ≡ id → ⊥
+    apart ok j m h e =
+        let parts = or_parts (eqb id j.id) (has_id earlier j.id) (ok_new posted (id ∷ earlier) ids j m h) in
+        eqb-false id j.id parts.0 (sym e)
+
+pub once_items : (r : machine.Rank) (choice : Choice) → AreOnce (items_of r choice)
+once_items r choice = once_from r.posted [] (named r choice)

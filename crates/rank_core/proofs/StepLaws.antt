@@ -1,0 +1,90 @@
+-- What the calls of the queue and of a look leave, by what they answered.
+use Rattle.std.proofs.Common.{◌≡◌, ℕ, ◌+◌, ◌<◌, ◌≤◌, ◌∙◌, ap, sym, refl, subst, inl, List, [], ◌∷◌, ◌++◌, map, length, get_or, Bool, true, cond, eqb, ltb, leb, ◌&&◌, Option, Some, None, Result, Ok, Err, arith}
+use Rattle.std.specs.List.{list_all}
+use Rattle.std.specs.Prelude.{IfOk, OnOk, OnErr, max, option_map, slice_get, bytes_eq}
+use Rattle.std.proofs.lemmas.List.Quantifiers.{position-Some}
+use Rattle.std.proofs.lemmas.Option.{slice_get_read}
+use Rattle.std.proofs.lemmas.Bool.{and_parts, leb-true}
+use Rattle.nc_base.specs.declared.header.Header.{Header}
+use Rattle.nc_base.specs.declared.plan.Post.{Post}
+use Rattle.nc_base.specs.declared.header.Dim.{Dim}
+use Rattle.nc_base.specs.declared.request.Call.{Call}
+use Rattle.nc_base.specs.declared.request.Call.TheVariants as call
+use Rattle.nc_base.specs.declared.request.Given.{Given}
+use Rattle.nc_base.specs.declared.request.PostKind.{PostKind}
+use Rattle.nc_base.specs.declared.request.Choice.{Choice}
+use Rattle.nc_base.specs.declared.request.Direction.TheVariants as way
+use Rattle.nc_base.specs.declared.request.Values.{Values}
+use Rattle.overlay_laws.specs.Entries.{In}
+use Rattle.request_queue.specs.Queued.{Queued, rank_with, with_request, id_of}
+use Rattle.serial_spec.specs.RankMachine as machine
+use Rattle.serial_spec.specs.RankMachine.{Status, is_chosen, named, without_chosen, status_of, direction_of, dim_at, find_dim}
+use Rattle.serial_spec.specs.Lawful.{is_lawful_call, is_given, most_parts, has_its_lists, are_sizes, is_part, are_values, is_post_of, is_size}
+use Rattle.rank_core.specs.Looked.{AreLooked, ArePutsLooked, posts_of}
+use Rattle.rank_core.specs.Requests.{AreGets, ArePuts, AreTowards, HaveId, IsRequest, AreRequests}
+use Rattle.rank_core.specs.Stepped.{most_of, most_posts}
+use Rattle.rank_core.specs.declared.looking.Look.{Look}
+use Rattle.rank_core.proofs.AskedLaws.{IsLookOf}
+use Rattle.rank_core.proofs.RequestLaws.{requests_without, requests_push, puts_more}
+
+pub ok_both : {A E : Type 0} (r : Result A E) (P Q R : A → Type 0) → ((x : A) → P x → Q x → R x) → IfOk r P → IfOk r Q → IfOk r R
+ok_both (Ok x) P Q R f p q = f x p q
+ok_both (Err e) P Q R f p q = tt
+
+-- what a take or a cancel leaves
+pub requests_after : {A E : Type 0} (r : Result A E) (header : Header) (known : ℕ) (before after : Queued) (choice : Choice) → AreRequests header known before.posted
+    → OnOk r (after ≡ record before { posted = (without_chosen (rank_with before) choice).posted }) → OnErr r (after ≡ before) → AreRequests header known after.posted
+requests_after (Ok x) header known before after choice h e f =
+    subst (λ (q : Queued). AreRequests header known q.posted) (sym e) (requests_without header known (is_chosen (named (rank_with before) choice)) before.posted h)
+requests_after (Err x) header known before after choice h e f = subst (λ (q : Queued). AreRequests header known q.posted) (sym f) h
+
+-- what a post leaves
+pub requests_kept : {A E : Type 0} (r : Result A E) (header : Header) (known id : ℕ) (s : Status) (before after : Queued) → status_of before.posted id ≡ None → IsRequest header known id s
+    → AreRequests header known before.posted → OnOk r (after ≡ with_request before id s) → OnErr r (after ≡ before) → AreRequests header known after.posted
+requests_kept (Ok x) header known id s before after fresh new h e f =
+    subst (λ (q : Queued). AreRequests header known q.posted) (sym e) (requests_push header known before.posted id s fresh new h)
+requests_kept (Err x) header known id s before after fresh new h e f = subst (λ (q : Queued). AreRequests header known q.posted) (sym f) h
+
+pub id_is : (id : ℕ) (posts : List Post) → 0 < length posts → HaveId id posts → id_of posts ≡ id
+id_is id [] some h = absurd (omega arith)
+id_is id (p ∷ posts) some h = h p (inl refl)
+
+pub towards : (header : Header) (known id : ℕ) (values : Option Values) (l : Look) → IsLookOf id l → AreLooked header known values l → AreTowards (direction_of values) header known (posts_of l)
+towards header known id None l one h = record { each = h; var = λ p q m n e. one.var p q m n }
+towards header known id (Some values) l one h = record { each = h.puts; own = h.own }
+
+pub share_towards : (header : Header) (known : ℕ) (l : Look) → ArePutsLooked header 0 l → ArePuts header known (posts_of l)
+share_towards header known l h = puts_more header 0 known (posts_of l) (omega arith) (record { each = h.puts; own = h.own })
+
+-- the length of a dimension that is found
+pub dim_is : (header : Header) (name : List ℕ) (known k : ℕ) (d : Dim) → find_dim header name ≡ Some k → slice_get header.dims k ≡ Some d
+    → option_map (λ (d : Dim). cond (eqb d.len 0) known d.len) (dim_at header (find_dim header name)) ≡ Some (cond (eqb d.len 0) known d.len)
+dim_is header name known k d e f =
+    ap (λ (o : Option ℕ). option_map (λ (d : Dim). cond (eqb d.len 0) known d.len) (dim_at header o)) e
+    ∙ ap (option_map (λ (d : Dim). cond (eqb d.len 0) known d.len)) f
+
+-- ---- how many posts a lawful call brings
+
+given_few : (g : Given) → is_given g ≡ true → most_of g ≤ most_parts
+given_few g h =
+    let last = and_parts (has_its_lists g && are_sizes g.start && are_sizes g.count && are_sizes g.stride && are_sizes g.imap && list_all is_part g.parts) (leb (length g.parts) most_parts) h in
+    omega (arith, leb-true (length g.parts) most_parts last.1)
+
+pub call_few : (ranks r : ℕ) (c : Call) → is_lawful_call ranks r c ≡ true → most_posts c ≤ most_parts
+call_few ranks r (call.Put all name given values) h = given_few given (and_parts (is_given given) (are_values values) h).0
+call_few ranks r (call.Get all name given) h = given_few given h
+call_few ranks r (call.Post id kind name given values) h = given_few given (and_parts (is_given given) (is_post_of kind values) h).0
+call_few ranks r (call.Wait all choice) h = omega arith
+call_few ranks r (call.Cancel choice) h = omega arith
+call_few ranks r (call.Attach size) h = omega arith
+call_few ranks r call.Detach h = omega arith
+call_few ranks r call.BeginIndep h = omega arith
+call_few ranks r call.EndIndep h = omega arith
+call_few ranks r call.SyncRecords h = omega arith
+call_few ranks r (call.InqDim name) h = omega arith
+call_few ranks r (call.FillRec name number share of) h = omega arith
+
+-- the dimension that is found
+pub dim_there : (header : Header) (name : List ℕ) (k : ℕ) (d : Dim) → find_dim header name ≡ Some k → d ≡ get_or header.dims k d → slice_get header.dims k ≡ Some d
+dim_there header name k d e at =
+    slice_get_read header.dims (length header.dims) k d refl (position-Some (λ (x : Dim). bytes_eq x.name name) header.dims k d e).0 at

@@ -1,0 +1,183 @@
+-- What a call on a variable comes to, as its parts find it out.
+use Rattle.std.proofs.Common.{◌≡◌, ℕ, ◌<◌, ◌≤◌, refl, sym, ap, subst, ◌∙◌, List, [], ◌∷◌, length, map, Bool, true, false, cond, ltb, Option, None, Some, Result, Ok, Err, IfSome, IfOk, arith}
+use Rattle.std.specs.Prelude.{filter, slice_get, IfErr, OnOk}
+use Rattle.std.proofs.lemmas.Bool.{le-ltb, lt-ltb}
+use Rattle.nc_base.specs.declared.answer.CallErr.{CallErr}
+use Rattle.nc_base.specs.declared.answer.CallErr.TheVariants as refusal
+use Rattle.nc_base.specs.declared.answer.Code.{Code}
+use Rattle.nc_base.specs.declared.answer.Code.TheVariants as code
+use Rattle.nc_base.specs.declared.header.Header.{Header}
+use Rattle.nc_base.specs.declared.header.Var.{Var}
+use Rattle.nc_base.specs.declared.plan.Post.{Post}
+use Rattle.nc_base.specs.declared.request.Direction.{Direction}
+use Rattle.nc_base.specs.declared.request.Form.{Form}
+use Rattle.nc_base.specs.declared.request.Form.TheVariants as form
+use Rattle.nc_base.specs.declared.request.Given.{Given}
+use Rattle.nc_base.specs.declared.request.Region.{Region}
+use Rattle.nc_base.specs.declared.request.Values.{Values}
+use Rattle.imap_extents.specs.Mapped.{IsMapped}
+use Rattle.imap_extents.specs.Refusals.{IsRangeRefusal, IsRefusal}
+use Rattle.serial_spec.specs.Layout.{product}
+use Rattle.serial_spec.specs.Limits.{most_elements}
+use Rattle.serial_spec.specs.RankMachine as machine
+use Rattle.serial_spec.specs.RankMachine.{data_bytes, data_code, direction_of, find_var, is_varn, part_posts, parts_code}
+use Rattle.serial_spec.specs.RegionCheck.{check, check_parts, check_some, check_var, elements_of_all, has_element, part_regions, widen}
+use Rattle.vara_extents.specs.Parts as parts
+use Rattle.vara_extents.specs.Parts.{parts_code_at}
+use Rattle.rank_core.specs.declared.looking.target.Target.{Target}
+use Rattle.rank_core.specs.Looked.{look_of, some_unfit, ComesTo, HasValues, IsCode}
+use Rattle.rank_core.specs.Targets.{look_at, look_parts, look_region, IsTarget}
+use Rattle.rank_core.proofs.LookLaws.{asked_few}
+use Rattle.rank_core.proofs.MappedLaws.{accepted_mapped}
+use Rattle.rank_core.proofs.OutcomeLaws.{all_right, checked_refused, data_refused, no_element, outcome, parts_ask}
+use Rattle.rank_core.proofs.ValueLaws.{parts_code-has_values}
+
+module _ (t : Target) (given : Given) (values : Option Values) (there : IsTarget t) (way : Direction) (is_way : way ≡ direction_of values) where
+  -- ---- one region
+
+  post : Region → Post
+  post g = record { id = t.id; var = t.place; region = g; bytes = data_bytes t.var.now.kind g values }
+
+  region_outcome : Region → machine.Look
+  region_outcome g = outcome (check_var t.header.now t.var.now g t.known (direction_of values)) (has_element g) (post g ∷ []) (data_code t.var.now.kind g values)
+
+  module _ (g : Region) (wide : IfSome (slice_get t.header.now.vars t.place) (λ v. g ≡ widen t.header.now v given t.known)) where
+    region_is : region_outcome g ≡ look_region t given values
+    unfolding look_region region_outcome post
+    region_is = ap region_outcome (subst (λ (o : Option Var). IfSome o (λ v. g ≡ widen t.header.now v given t.known)) there wide)
+
+    checked : check t.header.now t.place g t.known way ≡ check_var t.header.now t.var.now g t.known (direction_of values)
+    checked =
+        ap (λ (o : Option Var). check_some t.header.now o g t.known way) there
+        ∙ ap (λ (d : Direction). check_var t.header.now t.var.now g t.known d) is_way
+
+    pub region_mapped : check t.header.now t.place g t.known way ≡ code.Ok → IsMapped g
+    region_mapped h = accepted_mapped t.header.now t.var.now g t.known (direction_of values) (sym checked ∙ h)
+
+    pub region_refused : (c : Code) → c ≡ check t.header.now t.place g t.known way → (c ≡ code.Ok → ⊥) → machine.Refused c ≡ look_region t given values
+    unfolding region_outcome
+    region_refused c e n = checked_refused _ _ _ _ c (e ∙ checked) n ∙ region_is
+
+    pub region_empty : check t.header.now t.place g t.known way ≡ code.Ok → ltb 0 (product g.count) ≡ false → machine.Empty ≡ look_region t given values
+    unfolding region_outcome
+    region_empty h e = no_element _ _ _ _ (sym checked ∙ h) e ∙ region_is
+
+    pub region_unfit : (e : CallErr) → check t.header.now t.place g t.known way ≡ code.Ok → ltb 0 (product g.count) ≡ true
+        → IsRefusal (data_code t.var.now.kind g values) e → ComesTo (look_region t given values) (Err e)
+    unfolding region_outcome
+    region_unfit (refusal.Code c) h e r = data_refused _ _ _ _ c (sym checked ∙ h) e r.0 r.1 ∙ region_is
+    region_unfit refusal.Memory h e r = r
+
+    pub region_asks : (bytes : List ℕ) (posts : List Post) → check t.header.now t.place g t.known way ≡ code.Ok → ltb 0 (product g.count) ≡ true
+        → data_code t.var.now.kind g values ≡ code.Ok → bytes ≡ data_bytes t.var.now.kind g values
+        → posts ≡ record { id = t.id; var = t.place; region = g; bytes = bytes } ∷ [] → look_of posts ≡ look_region t given values
+    unfolding region_outcome post
+    region_asks bytes posts h e right same is =
+        let of_bytes : List ℕ → List Post = λ b. record { id = t.id; var = t.place; region = g; bytes = b } ∷ [] in
+        ap look_of (is ∙ ap of_bytes same) ∙ all_right _ _ _ _ (sym checked ∙ h) e right ∙ region_is
+
+  -- ---- many regions
+
+  asked : List Region
+  asked = filter has_element (part_regions t.var.now given)
+
+  parts_checked : parts.parts_code t.header.now t.place given t.known way ≡ check_parts t.header.now t.var.now (part_regions t.var.now given) t.known (direction_of values)
+  parts_checked =
+      ap (λ (o : Option Var). parts_code_at o t.header.now given t.known way) there
+      ∙ ap (λ (d : Direction). check_parts t.header.now t.var.now (part_regions t.var.now given) t.known d) is_way
+
+  parts_outcome : List Region → machine.Look
+  parts_outcome gs =
+      outcome (check_parts t.header.now t.var.now (part_regions t.var.now given) t.known (direction_of values)) (ltb 0 (length gs))
+      (part_posts t.id t.place t.var.now.kind values 0 gs) (parts_code t.var.now.kind (elements_of_all gs) values)
+
+  pub parts_refused : (e : CallErr) → parts.IsRefusal (parts.parts_code t.header.now t.place given t.known way) e → ComesTo (look_parts t given values) (Err e)
+  unfolding look_parts
+  parts_refused (refusal.Code c) r = checked_refused _ _ _ _ c (r.0 ∙ parts_checked) r.1
+  parts_refused refusal.Memory r = r
+
+  module _ (ok : parts.parts_code t.header.now t.place given t.known way ≡ code.Ok) (gs : List Region) (is : gs ≡ filter has_element (part_regions t.var.now given)) where
+    parts_is : parts_outcome gs ≡ look_parts t given values
+    unfolding look_parts parts_outcome
+    parts_is = ap parts_outcome is
+
+    pub regions_few : elements_of_all gs ≤ most_elements
+    regions_few = subst (λ (rs : List Region). elements_of_all rs ≤ most_elements) (sym is) (asked_few t.header.now t.var.now (part_regions t.var.now given) t.known (direction_of values) (sym parts_checked ∙ ok))
+
+    pub parts_empty : length gs ≡ 0 → machine.Empty ≡ look_parts t given values
+    unfolding parts_outcome
+    parts_empty none = no_element _ _ _ _ (sym parts_checked ∙ ok) (le-ltb 0 (length gs) (omega (arith, none))) ∙ parts_is
+
+    module _ (some : 0 < length gs) where
+      short : (c : Code) → IsCode (parts_code t.var.now.kind (elements_of_all gs) values) c → machine.Refused c ≡ look_parts t given values
+      unfolding parts_outcome
+      short c r = data_refused _ _ _ _ c (sym parts_checked ∙ ok) (lt-ltb 0 (length gs) some) r.0 r.1 ∙ parts_is
+
+      pub parts_short : (n : ℕ) (c : Code) → n ≡ elements_of_all gs → IsCode (parts_code t.var.now.kind n values) c → machine.Refused c ≡ look_parts t given values
+      parts_short n c e r = short c (subst (λ (m : ℕ). IsCode (parts_code t.var.now.kind m values) c) e r)
+
+      range_code : HasValues t.var.now.kind values (elements_of_all gs) → (b : Bool) → some_unfit t.var.now.kind values 0 (elements_of_all gs) ≡ b
+          → parts_code t.var.now.kind (elements_of_all gs) values ≡ cond b code.ERange code.Ok
+      range_code right b e = parts_code-has_values t.var.now.kind values (elements_of_all gs) right ∙ ap (λ (x : Bool). cond x code.ERange code.Ok) e
+
+      parts_unfit : (e : CallErr) → HasValues t.var.now.kind values (elements_of_all gs) → IsRangeRefusal (some_unfit t.var.now.kind values 0 (elements_of_all gs)) e
+          → ComesTo (look_parts t given values) (Err e)
+      unfolding parts_outcome
+      parts_unfit (refusal.Code c) right r =
+          data_refused _ _ _ _ c (sym parts_checked ∙ ok) (lt-ltb 0 (length gs) some) (r.0 ∙ sym (range_code right true r.1)) (λ e. let f : code.ERange ≡ code.Ok = sym r.0 ∙ e in cc) ∙ parts_is
+      parts_unfit refusal.Memory right r = r
+
+      parts_asks : (posts : List Post) → HasValues t.var.now.kind values (elements_of_all gs) → some_unfit t.var.now.kind values 0 (elements_of_all gs) ≡ false
+          → posts ≡ part_posts t.id t.place t.var.now.kind values 0 gs → look_of posts ≡ look_parts t given values
+      unfolding parts_outcome
+      parts_asks posts right fit same =
+          ap look_of same ∙ parts_ask t.id t.place t.var.now.kind values 0 gs (lt-ltb 0 (length gs) some)
+          ∙ all_right _ _ _ _ (sym parts_checked ∙ ok) (lt-ltb 0 (length gs) some) (range_code right false fit) ∙ parts_is
+
+      pub parts_come : (r : Result (List Post) CallErr) → HasValues t.var.now.kind values (elements_of_all gs)
+          → IfOk r (λ posts. posts ≡ part_posts t.id t.place t.var.now.kind values 0 gs)
+          → OnOk r (some_unfit t.var.now.kind values 0 (elements_of_all gs) ≡ false)
+          → IfErr r (IsRangeRefusal (some_unfit t.var.now.kind values 0 (elements_of_all gs)))
+          → ComesTo (look_parts t given values) r
+      parts_come (Ok posts) right same fit unfit = parts_asks posts right fit same
+      parts_come (Err e) right same fit unfit = parts_unfit e right unfit
+
+-- ---- either
+
+varn_form : (f : Form) → (f ≡ form.Varn → ⊥) → is_varn f ≡ false
+varn_form form.Varn n = absurd (n refl)
+varn_form f n = refl
+
+pub at_parts : (t : Target) (given : Given) (values : Option Values) (r : Result (List Post) CallErr) → given.form ≡ form.Varn → ComesTo (look_parts t given values) r → ComesTo (look_at t given values) r
+unfolding look_at look_parts
+at_parts t given values r e h =
+    subst (λ (b : Bool). ComesTo (elim b [
+      | true ↦ machine.look_parts t.header.now t.known t.id t.place given values t.var.now
+      | false ↦ machine.look_region t.header.now t.known t.id t.place given values t.var.now
+    ]) r) (sym (ap is_varn e)) h
+
+pub at_region : (t : Target) (given : Given) (values : Option Values) (r : Result (List Post) CallErr) → (given.form ≡ form.Varn → ⊥) → ComesTo (look_region t given values) r → ComesTo (look_at t given values) r
+unfolding look_at look_region
+at_region t given values r n h =
+    subst (λ (b : Bool). ComesTo (elim b [
+      | true ↦ machine.look_parts t.header.now t.known t.id t.place given values t.var.now
+      | false ↦ machine.look_region t.header.now t.known t.id t.place given values t.var.now
+    ]) r) (sym (varn_form given.form n)) h
+
+-- ---- by name
+
+abbrev by_place : Header → ℕ → ℕ → Given → Option Values → Option ℕ → machine.Look
+by_place header known id given values o =
+    elim o [ None ↦ machine.Refused code.ENotVar | Some k ↦ machine.look_at header known id k given values (slice_get header.vars k) ]
+
+pub look_missing : (header : Header) (known id : ℕ) (name : List ℕ) (given : Given) (values : Option Values) → None ≡ find_var header name
+    → machine.Refused code.ENotVar ≡ machine.look header known id name given values
+look_missing header known id name given values e = ap (by_place header known id given values) e
+
+pub look_found : (header : Header) (known id k : ℕ) (name : List ℕ) (given : Given) (values : Option Values) (t : Target) → Some k ≡ find_var header name
+    → t.header.now ≡ header → t.place ≡ k → t.known ≡ known → t.id ≡ id → IsTarget t → look_at t given values ≡ machine.look header known id name given values
+unfolding look_at
+look_found header known id k name given values t e h p n i there =
+    ap (λ (o : Option Var). machine.look_at t.header.now t.known t.id t.place given values o) (sym there)
+    ∙ (λ j. machine.look_at (h j) (n j) (i j) (p j) given values (slice_get (h j).vars (p j)))
+    ∙ ap (by_place header known id given values) e

@@ -1,0 +1,198 @@
+-- The values of a put and their bytes, one after another and part by part.
+use Rattle.std.proofs.Common.{◌≡◌, ℕ, zero, suc, ◌+◌, ◌-◌, ◌*◌, ◌<◌, ◌≤◌, refl, sym, ap, subst, ◌∙◌, inl, inr, ◌⊎◌, List, [], ◌∷◌, ◌++◌, length, map, append-nil, append_assoc, Bool, true, false, not, cond, leb, ltb, ◌||◌, Option, Some, None, is_none, arith}
+use Rattle.std.specs.Prelude.{flat_map, sum_by}
+use Rattle.std.specs.Int.{Width, byte_len, to_be_bytes, w8, w16, w32, w64, w128}
+use Rattle.std.specs.List.{list_any, range_with_len}
+use Rattle.std.proofs.lemmas.Bool.{le-ltb, or_parts, or_from, or_left, or_right, lt-leb}
+use Rattle.std.proofs.lemmas.List.{length-append}
+use Rattle.std.proofs.lemmas.List.Concat.{flat_map-append}
+use Rattle.std.proofs.lemmas.List.Folds.{list_any-append}
+use Rattle.std.proofs.lemmas.List.FromFn.{length-range_with_len}
+use Rattle.std.proofs.lemmas.List.Sums.{sum_by-cons}
+use Rattle.nc_base.specs.declared.answer.CallErr.{CallErr}
+use Rattle.nc_base.specs.declared.answer.CallErr.TheVariants as refusal
+use Rattle.nc_base.specs.declared.answer.Code.{Code}
+use Rattle.nc_base.specs.declared.answer.Code.TheVariants as code
+use Rattle.nc_base.specs.declared.header.NcType.{NcType}
+use Rattle.nc_base.specs.declared.plan.Post.{Post}
+use Rattle.nc_base.specs.declared.request.Region.{Region}
+use Rattle.nc_base.specs.declared.request.Value.{Value}
+use Rattle.nc_base.specs.declared.request.Values.{Values}
+use Rattle.serial_spec.specs.ExternalForm.{class_of, code_of, size_of, width_of}
+use Rattle.serial_spec.specs.Layout.{product}
+use Rattle.serial_spec.specs.RankMachine.{kind_code, part_posts, parts_code, values_bytes, values_code}
+use Rattle.serial_spec.specs.RegionCheck.{elements_of_all, is_ok_code}
+use Rattle.serial_spec.specs.Request.{count_of, ext_of, packed_bytes, positions, value_at}
+use Rattle.imap_extents.specs.Refusals.{IsRangeRefusal}
+use Rattle.imap_extents.proofs.PositionLaws.{length-positions, range_more}
+use Rattle.imap_extents.proofs.RefusalLaws.{lacks}
+use Rattle.rank_core.specs.Looked.{ext_at, some_unfit, unfit_at, HasValues}
+
+-- ---- how long they are
+
+be_long : (w : Width) (n : ℕ) → length (to_be_bytes w n) ≡ byte_len w
+be_long w8 n = refl
+be_long w16 n = refl
+be_long w32 n = refl
+be_long w64 n = refl
+be_long w128 n = refl
+
+one_long : (kind : NcType) (o : Option Value) → is_none o ≡ false → length (ext_of kind o) ≡ size_of kind
+one_long kind None h = absurd (cc)
+one_long kind (Some v) h = be_long (width_of kind) (code_of (width_of kind) v)
+
+-- as many bytes as the values have at these positions
+all_long : (kind : NcType) (values : Values) (ps : List ℕ) → list_any (λ o. is_none o) (map (λ m. value_at values m) ps) ≡ false
+    → length (flat_map (λ m. ext_of kind (value_at values m)) ps) ≡ length ps * size_of kind
+all_long kind values [] h = omega arith
+all_long kind values (p ∷ ps) h =
+    let parts = or_parts (is_none (value_at values p)) (list_any (λ o. is_none o) (map (λ m. value_at values m) ps)) h in
+    let first = one_long kind (value_at values p) parts.0 in
+    let rest = all_long kind values ps parts.1 in
+    length-append (ext_of kind (value_at values p)) (flat_map (λ m. ext_of kind (value_at values m)) ps)
+    ∙ ap (λ (n : ℕ). n + length (flat_map (λ m. ext_of kind (value_at values m)) ps)) first
+    ∙ ap (λ (n : ℕ). size_of kind + n) rest ∙ one_row (length ps) (size_of kind)
+  where
+    one_row : (n s : ℕ) → s + n * s ≡ suc n * s
+    one_row n s = omega arith
+
+right_kind : (c rest : Code) → cond (not (is_ok_code c)) c rest ≡ code.Ok → rest ≡ code.Ok
+right_kind code.Ok rest h = h
+right_kind c rest h = absurd (cc)
+
+none_lacks : (b : Bool) (rest : Code) → cond b code.EMapSize rest ≡ code.Ok → b ≡ false
+none_lacks true rest h = absurd (cc)
+none_lacks false rest h = refl
+
+pub length-packed_bytes : (kind : NcType) (g : Region) (values : Values) → values_code kind g values ≡ code.Ok → length (packed_bytes kind g values) ≡ product g.count * size_of kind
+length-packed_bytes kind g values h =
+    all_long kind values (positions g) (none_lacks _ _ (right_kind (kind_code (class_of kind) values) _ h))
+    ∙ ap (λ (n : ℕ). n * size_of kind) (length-positions g)
+
+none_past : (count k n : ℕ) → k + n ≤ count → list_any (λ m. leb count m) (range_with_len k n) ≡ false
+none_past count k zero h = refl
+none_past count k (suc n) h = or_from (leb count k) (list_any (λ m. leb count m) (range_with_len (k + 1) n)) (lt-leb count k (omega arith)) (none_past count (k + 1) n (omega arith))
+
+pub length-values_bytes : (kind : NcType) (values : Values) (k n : ℕ) → k + n ≤ count_of values → length (values_bytes kind (Some values) k n) ≡ n * size_of kind
+length-values_bytes kind values k n h =
+    all_long kind values (range_with_len k n) (sym (lacks values (range_with_len k n)) ∙ none_past (count_of values) k n h)
+    ∙ ap (λ (m : ℕ). m * size_of kind) (length-range_with_len k n)
+
+-- ---- one value more
+
+pub values_more : (kind : NcType) (values : Values) (k n j : ℕ) → k + n ≡ j
+    → values_bytes kind (Some values) k (n + 1) ≡ values_bytes kind (Some values) k n ++ ext_at kind values j
+values_more kind values k n j h =
+    let f = λ (m : ℕ). ext_of kind (value_at values m) in
+    ap (λ (l : List ℕ). flat_map f l) (range_more k n j h)
+    ∙ flat_map-append f (range_with_len k n) (j ∷ [])
+    ∙ ap (λ (l : List ℕ). flat_map f (range_with_len k n) ++ l) (append-nil (f j))
+
+or_false : (b : Bool) → (b || false) ≡ b
+or_false true = refl
+or_false false = refl
+
+pub unfit_more : (kind : NcType) (values : Values) (k n j : ℕ) → k + n ≡ j
+    → some_unfit kind (Some values) k (n + 1) ≡ (some_unfit kind (Some values) k n || unfit_at kind values j)
+unfit_more kind values k n j h =
+    let test = λ (m : ℕ). unfit_at kind values m in
+    ap (λ (l : List ℕ). list_any test l) (range_more k n j h)
+    ∙ list_any-append test (range_with_len k n) (j ∷ [])
+    ∙ ap (λ (b : Bool). list_any test (range_with_len k n) || b) (or_false (test j))
+
+pub still_fit : (a b c : Bool) → c ≡ (a || b) → a ≡ false → b ≡ false → c ≡ false
+still_fit a b c e f g = e ∙ or_from a b f g
+
+-- ---- more of them
+
+range_append : (a n m : ℕ) → range_with_len a (n + m) ≡ range_with_len a n ++ range_with_len (a + n) m
+range_append a zero m = let e : zero + m ≡ m = omega arith in let f : a ≡ a + zero = omega arith in (λ i. range_with_len (f i) (e i))
+range_append a (suc n) m =
+    let e : suc n + m ≡ suc (n + m) = omega arith in
+    let f : a + 1 + n ≡ a + suc n = omega arith in
+    ap (λ (k : ℕ). range_with_len a k) e
+    ∙ ap (λ (l : List ℕ). a ∷ l) (range_append (a + 1) n m ∙ ap (λ (k : ℕ). range_with_len (a + 1) n ++ range_with_len k m) f)
+
+pub unfit_append : (kind : NcType) (values : Option Values) (k n m j : ℕ) → k + n ≡ j
+    → some_unfit kind values k (n + m) ≡ (some_unfit kind values k n || some_unfit kind values j m)
+unfit_append kind None k n m j h = refl
+unfit_append kind (Some values) k n m j h =
+    let test = λ (i : ℕ). unfit_at kind values i in
+    ap (λ (l : List ℕ). list_any test l) (range_append k n m)
+    ∙ list_any-append test (range_with_len k n) (range_with_len (k + n) m)
+    ∙ ap (λ (i : ℕ). list_any test (range_with_len k n) || list_any test (range_with_len i m)) h
+
+-- where some of the values do not fit, some of all do not
+pub part_unfit : (kind : NcType) (values : Option Values) (k n all : ℕ) (e : CallErr) → k + n ≤ all
+    → IsRangeRefusal (some_unfit kind values k n) e → IsRangeRefusal (some_unfit kind values 0 all) e
+part_unfit kind values k n all refusal.Memory h r = r
+part_unfit kind values k n all (refusal.Code c) h r =
+    let whole : all ≡ k + (n + (all - (k + n))) = omega arith in
+    let after = some_unfit kind values (k + n) (all - (k + n)) in (
+      r.0,
+      ap (λ (m : ℕ). some_unfit kind values 0 m) whole
+          ∙ unfit_append kind values 0 k (n + (all - (k + n))) k (omega arith)
+          ∙ or_right (some_unfit kind values 0 k) (some_unfit kind values k (n + (all - (k + n))))
+          (unfit_append kind values k n (all - (k + n)) (k + n) refl ∙ or_left (some_unfit kind values k n) after r.1),
+    )
+
+-- one value that does not fit
+pub one_unfit : (kind : NcType) (values : Values) (k n j all : ℕ) (e : CallErr) → n < all → k + n ≡ j
+    → IsRangeRefusal (unfit_at kind values j) e → IsRangeRefusal (some_unfit kind (Some values) k all) e
+one_unfit kind values k n j all refusal.Memory l h r = r
+one_unfit kind values k n j all (refusal.Code c) l h r =
+    let whole : all ≡ n + (1 + (all - (n + 1))) = omega arith in
+    let rest = some_unfit kind (Some values) (j + 1) (all - (n + 1)) in (
+      r.0,
+      ap (λ (m : ℕ). some_unfit kind (Some values) k m) whole
+          ∙ unfit_append kind (Some values) k n (1 + (all - (n + 1))) j h
+          ∙ or_right (some_unfit kind (Some values) k n) (some_unfit kind (Some values) j (1 + (all - (n + 1))))
+          (unfit_append kind (Some values) j 1 (all - (n + 1)) (j + 1) refl
+          ∙ or_left (unfit_at kind values j || false) rest (or_left (unfit_at kind values j) false r.1)),
+    )
+
+-- ---- one part more
+
+pub part_posts_push : (id var : ℕ) (kind : NcType) (values : Option Values) (k : ℕ) (gs : List Region) (g : Region)
+    → part_posts id var kind values k (gs ++ g ∷ [])
+    ≡ part_posts id var kind values k gs ++ record { id = id; var = var; region = g; bytes = values_bytes kind values (k + elements_of_all gs) (product g.count) } ∷ []
+part_posts_push id var kind values k [] g =
+    let e : k ≡ k + 0 = omega arith in
+    let post : ℕ → Post = λ m. record { id = id; var = var; region = g; bytes = values_bytes kind values m (product g.count) } in
+    ap (λ (m : ℕ). post m ∷ []) e
+part_posts_push id var kind values k (h ∷ gs) g =
+    let one = sum_by-cons (λ (r : Region). product r.count) h gs in
+    let e : k + product h.count + elements_of_all gs ≡ k + elements_of_all (h ∷ gs) = omega (arith, one) in
+    let first : Post = record { id = id; var = var; region = h; bytes = values_bytes kind values k (product h.count) } in
+    let post : ℕ → Post = λ m. record { id = id; var = var; region = g; bytes = values_bytes kind values m (product g.count) } in
+    ap (λ (l : List Post). first ∷ l)
+    (part_posts_push id var kind values (k + product h.count) gs g ∙ ap (λ (m : ℕ). part_posts id var kind values (k + product h.count) gs ++ post m ∷ []) e)
+
+pub part_more : (id var : ℕ) (kind : NcType) (values : Option Values) (gs : List Region) (g : Region) (posts next : List Post) (before elements : ℕ) (bytes : List ℕ)
+    → posts ≡ part_posts id var kind values 0 gs → before ≡ elements_of_all gs → elements ≡ product g.count → bytes ≡ values_bytes kind values before elements
+    → next ≡ posts ++ record { id = id; var = var; region = g; bytes = bytes } ∷ [] → next ≡ part_posts id var kind values 0 (gs ++ g ∷ [])
+part_more id var kind values gs g posts next before elements bytes h e f same is =
+    let post : List ℕ → Post = λ b. record { id = id; var = var; region = g; bytes = b } in
+    let place : before ≡ 0 + elements_of_all gs = omega (arith, e) in
+    is
+    ∙ (λ i. h i ++ post (same i) ∷ [])
+    ∙ (λ i. part_posts id var kind values 0 gs ++ post (values_bytes kind values (place i) (f i)) ∷ [])
+    ∙ sym (part_posts_push id var kind values 0 gs g)
+
+-- ---- the code of the values
+
+code_of_values : (c : Code) (lacking unfit : Bool) → c ≡ code.Ok → lacking ≡ false
+    → cond (not (is_ok_code c)) c (cond lacking code.EMapSize (cond unfit code.ERange code.Ok)) ≡ cond unfit code.ERange code.Ok
+code_of_values c lacking unfit e f =
+    ap (λ (d : Code). cond (not (is_ok_code d)) d (cond lacking code.EMapSize (cond unfit code.ERange code.Ok))) e
+    ∙ ap (λ (b : Bool). cond b code.EMapSize (cond unfit code.ERange code.Ok)) f
+
+pub parts_code-has_values : (kind : NcType) (values : Option Values) (n : ℕ) → HasValues kind values n
+    → parts_code kind n values ≡ cond (some_unfit kind values 0 n) code.ERange code.Ok
+parts_code-has_values kind None n h = refl
+parts_code-has_values kind (Some values) n h =
+    code_of_values (kind_code (class_of kind) values) (ltb (count_of values) n) (some_unfit kind (Some values) 0 n) h.0 (le-ltb (count_of values) n h.1)
+
+pub has_fewer : (kind : NcType) (values : Option Values) (m n : ℕ) → m ≤ n → HasValues kind values n → HasValues kind values m
+has_fewer kind None m n h v = v
+has_fewer kind (Some values) m n h v = (v.0, omega (arith, h, v.1))

@@ -1,0 +1,85 @@
+-- A rank that offers waits for the reply, and keeps the gets of the offer; one that answers waits for none.
+use Rattle.std.proofs.Common.{◌≡◌, ℕ, sym, refl, List, [], ◌∷◌, Bool, true, false, cond, Option, Some, None}
+use Rattle.nc_base.specs.declared.header.Header.{Header}
+use Rattle.nc_base.specs.declared.answer.Answer.{Answer}
+use Rattle.nc_base.specs.declared.answer.Code.{Code}
+use Rattle.nc_base.specs.declared.answer.Code.TheVariants as code
+use Rattle.nc_base.specs.declared.answer.Item.{Item}
+use Rattle.nc_base.specs.declared.plan.Batch.{Batch}
+use Rattle.nc_base.specs.declared.plan.Post.{Post}
+use Rattle.nc_base.specs.declared.request.Call.{Call}
+use Rattle.nc_base.specs.declared.request.Call.TheVariants as call
+use Rattle.nc_base.specs.declared.request.Choice.{Choice}
+use Rattle.nc_base.specs.declared.request.PostKind.{PostKind}
+use Rattle.nc_base.specs.declared.step.OfferKind.{OfferKind}
+use Rattle.nc_base.specs.declared.step.OfferKind.TheVariants as offer
+use Rattle.nc_base.specs.declared.step.MeetKind.TheVariants as meets
+use Rattle.nc_base.specs.declared.step.Want.{Want}
+use Rattle.serial_spec.specs.RankMachine as machine
+use Rattle.serial_spec.specs.RankMachine.{Rank, Look, Refused, Empty, Asks, offers, answers, answer, posts, post_after, without_chosen, chosen, batch_chosen, buffer_code, bytes_in, attach_code, detach_code, blocks, fills_record, batch_of, code_of_look, posts_of, no_posts, items_of, dim_answer, dim_at, find_dim, waits, look, look_fill, values_of_post, status_of, NullRequest, Waiting}
+use Rattle.serial_spec.specs.RegionCheck.{is_ok_code}
+use Rattle.std.proofs.lemmas.Bool.{ne_eqb}
+use Rattle.request_queue.proofs.PostedLaws.{status_of-push}
+use Rattle.rank_core.specs.Ranked.{WaitsFor}
+
+abbrev DoesWait : Rank × Want → Type 0
+DoesWait x = WaitsFor x.0 x.1
+
+either : (b : Bool) (x y : Rank × Want) → DoesWait x → DoesWait y → DoesWait (cond b x y)
+either true x y h k = h
+either false x y h k = k
+
+offers_wait : (r : Rank) (kind : OfferKind) (batch : Batch) (c : Code) (items : List Item) (blocking independent : Bool) → DoesWait (offers r kind batch c items blocking independent)
+offers_wait r (offer.Meet kind) batch c items blocking independent = refl
+offers_wait r offer.Solo batch c items blocking independent = refl
+
+post_waits : (r : Rank) (id : ℕ) (kind : PostKind) (asked : List Post) (c : Code) → r.«open» ≡ None → DoesWait (post_after r id kind asked c)
+post_waits r id kind asked code.Ok h = h
+post_waits r id kind asked c h = h
+
+posts_wait : (r : Rank) (id : ℕ) (kind : PostKind) (l : Look) → r.«open» ≡ None → DoesWait (posts r id kind l)
+posts_wait r id kind (Refused c) h = h
+posts_wait r id kind Empty h = h
+posts_wait r id kind (Asks asked) h = post_waits r id kind asked (buffer_code r kind (bytes_in asked)) h
+
+attached_wait : (r s : Rank) (b : Bool) (a : Answer) → r.«open» ≡ None → s.«open» ≡ None → DoesWait (answers (cond b r s) a)
+attached_wait r s true a h k = h
+attached_wait r s false a h k = k
+
+pub step_waits : (header : Header) (r : Rank) (c : Call) → r.«open» ≡ None → DoesWait (machine.step header r c)
+step_waits header r (call.Put all name given values) h =
+    either all _ _
+    (either r.independent _ _ (offers_wait r (offer.Meet meets.Put) no_posts code.EIndep [] true r.independent)
+    (offers_wait r (offer.Meet meets.Put) (batch_of (Some values) (look header r.known 0 name given (Some values))) (code_of_look (look header r.known 0 name given (Some values))) [] true r.independent))
+    (either r.independent _ _ (offers_wait r offer.Solo (batch_of (Some values) (look header r.known 0 name given (Some values))) (code_of_look (look header r.known 0 name given (Some values))) [] true r.independent) h)
+step_waits header r (call.Get all name given) h =
+    either all _ _
+    (either r.independent _ _ (offers_wait r (offer.Meet meets.Get) no_posts code.EIndep [] true r.independent)
+    (offers_wait r (offer.Meet meets.Get) (batch_of None (look header r.known 0 name given None)) (code_of_look (look header r.known 0 name given None)) [] true r.independent))
+    (either r.independent _ _ (offers_wait r offer.Solo (batch_of None (look header r.known 0 name given None)) (code_of_look (look header r.known 0 name given None)) [] true r.independent) h)
+step_waits header r (call.Post id kind name given values) h = posts_wait r id kind (look header r.known id name given (values_of_post kind values)) h
+step_waits header r (call.Wait true choice) h =
+    either r.independent _ _ (offers_wait r (offer.Meet meets.Wait) no_posts code.EIndep [] false r.independent)
+    (offers_wait (without_chosen r choice) (offer.Meet meets.Wait) (batch_chosen (chosen r choice)) code.Ok (items_of r choice) false r.independent)
+step_waits header r (call.Wait false choice) h =
+    either r.independent _ _ (offers_wait (without_chosen r choice) offer.Solo (batch_chosen (chosen r choice)) code.Ok (items_of r choice) false r.independent) h
+step_waits header r (call.Cancel choice) h = h
+step_waits header r (call.Attach size) h = attached_wait (record r { attached = Some size }) r (is_ok_code (attach_code r.attached size)) (answer (attach_code r.attached size)) h h
+step_waits header r call.Detach h = attached_wait (record r { attached = None }) r (is_ok_code (detach_code r)) (answer (detach_code r)) h h
+step_waits header r call.BeginIndep h = offers_wait r (offer.Meet meets.Begin) no_posts (cond r.independent code.EIndep code.Ok) [] false true
+step_waits header r call.EndIndep h = offers_wait r (offer.Meet meets.End) no_posts (cond r.independent code.Ok code.ENotIndep) [] false false
+step_waits header r call.SyncRecords h = offers_wait r (offer.Meet meets.Sync) no_posts code.Ok [] false r.independent
+step_waits header r (call.InqDim name) h = h
+step_waits header r (call.FillRec name number share others) h =
+    either r.independent _ _ (offers_wait r (offer.Meet meets.Put) no_posts code.EIndep [] true r.independent)
+    (offers_wait r (offer.Meet meets.Put) (record { puts = posts_of (look_fill header name number share others); gets = [] }) (code_of_look (look_fill header name number share others)) [] true r.independent)
+
+-- a post leaves other ids as new as they were
+pub others_new : (r : Rank) (id k : ℕ) (kind : PostKind) (l : Look) → (k ≡ id → ⊥) → status_of r.posted k ≡ None → status_of (posts r id kind l).0.posted k ≡ None
+others_new r id k kind (Refused c) n h = h
+others_new r id k kind Empty n h = status_of-push r.posted (record { id = id; status = NullRequest }) k (ne_eqb id k (λ e. n (sym e))) h
+others_new r id k kind (Asks asked) n h = by_code (buffer_code r kind (bytes_in asked))
+  where
+    by_code : (c : Code) → status_of (post_after r id kind asked c).0.posted k ≡ None
+    by_code code.Ok = status_of-push r.posted (record { id = id; status = Waiting kind asked }) k (ne_eqb id k (λ e. n (sym e))) h
+    by_code c = h

@@ -1,0 +1,33 @@
+use Rattle.std.proofs.Common.{◌≡◌, ◌∙◌, ap, subst, sym, length, arith, false, Some}
+use Rattle.nc_base.specs.declared.answer.Code.TheVariants as code
+use Rattle.nc_base.specs.declared.header.Header.{Header}
+use Rattle.nc_base.specs.declared.plan.Batch.{Batch}
+use Rattle.serial_spec.specs.RankMachine as machine
+use Rattle.serial_spec.specs.RankMachine.{is_chosen, named, chosen, batch_chosen, wants}
+use Rattle.rank_core.specs.Offered.{IsSoundWant}
+use Rattle.run_laws.specs.Requests.{posts_held}
+use Rattle.rank_core.specs.Requests.{AreOnce}
+use Rattle.rank_core.proofs.RequestLaws.{once_items, taken_few}
+use Rattle.rank_core.proofs.rank.Rank.wait.Goals as goal
+
+pub offer-requires-clause-once : goal.offer-requires-clause-once
+offer-requires-clause-once c = subst AreOnce (sym c.in_ok-batch.ensures.items) (once_items c.args.self.now.state c.args.choice.now)
+
+pub returns-clause-step : goal.returns-clause-step
+returns-clause-step c =
+    let r = c.args.self.now.state in
+    let after = c.in_ok-batch.ensures.after in
+    let items = c.in_ok-batch.ensures.items in
+    let batch = c.in_ok-batch.ensures.batch in
+    let gets = c.in_ok-clone.ensures ∙ ap (λ (b : Batch). b.gets) batch in
+    let independent = c.is_independent.ensures ∙ ap (λ (x : machine.Rank). x.independent) after in
+    let step = c.offer.ensures.step in
+    record {
+      right = step.right ∙ (λ i. (
+        record (after i) { «open» = Some (record { code = code.Ok; items = items i; gets = gets i; blocking = false; independent = independent i }) },
+        wants c.args.kind (record { kind = c.args.kind; known = (after i).known; batch = batch i }),
+      ));
+      sound = subst (λ (h : Header). IsSoundWant h c.offer.result) c.in_ok-batch.ensures.header step.sound;
+      few = omega (arith, step.few, ap posts_held after, ap (λ (b : Batch). length b.puts) batch, ap (λ (b : Batch). length b.gets) batch, taken_few (is_chosen (named r c.args.choice.now)) r.posted);
+      held = omega (arith, step.held, ap posts_held after, ap (λ (b : Batch). length b.puts) batch, ap (λ (b : Batch). length b.gets) batch, taken_few (is_chosen (named r c.args.choice.now)) r.posted);
+    }

@@ -1,0 +1,10 @@
+pub mod Ranked
+pub mod Offered
+pub mod Indexed
+pub mod Keeping
+pub mod Looked
+pub mod Requests
+pub mod Offering
+pub mod Stepped
+pub mod Heard
+pub mod Targets

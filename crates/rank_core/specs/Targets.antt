@@ -1,0 +1,36 @@
+-- The variable that a call is on. (own)
+--     IsTarget t                        the header has it at its place
+--     look_at, look_region, look_parts  what serial_spec says of a call on it
+--     look_record                       what it says of the filling of a share of a record
+use Rattle.std.specs.Prelude.{◌≡◌, ◌≤◌, ℕ, List, map, Option, Some, slice_get}
+use Rattle.nc_base.specs.declared.header.Header.{Header}
+use Rattle.nc_base.specs.declared.request.Given.{Given}
+use Rattle.nc_base.specs.declared.request.Part.{Part}
+use Rattle.nc_base.specs.declared.request.Values.{Values}
+use Rattle.serial_spec.specs.Layout.{length_of, product}
+use Rattle.serial_spec.specs.Limits.{most_elements}
+use Rattle.serial_spec.specs.RankMachine as machine
+use Rattle.rank_core.specs.declared.looking.target.Target.{Target}
+
+abbrev pub IsTarget : Target → Type 0
+IsTarget t = slice_get t.header.now.vars t.place ≡ Some t.var.now
+
+unfoldable pub look_at : Target → Given → Option Values → machine.Look
+look_at t given values = machine.look_at t.header.now t.known t.id t.place given values (Some t.var.now)
+
+unfoldable pub look_region : Target → Given → Option Values → machine.Look
+look_region t given values = machine.look_region t.header.now t.known t.id t.place given values t.var.now
+
+unfoldable pub look_parts : Target → Given → Option Values → machine.Look
+look_parts t given values = machine.look_parts t.header.now t.known t.id t.place given values t.var.now
+
+unfoldable pub look_record : Target → ℕ → ℕ → ℕ → machine.Look
+look_record t number rank ranks = machine.look_record t.header.now t.place number rank ranks t.var.now
+
+-- the lengths of dimensions
+abbrev pub lengths_of : Header → List ℕ → List ℕ
+lengths_of header ids = map (λ id. length_of (slice_get header.dims id)) ids
+
+-- a box of no more elements than one request may have
+abbrev pub IsSmall : Part → Type 0
+IsSmall p = product p.count ≤ most_elements

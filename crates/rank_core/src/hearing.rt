@@ -1,0 +1,140 @@
+// The values that a reply brings, by the ids of the requests.
+ghost use Rattle.std.specs.Prelude.{◌≡◌, ◌≢◌, ◌==◌, ◌∷◌, ◌++◌, [], ℕ, Some, None, true, false, if◌then◌else◌, length, map, zip, IfOk, OnOk};
+ghost use Rattle.std.specs.Ordering.{nat_cmp};
+ghost use Rattle.std.specs.BTreeMap.{get};
+ghost use Rattle.serial_spec.specs.RankMachine as machine;
+ghost use Rattle.serial_spec.specs.RankMachine.{got_values};
+ghost use Rattle.serial_spec.specs.RankSide.{wanted};
+ghost use Rattle.serial_spec.specs.RegionCheck.{is_ok_code};
+ghost use Rattle.rank_core.specs.Heard.{joined, filled_by, AreFound, IsGetOf, AreGetsOf};
+ghost use Rattle.rank_core.specs.Requests.{AreOnce};
+
+use imap_extents::unpack;
+use nc_base::{Blob, Code, Header, Item, ItemList, Items, Memory, Post, Values};
+use std::alloc::Global;
+use std::collections::BTreeMap;
+
+/// The values of the gets by the ids of their requests. Those of a request of many regions follow one another.
+pub(crate) fn values_by_id(
+    alloc: Global,
+    header: &Header,
+    gets: &[Post],
+    got: &[Blob],
+) -> Result<BTreeMap<u32, Values>, Memory>
+    requires gets { AreGetsOf header.now gets.now }
+    requires long { map (λ blob. length blob) got.now ≡ map (wanted header.now) gets.now }
+    ensures { IfOk result (λ found. AreFound found (got_values header.now (zip gets.now got.now))) }
+{
+    let mut found = BTreeMap::new(alloc);
+    for (index, get) in gets.iter().enumerate() {
+        let values = values_of(alloc, header, get, got[index].as_slice())?;
+        add(&mut found, get.id, values)?;
+    }
+    Ok(found)
+}
+
+/// The values of one get, of which these are the bytes.
+fn values_of(alloc: Global, header: &Header, post: &Post, bytes: &[u8]) -> Result<Values, Memory>
+    requires accepted { IsGetOf header.now post.now }
+    requires long { length bytes.now ≡ wanted header.now post.now }
+    ensures { IfOk result (λ values. got_values header.now ((post.now, bytes.now) ∷ []) ≡ (post.now.id, values) ∷ []) }
+{
+    let var = &header.vars.as_slice()[post.var as usize];
+    unpack(alloc, var.kind, &post.region, bytes)
+}
+
+/// Adds the values of a get to those that its request has so far.
+fn add(found: &mut BTreeMap<u32, Values>, id: u32, more: Values) -> Result<(), Memory>
+    ensures { OnOk result ((q : ℕ) → get nat_cmp found.new q
+        ≡ (if id == q then Some (joined (get nat_cmp found.old id) more) else get nat_cmp found.old q)) }
+{
+    let values = join(found.remove(&id), more)?;
+    found.insert(id, values)?;
+    Ok(())
+}
+
+fn join(earlier: Option<Values>, more: Values) -> Result<Values, Memory>
+    ensures { IfOk result (λ values. values ≡ joined earlier more) }
+{
+    match earlier {
+        None => Ok(more),
+        Some(values) => with_more(values, more),
+    }
+}
+
+/// The values of one region followed by those of another of the same kind.
+fn with_more(values: Values, more: Values) -> Result<Values, Memory>
+    ensures { IfOk result (λ all. all ≡ machine.with_more values more) }
+{
+    match (values, more) {
+        (Values::Numbers(numbers), Values::Numbers(more)) => {
+            Ok(Values::Numbers(appended(numbers, more)?))
+        }
+        (Values::Text(bytes), Values::Text(more)) => Ok(Values::Text(appended(bytes, more)?)),
+        (Values::Bits(patterns), Values::Bits(more)) => {
+            Ok(Values::Bits(appended(patterns, more)?))
+        }
+        (values, _) => Ok(values),
+    }
+}
+
+fn appended<T: Drop>(list: Items<T>, more: Items<T>) -> Result<Items<T>, Memory>
+    ensures { IfOk result (λ all. all ≡ list ++ more) }
+{
+    let mut all = list.into_vec();
+    let mut more = more.into_vec();
+    all.append(&mut more)?;
+    Ok(Items::from_vec(all))
+}
+
+/// The values of a blocking call, which are those of id 0, or else the items with theirs.
+pub(crate) fn told(
+    alloc: Global,
+    blocking: bool,
+    items: ItemList,
+    mut found: BTreeMap<u32, Values>,
+) -> Result<(Option<Values>, ItemList), Memory>
+    requires alone { blocking ≡ true → items ≡ [] }
+    requires once { AreOnce items }
+    ensures values { IfOk result (λ told. told.0 ≡ (if blocking then get nat_cmp found 0 else None)) }
+    ensures items { IfOk result (λ told. told.1 ≡ map (filled_by (get nat_cmp found)) items) }
+{
+    if blocking {
+        Ok((found.remove(&0), items))
+    } else {
+        Ok((None, fill(alloc, items, found)?))
+    }
+}
+
+/// The items with the values of their requests, each of which goes to the one item that is Ok and has its id.
+fn fill(
+    alloc: Global,
+    items: ItemList,
+    mut found: BTreeMap<u32, Values>,
+) -> Result<ItemList, Memory>
+    requires once { AreOnce items }
+    ensures { IfOk result (λ filled. filled ≡ map (filled_by (get nat_cmp found)) items) }
+{
+    let mut filled = Vec::with_capacity(alloc, items.len())?;
+    for item in items.into_vec() {
+        filled.push(with_values(item, &mut found))?;
+    }
+    Ok(ItemList::from_vec(filled))
+}
+
+fn with_values(item: Item, found: &mut BTreeMap<u32, Values>) -> Item
+    ensures item { result ≡ filled_by (get nat_cmp found.old) item }
+    ensures others { (q : ℕ) → q ≢ item.id → get nat_cmp found.new q ≡ get nat_cmp found.old q }
+    ensures kept { is_ok_code item.code ≡ false → (q : ℕ) → get nat_cmp found.new q ≡ get nat_cmp found.old q }
+{
+    let values = if item.code == Code::Ok {
+        found.remove(&item.id)
+    } else {
+        None
+    };
+    Item {
+        id: item.id,
+        code: item.code,
+        values,
+    }
+}
