@@ -110,7 +110,7 @@ read_more base file lo hi os more y v s r = record {
   byte = r.byte;
 }
 
-got_says : (base : ℕ) (file : List ℕ) (lo hi : ℕ) (os : List Owned) (y v : ℕ) → ((o : Owned) → In os o → base ≤ o.extent.at)
+pub got_says : (base : ℕ) (file : List ℕ) (lo hi : ℕ) (os : List Owned) (y v : ℕ) → ((o : Owned) → In os o → base ≤ o.extent.at)
     → Says (said_by (parts_got base file lo hi os)) y v → IsRead base file lo hi os y v
 got_says base file lo hi [] y v on h = absurd h
 got_says base file lo hi (o ∷ os) y v on h =
@@ -137,7 +137,7 @@ says_got_of base file lo hi (p ∷ os) o x y v (inl m) on l h b e f g =
         says_read file (part_in lo hi o).from ((part_in lo hi o).extent.at - base) (part_in lo hi o).extent.len (x - part_at lo hi o) y v
         (omega arith) (omega arith) (ap (λ (j : ℕ). at file j) k ∙ g)
 
-says_got : (base : ℕ) (file : List ℕ) (lo hi : ℕ) (os : List Owned) (y v : ℕ) → ((o : Owned) → In os o → base ≤ o.extent.at)
+pub says_got : (base : ℕ) (file : List ℕ) (lo hi : ℕ) (os : List Owned) (y v : ℕ) → ((o : Owned) → In os o → base ≤ o.extent.at)
     → IsRead base file lo hi os y v → Says (said_by (parts_got base file lo hi os)) y v
 says_got base file lo hi os y v on r =
     says_got_of base file lo hi os r.by r.place y v r.inside (on r.by r.inside) r.low r.high r.begin r.end r.from r.byte
@@ -165,7 +165,7 @@ place_said (p ∷ os) o x (inl m) l h =
     place : o.extent.at + (x - o.extent.at) ≡ x
     place = omega arith
 
-read_once : (base : ℕ) (file : List ℕ) (lo hi : ℕ) (os : List Owned) → ((o : Owned) → In os o → base ≤ o.extent.at) → IsOneValued (places_of os)
+pub read_once : (base : ℕ) (file : List ℕ) (lo hi : ℕ) (os : List Owned) → ((o : Owned) → In os o → base ≤ o.extent.at) → IsOneValued (places_of os)
     → IsOneValued (said_by (parts_got base file lo hi os))
 read_once base file lo hi os on once y v u h k =
     let r = got_says base file lo hi os y v on h in
@@ -183,7 +183,7 @@ in_slot k list o m = let r = filter_in (λ (q : Owned). q.slot == k) list o m in
 pub slot_in : (k : ℕ) (list : List Owned) (o : Owned) → In list o → o.slot ≡ k → In (of_slot k list) o
 slot_in k list o m e = in_filter (λ (q : Owned). q.slot == k) list o m (same_hit o.slot k e)
 
-parts_within : (base : ℕ) (file : List ℕ) (lo hi n : ℕ) (os : List Owned) → ((o : Owned) → In os o → o.from + o.extent.len ≤ n) → IsWithin (parts_got base file lo hi os) n
+pub parts_within : (base : ℕ) (file : List ℕ) (lo hi n : ℕ) (os : List Owned) → ((o : Owned) → In os o → o.from + o.extent.len ≤ n) → IsWithin (parts_got base file lo hi os) n
 parts_within base file lo hi n [] h = tt
 parts_within base file lo hi n (o ∷ os) h =
     let room = h o (inl refl) in
@@ -191,7 +191,7 @@ parts_within base file lo hi n (o ∷ os) h =
 
 -- ---- one window more
 
-said_joined : (a b : List Cell) → said_by (a ++ b) ≡ said_by a ++ said_by b
+pub said_joined : (a b : List Cell) → said_by (a ++ b) ≡ said_by a ++ said_by b
 said_joined a b = flat_map-append (λ cell. enumerate_from cell.0 cell.1) a b
 
 slot_said : (base : ℕ) (file : List ℕ) (k : ℕ) (list left : List Owned) (place size : ℕ) (w : Window) (begun later : List Owned) (stop y : ℕ)
@@ -358,7 +358,7 @@ whole_part place o h =
     let from : o.from + min o.extent.len (part_at 0 place o - o.extent.at) ≡ o.from = omega arith in
     λ i. record { extent = record { at = begin i; len = long i }; rank = o.rank; request = o.request; slot = o.slot; from = from i }
 
-whole_parts : (place : ℕ) (os : List Owned) → ((o : Owned) → In os o → o.extent.at + o.extent.len ≤ place) → map (λ o. part_in 0 place o) os ≡ os
+pub whole_parts : (place : ℕ) (os : List Owned) → ((o : Owned) → In os o → o.extent.at + o.extent.len ≤ place) → map (λ o. part_in 0 place o) os ≡ os
 whole_parts place [] h = refl
 whole_parts place (o ∷ os) h = λ i. whole_part place o (h o (inl refl)) i ∷ whole_parts place os (λ q m. h q (inr m)) i
 
@@ -476,7 +476,7 @@ buffer_is_read base file buf lo n o h e =
     ∙ read_part file (lo - base) n ((part_in lo (lo + n) o).extent.at - lo) (part_in lo (lo + n) o).extent.len (omega arith)
     ∙ ap (λ (x : ℕ). read file x (part_in lo (lo + n) o).extent.len) place)
 
-buffer_cells : (base : ℕ) (file buf : List ℕ) (lo n : ℕ) (os : List Owned) → base ≤ lo → buf ≡ read file (lo - base) n
+pub buffer_cells : (base : ℕ) (file buf : List ℕ) (lo n : ℕ) (os : List Owned) → base ≤ lo → buf ≡ read file (lo - base) n
     → map (λ o. buffer_cell lo (lo + n) buf o) os ≡ parts_got base file lo (lo + n) os
 buffer_cells base file buf lo n [] h e = refl
 buffer_cells base file buf lo n (o ∷ os) h e = λ i. buffer_is_read base file buf lo n o h e i ∷ buffer_cells base file buf lo n os h e i

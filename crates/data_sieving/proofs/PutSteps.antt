@@ -28,12 +28,12 @@ entry_cells source list = map (λ o. cell_of source o) list
 said_two : (a b : List Cell) (x : ℕ) → said_at (said_by (a ++ b)) x ≡ option_or (said_at (said_by b) x) (said_at (said_by a) x)
 said_two a b x = ap (λ ps. said_at ps x) (flat_map-append (λ cell. enumerate_from cell.0 cell.1) a b) ∙ said_append (said_by a) (said_by b) x
 
-entries_two : (source : Source) (a b : List Owned) (x : ℕ)
+pub entries_two : (source : Source) (a b : List Owned) (x : ℕ)
     → said_at (said_by (entry_cells source (a ++ b))) x ≡ option_or (said_at (said_by (entry_cells source b)) x) (said_at (said_by (entry_cells source a)) x)
 entries_two source a b x =
     ap (λ cells. said_at (said_by cells) x) (map-append (λ o. cell_of source o) a b) ∙ said_two (entry_cells source a) (entry_cells source b) x
 
-or_none : (o : Option ℕ) → option_or o None ≡ o
+pub or_none : (o : Option ℕ) → option_or o None ≡ o
 or_none None = refl
 or_none (Some v) = refl
 
@@ -49,7 +49,7 @@ outside p n x b l h = by_front (nat_lt x p) refl
     by_front false e = by_back (nat_lt x (p + n)) refl (ltb-false _ _ e)
 
 -- nothing is said of a byte that no entry has
-unsaid : (source : Source) (list : List Owned) (x : ℕ) → (IsCovered list x → ⊥) → said_at (said_by (entry_cells source list)) x ≡ None
+pub unsaid : (source : Source) (list : List Owned) (x : ℕ) → (IsCovered list x → ⊥) → said_at (said_by (entry_cells source list)) x ≡ None
 unsaid source [] x h = refl
 unsaid source (o ∷ list) x h =
     said_append (enumerate_from o.extent.at (take o.extent.len (drop o.from (source o.rank o.slot)))) (said_by (entry_cells source list)) x

@@ -78,11 +78,11 @@ place_below left place size w begun later stop l n =
 
 -- ---- their bytes
 
-found_left : (source : Source) (a b : List Owned) → AreFound source (a ++ b) → AreFound source a
+pub found_left : (source : Source) (a b : List Owned) → AreFound source (a ++ b) → AreFound source a
 found_left source [] b h = tt
 found_left source (o ∷ a) b h = (h.0, found_left source a b h.1)
 
-found_right : (source : Source) (a b : List Owned) → AreFound source (a ++ b) → AreFound source b
+pub found_right : (source : Source) (a b : List Owned) → AreFound source (a ++ b) → AreFound source b
 found_right source [] b h = h
 found_right source (o ∷ a) b h = found_right source a b h.1
 

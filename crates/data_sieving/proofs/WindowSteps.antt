@@ -29,7 +29,7 @@ within_short (x ∷ xs) a e h k =
     let rest = within_short xs (x + 1) e h.1 (λ y m. let l = h.0 y m in let r = k y (inr m) in let g = r.1 in (omega arith, omega arith)) in
     omega arith
 
-hole_short : (xs : List ℕ) (a e y : ℕ) → IsAscending xs → ((x : ℕ) → In xs x → (a ≤ x) × (x < e)) → a ≤ y → y < e → (In xs y → ⊥) → length xs + 1 ≤ e - a
+pub hole_short : (xs : List ℕ) (a e y : ℕ) → IsAscending xs → ((x : ℕ) → In xs x → (a ≤ x) × (x < e)) → a ≤ y → y < e → (In xs y → ⊥) → length xs + 1 ≤ e - a
 hole_short [] a e y h k l m n = omega arith
 hole_short (x ∷ xs) a e y h k l m n =
     by_test

@@ -140,8 +140,8 @@ fn collect_all(hull: Extent, entries: &[Owned], buf: &[u8], blobs: &mut [Blob])
     }
 }
 
-// Copies the bytes that an entry has in the hull into its blob.
-fn collect_entry(hull: Extent, entry: &Owned, buf: &[u8], blobs: &mut [Blob])
+/// Copies the bytes that an entry has in the hull out of a buffer, which is as long, into the blob of its slot.
+pub fn collect_entry(hull: Extent, entry: &Owned, buf: &[u8], blobs: &mut [Blob])
     requires hull { hull.at + hull.len < 2 ^ 62 }
     requires room { length buf.now ≡ hull.len }
     requires end { entry.now.extent.at + entry.now.extent.len < 2 ^ 62 }

@@ -10,8 +10,9 @@ mod get;
 mod put;
 mod walk;
 
-pub use get::sieve_get;
-pub use put::sieve_put;
+pub use get::{collect_entry, sieve_get};
+pub use put::{lay_entry, sieve_put};
+pub use walk::{begun_before, ended_by};
 
 #[cfg(test)]
 mod tests;

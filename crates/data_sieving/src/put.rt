@@ -109,8 +109,8 @@ fn lay_all(hull: Extent, entries: &[Owned], puts: &PostList, buf: &mut [u8])
     }
 }
 
-// Lays the bytes that an entry has in the hull.
-fn lay_entry(hull: Extent, entry: &Owned, puts: &PostList, buf: &mut [u8])
+/// Lays the bytes that an entry has in the hull over those of a buffer, which is as long. They are found in the post of its slot.
+pub fn lay_entry(hull: Extent, entry: &Owned, puts: &PostList, buf: &mut [u8])
     requires hull { hull.at + hull.len < 2 ^ 62 }
     requires room { length buf.old ≡ hull.len }
     requires end { entry.now.extent.at + entry.now.extent.len < 2 ^ 62 }

@@ -75,8 +75,8 @@ fn tail<'a>(list: &'a [Owned], count: usize) -> &'a [Owned]
     &list[count..]
 }
 
-// How many entries in front begin before the place.
-fn begun_before(list: &[Owned], place: u64) -> usize
+/// How many entries in front begin before the place.
+pub fn begun_before(list: &[Owned], place: u64) -> usize
     ensures bound { result ≤ length list.now }
     ensures before { (i : ℕ) (o : Owned) → i < result → slice_get list.now i ≡ Some o → o.extent.at < place }
     ensures after { (o : Owned) → slice_get list.now result ≡ Some o → place ≤ o.extent.at }
@@ -89,8 +89,8 @@ fn begun_before(list: &[Owned], place: u64) -> usize
     list.len()
 }
 
-// How many entries in front end at the place or before.
-fn ended_by(list: &[Owned], place: u64) -> usize
+/// How many entries in front end at the place or before.
+pub fn ended_by(list: &[Owned], place: u64) -> usize
     requires { EndBelow (2 ^ 62) (extents list.now) }
     ensures bound { result ≤ length list.now }
     ensures before { (i : ℕ) (o : Owned) → i < result → slice_get list.now i ≡ Some o → o.extent.at + o.extent.len ≤ place }
