@@ -1,0 +1,5 @@
+pub mod Begun
+pub mod Counts
+pub mod Seated
+pub mod Stages
+pub mod Steps
