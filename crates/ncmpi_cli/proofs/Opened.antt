@@ -3,7 +3,9 @@ use Rattle.std.proofs.Common.{◌≡◌, ℕ, ◌^◌, ◌≤◌, ◌<◌, List,
 use Rattle.std.specs.Prelude.{IfSome, Result, Ok, Err}
 use Rattle.std.specs.Result.{IsErrAnd}
 use Rattle.std.proofs.lemmas.Bool.{cases_lt}
-use Rattle.nc_outside.specs.Told.{after}
+use Rattle.nc_base.specs.declared.step.DiskCall.{DiskCall}
+use Rattle.nc_outside.specs.Told.{after, with_end}
+use Rattle.serial_spec.specs.DeviceCalls.{head_load}
 use Rattle.serial_spec.specs.File.{longer}
 use Rattle.serial_spec.proofs.FileLaws.{longer-enough}
 use Rattle.std.proofs.lemmas.List.{take-append-drop, take_all}
@@ -120,3 +122,17 @@ tells held bytes (Err stop) err e f why s r = by_cause why
     by_cause : (err ≡ fault.Memory) ⊎ HasFault bytes err → IfSome held (λ file. HasFault (headline.front file) e)
     by_cause (inl m) = absurd (no_memory err e same m)
     by_cause (inr h) = of_fault held bytes e f (subst (λ (x : HeaderErr). HasFault bytes x) (same_header err e same) h)
+
+-- ---- the calls of an opening
+
+pub begun_calls : (held mid : Option (List ℕ)) (before begun now : Option (List DiskCall)) → mid ≡ held → begun ≡ after (λ _. []) before
+    → IfSome mid (λ file. now ≡ with_end begun (head_load file)) → IfSome held (λ file. now ≡ after (λ _. head_load file) before)
+begun_calls held mid before begun now same b h = by_held held (subst (λ (t : Option (List ℕ)). IfSome t (λ file. now ≡ with_end begun (head_load file))) same h)
+  where
+    from_none : (calls : List DiskCall) (old : Option (List DiskCall)) → with_end (after (λ _. []) old) calls ≡ after (λ _. calls) old
+    from_none calls None = refl
+    from_none calls (Some others) = refl
+
+    by_held : (t : Option (List ℕ)) → IfSome t (λ file. now ≡ with_end begun (head_load file)) → IfSome t (λ file. now ≡ after (λ _. head_load file) before)
+    by_held None g = tt
+    by_held (Some file) g = g ∙ ap (λ (c : Option (List DiskCall)). with_end c (head_load file)) b ∙ from_none (head_load file) before

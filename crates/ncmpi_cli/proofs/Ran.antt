@@ -1,65 +1,108 @@
 -- What is done of a built script is a run that ended well.
-use Rattle.std.proofs.Common.{◌≡◌, ℕ, ◌&&◌, not, Bool, true, false, List, [], ◌∷◌, length, Option, Some, None, refl, sym, ap, subst, ◌∙◌}
-use Rattle.std.specs.Prelude.{IfSome}
-use Rattle.std.specs.List.{list_all}
-use Rattle.std.proofs.lemmas.Bool.{and_parts}
+use Rattle.std.proofs.Common.{◌≡◌, ℕ, Bool, true, false, List, [], ◌∷◌, ◌++◌, length, Option, Some, None, refl, sym, ap, subst, ◌∙◌}
+use Rattle.std.specs.Prelude.{IfSome, ◌==◌}
+use Rattle.nc_base.specs.declared.answer.Answer.{Answer}
 use Rattle.nc_base.specs.declared.header.Header.{Header}
-use Rattle.nc_base.specs.declared.request.Call.{Call}
+use Rattle.nc_base.specs.declared.script.Extra.{Extra}
 use Rattle.nc_base.specs.declared.script.Script.{Script}
+use Rattle.nc_base.specs.declared.step.DiskCall.{DiskCall}
 use Rattle.nc_base.specs.declared.step.Mark.{Mark}
-use Rattle.nc_outside.specs.Told.{after}
-use Rattle.serial_spec.specs.HeaderGrammar.{header_len}
+use Rattle.nc_outside.specs.Told.{after, with_end}
+use Rattle.serial_spec.specs.DeviceCalls.{all_calls, opening_calls, redefining_calls, run_calls}
 use Rattle.serial_spec.specs.History.{IsLegal}
 use Rattle.serial_spec.specs.Lawful.{is_empty}
-use Rattle.serial_spec.specs.SerialEnd.{End, serial, start}
+use Rattle.serial_spec.specs.Redefinition.{brought, redefined}
+use Rattle.serial_spec.specs.SerialEnd.{End, serial, serial_from, start}
 use Rattle.script_spec.specs.Texts.{run_text}
-use Rattle.ncmpi_cli.specs.Built.{is_plain, may_do}
-use Rattle.ncmpi_cli.specs.Headline.{Asks, IsHeaderOf, IsReady, Ran, align_of, text_of}
-use Rattle.ncmpi_cli.specs.Plain.{after_calls, all_ok, meetings}
-use Rattle.ncmpi_cli.proofs.Legal.{legal}
-use Rattle.ncmpi_cli.proofs.PlainLooks.{all-plain-placed}
-use Rattle.ncmpi_cli.proofs.Serial.{built-one, end_with, no-call, serial-is}
+use Rattle.ncmpi_cli.specs.Built.{is_built}
+use Rattle.script_spec.specs.ScriptGrammar.{Reads}
+use Rattle.rank_meeting.specs.Begun.{HasBegun}
+use Rattle.ncmpi_cli.specs.Headline.{Asks, BeginsFor, IsDone, IsReady, Ran}
+use Rattle.ncmpi_cli.proofs.Ready.{same_script}
 
--- ---- the calls are plain under the dataset's header
+-- ---- nothing is added to the dataset
 
-abbrev may_by : Script → List Call → Bool → Bool
-may_by script calls fresh =
-    elim fresh [ true ↦ not script.filled && list_all (is_plain script.header) calls | false ↦ is_empty script.extra && is_empty calls ]
+none-added : (extras : List Extra) → is_empty extras ≡ true → extras ≡ []
+none-added [] h = refl
+none-added (x ∷ extras) h = absurd (clash h)
+  where
+    clash : false ≡ true → ⊥
+    clash e = cc
 
-plain-by : (script : Script) (file : List ℕ) (header : Header) (calls : List Call) (fresh : Bool) → script.fresh ≡ fresh → may_by script calls fresh ≡ true
-    → IsHeaderOf script file header → list_all (is_plain header) calls ≡ true
-plain-by script file header calls true e may heads =
-    ap (λ (h : Header). list_all (is_plain h) calls) (heads.created e)
-    ∙ sym (all-plain-placed script.header (align_of script.hints) (header_len script.header) calls)
-    ∙ (and_parts (not script.filled) (list_all (is_plain script.header) calls) may).1
-plain-by script file header calls false e may heads =
-    ap (λ (cs : List Call). list_all (is_plain header) cs) (no-call calls (and_parts (is_empty script.extra) (is_empty calls) may).1)
+calls-are : (script : Script) (header : Header) (file : List ℕ) (order : List Mark) → is_built script ≡ true
+    → all_calls script header header file order ≡ opening_calls script header file ++ run_calls script header (start script header file) order
+calls-are script header file order built =
+    let none : script.extra ≡ [] = none-added script.extra built in
+    ap (λ (x : List Extra). elim (length x == 0) [ true ↦ opening_calls script header file | false ↦ redefining_calls script.hints header header file ]
+    ++ run_calls script header (start script header (elim (length x == 0) [ true ↦ file | false ↦ redefined file header header ])) order) none
 
-pub plain-under : (script : Script) (file : List ℕ) (header : Header) (calls : List Call) → may_do script calls ≡ true → IsHeaderOf script file header
-    → list_all (is_plain header) calls ≡ true
-plain-under script file header calls may heads = plain-by script file header calls script.fresh refl may heads
+-- ---- a file that is told
+
+joined : (calls before : Option (List DiskCall)) (opening run : List DiskCall) → calls ≡ after (λ _. opening) before
+    → with_end calls run ≡ after (λ _. opening ++ run) before
+joined calls None opening run e = ap (λ (c : Option (List DiskCall)). with_end c run) e
+joined calls (Some old) opening run e = ap (λ (c : Option (List DiskCall)). with_end c run) e
+
+pub done : (script : Script) (header : Header) (held_before held_mid held_after : Option (List ℕ)) (calls_before calls_mid calls_after : Option (List DiskCall))
+    (order : List Mark) (records : ℕ) (answers : List (List Answer)) (pending : List ℕ) (text : List ℕ)
+    → is_built script ≡ true → IsReady script header held_before held_mid calls_before calls_mid
+    → IfSome held_mid (λ file. held_after ≡ Some (serial_from script header file order).bytes)
+    → IfSome held_mid (λ file. records ≡ (serial_from script header file order).records)
+    → IfSome held_mid (λ file. answers ≡ (serial_from script header file order).answers)
+    → IfSome held_mid (λ file. pending ≡ (serial_from script header file order).pending)
+    → IfSome held_mid (λ file. calls_after ≡ with_end calls_mid (run_calls script header file order))
+    → text ≡ run_text script (record header { records = records }) order answers pending
+    → IfSome held_before (λ bytes. IsDone script header bytes held_after calls_before calls_after order text)
+done script header None held_mid held_after calls_before calls_mid calls_after order records answers pending text built ready b r a p k t = tt
+done script header (Some file) held_mid held_after calls_before calls_mid calls_after order records answers pending text built ready b r a p k t =
+    let mid : held_mid ≡ Some (start script header file) = ready.bytes in
+    let end : End = serial script header file order in
+    let count : records ≡ end.records = subst (λ (h : Option (List ℕ)). IfSome h (λ f. records ≡ (serial_from script header f order).records)) mid r in
+    let told : answers ≡ end.answers = subst (λ (h : Option (List ℕ)). IfSome h (λ f. answers ≡ (serial_from script header f order).answers)) mid a in
+    let left : pending ≡ end.pending = subst (λ (h : Option (List ℕ)). IfSome h (λ f. pending ≡ (serial_from script header f order).pending)) mid p in
+    let made : calls_after ≡ with_end calls_mid (run_calls script header (start script header file) order) =
+    subst (λ (h : Option (List ℕ)). IfSome h (λ f. calls_after ≡ with_end calls_mid (run_calls script header f order))) mid k in
+    record {
+      bytes = subst (λ (h : Option (List ℕ)). IfSome h (λ f. held_after ≡ Some (serial_from script header f order).bytes)) mid b;
+      calls =
+          made
+          ∙ joined calls_mid calls_before (opening_calls script header file) (run_calls script header (start script header file) order) ready.calls
+          ∙ ap (λ (c : List DiskCall). after (λ _. c) calls_before) (sym (calls-are script header file order built));
+      lines =
+          t
+          ∙ ap (λ (n : ℕ). run_text script (record header { records = n }) order answers pending) count
+          ∙ ap (λ (x : List (List Answer)). run_text script (record header { records = end.records }) order x pending) told
+          ∙ ap (λ (x : List ℕ). run_text script (record header { records = end.records }) order end.answers x) left;
+    }
+
+-- the order, which is this one, begins one of the script that the text spells
+pub begins : (left : Option (List ℕ)) (script : Script) (order end_order : List Mark) → IfSome left (λ text. Reads text script) → order ≡ end_order
+    → HasBegun script end_order → IfSome left (λ text. BeginsFor text order)
+begins None script order end_order r e h = tt
+begins (Some text) script order end_order r e h =
+    λ other s. subst (λ (o : List Mark). HasBegun other o) (sym e) (subst (λ (x : Script). HasBegun x end_order) (same_script text script other r s) h)
+
+-- no step is a beginning of every script
+pub begins_none : (left : Option (List ℕ)) (order : List Mark) → order ≡ [] → IfSome left (λ text. BeginsFor text order)
+begins_none None order e = tt
+begins_none (Some text) order e = λ script r. subst (λ (o : List Mark). HasBegun script o) (sym e) (record { known_ranks = refl; each_rank = λ q h. (_, refl) })
 
 -- ---- the run
 
--- what was started and then changed by the calls, where it is told
-held-changed : (f g : List ℕ → List ℕ) (held : Option (List ℕ)) (file : List ℕ) → IfSome held (λ bytes. bytes ≡ file)
-    → after f (after g held) ≡ after (λ _. f (g file)) held
-held-changed f g None file same = refl
-held-changed f g (Some bytes) file same = ap (λ (t : List ℕ). Some (f (g t))) same
-
-pub ran : (script : Script) (header : Header) (calls : List Call) (left_before left_after held_before held_mid held_after : Option (List ℕ)) (order : List Mark) (text : List ℕ)
-    → Asks left_before script → IsReady script header held_before held_mid → script.calls ≡ calls ∷ []
-    → left_after ≡ after (λ _. []) left_before
-    → held_after ≡ after (after_calls header calls) held_mid
-    → order ≡ meetings (length calls)
-    → text ≡ run_text script header order (all_ok (length calls) ∷ []) (0 ∷ [])
-    → Ran left_before left_after held_before held_after order text
-ran script header calls left_before left_after held_before held_mid held_after order text asks ready one taken changed ordered written =
-    let own = built-one script calls one asks.built in
-    let plain = plain-under script ready.file header calls own.may ready.heads in
-    let end : serial script header ready.file order ≡ end_with (after_calls header calls (start script header ready.file)) header.records (length calls) =
-    ap (λ (o : List Mark). serial script header ready.file o) ordered ∙ serial-is script header ready.file calls one asks.built ready.sound plain in
-    record {
+pub ran : (script : Script) (header : Header) (left_before left_after held_before held_mid held_after : Option (List ℕ)) (calls_before calls_mid calls_after : Option (List DiskCall))
+    (order end_order : List Mark) (records : ℕ) (answers : List (List Answer)) (pending : List ℕ) (text : List ℕ)
+    → Asks left_before script → IsReady script header held_before held_mid calls_before calls_mid → left_after ≡ after (λ _. []) left_before
+    → order ≡ end_order → IsLegal script end_order
+    → IfSome held_mid (λ file. held_after ≡ Some (serial_from script header file end_order).bytes)
+    → IfSome held_mid (λ file. records ≡ (serial_from script header file end_order).records)
+    → IfSome held_mid (λ file. answers ≡ (serial_from script header file end_order).answers)
+    → IfSome held_mid (λ file. pending ≡ (serial_from script header file end_order).pending)
+    → IfSome held_mid (λ file. calls_after ≡ with_end calls_mid (run_calls script header file end_order))
+    → text ≡ run_text script (record header { records = records }) end_order answers pending
+    → Ran left_before left_after held_before held_after calls_before calls_after order text
+ran script header left_before left_after held_before held_mid held_after calls_before calls_mid calls_after order end_order records answers pending text asks ready taken same legal b r a p k t =
+    subst (λ (o : List Mark). Ran left_before left_after held_before held_after calls_before calls_after o text) (sym same)
+    (record {
       script = script;
       header = header;
       file = ready.file;
@@ -67,11 +110,6 @@ ran script header calls left_before left_after held_before held_mid held_after o
       taken = taken;
       held = ready.held;
       heads = ready.heads;
-      legal = subst (λ (o : List Mark). IsLegal script o) (sym ordered) (legal script header calls own.ranks one plain);
-      bytes =
-          changed
-          ∙ ap (λ (t : Option (List ℕ)). after (after_calls header calls) t) ready.bytes
-          ∙ held-changed (after_calls header calls) (start script header) held_before ready.file ready.held
-          ∙ ap (λ (e : End). after (λ _. e.bytes) held_before) (sym end);
-      lines = written ∙ ap (λ (e : End). text_of script header order e) (sym end);
-    }
+      legal = legal;
+      done = done script header held_before held_mid held_after calls_before calls_mid calls_after end_order records answers pending text asks.built ready b r a p k t;
+    })

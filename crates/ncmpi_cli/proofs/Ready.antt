@@ -1,31 +1,27 @@
 -- A dataset that is ready for the ranks.
 use Rattle.std.proofs.Common.{◌≡◌, ℕ, ◌≤◌, Bool, true, false, not, ◌&&◌, List, [], ◌∷◌, Option, Some, None, refl, sym, ap, ◌∙◌, arith}
 use Rattle.std.specs.Prelude.{IfErr, IfOk, OnOk, IfSome, Result, Ok, Err}
-use Rattle.std.specs.List.{list_all}
 use Rattle.std.specs.Result.{IsErrAnd}
 use Rattle.nc_base.specs.declared.errors.HeaderErr.{HeaderErr}
 use Rattle.nc_base.specs.declared.header.Header as head
-use Rattle.nc_base.specs.declared.request.Call.{Call}
 use Rattle.nc_base.specs.declared.script.Script as script_type
-use Rattle.nc_outside.specs.Told.{after}
-use Rattle.nc_outside.proofs.ToldLaws.{after-same}
+use Rattle.nc_base.specs.declared.step.DiskCall.{DiskCall}
+use Rattle.nc_base.specs.declared.step.DiskCall.TheVariants.{Grow, Store}
+use Rattle.nc_outside.specs.Told.{after, with_end}
+use Rattle.nc_outside.proofs.ToldLaws.{after-after, after-same}
+use Rattle.serial_spec.specs.DeviceCalls.{opening_calls}
 use Rattle.serial_spec.specs.File.{longer}
+use Rattle.serial_spec.specs.Fill.{filled}
 use Rattle.serial_spec.specs.HeaderGrammar.{canon, HasFault, header_len, is_sound}
 use Rattle.serial_spec.specs.Layout.{end_of}
 use Rattle.serial_spec.specs.Redefinition.{layout_fault}
 use Rattle.serial_spec.specs.SerialEnd.{start}
-use Rattle.serial_spec.proofs.RoomLaws.{end_grows}
-use Rattle.serial_spec.proofs.SpellingLaws.{left}
-use Rattle.serial_spec.specs.Lawful.{is_empty}
 use Rattle.script_spec.specs.ScriptGrammar.{Reads}
-use Rattle.ncmpi_cli.specs.Built.{is_built, is_built_for, is_plain, may_do}
 use Rattle.ncmpi_cli.specs.Headline.{align_of, created_header, front, IsReady, TellsDataset}
-use Rattle.ncmpi_cli.specs.Opening.{IsOfOpening, IsOpened}
+use Rattle.ncmpi_cli.specs.Opening.{fill_calls_if, filled_if, opened_calls, IsOfOpening, IsOpened}
 use Rattle.ncmpi_cli.specs.Stops.{line_of, status_of}
 use Rattle.ncmpi_cli.specs.declared.stop.Stop.{Stop}
 use Rattle.ncmpi_cli.specs.declared.stop.Stop.TheVariants as stops
-use Rattle.ncmpi_cli.proofs.Ran.{plain-under}
-use Rattle.ncmpi_cli.proofs.Serial.{built-one}
 
 pub false-true : (b : Bool) → b ≡ false → b ≡ true → ⊥
 false-true b e f = clash (sym e ∙ f)
@@ -33,36 +29,60 @@ false-true b e f = clash (sym e ∙ f)
     clash : false ≡ true → ⊥
     clash x = cc
 
--- ---- what a script that is built does
-
-one-rank : (script : script_type.Script) (calls : List (List Call)) → is_built_for script calls ≡ true → (own : List Call) × (calls ≡ own ∷ [])
-one-rank script [] h = absurd (false-true false refl h)
-one-rank script (own ∷ []) h = (own, refl)
-one-rank script (own ∷ more ∷ calls) h = absurd (false-true false refl h)
-
-not-filled : (script : script_type.Script) (calls : List Call) → may_do script calls ≡ true → script.fresh ≡ true → script.filled ≡ false
-not-filled script calls h f =
-    let e : (not script.filled && list_all (is_plain script.header) calls) ≡ true = sym (ap (λ (b : Bool). elim b [ true ↦ not script.filled && list_all (is_plain script.header) calls | false ↦ is_empty script.extra && is_empty calls ]) f) ∙ h in
-    by_filled script.filled (left _ _ e)
-  where
-    by_filled : (b : Bool) → not b ≡ true → b ≡ false
-    by_filled true n = sym n
-    by_filled false n = refl
-
-filled-not : (script : script_type.Script) → is_built script ≡ true → script.fresh ≡ true → script.filled ≡ false
-filled-not script h f =
-    let one = one-rank script script.calls h in
-    not-filled script one.0 (built-one script one.0 one.1 h).may f
-
 -- ---- the file before the ranks begin
 
-start-created : (script : script_type.Script) (header : head.Header) (file : List ℕ) → script.fresh ≡ true → script.filled ≡ false
-    → start script header file ≡ longer (canon header) (end_of header (header_len header) 0)
-start-created script header file f n = rw (f, n) refl
+start-created : (script : script_type.Script) (header : head.Header) (file : List ℕ) → script.fresh ≡ true
+    → start script header file ≡ filled_if script.filled header (longer (canon header) (end_of header (header_len header) 0))
+start-created script header file f = ap (λ (b : Bool). elim b [ false ↦ longer file (end_of header (header_len header) header.records) | true ↦ begun ]) f ∙ by_filled script.filled
+  where
+    whole : List ℕ
+    whole = longer (canon header) (end_of header (header_len header) 0)
+
+    begun : List ℕ
+    begun = elim (script.filled) [ false ↦ longer (canon header) (end_of header (header_len header) 0) | true ↦ filled header (longer (canon header) (end_of header (header_len header) 0)) ]
+
+    by_filled : (b : Bool) → elim b [ false ↦ longer (canon header) (end_of header (header_len header) 0) | true ↦ filled header (longer (canon header) (end_of header (header_len header) 0)) ]
+        ≡ filled_if b header (longer (canon header) (end_of header (header_len header) 0))
+    by_filled true = refl
+    by_filled false = refl
 
 start-opened : (script : script_type.Script) (header : head.Header) (file : List ℕ) → script.fresh ≡ false
     → start script header file ≡ longer file (end_of header (header_len header) header.records)
 start-opened script header file f = rw f refl
+
+-- ---- the calls before the ranks begin
+
+created-calls : script_type.Script → head.Header → List DiskCall
+created-calls script header = Grow (end_of header (header_len header) 0) ∷ Store 0 (header_len header) ∷ fill_calls_if script.filled script.hints header
+
+opening-created : (script : script_type.Script) (header : head.Header) (file : List ℕ) → script.fresh ≡ true
+    → opening_calls script header file ≡ created-calls script header
+unfolding created-calls
+opening-created script header file f = rw f refl
+
+opening-opened : (script : script_type.Script) (header : head.Header) (file : List ℕ) → script.fresh ≡ false
+    → opening_calls script header file ≡ opened_calls header file
+opening-opened script header file f = rw f refl
+
+calls-created : (script : script_type.Script) (header : head.Header) (held : Option (List ℕ)) (before mid now : Option (List DiskCall)) → script.fresh ≡ true
+    → mid ≡ after (λ _. Grow (end_of header (header_len header) 0) ∷ Store 0 (header_len header) ∷ []) before
+    → now ≡ with_end mid (fill_calls_if script.filled script.hints header)
+    → IfSome held (λ bytes. now ≡ after (λ _. opening_calls script header bytes) before)
+unfolding created-calls
+calls-created script header None before mid now f m n = tt
+calls-created script header (Some bytes) before mid now f m n =
+    n ∙ ap (λ (c : Option (List DiskCall)). with_end c (fill_calls_if script.filled script.hints header)) m ∙ together before
+  where
+    together : (old : Option (List DiskCall))
+        → with_end (after (λ _. Grow (end_of header (header_len header) 0) ∷ Store 0 (header_len header) ∷ []) old) (fill_calls_if script.filled script.hints header)
+        ≡ after (λ _. opening_calls script header bytes) old
+    together None = refl
+    together (Some calls) = ap (λ (c : List DiskCall). Some c) (sym (opening-created script header bytes f))
+
+calls-opened : (script : script_type.Script) (header : head.Header) (held : Option (List ℕ)) (before now : Option (List DiskCall)) → script.fresh ≡ false
+    → IfSome held (λ file. now ≡ after (λ _. opened_calls header file) before) → IfSome held (λ bytes. now ≡ after (λ _. opening_calls script header bytes) before)
+calls-opened script header None before now f h = tt
+calls-opened script header (Some bytes) before now f h = h ∙ ap (λ (c : List DiskCall). after (λ _. c) before) (sym (opening-opened script header bytes f))
 
 -- what is held, or nothing where nothing is told
 abbrev told : Option (List ℕ) → List ℕ
@@ -73,23 +93,32 @@ told-is : (held : Option (List ℕ)) → IfSome held (λ bytes. bytes ≡ told h
 told-is None = tt
 told-is (Some file) = refl
 
-pub ready-created : (script : script_type.Script) (header : head.Header) (before now : Option (List ℕ)) → is_built script ≡ true → script.fresh ≡ true
-    → header ≡ created_header script → is_sound header ≡ true → layout_fault script.header (align_of script.hints) ≡ None
-    → now ≡ after (λ _. longer (canon header) (end_of header (header_len header) 0)) before → IsReady script header before now
-ready-created script header before now built f h s l e = record {
+pub ready-created : (script : script_type.Script) (header : head.Header) (before mid now : Option (List ℕ)) (calls_before calls_mid calls_now : Option (List DiskCall))
+    → script.fresh ≡ true → header ≡ created_header script → is_sound header ≡ true → layout_fault script.header (align_of script.hints) ≡ None
+    → mid ≡ after (λ _. longer (canon header) (end_of header (header_len header) 0)) before → now ≡ after (filled_if script.filled header) mid
+    → calls_mid ≡ after (λ _. Grow (end_of header (header_len header) 0) ∷ Store 0 (header_len header) ∷ []) calls_before
+    → calls_now ≡ with_end calls_mid (fill_calls_if script.filled script.hints header)
+    → IsReady script header before now calls_before calls_now
+ready-created script header before mid now calls_before calls_mid calls_now f h s l e g m n = record {
   file = told before;
   held = told-is before;
   heads = record { created = λ _. h; opened = λ o. absurd (false-true script.fresh o f) };
   sound = s;
   faultless = record { created = λ _. l; opened = λ o. absurd (false-true script.fresh o f) };
-  bytes = e ∙ after-same (λ _. longer (canon header) (end_of header (header_len header) 0)) (λ file. start script header file) before
-      (λ file. sym (start-created script header file f (filled-not script built f)));
+  bytes =
+      g ∙ ap (λ (t : Option (List ℕ)). after (filled_if script.filled header) t) e
+      ∙ after-after (filled_if script.filled header) (λ _. longer (canon header) (end_of header (header_len header) 0)) before
+      ∙ after-same (λ _. filled_if script.filled header (longer (canon header) (end_of header (header_len header) 0))) (λ file. start script header file) before
+      (λ file. sym (start-created script header file f));
+  calls = calls-created script header before calls_before calls_mid calls_now f m n;
 }
 
-pub ready-opened : (script : script_type.Script) (header : head.Header) (before now : Option (List ℕ)) → script.fresh ≡ false → IsOpened before header → is_sound header ≡ true
+pub ready-opened : (script : script_type.Script) (header : head.Header) (before now : Option (List ℕ)) (calls_before calls_now : Option (List DiskCall))
+    → script.fresh ≡ false → IsOpened before header → is_sound header ≡ true
     → IfSome before (λ file. (e : HeaderErr) → HasFault (front file) e → ⊥)
-    → now ≡ after (λ file. longer file (end_of header (header_len header) header.records)) before → IsReady script header before now
-ready-opened script header before now f o s n e = record {
+    → now ≡ after (λ file. longer file (end_of header (header_len header) header.records)) before
+    → IfSome before (λ file. calls_now ≡ after (λ _. opened_calls header file) calls_before) → IsReady script header before now calls_before calls_now
+ready-opened script header before now calls_before calls_now f o s n e k = record {
   file = o.file;
   held = o.told;
   heads = record { created = λ c. absurd (false-true script.fresh f c); opened = λ _. (o.count, o.begins) };
@@ -97,12 +126,8 @@ ready-opened script header before now f o s n e = record {
   faultless = record { created = λ c. absurd (false-true script.fresh f c); opened = λ _. n };
   bytes = e ∙ after-same (λ file. longer file (end_of header (header_len header) header.records)) (λ file. start script header file) before
       (λ file. sym (start-opened script header file f));
+  calls = calls-opened script header before calls_before calls_now f k;
 }
-
--- the calls are plain under the header too
-pub ready-plain : (script : script_type.Script) (header : head.Header) (before now : Option (List ℕ)) → is_built script ≡ true → IsReady script header before now
-    → (calls : List Call) → script.calls ≡ calls ∷ [] → list_all (is_plain header) calls ≡ true
-ready-plain script header before now built ready calls e = plain-under script ready.file header calls (built-one script calls e built).may ready.heads
 
 -- ---- what is wrong with it
 
@@ -137,24 +162,22 @@ of_any (Some text) script r h = λ s q f. h (ap (λ (x : script_type.Script). x.
 
 -- ---- the result of opening
 
-pub all-ready : (script : script_type.Script) (before now : Option (List ℕ)) (result : Result head.Header Stop) → script.fresh ≡ false
+pub all-ready : (script : script_type.Script) (before now : Option (List ℕ)) (calls_before calls_now : Option (List DiskCall)) (result : Result head.Header Stop) → script.fresh ≡ false
     → IfOk result (λ header. IsOpened before header) → IfOk result (λ header. is_sound header ≡ true)
     → OnOk result (IfSome before (λ file. (e : HeaderErr) → HasFault (front file) e → ⊥))
     → IfOk result (λ header. now ≡ after (λ file. longer file (end_of header (header_len header) header.records)) before)
-    → IfOk result (λ header. IsReady script header before now)
-all-ready script before now (Ok header) f o s n b = ready-opened script header before now f o s n b
-all-ready script before now (Err stop) f o s n b = tt
+    → IfOk result (λ header. IfSome before (λ file. calls_now ≡ after (λ _. opened_calls header file) calls_before))
+    → IfOk result (λ header. IsReady script header before now calls_before calls_now)
+all-ready script before now calls_before calls_now (Ok header) f o s n b k = ready-opened script header before now calls_before calls_now f o s n b k
+all-ready script before now calls_before calls_now (Err stop) f o s n b k = tt
 
-pub all-plain : (script : script_type.Script) (before now : Option (List ℕ)) (result : Result head.Header Stop) → is_built script ≡ true
-    → IfOk result (λ header. IsReady script header before now)
-    → IfOk result (λ header. (calls : List Call) → script.calls ≡ calls ∷ [] → list_all (is_plain header) calls ≡ true)
-all-plain script before now (Ok header) b r = ready-plain script header before now b r
-all-plain script before now (Err stop) b r = tt
-
-pub all-long : (len : ℕ) (result : Result head.Header Stop) → IfOk result (λ header. end_of header (header_len header) header.records ≤ len)
-    → IfOk result (λ header. end_of header (header_len header) 0 ≤ len)
-all-long len (Ok header) h = let less = end_grows header (header_len header) 0 header.records (omega arith) in omega (arith, less, h)
-all-long len (Err stop) h = tt
+-- a created dataset has no record
+pub created_long : (script : script_type.Script) (header : head.Header) (len : ℕ) → script.header.records ≡ 0 → header ≡ created_header script
+    → len ≡ end_of header (header_len header) 0 → end_of header (header_len header) header.records ≤ len
+created_long script header len r h l =
+    let none : header.records ≡ 0 = ap (λ (x : head.Header). x.records) h ∙ r in
+    let same : end_of header (header_len header) header.records ≡ end_of header (header_len header) 0 = ap (λ (n : ℕ). end_of header (header_len header) n) none in
+    omega (arith, same, l)
 
 pub unlaid : {T Q : Type 0} (left : Option (List ℕ)) (script : script_type.Script) (result : Result T Stop) (err : Stop) → IfSome left (λ text. Reads text script)
     → IsErrAnd result (λ stop. stop ≡ err) → (status_of err ≡ 4 → script.fresh ≡ true → Q)

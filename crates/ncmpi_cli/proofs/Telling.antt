@@ -1,17 +1,15 @@
 -- What the top call tells, by how a run ended.
 use Rattle.std.proofs.Common.{◌≡◌, ℕ, ◌+◌, ◌^◌, ◌≤◌, Bool, true, false, List, [], ◌∷◌, length, Option, Some, None, inl, inr, ◌⊎◌, refl, sym, ap, subst, ◌∙◌, arith}
-use Rattle.std.proofs.lemmas.Bool.{leb-true}
-use Rattle.std.specs.Prelude.{map, sum, IfSome, IsSomeAnd, Result, Ok, Err, is_some}
+use Rattle.std.specs.Prelude.{IfSome, IsSomeAnd, Result, Ok, Err, is_some}
 use Rattle.nc_base.specs.declared.errors.HeaderErr.{HeaderErr}
 use Rattle.nc_base.specs.declared.errors.LayoutErr.{LayoutErr}
 use Rattle.nc_base.specs.declared.errors.ScriptErr.{ScriptErr}
-use Rattle.nc_base.specs.declared.request.Call.{Call}
 use Rattle.nc_base.specs.declared.script.Script.{Script}
 use Rattle.nc_outside.specs.Cause.{Rose}
 use Rattle.script_spec.specs.ScriptGrammar.{Reads}
 use Rattle.script_spec.specs.Texts.{script_line}
 use Rattle.serial_spec.specs.HeaderGrammar.{HasFault}
-use Rattle.serial_spec.specs.Lawful.{most_calls}
+use Rattle.serial_spec.specs.Lawful.{are_lawful_hints}
 use Rattle.serial_spec.specs.Redefinition.{layout_fault}
 use Rattle.ncmpi_cli.specs.Built.{is_built}
 use Rattle.ncmpi_cli.specs.Headline.{align_of, Asks, AsksFor, front, IsBadDataset, IsFaultless, IsRight, IsWrong, refusal, TellsDataset}
@@ -178,9 +176,8 @@ not_wrong (Some text) held script a n w =
 pub rose_later : (before middle now : ℕ) → before ≤ middle → Rose middle now → Rose before now
 rose_later before middle now h r = omega (arith, h, r)
 
--- a rank makes no more calls than a script may have
-pub few_calls : (text : List ℕ) (script : Script) (calls : List Call) → Reads text script → script.calls ≡ calls ∷ [] → length calls ≤ 2 ^ 20
-few_calls text script calls r e =
-    let all = leb-true (sum (map (λ (own : List Call). length own) script.calls)) most_calls (right _ _ (left _ _ (left _ _ (read_lawful text script r)))) in
-    let one : sum (map (λ (own : List Call). length own) script.calls) ≡ 0 + length calls = ap (λ (x : List (List Call)). sum (map (λ (own : List Call). length own) x)) e in
-    omega (arith, all, one)
+-- ---- what a script that is read keeps
+
+pub read_hints : (text : List ℕ) (script : Script) → Reads text script → are_lawful_hints script.hints ≡ true
+read_hints text script r =
+    right _ _ (left _ _ (left _ _ (left _ _ (left _ _ (left _ _ (left _ _ (left _ _ (left _ _ (left _ _ (read_lawful text script r))))))))))

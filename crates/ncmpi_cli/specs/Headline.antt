@@ -6,15 +6,18 @@ use Rattle.nc_base.specs.declared.header.Header.{Header}
 use Rattle.nc_base.specs.declared.script.Align.{Align}
 use Rattle.nc_base.specs.declared.script.Hints.{Hints}
 use Rattle.nc_base.specs.declared.script.Script.{Script}
+use Rattle.nc_base.specs.declared.step.DiskCall.{DiskCall}
 use Rattle.nc_base.specs.declared.step.Mark.{Mark}
 use Rattle.nc_outside.specs.Told.{after, with_end}
 use Rattle.nc_outside.specs.Cause.{Rose}
+use Rattle.serial_spec.specs.DeviceCalls.{all_calls, opening_calls}
 use Rattle.serial_spec.specs.Layout.{begins}
 use Rattle.serial_spec.specs.HeaderGrammar.{HasFault, header_len, is_sound}
 use Rattle.serial_spec.specs.History.{IsLegal}
 use Rattle.serial_spec.specs.Redefinition.{layout_fault}
 use Rattle.serial_spec.specs.SerialEnd.{End, serial, start}
 use Rattle.cdf_header.specs.Decoding.{BeginsWith}
+use Rattle.rank_meeting.specs.Begun.{HasBegun}
 use Rattle.script_spec.specs.ScriptGrammar.{Reads, script_of_text}
 use Rattle.script_spec.specs.Texts.{header_line, layout_line, run_text, script_line}
 use Rattle.ncmpi_cli.specs.Built.{is_built}
@@ -43,9 +46,16 @@ pub record IsHeaderOf (script : Script) (file : List ℕ) (header : Header) : Ty
 abbrev pub text_of : Script → Header → List Mark → End → List ℕ
 text_of script header order end = run_text script (record header { records = end.records }) order end.answers end.pending
 
--- The script is the one that the source's text spells, which was taken to its end. The order is legal, and file and text
--- are those of the calls done one after another in it, on what the dataset held.
-pub record Ran (left_before left_after held_before held_after : Option (List ℕ)) (order : List Mark) (text : List ℕ) : Type 0 where
+-- What was done to a file that is told: its bytes and the text are those of the calls done one after another in the order, and
+-- the device calls are those of the plan.
+pub record IsDone (script : Script) (header : Header) (file : List ℕ) (held_after : Option (List ℕ)) (calls_before calls_after : Option (List DiskCall)) (order : List Mark) (text : List ℕ) : Type 0 where
+  pub bytes : held_after ≡ Some (serial script header file order).bytes
+  pub calls : calls_after ≡ after (λ _. all_calls script header header file order) calls_before
+  pub lines : text ≡ text_of script header order (serial script header file order)
+
+-- The script is the one that the source's text spells, which was taken to its end. The order is legal, and file, text and device
+-- calls are those of the calls done one after another in it, on what the dataset held.
+pub record Ran (left_before left_after held_before held_after : Option (List ℕ)) (calls_before calls_after : Option (List DiskCall)) (order : List Mark) (text : List ℕ) : Type 0 where
   pub script : Script
   pub header : Header
   pub file : List ℕ
@@ -54,20 +64,19 @@ pub record Ran (left_before left_after held_before held_after : Option (List ℕ
   pub held : IfSome held_before (λ bytes. bytes ≡ file)
   pub heads : IsHeaderOf script file header
   pub legal : IsLegal script order
-  pub bytes : held_after ≡ after (λ _. (serial script header file order).bytes) held_before
-  pub lines : text ≡ text_of script header order (serial script header file order)
+  pub done : IfSome held_before (λ bytes. IsDone script header bytes held_after calls_before calls_after order text)
 
 -- the same, with the text given whole
-pub record RanWell (left_before left_after held_before held_after given_before given_after : Option (List ℕ)) (order : List Mark) : Type 0 where
+pub record RanWell (left_before left_after held_before held_after : Option (List ℕ)) (calls_before calls_after : Option (List DiskCall)) (given_before given_after : Option (List ℕ)) (order : List Mark) : Type 0 where
   pub text : List ℕ
-  pub ran : Ran left_before left_after held_before held_after order text
+  pub ran : Ran left_before left_after held_before held_after calls_before calls_after order text
   pub given : given_after ≡ with_end given_before text
 
 -- the same, with a front of the text given
-pub record RanToSink (left_before left_after held_before held_after given_before given_after : Option (List ℕ)) (order : List Mark) : Type 0 where
+pub record RanToSink (left_before left_after held_before held_after : Option (List ℕ)) (calls_before calls_after : Option (List DiskCall)) (given_before given_after : Option (List ℕ)) (order : List Mark) : Type 0 where
   pub text : List ℕ
   pub count : ℕ
-  pub ran : Ran left_before left_after held_before held_after order text
+  pub ran : Ran left_before left_after held_before held_after calls_before calls_after order text
   pub given : given_after ≡ with_end given_before (take count text)
 
 -- ---- what refuses a script or a dataset
@@ -95,13 +104,14 @@ pub record IsFaultless (script : Script) (held : Option (List ℕ)) : Type 0 whe
   pub opened : script.fresh ≡ false → IfSome held (λ file. (e : HeaderErr) → HasFault (front file) e → ⊥)
 
 -- What is made of a dataset before the ranks begin, and its header.
-pub record IsReady (script : Script) (header : Header) (held_before held_after : Option (List ℕ)) : Type 0 where
+pub record IsReady (script : Script) (header : Header) (held_before held_after : Option (List ℕ)) (calls_before calls_after : Option (List DiskCall)) : Type 0 where
   pub file : List ℕ
   pub held : IfSome held_before (λ bytes. bytes ≡ file)
   pub heads : IsHeaderOf script file header
   pub sound : is_sound header ≡ true
   pub faultless : IsFaultless script held_before
   pub bytes : held_after ≡ after (λ before. start script header before) held_before
+  pub calls : IfSome held_before (λ bytes. calls_after ≡ after (λ _. opening_calls script header bytes) calls_before)
 
 -- The line tells what is wrong with a dataset: with the layout of a created one, with the header of an opened one.
 pub record TellsDataset (script : Script) (held : Option (List ℕ)) (line : List ℕ) : Type 0 where
@@ -129,6 +139,10 @@ abbrev pub AsksFor : (Script → Option (List ℕ) → Type 0) → List ℕ → 
 AsksFor P text held = (script : Script) × Asks (Some text) script × P script held
 
 -- ---- what each status leaves
+
+-- the order is a beginning of one of the script that the text spells
+abbrev pub BeginsFor : List ℕ → List Mark → Type 0
+BeginsFor text order = (script : Script) → Reads text script → HasBegun script order
 
 -- the statuses there are
 abbrev pub IsStatus : ℕ → Type 0

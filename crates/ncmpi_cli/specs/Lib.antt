@@ -1,7 +1,6 @@
 pub mod Limits
 pub mod Words
 pub mod Built
-pub mod Plain
 pub mod Stops
 pub mod Headline
 pub mod Opening

@@ -1,12 +1,10 @@
 // What comes before the ranks: the words, the script and the dataset.
 ghost use Rattle.std.specs.Prelude.{◌≡◌, ◌↔◌, ◌≤◌, ◌∷◌, ℕ, List, [], true, false, is_some, IfOk, IfErr, OnOk, OnErr, IfSome, IsErrOf, Err, Some, None};
-ghost use Rattle.std.specs.List.{list_all};
-ghost use Rattle.nc_base.specs.declared.request.Call.{Call};
 ghost use Rattle.nc_outside.specs.Told.{after};
 ghost use Rattle.nc_outside.specs.Cause.{Rose};
 ghost use Rattle.serial_spec.specs.HeaderGrammar.{header_len, is_sound, is_writable};
 ghost use Rattle.serial_spec.specs.Layout.{end_of};
-ghost use Rattle.ncmpi_cli.specs.Built.{is_built, is_plain};
+ghost use Rattle.ncmpi_cli.specs.Built.{is_built};
 ghost use Rattle.ncmpi_cli.specs.Headline.{align_of, Asks, created_header, IsBeforeStart, IsRead, IsReady, refusal, TellsDataset};
 ghost use Rattle.ncmpi_cli.specs.Stops.{IsOfDataset, IsOfLayout, line_of, status_of};
 ghost use Rattle.nc_base.specs.declared.errors.LayoutErr.{LayoutErr};
@@ -15,7 +13,7 @@ ghost use Rattle.script_spec.specs.ScriptGrammar.{Reads};
 ghost use Rattle.serial_spec.specs.Redefinition.{layout_fault};
 ghost use Rattle.ncmpi_cli.specs.Words.{texts, is_form};
 
-use crate::creating::create;
+use crate::creating::{create, fill};
 use crate::opening::open;
 use crate::stop::Stop;
 use crate::taking::take_script;
@@ -41,10 +39,9 @@ pub(crate) fn begin<S: Source, D: Disk>(
     ensures asks { IfOk result (λ b. Asks (S.left source.old) b.script) }
     ensures read { IfOk result (λ b. IsRead b.script) }
     ensures taken { OnOk result (S.left source.new ≡ after (λ _. []) (S.left source.old)) }
-    ensures ready { IfOk result (λ b. IsReady b.script b.header (D.held disk.old) (D.held disk.new)) }
+    ensures ready { IfOk result (λ b. IsReady b.script b.header (D.held disk.old) (D.held disk.new) (D.calls disk.old) (D.calls disk.new)) }
     ensures from { OnOk result (D.from disk.new ≡ 0) }
-    ensures len { IfOk result (λ b. end_of b.header (header_len b.header) 0 ≤ D.len disk.new) }
-    ensures plain { IfOk result (λ b. (calls : List Call) → b.script.calls ≡ calls ∷ [] → list_all (is_plain b.header) calls ≡ true) }
+    ensures len { IfOk result (λ b. end_of b.header (header_len b.header) b.header.records ≤ D.len disk.new) }
     ensures usage { IsErrOf result Stop.Usage ↔ (is_form (texts words.now) ≡ false) }
     ensures refused { IfErr result (λ stop. status_of stop ≡ 3 → IfSome (S.left source.old) (λ text. refusal text ≡ line_of stop)) }
     ensures bad { IfErr result (λ stop. status_of stop ≡ 4 → (script : Script) × (Asks (S.left source.old) script × IfSome (line_of stop) (TellsDataset script (D.held disk.old)))) }
@@ -74,10 +71,9 @@ fn make_ready<D: Disk>(
 ) -> Result<Header, Stop>
     requires read { IsRead script.now }
     requires built { is_built script.now ≡ true }
-    ensures ready { IfOk result (λ header. IsReady script.now header (D.held disk.old) (D.held disk.new)) }
+    ensures ready { IfOk result (λ header. IsReady script.now header (D.held disk.old) (D.held disk.new) (D.calls disk.old) (D.calls disk.new)) }
     ensures from { OnOk result (D.from disk.new ≡ 0) }
-    ensures len { IfOk result (λ header. end_of header (header_len header) 0 ≤ D.len disk.new) }
-    ensures plain { IfOk result (λ header. (calls : List Call) → script.now.calls ≡ calls ∷ [] → list_all (is_plain header) calls ≡ true) }
+    ensures len { IfOk result (λ header. end_of header (header_len header) header.records ≤ D.len disk.new) }
     ensures bad { IfErr result (λ stop. status_of stop ≡ 4 → IfSome (line_of stop) (TellsDataset script.now (D.held disk.old))) }
     ensures unlaid { IfErr result (λ stop. status_of stop ≡ 4 → script.now.fresh ≡ true → disk.new ≡ disk.old) }
     ensures unchanged { IfErr result (λ stop. status_of stop ≡ 4 → D.held disk.new ≡ D.held disk.old) }
@@ -88,6 +84,7 @@ fn make_ready<D: Disk>(
     if script.fresh {
         let header = laid_out(alloc, script)?;
         create(alloc, disk, name, &header)?;
+        fill(alloc, disk, script, &header)?;
         Ok(header)
     } else {
         open(alloc, disk, name)

@@ -7,8 +7,6 @@ mod creating;
 mod ending;
 mod file_disk;
 mod opening;
-mod putting;
-mod running;
 mod std_sink;
 mod std_source;
 mod stop;

@@ -3,18 +3,16 @@ ghost use Rattle.std.specs.Prelude.{◌≡◌, ◌↔◌, ◌⊎◌, ◌∷◌, 
 ghost use Rattle.nc_outside.specs.Cause.{Rose};
 ghost use Rattle.nc_base.specs.declared.script.Script.{Script};
 ghost use Rattle.script_spec.specs.ScriptGrammar.{Reads};
-ghost use Rattle.ncmpi_cli.specs.Headline.{AsksFor, GivesLine, IsBadDataset, IsBeforeRanks, IsBeforeStart, IsRight, IsSilent, IsStatus, IsWrong, RanToSink, RanWell, refusal};
-ghost use Rattle.ncmpi_cli.specs.Built.{is_built};
-ghost use Rattle.ncmpi_cli.specs.Plain.{meetings};
+ghost use Rattle.ncmpi_cli.specs.Headline.{AsksFor, BeginsFor, GivesLine, IsBadDataset, IsBeforeRanks, IsBeforeStart, IsRight, IsSilent, IsStatus, IsWrong, RanToSink, RanWell, refusal};
 ghost use Rattle.ncmpi_cli.specs.Stops.{line_of_status};
 ghost use Rattle.ncmpi_cli.specs.Words.{texts, is_form};
 
 use crate::beginning::{Begun, begin};
 use crate::ending::{finish, tell};
-use crate::running::run_calls;
 use crate::stop::Stop;
-use nc_base::{Call, MarkList, ReadingTable, Script, StepErr};
+use nc_base::{MarkList, ReadingTable, StepErr};
 use nc_outside::{Disk, Gate, Sink, Source};
+use rank_meeting::run_in_turn;
 use std::alloc::Global;
 use std::sync::Wait;
 
@@ -33,20 +31,19 @@ pub struct Outcome {
 
 /// Runs the script that the source has on the dataset that the words name, and gives its text to the sink.
 ///
-/// The words are those after the program's name: one, which does not begin with `-`. So far a script is built where it has
-/// one rank that either creates a dataset and makes collective puts of boxes of fixed variables, or opens one and makes no
-/// call; any other script is refused, after every other fault of it.
+/// The words are those after the program's name: one, which does not begin with `-`. The ranks run in turn on one thread. So far a
+/// script that adds to an existing dataset is not built: it is refused, after every other fault of it.
 pub fn ncrun<R: Wait, S: Source, K: Sink, D: Disk, G: Gate>(
-    _rt: &R,
+    rt: &R,
     alloc: Global,
     words: &[&str],
     script: &mut S,
     disk: &mut D,
     out: &mut K,
-    _gate: &G,
+    gate: &G,
 ) -> Outcome
-    // The file and the text are those of the calls done one after another in the order that is answered.
-    ensures ok { result.status ≡ 0 → RanWell (S.left script.old) (S.left script.new) (D.held disk.old) (D.held disk.new) (K.given out.old) (K.given out.new) result.order }
+    // File, text and device calls are those of the calls done one after another in the order that is answered.
+    ensures ok { result.status ≡ 0 → RanWell (S.left script.old) (S.left script.new) (D.held disk.old) (D.held disk.new) (D.calls disk.old) (D.calls disk.new) (K.given out.old) (K.given out.new) result.order }
 
     // Each status has its cause.
     ensures statuses { IsStatus result.status }
@@ -72,7 +69,7 @@ pub fn ncrun<R: Wait, S: Source, K: Sink, D: Disk, G: Gate>(
         → ¬ (Rose (D.faults disk.old) (D.faults disk.new)) → (result.status ≡ 0) ⊎ (result.status ≡ 8) }
 
     // Where the sink fails, the file is that of the run, and a front of the text was given.
-    ensures front { result.status ≡ 6 → RanToSink (S.left script.old) (S.left script.new) (D.held disk.old) (D.held disk.new) (K.given out.old) (K.given out.new) result.order }
+    ensures front { result.status ≡ 6 → RanToSink (S.left script.old) (S.left script.new) (D.held disk.old) (D.held disk.new) (D.calls disk.old) (D.calls disk.new) (K.given out.old) (K.given out.new) result.order }
 
     // What is untouched.
     ensures not_taken { result.status ≡ 2 → script.new ≡ script.old }
@@ -80,32 +77,25 @@ pub fn ncrun<R: Wait, S: Source, K: Sink, D: Disk, G: Gate>(
     ensures not_laid { result.status ≡ 4 → IfSome (S.left script.old) (λ text. (s : Script) → Reads text s → s.fresh ≡ true → disk.new ≡ disk.old) }
     ensures unchanged { result.status ≡ 4 → D.held disk.new ≡ D.held disk.old }
     ensures silent { IsSilent result.status → out.new ≡ out.old }
-    ensures steps { (k : ℕ) × (result.order ≡ meetings k) }
+    ensures steps { IfSome (S.left script.old) (λ text. BeginsFor text result.order) }
     ensures no_step { IsBeforeRanks result.status → result.order ≡ [] }
     ensures no_reading { result.readings ≡ [] }
 
     // The line that tells a fault, or a front of it where the sink failed.
     ensures told { IfSome (line_of_status result.status) (λ line. GivesLine (K.faults out.old) (K.faults out.new) (K.given out.old) (K.given out.new) line) }
 {
-    let Begun { script, header } = match begin(alloc, words, script, disk) {
+    let Begun { script, mut header } = match begin(alloc, words, script, disk) {
         Ok(begun) => begun,
         Err(stop) => return tell(alloc, out, stop, MarkList::new(alloc)),
     };
-    let end = run_calls(alloc, disk, &header, own_calls(&script));
+    let mut records = header.records;
+    let end = run_in_turn(rt, alloc, disk, &header, &mut records, &script, gate);
     match end.fault {
-        None => finish(alloc, out, &script, &header, end),
+        None => {
+            header.records = records;
+            finish(alloc, out, &script, &header, end)
+        }
         Some(StepErr::Disk) => tell(alloc, out, Stop::Disk, end.order),
         Some(StepErr::Memory) => tell(alloc, out, Stop::Memory, end.order),
-    }
-}
-
-// The calls of the one rank.
-fn own_calls(script: &Script) -> &[Call]
-    requires built { is_built script.now ≡ true }
-    ensures { script.now.calls ≡ result.now ∷ [] }
-{
-    match script.calls.as_slice() {
-        [calls, ..] => calls.as_slice(),
-        [] => &[],
     }
 }

@@ -1,7 +1,7 @@
 // Datasets that are created.
 use crate::tests::files::{
-    A_64, A_FRONT, AT_80, AT_512, B, ROOM, TWO_PUT, UNWRITTEN, WIDE_COUNT, WIDE_FRONT, WIDE_MAGIC,
-    WIDE_REST, WIDE_UNWRITTEN,
+    A_64, A_FRONT, AT_80, AT_512, B, ONE_TO_FOUR, ROOM, TWO_PUT, UNWRITTEN, WIDE_COUNT, WIDE_FRONT,
+    WIDE_MAGIC, WIDE_REST, WIDE_UNWRITTEN,
 };
 use crate::tests::{PLAIN, Run, Want, all_end};
 use std::test::*;
@@ -40,6 +40,50 @@ const PUTS: [(Run, Want); 2] = [
 #[test]
 fn one_rank_puts_two_values(rt: HostRuntime) -> Result<(), Fail> {
     all_end(&rt, rt.alloc(), &PUTS)
+}
+
+const TWO_RANKS_TEXT: &[u8] = b"\
+    ranks 2\norder m0\nrank 0\n0 put_vara_all ok\npending 0\nrank 1\n0 put_vara_all ok\npending 0\n\
+    // file format: CDF-1\nfile header:\n  size = 80 bytes\n  extent = 80 bytes\n\
+    dimensions:\n  x = 4\nfixed-size variables:\n  int v(x):\n    start file offset = 80\n    \
+    end file offset = 96\n    size in bytes = 16\nrecord variables:\n";
+
+const SHARED_TEXT: &[u8] = b"\
+    ranks 2\norder m0\nrank 0\n0 put_vara_all overlap 0 0 1 0 88\npending 0\n\
+    rank 1\n0 put_vara_all overlap 0 0 1 0 88\npending 0\n\
+    // file format: CDF-1\nfile header:\n  size = 80 bytes\n  extent = 80 bytes\n\
+    dimensions:\n  x = 4\nfixed-size variables:\n  int v(x):\n    start file offset = 80\n    \
+    end file offset = 96\n    size in bytes = 16\nrecord variables:\n";
+
+// Two ranks put their halves in one call; where they share an element, nothing is written.
+const SHARED: [(Run, Want); 2] = [
+    (
+        Run {
+            script: b"create 1\nranks 2\ndim x 4\nvar int v [x]\ndata\n0 put_vara_all v [0] [2] 1 2\n1 put_vara_all v [2] [2] 3 4\nend\n",
+            ..PLAIN
+        },
+        Want {
+            status: 0,
+            given: TWO_RANKS_TEXT,
+            held: &[A_FRONT, AT_80, ONE_TO_FOUR],
+        },
+    ),
+    (
+        Run {
+            script: b"create 1\nranks 2\ndim x 4\nvar int v [x]\ndata\n0 put_vara_all v [0] [3] 1 2 3\n1 put_vara_all v [2] [2] 8 9\nend\n",
+            ..PLAIN
+        },
+        Want {
+            status: 0,
+            given: SHARED_TEXT,
+            held: &[A_FRONT, AT_80, UNWRITTEN],
+        },
+    ),
+];
+
+#[test]
+fn two_ranks_put_in_one_call(rt: HostRuntime) -> Result<(), Fail> {
+    all_end(&rt, rt.alloc(), &SHARED)
 }
 
 // Two variables, over three dimensions; an attribute; puts of a box, of a text and of bits.

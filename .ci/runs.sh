@@ -1,0 +1,379 @@
+# Runs whose answers and bytes are worked out by hand from the PnetCDF C API reference and the netCDF classic format. Each is
+# run by the real program on a real file.
+
+# answers_of TEXT: what a run prints before the offsets
+answers_of() {
+    printf '%s' "${1%%// file format*}"
+}
+
+# data_of FILE FROM: the file's bytes from a place on
+data_of() {
+    tail -c "+$(($2 + 1))" "$1" | od -An -v -tx1 | tr -d ' \n'
+}
+
+# run NAME FILE FROM SCRIPT ANSWERS DATA: runs the script on the file; its answers, and the file's bytes from a place on
+run() {
+    given=$(printf '%s\n' "$4" | "$program" "$2")
+    same "$1: status" 0 $?
+    same "$1: answers" "$5
+" "$(answers_of "$given")
+"
+    same "$1: bytes" "$6" "$(data_of "$2" "$3")"
+}
+
+# The header of `dim x 4`, `var int v [x]` has 80 bytes, and v begins there.
+vector() {
+    printf 'create 1\nranks %s\n%sdim x 4\nvar int v [x]\ndata\n%s\nend' "$1" "$2" "$3"
+}
+
+run 'two ranks write the halves' halves.nc 80 "$(vector 2 'hint cb_nodes 2
+' '0 put_vara_all v [0] [2] 1 2
+1 put_vara_all v [2] [2] 3 4')" 'ranks 2
+order m0
+rank 0
+0 put_vara_all ok
+pending 0
+rank 1
+0 put_vara_all ok
+pending 0' 00000001000000020000000300000004
+
+run 'two ranks write every other element' other.nc 80 "$(vector 2 'hint cb_nodes 1
+hint cb_buffer_size 4
+' '0 put_vars_all v [0] [2] [2] 1 3
+1 put_vars_all v [1] [2] [2] 2 4')" 'ranks 2
+order m0
+rank 0
+0 put_vars_all ok
+pending 0
+rank 1
+0 put_vars_all ok
+pending 0' 00000001000000020000000300000004
+
+run 'what lies between strides stays' halves.nc 80 'open
+ranks 1
+hint cb_buffer_size 16
+data
+0 put_vars_all v [0] [2] [3] 7 8
+end' 'ranks 1
+order m0
+rank 0
+0 put_vars_all ok
+pending 0' 00000007000000020000000300000008
+
+run 'overlapping puts write nothing and are told to every rank' shared.nc 80 "$(vector 3 '' '0 put_vara_all v [0] [3] 1 2 3
+1 put_vara_all v [2] [2] 8 9
+2 put_vara_all v [0] [0]')" 'ranks 3
+order m0
+rank 0
+0 put_vara_all overlap 0 0 1 0 88
+pending 0
+rank 1
+0 put_vara_all overlap 0 0 1 0 88
+pending 0
+rank 2
+0 put_vara_all overlap 0 0 1 0 88
+pending 0' 00000000000000000000000000000000
+
+run 'under the hint the later rank wins' serial.nc 80 "$(vector 3 'hint overlap serial
+' '0 put_vara_all v [0] [3] 1 2 3
+1 put_vara_all v [2] [2] 8 9
+2 put_vara_all v [0] [0]')" 'ranks 3
+order m0
+rank 0
+0 put_vara_all ok
+pending 0
+rank 1
+0 put_vara_all ok
+pending 0
+rank 2
+0 put_vara_all ok
+pending 0' 00000001000000020000000800000009
+
+run 'a refused rank takes part with nothing' refused.nc 80 "$(vector 2 '' '0 put_vara_all v [4] [0]
+0 put_vara_all v [4] [1] 9
+0 put_vara_all v [3] [2] 9 9
+0 put_vars_all v [0] [1] [0] 9
+1 put_vara_all v [0] [1] 5
+1 put_vara_all v [0] [1] 5
+1 put_vara_all v [0] [1] 5
+1 put_vars_all v [0] [1] [1] 5')" 'ranks 2
+order m0 m1 m2 m3
+rank 0
+0 put_vara_all ok
+1 put_vara_all NC_EINVALCOORDS
+2 put_vara_all NC_EEDGE
+3 put_vars_all NC_ESTRIDE
+pending 0
+rank 1
+0 put_vara_all ok
+1 put_vara_all ok
+2 put_vara_all ok
+3 put_vars_all ok
+pending 0' 00000005000000000000000000000000
+
+# The header of `dim t unlimited`, `var short s [t]` has 80 bytes; a record has 2, since a single record variable is not padded.
+records() {
+    printf 'create 1\nranks %s\ndim t unlimited\nvar short s [t]\ndata\n%s\nend' "$1" "$2"
+}
+
+run 'a put grows the file and its record count' grown.nc 80 "$(records 1 '0 put_var1_all s [3] 7')" 'ranks 1
+order m0
+rank 0
+0 put_var1_all ok
+pending 0' 0000000000000007
+same 'a record count of 4' 00000004 "$(data_of grown.nc 4 | cut -c1-8)"
+
+run 'two record variables are padded' padded.nc 116 'create 1
+ranks 1
+dim t unlimited
+var short s [t]
+var int q [t]
+data
+0 put_var1_all s [1] 5
+end' 'ranks 1
+order m0
+rank 0
+0 put_var1_all ok
+pending 0' 00000000000000000005000000000000
+
+run 'an index map transposes' mapped.nc 96 'create 1
+ranks 1
+dim y 2
+dim x 3
+var int w [y,x]
+data
+0 put_varm_all w [0,0] [2,3] [1,1] [1,2] 1 2 3 4 5 6
+0 get_varm_all w [0,0] [2,3] [1,1] [1,2]
+0 get_var_all w
+end' 'ranks 1
+order m0 m1 m2
+rank 0
+0 put_varm_all ok
+1 get_varm_all ok 1 2 3 4 5 6
+2 get_var_all ok 1 3 5 2 4 6
+pending 0' 000000010000000300000005000000020000000400000006
+
+ten=$(for i in 0 1 2 3 4 5 6 7 8 9; do printf '0 iput_var1 %s v [%s] %s\n' $i $i $i; done)
+run 'ten posted puts are done by one wait' ten.nc 80 "create 1
+ranks 1
+dim x 10
+var int v [x]
+data
+$ten
+0 wait_all all
+0 wait_all 3
+end" "ranks 1
+order m0 m1
+rank 0
+$(for i in 0 1 2 3 4 5 6 7 8 9; do echo "$i iput_var1 ok"; done)
+10 wait_all ok
+$(for i in 0 1 2 3 4 5 6 7 8 9; do echo "  $i ok"; done)
+11 wait_all ok
+  3 NC_EINVAL_REQUEST
+pending 0" "$(printf '0000000%x' 0 1 2 3 4 5 6 7 8 9)"
+
+run 'the attached buffer' buffered.nc 80 "$(vector 1 '' '0 bput_var1 9 v [0] 1
+0 buffer_attach 0
+0 buffer_attach 8
+0 buffer_attach 8
+0 bput_vara 0 v [0] [2] 1 2
+0 bput_var1 1 v [2] 3
+0 buffer_detach
+0 wait_all all
+0 bput_var1 2 v [2] 3
+0 cancel all
+0 buffer_detach
+0 buffer_detach')" 'ranks 1
+order m0
+rank 0
+0 bput_var1 NC_ENULLABUF
+1 buffer_attach NC_ENULLBUF
+2 buffer_attach ok
+3 buffer_attach NC_EPREVATTACHBUF
+4 bput_vara ok
+5 bput_var1 NC_EINSUFFBUF
+6 buffer_detach NC_EPENDINGBPUT
+7 wait_all ok
+  0 ok
+8 bput_var1 ok
+9 cancel ok
+  2 ok
+10 buffer_detach ok
+11 buffer_detach NC_ENULLABUF
+pending 0' 00000001000000020000000000000000
+
+run 'values that do not fit' types.nc 116 'create 1
+ranks 1
+dim x 2
+var short s [x]
+var float f [x]
+data
+0 put_var_all s 40000 1
+0 put_var_all s "ab"
+0 put_var_all f 1 2
+0 put_var_all s 1
+0 put_var_all f x7FC00001 x0
+0 get_var_all f
+end' 'ranks 1
+order m0 m1 m2 m3 m4 m5
+rank 0
+0 put_var_all NC_ERANGE
+1 put_var_all NC_ECHAR
+2 put_var_all NC_EBADTYPE
+3 put_var_all EMAPSIZE
+4 put_var_all ok
+5 get_var_all ok x7FC00001 x00000000
+pending 0' 000000007fc0000100000000
+
+run 'independent puts by data sieving' sieved.nc 80 "$(vector 2 '' '0 begin_indep_data
+0 put_vars v [0] [2] [2] 1 3
+0 end_indep_data
+1 begin_indep_data
+1 put_vars v [1] [2] [2] 2 4
+1 end_indep_data')" 'ranks 2
+order m0 s0.1 s1.1 m1
+rank 0
+0 begin_indep_data ok
+1 put_vars ok
+2 end_indep_data ok
+pending 0
+rank 1
+0 begin_indep_data ok
+1 put_vars ok
+2 end_indep_data ok
+pending 0' 00000001000000020000000300000004
+
+run 'a value of 64 bits in CDF-5' wide.nc 128 'create 5
+ranks 1
+dim x 4
+var uint64 v [x]
+data
+0 put_var1_all v [0] 18446744073709551615
+0 get_var1_all v [0]
+end' 'ranks 1
+order m0 m1
+rank 0
+0 put_var1_all ok
+1 get_var1_all ok 18446744073709551615
+pending 0' ffffffffffffffff000000000000000000000000000000000000000000000000
+
+run 'a wait by a list of ids' listed.nc 80 "$(vector 1 '' '0 iput_var1 0 v [0] 9
+0 iget_var1 1 v [0]
+0 iput_vara 2 v [0] [0]
+0 wait_all 1 0 2 0 5')" 'ranks 1
+order m0
+rank 0
+0 iput_var1 ok
+1 iget_var1 ok
+2 iput_vara null
+3 wait_all ok
+  1 ok 9
+  0 ok
+  2 null
+  0 NC_EINVAL_REQUEST
+  5 NC_EINVAL_REQUEST
+pending 0' 00000009000000000000000000000000
+
+run 'each rank knows a record count of its own' counts.nc 80 "$(records 2 '0 begin_indep_data
+0 put_var1 s [2] 5
+0 inq_dimlen t
+0 end_indep_data
+0 inq_dimlen t
+1 begin_indep_data
+1 inq_dimlen t
+1 get_var1 s [2]
+1 end_indep_data
+1 inq_dimlen t')" 'ranks 2
+order m0 s0.1 s1.2 m1
+rank 0
+0 begin_indep_data ok
+1 put_var1 ok
+2 inq_dimlen ok 3
+3 end_indep_data ok
+4 inq_dimlen ok 3
+pending 0
+rank 1
+0 begin_indep_data ok
+1 inq_dimlen ok 0
+2 get_var1 NC_EINVALCOORDS
+3 end_indep_data ok
+4 inq_dimlen ok 3
+pending 0' 000000000005
+same 'a record count of 3' 00000003 "$(data_of counts.nc 4 | cut -c1-8)"
+
+run 'calls in the wrong mode' modes.nc 80 "$(vector 1 '' '0 put_var1 v [0] 1
+0 begin_indep_data
+0 put_var1_all v [0] 1
+0 begin_indep_data
+0 end_indep_data')" 'ranks 1
+order m0 m1 m2 m3
+rank 0
+0 put_var1 NC_ENOTINDEP
+1 begin_indep_data ok
+2 put_var1_all NC_EINDEP
+3 begin_indep_data NC_EINDEP
+4 end_indep_data ok
+pending 0' 00000000000000000000000000000000
+
+run 'a cancelled put needs no record' cancelled.nc 80 "$(records 1 '0 iput_var1 0 s [5] 9
+0 cancel 0
+0 iput_var1 1 s [0] 4
+0 wait_all all')" 'ranks 1
+order m0
+rank 0
+0 iput_var1 ok
+1 cancel ok
+  0 ok
+2 iput_var1 ok
+3 wait_all ok
+  1 ok
+pending 0' 0004
+
+run 'a request that is left is not written' left.nc 80 "$(vector 1 '' '0 iput_var1 0 v [0] 9')" 'ranks 1
+order
+rank 0
+0 iput_var1 ok
+pending 1' 00000000000000000000000000000000
+
+run 'many regions in one call' parts.nc 80 "$(vector 1 '' '0 put_varn_all v 2 [3] [1] [0] [2] 7 8 9
+0 get_varn_all v 2 [3] [1] [0] [1]
+0 put_varn_all v 2 [0] [2] [1] [1] 1 2 3')" 'ranks 1
+order m0 m1 m2
+rank 0
+0 put_varn_all ok
+1 get_varn_all ok 7 8
+2 put_varn_all ESELF
+pending 0' 00000008000000090000000000000007
+
+run 'a filled dataset' filled.nc 80 'create 1
+ranks 1
+fill
+dim x 4
+var int v [x]
+data
+0 put_var1_all v [1] 5
+0 get_var_all v
+end' 'ranks 1
+order m0 m1
+rank 0
+0 put_var1_all ok
+1 get_var_all ok -2147483647 5 -2147483647 -2147483647
+pending 0' 80000001000000058000000180000001
+
+run 'two ranks fill a record' share.nc 124 'create 1
+ranks 2
+dim t unlimited
+dim x 3
+var short s [t,x]
+att s _FillValue short -1
+data
+0 fill_var_rec s 1
+1 fill_var_rec s 1
+end' 'ranks 2
+order m0
+rank 0
+0 fill_var_rec ok
+pending 0
+rank 1
+0 fill_var_rec ok
+pending 0' 000000000000ffffffffffff
