@@ -1,0 +1,307 @@
+-- The begins of a redefined header, by number: fixed variables stand one after another past the header, then come the old record
+-- variables at their distances, then the new ones.
+--     at_number found k      what is found for a number
+--     Numbers vars list      each variable of the list stands with its number
+--     fixed_begin, map_begin, record_begin      what is found for a variable of the list
+--     fixed_apart, record_apart                 two variables of the list stand apart
+use Rattle.std.proofs.Common.{◌≡◌, ℕ, zero, suc, ◌+◌, ◌≤◌, List, [], ◌∷◌, ◌++◌, map, Bool, true, false, cond, Option, Some, None, refl, sym, ap, subst, ◌∙◌, inl, inr, ◌⊎◌, arith}
+use Rattle.std.specs.Prelude.{nat_le, ◌==◌, filter, find, sum_by, slice_get}
+use Rattle.std.specs.List.{enumerate_from, AllByRecursion}
+use Rattle.std.proofs.lemmas.List.Sums.{sum_by-cons}
+use Rattle.nc_base.specs.declared.header.Header.{Header}
+use Rattle.nc_base.specs.declared.header.Var.{Var}
+use Rattle.serial_spec.specs.Layout.{slab, vsize, round_up}
+use Rattle.serial_spec.specs.Place.{AreApart}
+use Rattle.serial_spec.specs.Redefinition.{Numbered, inserted, by_begin, begin_at, fixed_begins, front_after, record_begins}
+use Rattle.overlay_laws.specs.Entries.{In}
+use Rattle.redef_laws.proofs.FieldLaws.{eq_told, eq_test, not_eq_test, le_told}
+
+-- ---- members and numbers
+
+pub in_filter : {A : Type 0} (p : A → Bool) (xs : List A) (x : A) → In xs x → p x ≡ true → In (filter p xs) x
+in_filter p [] x h e = absurd h
+in_filter {A} p (y ∷ xs) x (inl same) e = subst (λ (t : Bool). In (cond t (y ∷ filter p xs) (filter p xs)) x) (sym (ap p same ∙ e)) (inl same)
+in_filter p (y ∷ xs) x (inr h) e = by_test (p y) (in_filter p xs x h e)
+  where
+    by_test : (t : Bool) → In (filter p xs) x → In (cond t (y ∷ filter p xs) (filter p xs)) x
+    by_test true rest = inr rest
+    by_test false rest = rest
+
+pub in_numbered : (n : ℕ) (vs : List Var) (k : ℕ) (v : Var) → slice_get vs k ≡ Some v → In (enumerate_from n vs) (n + k, v)
+in_numbered n [] k v h = absurd cc
+in_numbered n (x ∷ vs) zero v h =
+    let same : x ≡ v = cc in
+    let plain : n ≡ n + 0 = omega arith in
+    inl (λ t. (plain t, same t))
+in_numbered n (x ∷ vs) (suc k) v h =
+    let next : n + 1 + k ≡ n + suc k = omega arith in
+    inr (subst (λ (m : ℕ). In (enumerate_from (n + 1) vs) (m, v)) next (in_numbered (n + 1) vs k v h))
+
+pub each_filter : {A : Type 0} (P : A → Type 0) (p : A → Bool) (xs : List A) → AllByRecursion P xs → AllByRecursion P (filter p xs)
+each_filter P p [] h = tt
+each_filter P p (x ∷ xs) h = by_test (p x) (each_filter P p xs h.1)
+  where
+    by_test : (t : Bool) → AllByRecursion P (filter p xs) → AllByRecursion P (cond t (x ∷ filter p xs) (filter p xs))
+    by_test true rest = (h.0, rest)
+    by_test false rest = rest
+
+pub each_filtered : {A : Type 0} (p : A → Bool) (xs : List A) → AllByRecursion (λ x. p x ≡ true) (filter p xs)
+each_filtered p [] = tt
+each_filtered p (x ∷ xs) = by_test (p x) refl (each_filtered p xs)
+  where
+    by_test : (t : Bool) → p x ≡ t → AllByRecursion (λ y. p y ≡ true) (filter p xs) → AllByRecursion (λ y. p y ≡ true) (cond t (x ∷ filter p xs) (filter p xs))
+    by_test true e rest = (e, rest)
+    by_test false e rest = rest
+
+pub each_append : {A : Type 0} (P : A → Type 0) (xs ys : List A) → AllByRecursion P xs → AllByRecursion P ys → AllByRecursion P (xs ++ ys)
+each_append P [] ys h g = g
+each_append P (x ∷ xs) ys h g = (h.0, each_append P xs ys h.1 g)
+
+each_inserted : (P : Numbered → Type 0) (v : Numbered) (vs : List Numbered) → P v → AllByRecursion P vs → AllByRecursion P (inserted v vs)
+each_inserted P v [] p h = (p, tt)
+each_inserted P v (w ∷ vs) p h = by_test (nat_le v.1.begin w.1.begin) (each_inserted P v vs p h.1)
+  where
+    by_test : (t : Bool) → AllByRecursion P (inserted v vs) → AllByRecursion P (cond t (v ∷ w ∷ vs) (w ∷ inserted v vs))
+    by_test true rest = (p, h)
+    by_test false rest = (h.0, rest)
+
+pub each_by_begin : (P : Numbered → Type 0) (vs : List Numbered) → AllByRecursion P vs → AllByRecursion P (by_begin vs)
+each_by_begin P [] h = tt
+each_by_begin P (v ∷ vs) h = each_inserted P v (by_begin vs) h.0 (each_by_begin P vs h.1)
+
+in_inserted : (v : Numbered) (vs : List Numbered) (x : Numbered) → (v ≡ x) ⊎ In vs x → In (inserted v vs) x
+in_inserted v [] x h = h
+in_inserted v (w ∷ vs) x h = by_test (nat_le v.1.begin w.1.begin) (λ g. in_inserted v vs x g) h
+  where
+    by_test : (t : Bool) → ((v ≡ x) ⊎ In vs x → In (inserted v vs) x) → (v ≡ x) ⊎ ((w ≡ x) ⊎ In vs x) → In (cond t (v ∷ w ∷ vs) (w ∷ inserted v vs)) x
+    by_test true rest g = g
+    by_test false rest (inl e) = inr (rest (inl e))
+    by_test false rest (inr (inl e)) = inl e
+    by_test false rest (inr (inr g)) = inr (rest (inr g))
+
+pub in_by_begin : (vs : List Numbered) (x : Numbered) → In vs x → In (by_begin vs) x
+in_by_begin [] x h = h
+in_by_begin (v ∷ vs) x (inl e) = in_inserted v (by_begin vs) x (inl e)
+in_by_begin (v ∷ vs) x (inr h) = in_inserted v (by_begin vs) x (inr (in_by_begin vs x h))
+
+abbrev pub Numbers : List Var → List Numbered → Type 0
+Numbers vars list = AllByRecursion (λ p. slice_get vars p.0 ≡ Some p.1) list
+
+numbers_from : (vars : List Var) (n : ℕ) (vs : List Var) → ((k : ℕ) (v : Var) → slice_get vs k ≡ Some v → slice_get vars (n + k) ≡ Some v) → Numbers vars (enumerate_from n vs)
+numbers_from vars n [] h = tt
+numbers_from vars n (v ∷ vs) h =
+    let plain : n ≡ n + 0 = omega arith in (
+      ap (λ (m : ℕ). slice_get vars m) plain ∙ h 0 v refl,
+      numbers_from vars (n + 1) vs (λ k w g. let next : n + 1 + k ≡ n + suc k = omega arith in ap (λ (m : ℕ). slice_get vars m) next ∙ h (suc k) w g),
+    )
+
+pub numbers_of : (vars : List Var) → Numbers vars (enumerate_from 0 vars)
+numbers_of vars = numbers_from vars 0 vars (λ k v g. let plain : 0 + k ≡ k = omega arith in ap (λ (m : ℕ). slice_get vars m) plain ∙ g)
+
+-- ---- what is found for a number
+
+abbrev pub at_number : List (ℕ × ℕ) → ℕ → Option (ℕ × ℕ)
+at_number found k = find (λ b. b.0 == k) found
+
+pub same_var : (vars : List Var) (k m : ℕ) (v w : Var) → slice_get vars k ≡ Some v → slice_get vars m ≡ Some w → m ≡ k → w ≡ v
+same_var vars k m v w g f e = let there = ap (λ (n : ℕ). slice_get vars n) e in cc
+
+same_begin : (x y : ℕ × ℕ) → Some x ≡ Some y → x.1 ≡ y.1
+same_begin x y e = let same : x ≡ y = cc in ap (λ (p : ℕ × ℕ). p.1) same
+
+not_head : (p : Numbered) (k : ℕ) (v : Var) → (p.0 == k) ≡ false → p ≡ (k, v) → ⊥
+not_head p k v e h = let yes = eq_test p.0 k (ap (λ (q : Numbered). q.0) h) in absurd cc
+
+in_tail : (p : Numbered) (list : List Numbered) (k : ℕ) (v : Var) → (p.0 == k) ≡ false → In (p ∷ list) (k, v) → In list (k, v)
+in_tail p list k v e (inl h) = absurd (not_head p k v e h)
+in_tail p list k v e (inr h) = h
+
+found_if : (m k b : ℕ) (rest : List (ℕ × ℕ)) → (m == k) ≡ true → at_number ((m, b) ∷ rest) k ≡ Some (k, b)
+found_if m k b rest e = let same = eq_told m k e in ap (λ (t : Bool). cond t (Some (m, b)) (at_number rest k)) e ∙ ap (λ (n : ℕ). Some (n, b)) same
+
+pub found_on : (m k b : ℕ) (rest : List (ℕ × ℕ)) → (m == k) ≡ false → at_number ((m, b) ∷ rest) k ≡ at_number rest k
+found_on m k b rest e = ap (λ (t : Bool). cond t (Some (m, b)) (at_number rest k)) e
+
+-- ---- fixed variables
+
+pub begin_up : (front : ℕ) (v : Var) → front ≤ begin_at front v
+begin_up front v = by_test (nat_le front v.begin) refl
+  where
+    by_test : (t : Bool) → nat_le front v.begin ≡ t → front ≤ cond t v.begin (round_up 4 front)
+    by_test true e = le_told front v.begin e
+    by_test false e = omega arith
+
+pub front_grows : (header : Header) (front : ℕ) (list : List Numbered) → front ≤ front_after header front list
+front_grows header front [] = omega arith
+front_grows header front (p ∷ list) = let one = begin_up front p.1 in let rest = front_grows header (begin_at front p.1 + slab header p.1) list in omega arith
+
+pub record IsFixedBegin (header : Header) (front : ℕ) (list : List Numbered) (k : ℕ) (v : Var) (b : ℕ) : Type 0 where
+  pub at : at_number (fixed_begins header front list) k ≡ Some (k, b)
+  pub low : front ≤ b
+  pub high : b + slab header v ≤ front_after header front list
+
+pub fixed_begin : (header : Header) (vars : List Var) (front : ℕ) (list : List Numbered) (k : ℕ) (v : Var) → Numbers vars list → slice_get vars k ≡ Some v → In list (k, v)
+    → (b : ℕ) × IsFixedBegin header front list k v b
+fixed_begin header vars front [] k v all g h = absurd h
+fixed_begin header vars front (p ∷ list) k v all g h =
+    by_test (λ i. fixed_begin header vars (begin_at front p.1 + slab header p.1) list k v all.1 g i) (p.0 == k) refl
+  where
+    by_test : (In list (k, v) → (b : ℕ) × IsFixedBegin header (begin_at front p.1 + slab header p.1) list k v b)
+        → (t : Bool) → (p.0 == k) ≡ t → (b : ℕ) × IsFixedBegin header front (p ∷ list) k v b
+    by_test rest true e =
+        let same : p.1 ≡ v = same_var vars k p.0 v p.1 g all.0 (eq_told p.0 k e) in
+        let own = ap (λ (w : Var). slab header w) same in
+        let grows = front_grows header (begin_at front p.1 + slab header p.1) list in (
+          begin_at front p.1,
+          record {
+            at = found_if p.0 k (begin_at front p.1) (fixed_begins header (begin_at front p.1 + slab header p.1) list) e;
+            low = begin_up front p.1;
+            high = omega arith;
+          },
+        )
+    by_test rest false e =
+        let later = rest (in_tail p list k v e h) in
+        let one = begin_up front p.1 in
+        let low = later.1.low in (
+          later.0,
+          record {
+            at = found_on p.0 k (begin_at front p.1) (fixed_begins header (begin_at front p.1 + slab header p.1) list) e ∙ later.1.at;
+            low = omega arith;
+            high = later.1.high;
+          },
+        )
+
+-- what is found is what was found
+pub found_is : (found : List (ℕ × ℕ)) (k b c : ℕ) → at_number found k ≡ Some (k, b) → at_number found k ≡ Some (k, c) → b ≡ c
+found_is found k b c e f = same_begin (k, b) (k, c) (sym e ∙ f)
+
+head_begin : (p : Numbered) (at k b : ℕ) (rest : List (ℕ × ℕ)) → (p.0 == k) ≡ true → at_number ((p.0, at) ∷ rest) k ≡ Some (k, b) → b ≡ at
+head_begin p at k b rest e h = found_is ((p.0, at) ∷ rest) k b at h (found_if p.0 k at rest e)
+
+tail_begin : (p : Numbered) (at k b : ℕ) (rest : List (ℕ × ℕ)) → (p.0 == k) ≡ false → at_number ((p.0, at) ∷ rest) k ≡ Some (k, b) → at_number rest k ≡ Some (k, b)
+tail_begin p at k b rest e h = sym (found_on p.0 k at rest e) ∙ h
+
+pub fixed_apart : (header : Header) (vars : List Var) (front : ℕ) (list : List Numbered) (k m : ℕ) (v w : Var) (b c : ℕ) → Numbers vars list
+    → slice_get vars k ≡ Some v → slice_get vars m ≡ Some w → In list (k, v) → In list (m, w) → (k ≡ m → ⊥)
+    → at_number (fixed_begins header front list) k ≡ Some (k, b) → at_number (fixed_begins header front list) m ≡ Some (m, c)
+    → AreApart b (slab header v) c (slab header w)
+fixed_apart header vars front [] k m v w b c all g f h i other e d = absurd h
+fixed_apart header vars front (p ∷ list) k m v w b c all g f h i other e d =
+    by_tests (λ h' i' e' d'. fixed_apart header vars (begin_at front p.1 + slab header p.1) list k m v w b c all.1 g f h' i' other e' d') (p.0 == k) (p.0 == m) refl refl
+  where
+    lower : (n : ℕ) (x y : Var) (a z : ℕ) → slice_get vars n ≡ Some y → In list (n, y) → at_number (fixed_begins header (begin_at front p.1 + slab header p.1) list) n ≡ Some (n, z)
+        → p.1 ≡ x → a ≡ begin_at front p.1 → a + slab header x ≤ z
+    lower n x y a z there in_list at same begin =
+        let later = fixed_begin header vars (begin_at front p.1 + slab header p.1) list n y all.1 there in_list in
+        let is = found_is (fixed_begins header (begin_at front p.1 + slab header p.1) list) n z later.0 at later.1.at in
+        let low = later.1.low in
+        let own = ap (λ (u : Var). slab header u) same in
+        omega arith
+
+    by_tests : (In list (k, v) → In list (m, w) → at_number (fixed_begins header (begin_at front p.1 + slab header p.1) list) k ≡ Some (k, b)
+        → at_number (fixed_begins header (begin_at front p.1 + slab header p.1) list) m ≡ Some (m, c) → AreApart b (slab header v) c (slab header w))
+        → (s t : Bool) → (p.0 == k) ≡ s → (p.0 == m) ≡ t → AreApart b (slab header v) c (slab header w)
+    by_tests rest true true x y = absurd (other (sym (eq_told p.0 k x) ∙ eq_told p.0 m y))
+    by_tests rest true false x y =
+        inl (lower m v w b c f (in_tail p list m w y i) (tail_begin p (begin_at front p.1) m c (fixed_begins header (begin_at front p.1 + slab header p.1) list) y d)
+        (same_var vars k p.0 v p.1 g all.0 (eq_told p.0 k x)) (head_begin p (begin_at front p.1) k b (fixed_begins header (begin_at front p.1 + slab header p.1) list) x e))
+    by_tests rest false true x y =
+        inr (lower k w v c b g (in_tail p list k v x h) (tail_begin p (begin_at front p.1) k b (fixed_begins header (begin_at front p.1 + slab header p.1) list) x e)
+        (same_var vars m p.0 w p.1 f all.0 (eq_told p.0 m y)) (head_begin p (begin_at front p.1) m c (fixed_begins header (begin_at front p.1 + slab header p.1) list) y d))
+    by_tests rest false false x y =
+        rest (in_tail p list k v x h) (in_tail p list m w y i) (tail_begin p (begin_at front p.1) k b (fixed_begins header (begin_at front p.1 + slab header p.1) list) x e)
+        (tail_begin p (begin_at front p.1) m c (fixed_begins header (begin_at front p.1 + slab header p.1) list) y d)
+
+-- a number that no variable of the list has
+abbrev pub HasNone : ℕ → List Numbered → Type 0
+HasNone k list = AllByRecursion (λ p. p.0 ≡ k → ⊥) list
+
+pub fixed_none : (header : Header) (front : ℕ) (list : List Numbered) (k : ℕ) → HasNone k list → at_number (fixed_begins header front list) k ≡ None
+fixed_none header front [] k none = refl
+fixed_none header front (p ∷ list) k none =
+    found_on p.0 k (begin_at front p.1) (fixed_begins header (begin_at front p.1 + slab header p.1) list) (not_eq_test p.0 k none.0)
+    ∙ fixed_none header (begin_at front p.1 + slab header p.1) list k none.1
+
+-- ---- old record variables
+
+abbrev pub mapped_begins : (Var → ℕ) → List Numbered → List (ℕ × ℕ)
+mapped_begins f list = map (λ p. (p.0, f p.1)) list
+
+pub map_begin : (f : Var → ℕ) (vars : List Var) (list : List Numbered) (k : ℕ) (v : Var) → Numbers vars list → slice_get vars k ≡ Some v → In list (k, v)
+    → at_number (mapped_begins f list) k ≡ Some (k, f v)
+map_begin f vars [] k v all g h = absurd h
+map_begin f vars (p ∷ list) k v all g h = by_test (λ i. map_begin f vars list k v all.1 g i) (p.0 == k) refl
+  where
+    by_test : (In list (k, v) → at_number (mapped_begins f list) k ≡ Some (k, f v)) → (t : Bool) → (p.0 == k) ≡ t → at_number (mapped_begins f (p ∷ list)) k ≡ Some (k, f v)
+    by_test rest true e =
+        found_if p.0 k (f p.1) (mapped_begins f list) e ∙ ap (λ (w : Var). Some (k, f w)) (same_var vars k p.0 v p.1 g all.0 (eq_told p.0 k e))
+    by_test rest false e = found_on p.0 k (f p.1) (mapped_begins f list) e ∙ rest (in_tail p list k v e h)
+
+pub map_none : (f : Var → ℕ) (list : List Numbered) (k : ℕ) → HasNone k list → at_number (mapped_begins f list) k ≡ None
+map_none f [] k none = refl
+map_none f (p ∷ list) k none = found_on p.0 k (f p.1) (mapped_begins f list) (not_eq_test p.0 k none.0) ∙ map_none f list k none.1
+
+-- ---- new record variables
+
+abbrev pub vsizes : Header → List Numbered → ℕ
+vsizes header list = sum_by (λ p. vsize header p.1) list
+
+pub record IsRecordBegin (header : Header) (from : ℕ) (list : List Numbered) (k : ℕ) (v : Var) (b : ℕ) : Type 0 where
+  pub at : at_number (record_begins header from list) k ≡ Some (k, b)
+  pub low : from ≤ b
+  pub high : b + vsize header v ≤ from + vsizes header list
+
+pub record_begin : (header : Header) (vars : List Var) (from : ℕ) (list : List Numbered) (k : ℕ) (v : Var) → Numbers vars list → slice_get vars k ≡ Some v → In list (k, v)
+    → (b : ℕ) × IsRecordBegin header from list k v b
+record_begin header vars from [] k v all g h = absurd h
+record_begin header vars from (p ∷ list) k v all g h =
+    by_test (λ i. record_begin header vars (from + vsize header p.1) list k v all.1 g i) (p.0 == k) refl (sum_by-cons (λ (q : Numbered). vsize header q.1) p list)
+  where
+    by_test : (In list (k, v) → (b : ℕ) × IsRecordBegin header (from + vsize header p.1) list k v b)
+        → (t : Bool) → (p.0 == k) ≡ t → vsizes header (p ∷ list) ≡ vsize header p.1 + vsizes header list → (b : ℕ) × IsRecordBegin header from (p ∷ list) k v b
+    by_test rest true e s =
+        let same : p.1 ≡ v = same_var vars k p.0 v p.1 g all.0 (eq_told p.0 k e) in
+        let own = ap (λ (w : Var). vsize header w) same in
+        (from, record { at = found_if p.0 k from (record_begins header (from + vsize header p.1) list) e; low = omega arith; high = omega arith })
+    by_test rest false e s =
+        let later = rest (in_tail p list k v e h) in
+        let low = later.1.low in
+        let high = later.1.high in (
+          later.0,
+          record {
+            at = found_on p.0 k from (record_begins header (from + vsize header p.1) list) e ∙ later.1.at;
+            low = omega arith;
+            high = omega arith;
+          },
+        )
+
+pub record_apart : (header : Header) (vars : List Var) (from : ℕ) (list : List Numbered) (k m : ℕ) (v w : Var) (b c : ℕ) → Numbers vars list
+    → slice_get vars k ≡ Some v → slice_get vars m ≡ Some w → In list (k, v) → In list (m, w) → (k ≡ m → ⊥)
+    → at_number (record_begins header from list) k ≡ Some (k, b) → at_number (record_begins header from list) m ≡ Some (m, c)
+    → AreApart b (vsize header v) c (vsize header w)
+record_apart header vars from [] k m v w b c all g f h i other e d = absurd h
+record_apart header vars from (p ∷ list) k m v w b c all g f h i other e d =
+    by_tests (λ h' i' e' d'. record_apart header vars (from + vsize header p.1) list k m v w b c all.1 g f h' i' other e' d') (p.0 == k) (p.0 == m) refl refl
+  where
+    lower : (n : ℕ) (x y : Var) (a z : ℕ) → slice_get vars n ≡ Some y → In list (n, y) → at_number (record_begins header (from + vsize header p.1) list) n ≡ Some (n, z)
+        → p.1 ≡ x → a ≡ from → a + vsize header x ≤ z
+    lower n x y a z there in_list at same begin =
+        let later = record_begin header vars (from + vsize header p.1) list n y all.1 there in_list in
+        let is = found_is (record_begins header (from + vsize header p.1) list) n z later.0 at later.1.at in
+        let low = later.1.low in
+        let own = ap (λ (u : Var). vsize header u) same in
+        omega arith
+
+    by_tests : (In list (k, v) → In list (m, w) → at_number (record_begins header (from + vsize header p.1) list) k ≡ Some (k, b)
+        → at_number (record_begins header (from + vsize header p.1) list) m ≡ Some (m, c) → AreApart b (vsize header v) c (vsize header w))
+        → (s t : Bool) → (p.0 == k) ≡ s → (p.0 == m) ≡ t → AreApart b (vsize header v) c (vsize header w)
+    by_tests rest true true x y = absurd (other (sym (eq_told p.0 k x) ∙ eq_told p.0 m y))
+    by_tests rest true false x y =
+        inl (lower m v w b c f (in_tail p list m w y i) (tail_begin p from m c (record_begins header (from + vsize header p.1) list) y d)
+        (same_var vars k p.0 v p.1 g all.0 (eq_told p.0 k x)) (head_begin p from k b (record_begins header (from + vsize header p.1) list) x e))
+    by_tests rest false true x y =
+        inr (lower k w v c b g (in_tail p list k v x h) (tail_begin p from k b (record_begins header (from + vsize header p.1) list) x e)
+        (same_var vars m p.0 w p.1 f all.0 (eq_told p.0 m y)) (head_begin p from m c (record_begins header (from + vsize header p.1) list) y d))
+    by_tests rest false false x y =
+        rest (in_tail p list k v x h) (in_tail p list m w y i) (tail_begin p from k b (record_begins header (from + vsize header p.1) list) x e)
+        (tail_begin p from m c (record_begins header (from + vsize header p.1) list) y d)

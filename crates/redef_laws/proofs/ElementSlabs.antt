@@ -1,0 +1,257 @@
+-- Each element of an old variable lies in one of its slabs, as far from the slab's beginning in the new file as in the old one;
+-- and each byte of a slab is a byte of an element.
+use Rattle.std.proofs.Common.{◌≡◌, ℕ, zero, suc, ◌+◌, ◌*◌, ◌/◌, ◌%◌, ◌<◌, ◌≤◌, refl, sym, ◌∙◌, ap, subst, inl, inr, List, [], ◌∷◌, map, Bool, true, false, cond, Some, arith}
+use Rattle.std.proofs.lemmas.Nat.{row_fits, div-add-mod', div_below, mod_below}
+use Rattle.std.proofs.lemmas.Bool.Decides.{nat_tests}
+use Rattle.std.specs.Prelude.{zip, slice_get, MatchBool, ◌==◌}
+use Rattle.std.specs.List.{range_with_len}
+use Rattle.nc_base.specs.declared.header.Header.{Header}
+use Rattle.nc_base.specs.declared.header.Var.{Var}
+use Rattle.serial_spec.specs.DeviceCalls.{Slab, slabs, slabs_of}
+use Rattle.serial_spec.specs.ExternalForm.{size_of}
+use Rattle.serial_spec.specs.HeaderGrammar.{is_sound}
+use Rattle.serial_spec.specs.Layout.{product, lengths, starts_with_zero, without_record, is_record, inner_lengths, recsize}
+use Rattle.serial_spec.specs.Place.{place, row, record_of, within_record, HasRecord, IsIndex, IsElementBelow}
+use Rattle.serial_spec.specs.RegionCheck.{known_lengths}
+use Rattle.serial_spec.specs.Redefinition.{KeepsVars, Moves}
+use Rattle.serial_spec.proofs.RowLaws.{row_below}
+use Rattle.serial_spec.proofs.RoomLaws.{known_of, index_is_element}
+use Rattle.overlay_laws.specs.Entries.{In}
+use Rattle.overlay_laws.proofs.HullLaws.{in_flat, flat_in, in_range, range_high}
+use Rattle.redef_laws.specs.Rising.{first_slab, in_record}
+use Rattle.redef_laws.proofs.Members.{in_map, map_in, in_zip, zip_in}
+
+-- ---- the slabs of one variable
+
+pub slabs_fixed : (old new : Header) (p : Var × Var) → is_record old p.0 ≡ false → slabs_of old new p ≡ first_slab old p ∷ []
+slabs_fixed old new p e = rw (e, slabs_of) refl
+
+pub slabs_record : (old new : Header) (p : Var × Var) → is_record old p.0 ≡ true
+    → slabs_of old new p ≡ map (λ r. in_record (recsize old) (recsize new) r (first_slab old p)) (range_with_len 0 old.records)
+slabs_record old new p e = rw (e, slabs_of) refl
+
+-- ---- places
+
+abbrev place_by : List ℕ → ℕ → ℕ → ℕ → List ℕ → ℕ
+place_by lens begin step size index =
+    cond (starts_with_zero lens) (begin + record_of index * step + row (without_record lens) (within_record index) * size)
+    (begin + row (without_record lens) index * size)
+
+fixed_place : (lens : List ℕ) (begin step size : ℕ) (index : List ℕ) → starts_with_zero lens ≡ false
+    → place_by lens begin step size index ≡ begin + row (without_record lens) index * size
+fixed_place lens begin step size index e = rw e refl
+
+record_place : (lens : List ℕ) (begin step size : ℕ) (index : List ℕ) → starts_with_zero lens ≡ true
+    → place_by lens begin step size index ≡ begin + record_of index * step + row (without_record lens) (within_record index) * size
+record_place lens begin step size index e = rw e refl
+
+-- the variable has the same kind and lengths in both headers
+record IsKept (old new : Header) (v w : Var) : Type 0 where
+  kind : w.kind ≡ v.kind
+  lens : lengths new w ≡ lengths old v
+
+kept : (old new : Header) → KeepsVars old new → (k : ℕ) (v w : Var) → slice_get old.vars k ≡ Some v → slice_get new.vars k ≡ Some w → IsKept old new v w
+kept old new keeps k v w h g =
+    let found = keeps k v h in
+    let there : Some found.0 ≡ Some w = sym found.1 ∙ g in
+    let same : found.0 ≡ w = cc in
+    subst (λ (x : Var). IsKept old new v x) same (record { kind = found.2; lens = found.3 })
+
+new_place : (old new : Header) (v w : Var) (index : List ℕ) → IsKept old new v w
+    → place new w index ≡ place_by (lengths old v) w.begin (recsize new) (size_of v.kind) index
+new_place old new v w index a = λ t. place_by (a.lens t) w.begin (recsize new) (size_of (a.kind t)) index
+
+-- ---- an element lies in a slab
+
+pub record LiesIn (s : Slab) (from to size : ℕ) : Type 0 where
+  pub off : ℕ
+  pub old : from ≡ s.from + off
+  pub new : to ≡ s.to + off
+  pub inside : off + size ≤ s.len
+
+row_inside : (lens index : List ℕ) (size : ℕ) → IsIndex lens index → row lens index * size + size ≤ product lens * size
+row_inside lens index size h = row_fits (row lens index) size (product lens) size (row_below lens index h) (omega arith)
+
+abbrev pub HasSlab : Header → Header → ℕ → ℕ → ℕ → Type 0
+HasSlab old new from to size = (s : Slab) × In (slabs old new) s × LiesIn s from to size
+
+in_slabs : (old new : Header) (k : ℕ) (v w : Var) (s : Slab) → slice_get old.vars k ≡ Some v → slice_get new.vars k ≡ Some w
+    → In (slabs_of old new (v, w)) s → In (slabs old new) s
+in_slabs old new k v w s h g i = in_flat (slabs_of old new) (zip old.vars new.vars) (v, w) s (in_zip old.vars new.vars k v w h g) i
+
+fixed_in : (old new : Header) (k : ℕ) (v w : Var) (index : List ℕ) → slice_get old.vars k ≡ Some v → slice_get new.vars k ≡ Some w → IsKept old new v w
+    → is_record old v ≡ false → IsIndex (inner_lengths old v) index → HasSlab old new (place old v index) (place new w index) (size_of v.kind)
+fixed_in old new k v w index h g a e i = (
+  first_slab old (v, w),
+  in_slabs old new k v w (first_slab old (v, w)) h g (subst (λ (ss : List Slab). In ss (first_slab old (v, w))) (sym (slabs_fixed old new (v, w) e)) (inl refl)),
+  record {
+    off = row (inner_lengths old v) index * size_of v.kind;
+    old = fixed_place (lengths old v) v.begin (recsize old) (size_of v.kind) index e;
+    new = new_place old new v w index a ∙ fixed_place (lengths old v) w.begin (recsize new) (size_of v.kind) index e;
+    inside = row_inside (inner_lengths old v) index (size_of v.kind) i;
+  },
+)
+
+record_in : (old new : Header) (k : ℕ) (v w : Var) (index : List ℕ) → slice_get old.vars k ≡ Some v → slice_get new.vars k ≡ Some w → IsKept old new v w
+    → is_record old v ≡ true → IsIndex (inner_lengths old v) (within_record index) → record_of index < old.records
+    → HasSlab old new (place old v index) (place new w index) (size_of v.kind)
+record_in old new k v w index h g a e i l =
+    let each : ℕ → Slab = λ r. in_record (recsize old) (recsize new) r (first_slab old (v, w)) in (
+      each (record_of index),
+      in_slabs old new k v w (each (record_of index)) h g
+          (subst (λ (ss : List Slab). In ss (each (record_of index))) (sym (slabs_record old new (v, w) e))
+          (in_map each (range_with_len 0 old.records) (record_of index) (in_range 0 old.records (record_of index) (omega arith) (omega arith)))),
+      record {
+        off = row (inner_lengths old v) (within_record index) * size_of v.kind;
+        old = record_place (lengths old v) v.begin (recsize old) (size_of v.kind) index e;
+        new = new_place old new v w index a ∙ record_place (lengths old v) w.begin (recsize new) (size_of v.kind) index e;
+        inside = row_inside (inner_lengths old v) (within_record index) (size_of v.kind) i;
+      },
+    )
+
+element_in : (old new : Header) → is_sound old ≡ true → KeepsVars old new → (k : ℕ) (v w : Var) (index : List ℕ) → slice_get old.vars k ≡ Some v → slice_get new.vars k ≡ Some w
+    → IsIndex (known_lengths old v old.records) index → HasSlab old new (place old v index) (place new w index) (size_of v.kind)
+element_in old new sound keeps k v w index h g i = by_kind (is_record old v) refl
+  where
+    own : IsElementBelow old v old.records index
+    own = index_is_element old k v old.records index sound h i
+
+    by_kind : (t : Bool) → is_record old v ≡ t → HasSlab old new (place old v index) (place new w index) (size_of v.kind)
+    by_kind false e =
+        fixed_in old new k v w index h g (kept old new keeps k v w h g) e
+        (subst (λ (t : Bool). MatchBool t (HasRecord index × IsIndex (inner_lengths old v) (within_record index)) (IsIndex (inner_lengths old v) index)) e own.0)
+    by_kind true e =
+        let inner = subst (λ (t : Bool). MatchBool t (HasRecord index × IsIndex (inner_lengths old v) (within_record index)) (IsIndex (inner_lengths old v) index)) e own.0 in
+        record_in old new k v w index h g (kept old new keeps k v w h g) e inner.1 (subst (λ (t : Bool). MatchBool t (record_of index < old.records) (Unit {0})) e own.1)
+
+pub element_in_slab : (old new : Header) → is_sound old ≡ true → KeepsVars old new → (from to size : ℕ) → Moves old new from to size → HasSlab old new from to size
+element_in_slab old new sound keeps from to size (k, v, w, index, h, g, i, f, t, s) =
+    let there = element_in old new sound keeps k v w index h g i in
+    let lies = there.2 in
+    (there.0, there.1, record { off = lies.off; old = f ∙ lies.old; new = t ∙ lies.new; inside = omega arith })
+
+-- ---- each number below the product is that of an index
+
+some_right : (n p q : ℕ) → q < n * p → 0 < p
+some_right n zero q h = absurd (omega arith)
+some_right n (suc p) q h = omega arith
+
+pub index_of_row : (lens : List ℕ) (q : ℕ) → q < product lens → (index : List ℕ) × IsIndex lens index × (row lens index ≡ q)
+index_of_row [] q h = ([], tt, omega arith)
+index_of_row (n ∷ lens) q h =
+    let some = some_right n (product lens) q h in
+    let rest = index_of_row lens (q % product lens) (mod_below q (product lens) some) in (
+      (q / product lens) ∷ rest.0,
+      (div_below q (product lens) n some h, rest.1),
+      ap (λ (r : ℕ). q / product lens * product lens + r) rest.2 ∙ div-add-mod' q (product lens),
+    )
+
+-- ---- an index within the inner lengths is one below the known lengths
+
+known_some : (known n i : ℕ) → i < n → i < known_of known n
+known_some known zero i h = absurd (omega arith)
+known_some known (suc n) i h = grind (arith, nat_tests)
+
+known_inner : (known : ℕ) (lens index : List ℕ) → IsIndex lens index → IsIndex (map (known_of known) lens) index
+known_inner known [] [] h = tt
+known_inner known [] (i ∷ index) h = absurd h
+known_inner known (n ∷ lens) [] h = absurd h
+known_inner known (n ∷ lens) (i ∷ index) h = (known_some known n i h.0, known_inner known lens index h.1)
+
+known_fixed : (known : ℕ) (lens index : List ℕ) → starts_with_zero lens ≡ false → IsIndex (without_record lens) index → IsIndex (map (known_of known) lens) index
+known_fixed known [] index e h = h
+known_fixed known (zero ∷ lens) index e h = absurd cc
+known_fixed known (suc n ∷ lens) index e h = known_inner known (suc n ∷ lens) index h
+
+not_zero : (n : ℕ) → (suc n == 0) ≡ true → ⊥
+not_zero n e = grind (arith, nat_tests)
+
+known_record : (known : ℕ) (lens index : List ℕ) (r : ℕ) → starts_with_zero lens ≡ true → r < known → IsIndex (without_record lens) index
+    → IsIndex (map (known_of known) lens) (r ∷ index)
+known_record known [] index r e l h = absurd cc
+known_record known (zero ∷ lens) index r e l h = (l, known_inner known lens index h)
+known_record known (suc n ∷ lens) index r e l h = absurd (not_zero n e)
+
+-- ---- each byte of a slab is an element's
+
+-- the byte x of the old file is one of an element that moves, and y is its place in the new file
+pub record IsElementByte (old new : Header) (x y : ℕ) : Type 0 where
+  pub from : ℕ
+  pub to : ℕ
+  pub size : ℕ
+  pub byte : ℕ
+  pub moves : Moves old new from to size
+  pub inside : byte < size
+  pub before : from + byte ≡ x
+  pub after : to + byte ≡ y
+
+abbrev HasBytes : Header → Header → Slab → Type 0
+HasBytes old new s = (d : ℕ) → d < s.len → IsElementByte old new (s.from + d) (s.to + d)
+
+fixed_bytes : (old new : Header) (k : ℕ) (v w : Var) → slice_get old.vars k ≡ Some v → slice_get new.vars k ≡ Some w → IsKept old new v w
+    → is_record old v ≡ false → HasBytes old new (first_slab old (v, w))
+fixed_bytes old new k v w h g a e d l =
+    let size = size_of v.kind in
+    let some : 0 < size = some_right (product (inner_lengths old v)) size d l in
+    let found = index_of_row (inner_lengths old v) (d / size) (div_below d size (product (inner_lengths old v)) some l) in
+    let one = fixed_place (lengths old v) v.begin (recsize old) size found.0 e in
+    let two = new_place old new v w found.0 a ∙ fixed_place (lengths old v) w.begin (recsize new) size found.0 e in
+    let whole = ap (λ (r : ℕ). r * size + d % size) found.2 ∙ div-add-mod' d size in
+    record {
+      from = place old v found.0;
+      to = place new w found.0;
+      size = size;
+      byte = d % size;
+      moves = (k, v, w, found.0, h, g, known_fixed old.records (lengths old v) found.0 e found.1, refl, refl, refl);
+      inside = mod_below d size some;
+      before = omega (arith, one, whole);
+      after = omega (arith, two, whole);
+    }
+
+record_bytes : (old new : Header) (k : ℕ) (v w : Var) (r : ℕ) → slice_get old.vars k ≡ Some v → slice_get new.vars k ≡ Some w → IsKept old new v w
+    → is_record old v ≡ true → r < old.records → HasBytes old new (in_record (recsize old) (recsize new) r (first_slab old (v, w)))
+record_bytes old new k v w r h g a e b d l =
+    let size = size_of v.kind in
+    let some : 0 < size = some_right (product (inner_lengths old v)) size d l in
+    let found = index_of_row (inner_lengths old v) (d / size) (div_below d size (product (inner_lengths old v)) some l) in
+    let index : List ℕ = r ∷ found.0 in
+    let one = record_place (lengths old v) v.begin (recsize old) size index e in
+    let two = new_place old new v w index a ∙ record_place (lengths old v) w.begin (recsize new) size index e in
+    let whole = ap (λ (q : ℕ). q * size + d % size) found.2 ∙ div-add-mod' d size in
+    record {
+      from = place old v index;
+      to = place new w index;
+      size = size;
+      byte = d % size;
+      moves = (k, v, w, index, h, g, known_record old.records (lengths old v) found.0 r e b found.1, refl, refl, refl);
+      inside = mod_below d size some;
+      before = omega (arith, one, whole);
+      after = omega (arith, two, whole);
+    }
+
+pub slab_bytes : (old new : Header) → KeepsVars old new → (s : Slab) → In (slabs old new) s → HasBytes old new s
+slab_bytes old new keeps s h = by_kind (is_record old p.0) refl
+  where
+    found : (p : Var × Var) × In (zip old.vars new.vars) p × In (slabs_of old new p) s
+    found = flat_in (slabs_of old new) (zip old.vars new.vars) s h
+
+    p : Var × Var
+    p = found.0
+
+    at : (k : ℕ) × (slice_get old.vars k ≡ Some p.0) × (slice_get new.vars k ≡ Some p.1)
+    at = zip_in old.vars new.vars p found.1
+
+    own : IsKept old new p.0 p.1
+    own = kept old new keeps at.0 p.0 p.1 at.1 at.2
+
+    by_kind : (t : Bool) → is_record old p.0 ≡ t → HasBytes old new s
+    by_kind false e =
+        only (subst (λ (ss : List Slab). In ss s) (slabs_fixed old new p e) found.2)
+      where
+        only : In (first_slab old p ∷ []) s → HasBytes old new s
+        only (inl q) = subst (HasBytes old new) q (fixed_bytes old new at.0 p.0 p.1 at.1 at.2 own e)
+        only (inr q) = absurd q
+    by_kind true e =
+        let each : ℕ → Slab = λ r. in_record (recsize old) (recsize new) r (first_slab old p) in
+        let one = map_in each (range_with_len 0 old.records) s (subst (λ (ss : List Slab). In ss s) (slabs_record old new p e) found.2) in
+        subst (HasBytes old new) one.2 (record_bytes old new at.0 p.0 p.1 one.0 at.1 at.2 own e (omega (arith, range_high 0 old.records one.0 one.1)))

@@ -1,0 +1,180 @@
+-- A header that can be redefined has the facts that extras keep, and so has the new header.
+use Rattle.std.proofs.Common.{◌≡◌, ℕ, ◌+◌, ◌*◌, ◌<◌, ◌≤◌, List, [], ◌∷◌, length, drop, Bool, true, false, cond, ◌||◌, Option, Some, None, refl, sym, ap, ◌∙◌, arith}
+use Rattle.std.specs.Prelude.{not, nat_le, ◌==◌, count_by, position, option_map, is_none}
+use Rattle.std.specs.List.{list_all, position_from, AllByRecursion}
+use Rattle.std.specs.Option.{option_or}
+use Rattle.std.proofs.lemmas.Iterator.Adapters.{position_from-zero}
+use Rattle.std.proofs.lemmas.List.Sums.{length-filter}
+use Rattle.nc_base.specs.declared.header.Header.{Header}
+use Rattle.nc_base.specs.declared.header.Dim.{Dim}
+use Rattle.nc_base.specs.declared.header.Attr.{Attr}
+use Rattle.nc_base.specs.declared.header.Var.{Var}
+use Rattle.nc_base.specs.declared.errors.HeaderErr.TheVariants as fault
+use Rattle.serial_spec.specs.Limits.{most_dims, most_dims_of_var, file_limit, record_limit}
+use Rattle.serial_spec.specs.ExternalForm.{size_of}
+use Rattle.serial_spec.specs.Layout.{sharing}
+use Rattle.serial_spec.specs.HeaderGrammar.{is_sound, first_check, first_with, fault_if, two_record_dims, record_later, is_record_id, bad_id, is_too_large, all_ones, measure, counts_are_small, is_version, header_len, fits_count, is_writable_dim, is_writable_attr, is_writable_list}
+use Rattle.serial_spec.specs.Redefinition.{is_redefinable, is_redefinable_var}
+use Rattle.serial_spec.proofs.ApartLaws.{neither, no_some}
+use Rattle.serial_spec.proofs.RoomLaws.{unmapped}
+use Rattle.cdf_header.proofs.Pieces.{no_fault}
+use Rattle.var_layout.proofs.Soundness.{and_left, and_right}
+use Rattle.redef_laws.proofs.FieldLaws.{or_none, not_false, le_told, not_lt_told, not_le_told, eq_told, passes_each, fails_each, each_then}
+use Rattle.redef_laws.proofs.GrownLaws.{IsTyped, HasFitLength, IsFitVar, IsFit, is_record_dim}
+
+-- ---- the checks of a sound header
+
+-- what is found wrong with no sound header, but for bytes that are shared
+pub record IsChecked (header : Header) : Type 0 where
+  pub one_record : two_record_dims header ≡ false
+  pub first : position (record_later header) header.vars ≡ None
+  pub ids : position (bad_id header) header.vars ≡ None
+  pub counted : (header.records == all_ones header.version) ≡ false
+  pub measured : measure header ≡ None
+  pub few : nat_le (record_limit header.version) header.records ≡ false
+  pub apart : sharing header (header_len header) ≡ None
+
+pub checked : (header : Header) → is_sound header ≡ true → IsChecked header
+checked header h =
+    let checks : first_check header ≡ None = no_some _ (and_right _ _ h) in
+    let a = neither (fault_if (two_record_dims header) fault.TwoRecordDims) _ checks in
+    let b = neither (first_with (record_later header) (λ k. fault.RecordDimNotFirst k) header.vars) _ a.1 in
+    let c = neither (first_with (bad_id header) (λ k. fault.BadDimId k) header.vars) _ b.1 in
+    let d = neither (fault_if (header.records == all_ones header.version) fault.Streaming) _ c.1 in
+    let e = neither (fault_if (is_too_large header) fault.TooLarge) _ d.1 in
+    let large = or_none (not (is_none (measure header))) (nat_le (record_limit header.version) header.records) (no_fault (is_too_large header) fault.TooLarge e.0) in
+    record {
+      one_record = no_fault (two_record_dims header) fault.TwoRecordDims a.0;
+      first = unmapped (λ k. fault.RecordDimNotFirst k) _ b.0;
+      ids = unmapped (λ k. fault.BadDimId k) _ c.0;
+      counted = no_fault (header.records == all_ones header.version) fault.Streaming d.0;
+      measured = no_some (measure header) (not_false _ large.0);
+      few = large.1;
+      apart = unmapped (λ p. fault.Shared p.0 p.1) _ e.1;
+    }
+
+none_both : {A : Type 0} (a b : Option A) → a ≡ None → b ≡ None → option_or a b ≡ None
+none_both a b e f = ap (λ o. option_or o b) e ∙ f
+
+pub passes_checks : (header : Header) → IsChecked header → first_check header ≡ None
+passes_checks header c =
+    none_both _ _ (ap (λ (t : Bool). fault_if t fault.TwoRecordDims) c.one_record)
+    (none_both _ _ (ap (λ o. option_map (λ k. fault.RecordDimNotFirst k) o) c.first)
+    (none_both _ _ (ap (λ o. option_map (λ k. fault.BadDimId k) o) c.ids)
+    (none_both _ _ (ap (λ (t : Bool). fault_if t fault.Streaming) c.counted)
+    (none_both _ _ (ap (λ (t : Bool). fault_if t fault.TooLarge) small)
+    (ap (λ o. option_map (λ p. fault.Shared p.0 p.1) o) c.apart)))))
+  where
+    small : is_too_large header ≡ false
+    small = ap (λ o. not (is_none o) || nat_le (record_limit header.version) header.records) c.measured ∙ c.few
+
+-- ---- searches that find nothing
+
+none_from : {A : Type 0} (test : A → Bool) (n : ℕ) (xs : List A) → position_from test n xs ≡ None → AllByRecursion (λ x. test x ≡ false) xs
+none_from test n [] h = tt
+none_from test n (x ∷ xs) h = by_test (λ g. none_from test (n + 1) xs g) (test x) refl h
+  where
+    by_test : (position_from test (n + 1) xs ≡ None → AllByRecursion (λ x. test x ≡ false) xs)
+        → (t : Bool) → test x ≡ t → cond t (Some n) (position_from test (n + 1) xs) ≡ None → (test x ≡ false) × AllByRecursion (λ x. test x ≡ false) xs
+    by_test rest true e g = absurd cc
+    by_test rest false e g = (e, rest g)
+
+pub none_found : {A : Type 0} (test : A → Bool) (xs : List A) → position test xs ≡ None → AllByRecursion (λ x. test x ≡ false) xs
+none_found test xs h = none_from test 0 xs (sym (position_from-zero test xs) ∙ h)
+
+from_none : {A : Type 0} (test : A → Bool) (n : ℕ) (xs : List A) → AllByRecursion (λ x. test x ≡ false) xs → position_from test n xs ≡ None
+from_none test n [] h = refl
+from_none test n (x ∷ xs) h = ap (λ (t : Bool). cond t (Some n) (position_from test (n + 1) xs)) h.0 ∙ from_none test (n + 1) xs h.1
+
+pub finds_none : {A : Type 0} (test : A → Bool) (xs : List A) → AllByRecursion (λ x. test x ≡ false) xs → position test xs ≡ None
+finds_none test xs h = position_from-zero test xs ∙ from_none test 0 xs h
+
+-- ---- the old header
+
+pub record IsOpened (old : Header) : Type 0 where
+  pub sound : is_sound old ≡ true
+  pub version : is_version old.version ≡ true
+  pub records : fits_count old.version old.records ≡ true
+  pub fit : IsFit old
+  pub dim_names : AllByRecursion (λ d. fits_count old.version (length d.name) ≡ true) old.dims
+
+fit_attr : (version : ℕ) (a : Attr) → is_writable_attr version a ≡ true → IsTyped version a
+fit_attr version a h =
+    record {
+      kind = and_right (fits_count version (length a.name)) _ (and_left _ _ (and_left _ _ h));
+      whole = eq_told (length a.bytes) (a.count * size_of a.kind) (and_right _ _ h);
+    }
+
+fit_attrs : (version : ℕ) (attrs : List Attr) → is_writable_list version (is_writable_attr version) attrs ≡ true → AllByRecursion (IsTyped version) attrs
+fit_attrs version attrs h =
+    each_then (λ a. is_writable_attr version a ≡ true) (IsTyped version) (fit_attr version) attrs
+    (passes_each (is_writable_attr version) attrs (and_right (fits_count version (length attrs)) _ h))
+
+fit_dim : (version : ℕ) (d : Dim) → is_writable_dim version d ≡ true → HasFitLength version d
+fit_dim version d h =
+    record {
+      fits = and_right (fits_count version (length d.name)) _ (and_left _ _ h);
+      small = le_told d.len file_limit (and_right _ _ h);
+    }
+
+-- of a variable, what the tests of its number of ids, of the ids, of the record dimension and of its parts tell
+record IsToldVar (header : Header) (v : Var) : Type 0 where
+  few : nat_le (length v.dims) most_dims_of_var ≡ true
+  ids : bad_id header v ≡ false
+  later : record_later header v ≡ false
+  parts : is_redefinable_var header v ≡ true
+
+fit_var : (header : Header) (v : Var) → IsToldVar header v → IsFitVar header.version header.dims v
+fit_var header v t =
+    let h4 = and_left _ _ t.parts in
+    record {
+      few = le_told (length v.dims) 32 t.few;
+      known =
+          each_then (λ id. nat_le (length header.dims) id ≡ false) (λ id. id < length header.dims) (λ id e. not_le_told (length header.dims) id e) v.dims
+          (fails_each (λ id. nat_le (length header.dims) id) v.dims t.ids);
+      later = fails_each (λ id. is_record_id header id) (drop 1 v.dims) t.later;
+      known_type = and_right _ _ h4;
+      typed = fit_attrs header.version v.attrs (and_right _ _ (and_left _ _ h4));
+    }
+
+told_vars : (header : Header) (vs : List Var) → AllByRecursion (λ (v : Var). nat_le (length v.dims) most_dims_of_var ≡ true) vs → AllByRecursion (λ v. bad_id header v ≡ false) vs
+    → AllByRecursion (λ v. record_later header v ≡ false) vs → AllByRecursion (λ v. is_redefinable_var header v ≡ true) vs
+    → AllByRecursion (IsFitVar header.version header.dims) vs
+told_vars header [] a b c d = tt
+told_vars header (v ∷ vs) a b c d =
+    (fit_var header v (record { few = a.0; ids = b.0; later = c.0; parts = d.0 }), told_vars header vs a.1 b.1 c.1 d.1)
+
+pub opened_old : (old : Header) → is_redefinable old ≡ true → IsOpened old
+opened_old old h =
+    let h4 = and_left _ _ h in
+    let h3 = and_left _ _ h4 in
+    let h2 = and_left _ _ h3 in
+    let sound = and_left (is_sound old) _ h2 in
+    let c = checked old sound in
+    let counts = and_right (is_version old.version) (counts_are_small old) (and_left _ _ (and_left _ _ sound)) in
+    let limits = and_left _ (list_all (λ (v : Var). nat_le (length v.dims) most_dims_of_var) old.vars) counts in
+    let dims : AllByRecursion (λ d. is_writable_dim old.version d ≡ true) old.dims = passes_each (is_writable_dim old.version) old.dims (and_right (fits_count old.version (length old.dims)) _ (and_right _ _ h3)) in
+    let one = not_lt_told 1 (count_by (λ (d : Dim). d.len == 0) old.dims) c.one_record in
+    let same = length-filter is_record_dim old.dims in
+    record {
+      sound = sound;
+      version = and_left (is_version old.version) _ (and_left _ _ (and_left _ _ sound));
+      records = and_right (is_sound old) _ h2;
+      fit = record {
+        few_dims = le_told (length old.dims) 1024 (and_left (nat_le (length old.dims) most_dims) _ limits);
+        few_vars = le_told (length old.vars) 8192 (and_right (nat_le (length old.dims) most_dims) _ limits);
+        lengths = each_then (λ d. is_writable_dim old.version d ≡ true) (HasFitLength old.version) (fit_dim old.version) old.dims dims;
+        one_record = at_most_one _ _ one same;
+        attrs = fit_attrs old.version old.attrs (and_right _ _ h4);
+        vars =
+            told_vars old old.vars (passes_each (λ (v : Var). nat_le (length v.dims) most_dims_of_var) old.vars (and_right _ _ counts))
+            (none_found (bad_id old) old.vars c.ids) (none_found (record_later old) old.vars c.first)
+            (passes_each (is_redefinable_var old) old.vars (and_right (fits_count old.version (length old.vars)) _ (and_right _ _ h)));
+      };
+      dim_names =
+          each_then (λ d. is_writable_dim old.version d ≡ true) (λ d. fits_count old.version (length d.name) ≡ true)
+          (λ d e. and_left (fits_count old.version (length d.name)) _ (and_left _ _ e)) old.dims dims;
+    }
+  where
+    at_most_one : (n m : ℕ) → n ≤ 1 → m ≡ n → m ≤ 1
+    at_most_one n m l e = omega arith

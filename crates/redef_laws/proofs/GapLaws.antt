@@ -1,0 +1,217 @@
+-- The bytes between slabs.
+use Rattle.std.proofs.Common.{◌≡◌, ℕ, zero, suc, ◌+◌, ◌-◌, ◌*◌, ◌<◌, ◌≤◌, refl, sym, ◌∙◌, ap, inl, inr, List, [], ◌∷◌, ◌++◌, length, Bool, true, false, cond, not, ◌&&◌, ◌||◌, min, arith, append-nil}
+use Rattle.std.proofs.lemmas.Nat.{div_below}
+use Rattle.std.specs.Prelude.{filter, map, flat_map, nat_le, nat_lt, ◌==◌}
+use Rattle.std.specs.List.{range_with_len, list_any}
+use Rattle.nc_base.specs.declared.step.DiskCall.{DiskCall}
+use Rattle.nc_base.specs.declared.step.DiskCall.TheVariants.{Store}
+use Rattle.serial_spec.specs.DeviceCalls.{Slab, run_before, runs, stores, first_of, window_count}
+use Rattle.overlay_laws.specs.Entries.{In, HaveSame}
+use Rattle.overlay_laws.proofs.HullLaws.{range_low, range_high, or_left, or_right, or_split, in_either}
+use Rattle.overlay_laws.proofs.WalkLaws.{filter_same, filter_none, filter_all, filter_joined, eq_true, eq_false, lt_true, lt_false, le_true, le_false}
+use Rattle.overlay_laws.proofs.CoverLaws.{range_split, range_long}
+use Rattle.redef_laws.specs.Rising.{gaps, IsRisen}
+use Rattle.redef_laws.proofs.ChainLaws.{risen_past}
+
+-- x is one of the slab's bytes in the new file
+abbrev pub covers : ℕ → Slab → Bool
+covers x s = nat_le s.to x && nat_lt x (s.to + s.len)
+
+-- x is a byte of none of the slabs
+abbrev pub is_bare : List Slab → ℕ → Bool
+is_bare ss x = not (list_any (λ s. covers x s) ss)
+
+-- the bytes of a gap
+abbrev pub gap_bytes : ℕ × ℕ → List ℕ
+gap_bytes g = range_with_len g.0 g.1
+
+-- ---- the bare bytes are those of the gaps
+
+covered_inside : (x : ℕ) (s : Slab) → s.to ≤ x → x < s.to + s.len → covers x s ≡ true
+covered_inside x s h k = ap (λ b. b && nat_lt x (s.to + s.len)) (le_true s.to x h) ∙ lt_true x (s.to + s.len) k
+
+uncovered_before : (x : ℕ) (s : Slab) → x < s.to → covers x s ≡ false
+uncovered_before x s h = ap (λ b. b && nat_lt x (s.to + s.len)) (le_false s.to x h)
+
+and_false : (a b : Bool) → b ≡ false → (a && b) ≡ false
+and_false true b h = h
+and_false false b h = refl
+
+uncovered_past : (x : ℕ) (s : Slab) → s.to + s.len ≤ x → covers x s ≡ false
+uncovered_past x s h = and_false (nat_le s.to x) (nat_lt x (s.to + s.len)) (lt_false x (s.to + s.len) h)
+
+bare_before : (a b x : ℕ) (ss : List Slab) → IsRisen a b ss → x < b → is_bare ss x ≡ true
+bare_before a b x ss h k = ap not (none_covers ss (λ s g. uncovered_before x s (let r = risen_past a b ss s h g in let l = r.1 in omega arith)))
+  where
+    none_covers : (ts : List Slab) → ((s : Slab) → In ts s → covers x s ≡ false) → list_any (λ s. covers x s) ts ≡ false
+    none_covers [] m = refl
+    none_covers (t ∷ ts) m = ap (λ c. c || list_any (λ s. covers x s) ts) (m t (inl refl)) ∙ none_covers ts (λ s g. m s (inr g))
+
+three_parts : (a m n k : ℕ) → range_with_len a (m + (n + k)) ≡ range_with_len a m ++ (range_with_len (a + m) n ++ range_with_len (a + m + n) k)
+three_parts a m n k = range_split a m (n + k) ∙ ap (λ r. range_with_len a m ++ r) (range_split (a + m) n k)
+
+-- all slabs end before `end`
+abbrev pub EndsBy : ℕ → List Slab → Type 0
+EndsBy end ss = (s : Slab) → In ss s → s.to + s.len ≤ end
+
+pub bare_gaps : (a b end : ℕ) (ss : List Slab) → IsRisen a b ss → b ≤ end → EndsBy end ss
+    → filter (is_bare ss) (range_with_len b (end - b)) ≡ flat_map gap_bytes (gaps b end ss)
+bare_gaps a b end [] h k l =
+    filter_all (is_bare []) (range_with_len b (end - b)) (λ y m. refl) ∙ sym (append-nil (range_with_len b (end - b)))
+bare_gaps a b end (s ∷ ss) h k l =
+    ap (λ n. filter (is_bare (s ∷ ss)) (range_with_len b n)) parts
+    ∙ ap (filter (is_bare (s ∷ ss))) (three_parts b (s.to - b) s.len left)
+    ∙ filter_joined (is_bare (s ∷ ss)) before (inside ++ past)
+    ∙ (λ i. none_before i ++ filter_joined (is_bare (s ∷ ss)) inside past i)
+    ∙ (λ i. before ++ (all_inside i ++ filter (is_bare (s ∷ ss)) past))
+    ∙ ap (λ r. before ++ r)
+    (same_past ∙ bare_gaps (s.from + s.len) (s.to + s.len) end ss h.4 (l s (inl refl)) (λ t m. l t (inr m)))
+  where
+    left : ℕ
+    left = end - (s.to + s.len)
+
+    before : List ℕ
+    before = range_with_len b (s.to - b)
+
+    inside : List ℕ
+    inside = range_with_len (b + (s.to - b)) s.len
+
+    past : List ℕ
+    past = range_with_len (b + (s.to - b) + s.len) left
+
+    parts : end - b ≡ (s.to - b) + (s.len + left)
+    parts = let low = h.2 in let last = l s (inl refl) in omega arith
+
+    none_before : filter (is_bare (s ∷ ss)) before ≡ before
+    none_before = filter_all (is_bare (s ∷ ss)) before
+        (λ y m. bare_before a s.to y (s ∷ ss) (h.0, h.1, omega arith, h.3, h.4) (let low = h.2 in let high = range_high b (s.to - b) y m in omega arith))
+
+    all_inside : filter (is_bare (s ∷ ss)) inside ≡ []
+    all_inside = filter_none (is_bare (s ∷ ss)) inside (λ y m.
+        let low = h.2 in
+        let first = range_low (b + (s.to - b)) s.len y m in
+        let last = range_high (b + (s.to - b)) s.len y m in
+        ap not (or_left (covers y s) (list_any (λ t. covers y t) ss) (covered_inside y s (omega arith) (omega arith))))
+
+    same_past : filter (is_bare (s ∷ ss)) past ≡ filter (is_bare ss) (range_with_len (s.to + s.len) left)
+    same_past =
+        filter_same (is_bare (s ∷ ss)) (is_bare ss) past (λ y m.
+        let low = h.2 in
+        let first = range_low (b + (s.to - b) + s.len) left y m in
+        ap (λ c. not (c || list_any (λ t. covers y t) ss)) (uncovered_past y s (omega arith)))
+        ∙ ap (λ n. filter (is_bare ss) (range_with_len n left)) (let low = h.2 in omega arith)
+
+-- ---- runs of bytes
+
+run_starts : (x : ℕ) (others : List (List ℕ)) → (ys : List ℕ) × (rest : List (List ℕ)) × (run_before x others ≡ (x ∷ ys) ∷ rest)
+run_starts x [] = ([], [], refl)
+run_starts x ([] ∷ others) = ([], [] ∷ others, refl)
+run_starts x ((y ∷ ys) ∷ others) = by_test (y == x + 1)
+  where
+    by_test : (b : Bool) → (zs : List ℕ) × (rest : List (List ℕ)) × (cond b ((x ∷ y ∷ ys) ∷ others) ((x ∷ []) ∷ (y ∷ ys) ∷ others) ≡ (x ∷ zs) ∷ rest)
+    by_test true = (y ∷ ys, others, refl)
+    by_test false = ([], (y ∷ ys) ∷ others, refl)
+
+run_apart : (x y : ℕ) (ys : List ℕ) (others : List (List ℕ)) → x + 1 < y → run_before x ((y ∷ ys) ∷ others) ≡ (x ∷ []) ∷ (y ∷ ys) ∷ others
+run_apart x y ys others h = ap (λ b. cond b ((x ∷ y ∷ ys) ∷ others) ((x ∷ []) ∷ (y ∷ ys) ∷ others)) (eq_false (x + 1) y h)
+
+run_next : (x : ℕ) (ys : List ℕ) (others : List (List ℕ)) → run_before x (((x + 1) ∷ ys) ∷ others) ≡ (x ∷ (x + 1) ∷ ys) ∷ others
+run_next x ys others = ap (λ b. cond b ((x ∷ (x + 1) ∷ ys) ∷ others) ((x ∷ []) ∷ ((x + 1) ∷ ys) ∷ others)) (eq_true (x + 1) (x + 1) refl)
+
+-- a number that none follows at once is a run
+run_alone : (x : ℕ) (rest : List ℕ) → ((y : ℕ) → In rest y → x + 1 < y) → run_before x (runs rest) ≡ (x ∷ []) ∷ runs rest
+run_alone x [] h = refl
+run_alone x (y ∷ ys) h =
+    let start = run_starts y (runs ys) in
+    ap (run_before x) start.2 ∙ run_apart x y start.0 start.1 (h y (inl refl)) ∙ ap (λ r. (x ∷ []) ∷ r) (sym start.2)
+
+-- numbers one after another, and then a greater one, or none
+run_of_range : (a n : ℕ) (rest : List ℕ) → ((y : ℕ) → In rest y → a + suc n < y) → runs (range_with_len a (suc n) ++ rest) ≡ range_with_len a (suc n) ∷ runs rest
+run_of_range a zero rest h = run_alone a rest (λ y m. let l = h y m in omega arith)
+run_of_range a (suc n) rest h =
+    ap (run_before a) (run_of_range (a + 1) n rest (λ y m. let l = h y m in omega arith))
+    ∙ run_next a (range_with_len (a + 1 + 1) n) (runs rest)
+
+-- ---- gaps, each behind a byte that is in none
+
+abbrev AreSeparate : ℕ → List (ℕ × ℕ) → Type 0
+AreSeparate at [] = Unit {0}
+AreSeparate at (g ∷ gs) = (at ≤ g.0) × AreSeparate (g.0 + g.1 + 1) gs
+
+separate_lower : (m n : ℕ) (gs : List (ℕ × ℕ)) → m ≤ n → AreSeparate n gs → AreSeparate m gs
+separate_lower m n [] h k = tt
+separate_lower m n (g ∷ gs) h k = let l = k.0 in (omega arith, k.1)
+
+gaps_separate : (a b end : ℕ) (ss : List Slab) → IsRisen a b ss → AreSeparate b (gaps b end ss)
+gaps_separate a b end [] h = (omega arith, tt)
+gaps_separate a b end (s ∷ ss) h =
+    let some = h.0 in
+    let low = h.2 in (
+      omega arith,
+      separate_lower (b + (s.to - b) + 1) (s.to + s.len) (gaps (s.to + s.len) end ss) (omega arith) (gaps_separate (s.from + s.len) (s.to + s.len) end ss h.4),
+    )
+
+gap_bytes_past : (at : ℕ) (gs : List (ℕ × ℕ)) (y : ℕ) → AreSeparate at gs → In (flat_map gap_bytes gs) y → at ≤ y
+gap_bytes_past at [] y h m = absurd m
+gap_bytes_past at (g ∷ gs) y h m =
+    elim (in_either (gap_bytes g) (flat_map gap_bytes gs) y m) [
+      | inl k ↦ (let a = h.0 in let b = range_low g.0 g.1 y k in omega arith)
+      | inr k ↦ (let a = h.0 in let b = gap_bytes_past (g.0 + g.1 + 1) gs y h.1 k in omega arith)
+    ]
+
+-- ---- the calls that write zeros
+
+stores_none : (z from : ℕ) → 0 < z → stores z from 0 ≡ []
+stores_none z from h =
+    let few = div_below (0 + (z - 1)) z 1 (omega arith) (omega arith) in
+    let none : window_count z 0 ≡ 0 = omega arith in
+    ap (λ n. map (λ j. Store (from + j * z) (min z (0 - j * z))) (range_with_len 0 n)) none
+
+abbrev pub run_stores : ℕ → List ℕ → List DiskCall
+run_stores z r = stores z (first_of r) (length r)
+
+abbrev pub gap_stores : ℕ → ℕ × ℕ → List DiskCall
+gap_stores z g = stores z g.0 g.1
+
+stores_of_gaps : (z at : ℕ) (gs : List (ℕ × ℕ)) → 0 < z → AreSeparate at gs
+    → flat_map (run_stores z) (runs (flat_map gap_bytes gs)) ≡ flat_map (gap_stores z) gs
+stores_of_gaps z at [] h k = refl
+stores_of_gaps z at ((from, zero) ∷ gs) h k =
+    stores_of_gaps z (from + 0 + 1) gs h k.1 ∙ ap (λ c. c ++ flat_map (gap_stores z) gs) (sym (stores_none z from h))
+stores_of_gaps z at ((from, suc n) ∷ gs) h k =
+    ap (flat_map (run_stores z)) (run_of_range from n (flat_map gap_bytes gs) (λ y m. let l = gap_bytes_past (from + suc n + 1) gs y k.1 m in omega arith))
+    ∙ ap (λ len. stores z from len ++ flat_map (run_stores z) (runs (flat_map gap_bytes gs))) (range_long from (suc n))
+    ∙ ap (λ c. stores z from (suc n) ++ c) (stores_of_gaps z (from + suc n + 1) gs h k.1)
+
+-- ---- lists with the same members
+
+any_member : (t : Slab → Bool) (ss : List Slab) (s : Slab) → In ss s → t s ≡ true → list_any t ss ≡ true
+any_member t [] s h k = absurd h
+any_member t (u ∷ ss) s (inl e) k = or_left (t u) (list_any t ss) (ap t e ∙ k)
+any_member t (u ∷ ss) s (inr h) k = or_right (t u) (list_any t ss) (any_member t ss s h k)
+
+any_found : (t : Slab → Bool) (ss : List Slab) → list_any t ss ≡ true → (s : Slab) × In ss s × (t s ≡ true)
+any_found t [] h = cc
+any_found t (u ∷ ss) h =
+    elim (or_split (t u) (list_any t ss) h) [
+      | inl e ↦ (u, inl refl, e)
+      | inr k ↦ (let r = any_found t ss k in (r.0, inr r.1, r.2))
+    ]
+
+any_same : (t : Slab → Bool) (ss rs : List Slab) → HaveSame ss rs → list_any t ss ≡ list_any t rs
+any_same t ss rs h = by_tests (list_any t ss) (list_any t rs) refl refl
+  where
+    by_tests : (b c : Bool) → list_any t ss ≡ b → list_any t rs ≡ c → b ≡ c
+    by_tests true true e f = refl
+    by_tests false false e f = refl
+    by_tests true false e f = let r = any_found t ss e in let there = any_member t rs r.0 (h.0 r.0 r.1) r.2 in sym there ∙ f
+    by_tests false true e f = let r = any_found t rs f in let there = any_member t ss r.0 (h.1 r.0 r.1) r.2 in sym e ∙ there
+
+-- The runs of the bytes that are in no slab get the calls of the gaps between the slabs as they rise.
+pub zeros_between : (z old_first first end : ℕ) (ss rs : List Slab) → 0 < z → IsRisen old_first first rs → first ≤ end → EndsBy end rs → HaveSame ss rs
+    → flat_map (run_stores z) (runs (filter (is_bare ss) (range_with_len first (end - first)))) ≡ flat_map (gap_stores z) (gaps first end rs)
+zeros_between z old_first first end ss rs h k l m n =
+    ap (λ b. flat_map (run_stores z) (runs b))
+    (filter_same (is_bare ss) (is_bare rs) (range_with_len first (end - first)) (λ y g. ap not (any_same (covers y) ss rs n))
+    ∙ bare_gaps old_first first end rs k l m)
+    ∙ stores_of_gaps z first (gaps first end rs) h (gaps_separate old_first first end rs k)

@@ -1,0 +1,358 @@
+-- What a header keeps while extras are added to it.
+use Rattle.std.proofs.Common.{◌≡◌, ℕ, zero, suc, ◌+◌, ◌*◌, ◌^◌, ◌<◌, ◌≤◌, List, [], ◌∷◌, ◌++◌, length, drop, map, Bool, true, false, cond, ◌&&◌, ◌||◌, Option, Some, None, refl, sym, ap, subst, ◌∙◌, arith, length-append}
+use Rattle.std.specs.Prelude.{not, nat_lt, nat_le, ◌==◌, is_none, unwrap_or, filter, slice_get, bytes_eq}
+use Rattle.std.specs.List.{list_any, list_all, position_from, AllByRecursion}
+use Rattle.std.proofs.lemmas.Iterator.Adapters.{position_from-zero}
+use Rattle.std.proofs.lemmas.List.{length-map}
+use Rattle.std.proofs.lemmas.List.Elements.{filter-append}
+use Rattle.nc_base.specs.declared.header.Header.{Header}
+use Rattle.nc_base.specs.declared.header.Dim.{Dim}
+use Rattle.nc_base.specs.declared.header.Attr.{Attr}
+use Rattle.nc_base.specs.declared.header.Var.{Var}
+use Rattle.nc_base.specs.declared.header.NcType.{NcType}
+use Rattle.nc_base.specs.declared.script.Extra.{Extra}
+use Rattle.nc_base.specs.declared.script.Extra.TheVariants as extra
+use Rattle.nc_base.specs.declared.errors.RedefErr.{RedefErr}
+use Rattle.nc_base.specs.declared.errors.RedefErr.TheVariants as redef
+use Rattle.serial_spec.specs.Limits.{most_dims, most_vars, file_limit}
+use Rattle.serial_spec.specs.ExternalForm.{size_of}
+use Rattle.serial_spec.specs.Layout.{length_of}
+use Rattle.serial_spec.specs.HeaderGrammar.{fits_count, is_type}
+use Rattle.serial_spec.specs.RankMachine.{find_dim}
+use Rattle.serial_spec.specs.Lawful.{is_lawful_extra, is_whole_extra}
+use Rattle.serial_spec.specs.Redefinition.{with_attr, with_extra, added, dim_id, is_taken, is_unknown, is_record_name, has_bad_shape, is_one_too_many, has_bad_kind, extra_fault, extras_from}
+use Rattle.serial_spec.proofs.ElementLaws.{get_left}
+use Rattle.var_layout.proofs.Soundness.{and_left, and_right}
+use Rattle.redef_laws.proofs.FieldLaws.{not_both, lt_told, le_told, not_lt_told, not_le_told, le_test, eq_told, each_then, each_both, fails_each, count_fits}
+
+-- ---- the facts
+
+-- an attribute of a type of the version, with the bytes of its count
+pub record IsTyped (version : ℕ) (a : Attr) : Type 0 where
+  pub kind : is_type version a.kind ≡ true
+  pub whole : length a.bytes ≡ a.count * size_of a.kind
+
+pub record HasFitLength (version : ℕ) (d : Dim) : Type 0 where
+  pub fits : fits_count version d.len ≡ true
+  pub small : d.len ≤ file_limit
+
+abbrev pub is_record_at : List Dim → ℕ → Bool
+is_record_at dims id = length_of (slice_get dims id) == 0
+
+-- of a variable, without its name and begin
+pub record IsFitShape (version : ℕ) (dims : List Dim) (ids : List ℕ) (kind : NcType) (attrs : List Attr) : Type 0 where
+  pub few : length ids ≤ 32
+  pub known : AllByRecursion (λ id. id < length dims) ids
+  pub later : AllByRecursion (λ id. is_record_at dims id ≡ false) (drop 1 ids)
+  pub known_type : is_type version kind ≡ true
+  pub typed : AllByRecursion (IsTyped version) attrs
+
+abbrev pub IsFitVar : ℕ → List Dim → Var → Type 0
+IsFitVar version dims v = IsFitShape version dims v.dims v.kind v.attrs
+
+abbrev pub is_record_dim : Dim → Bool
+is_record_dim d = d.len == 0
+
+pub record IsFit (h : Header) : Type 0 where
+  pub few_dims : length h.dims ≤ 1024
+  pub few_vars : length h.vars ≤ 8192
+  pub lengths : AllByRecursion (HasFitLength h.version) h.dims
+  pub one_record : length (filter is_record_dim h.dims) ≤ 1
+  pub attrs : AllByRecursion (IsTyped h.version) h.attrs
+  pub vars : AllByRecursion (IsFitVar h.version h.dims) h.vars
+
+-- ---- lists
+
+pub each_push : {A : Type 0} (P : A → Type 0) (xs : List A) (y : A) → AllByRecursion P xs → P y → AllByRecursion P (xs ++ y ∷ [])
+each_push P [] y h p = (p, tt)
+each_push P (x ∷ xs) y h p = (h.0, each_push P xs y h.1 p)
+
+pub each_later : {A : Type 0} (P : A → Type 0) (xs : List A) → AllByRecursion P xs → AllByRecursion P (drop 1 xs)
+each_later P [] h = tt
+each_later P (x ∷ xs) h = h.1
+
+pub each_at : {A : Type 0} (P : A → Type 0) (xs : List A) (k : ℕ) (x : A) → AllByRecursion P xs → slice_get xs k ≡ Some x → P x
+each_at P [] k x h g = absurd cc
+each_at P (y ∷ xs) zero x h g = let same : y ≡ x = cc in subst P same h.0
+each_at P (y ∷ xs) (suc k) x h g = each_at P xs k x h.1 g
+
+each_mapped : {A B : Type 0} (P : B → Type 0) (f : A → B) (xs : List A) → AllByRecursion (λ x. P (f x)) xs → AllByRecursion P (map f xs)
+each_mapped P f [] h = tt
+each_mapped P f (x ∷ xs) h = (h.0, each_mapped P f xs h.1)
+
+-- where the first item is that passes
+record IsFirst {A : Type 0} (test : A → Bool) (xs : List A) (n k : ℕ) : Type 0 where
+  at : ℕ
+  place : k ≡ n + at
+  item : A
+  there : slice_get xs at ≡ Some item
+  passes : test item ≡ true
+
+first_at : {A : Type 0} (test : A → Bool) (n k : ℕ) (xs : List A) → position_from test n xs ≡ Some k → IsFirst test xs n k
+first_at test n k [] h = absurd cc
+first_at {A} test n k (x ∷ xs) h = by_test (first_at test (n + 1) k xs) (test x) refl h
+  where
+    by_test : (position_from test (n + 1) xs ≡ Some k → IsFirst test xs (n + 1) k)
+        → (t : Bool) → test x ≡ t → cond t (Some n) (position_from test (n + 1) xs) ≡ Some k → IsFirst test (x ∷ xs) n k
+    by_test later true e g = let same : n ≡ k = cc in record { at = 0; place = omega arith; item = x; there = refl; passes = e }
+    by_test later false e g =
+        let rest = later g in
+        let place = rest.place in
+        record { at = suc rest.at; place = omega arith; item = rest.item; there = rest.there; passes = rest.passes }
+
+within : {A : Type 0} (xs : List A) (k : ℕ) (x : A) → slice_get xs k ≡ Some x → k < length xs
+within [] k x h = absurd cc
+within (y ∷ xs) zero x h = omega arith
+within (y ∷ xs) (suc k) x h = let l = within xs k x h in omega arith
+
+-- ---- no fault of one extra
+
+pub record HasNoFault (h : Header) (e : Extra) : Type 0 where
+  pub known : is_unknown h e ≡ false
+  pub shape : has_bad_shape h e ≡ false
+  pub room : is_one_too_many h e ≡ false
+  pub kind : has_bad_kind h e ≡ false
+
+no_fault_of : (h : Header) (k : ℕ) (e : Extra) → extra_fault h k e ≡ None → HasNoFault h e
+no_fault_of h k e none = by_tests (is_taken h e) (is_unknown h e) (has_bad_shape h e) (is_one_too_many h e) (has_bad_kind h e) refl refl refl refl none
+  where
+    by_tests : (a b c d f : Bool) → is_unknown h e ≡ b → has_bad_shape h e ≡ c → is_one_too_many h e ≡ d → has_bad_kind h e ≡ f
+        → cond a (Some (redef.Taken k)) (cond b (Some (redef.Unknown k)) (cond c (Some (redef.Shape k)) (cond d (Some (redef.TooMany k)) (cond f (Some (redef.Kind k)) None)))) ≡ None
+        → HasNoFault h e
+    by_tests true b c d f p q r s g = absurd cc
+    by_tests false true c d f p q r s g = absurd cc
+    by_tests false false true d f p q r s g = absurd cc
+    by_tests false false false true f p q r s g = absurd cc
+    by_tests false false false false true p q r s g = absurd cc
+    by_tests false false false false false p q r s g = record { known = p; shape = q; room = r; kind = s }
+
+-- ---- one more dimension
+
+more_dims : (dims : List Dim) (d : Dim) (id : ℕ) → id < length dims → is_record_at (dims ++ d ∷ []) id ≡ is_record_at dims id
+more_dims dims d id h = ap (λ (o : Option Dim). length_of o == 0) (get_left dims (d ∷ []) id h)
+
+fit_with_dim : (version : ℕ) (dims : List Dim) (d : Dim) (ids : List ℕ) (kind : NcType) (attrs : List Attr) → IsFitShape version dims ids kind attrs
+    → IsFitShape version (dims ++ d ∷ []) ids kind attrs
+fit_with_dim version dims d ids kind attrs fit =
+    let long = length-append dims (d ∷ []) in
+    record {
+      few = fit.few;
+      known = each_then (λ id. id < length dims) (λ id. id < length (dims ++ d ∷ [])) (λ id l. omega arith) ids fit.known;
+      later =
+          each_both (λ id. id < length dims) (λ id. is_record_at dims id ≡ false) (λ id. is_record_at (dims ++ d ∷ []) id ≡ false)
+          (λ id l e. more_dims dims d id l ∙ e) (drop 1 ids) (each_later (λ id. id < length dims) ids fit.known) fit.later;
+      known_type = fit.known_type;
+      typed = fit.typed;
+    }
+
+no_record : (dims : List Dim) → list_any (λ (e : Dim). e.len == 0) dims ≡ false → filter is_record_dim dims ≡ []
+no_record [] h = refl
+no_record (d ∷ dims) h = by_test (d.len == 0) (no_record dims) h
+  where
+    by_test : (t : Bool) → (list_any (λ (e : Dim). e.len == 0) dims ≡ false → filter is_record_dim dims ≡ []) → (t || list_any (λ (e : Dim). e.len == 0) dims) ≡ false
+        → cond t (d ∷ filter is_record_dim dims) (filter is_record_dim dims) ≡ []
+    by_test true rest g = absurd cc
+    by_test false rest g = rest g
+
+one_record_still : (dims : List Dim) (d : Dim) → length (filter is_record_dim dims) ≤ 1 → (d.len == 0 && list_any (λ (e : Dim). e.len == 0) dims) ≡ false
+    → length (filter is_record_dim (dims ++ d ∷ [])) ≤ 1
+one_record_still dims d l h =
+    let split = ap (λ (ds : List Dim). length ds) (filter-append is_record_dim dims (d ∷ [])) ∙ length-append (filter is_record_dim dims) (filter is_record_dim (d ∷ [])) in
+    by_test (d.len == 0) refl split
+  where
+    by_test : (t : Bool) → (d.len == 0) ≡ t
+        → length (filter is_record_dim (dims ++ d ∷ [])) ≡ length (filter is_record_dim dims) + length (cond (d.len == 0) (d ∷ []) [])
+        → length (filter is_record_dim (dims ++ d ∷ [])) ≤ 1
+    by_test true e s =
+        let none = ap (λ (ds : List Dim). length ds) (no_record dims (not_both (d.len == 0) _ h e)) in
+        let one = ap (λ (t : Bool). length (cond t (d ∷ []) [])) e in
+        omega arith
+    by_test false e s = let one = ap (λ (t : Bool). length (cond t (d ∷ []) [])) e in omega arith
+
+length_fits : (version : ℕ) (d : Dim) → nat_lt d.len (2 ^ 62) ≡ true → (not (version == 5) && nat_le (2 ^ 31) d.len) ≡ false → HasFitLength version d
+length_fits version d lawful h =
+    let small : d.len < 2 ^ 62 = lt_told d.len (2 ^ 62) lawful in
+    record {
+      fits = count_fits version d.len small (λ e. not_le_told (2 ^ 31) d.len (not_both (not (version == 5)) _ h (ap (λ (t : Bool). not t) e)));
+      small = omega arith;
+    }
+
+with_dim : (h : Header) (d : Dim) → IsFit h → HasNoFault h (extra.Dim d) → is_lawful_extra (extra.Dim d) ≡ true → IsFit (with_extra h (extra.Dim d))
+with_dim h d fit none lawful =
+    let long = length-append h.dims (d ∷ []) in
+    let room = not_le_told most_dims (length h.dims) none.room in
+    record {
+      few_dims = omega arith;
+      few_vars = fit.few_vars;
+      lengths = each_push (HasFitLength h.version) h.dims d fit.lengths (length_fits h.version d lawful none.kind);
+      one_record = one_record_still h.dims d fit.one_record none.shape;
+      attrs = fit.attrs;
+      vars =
+          each_then (IsFitVar h.version h.dims) (IsFitVar h.version (h.dims ++ d ∷ []))
+          (λ v f. fit_with_dim h.version h.dims d v.dims v.kind v.attrs f) h.vars fit.vars;
+    }
+
+-- ---- one more variable
+
+record IsKnownDim (dims : List Dim) (name : List ℕ) (id : ℕ) : Type 0 where
+  dim : Dim
+  there : slice_get dims id ≡ Some dim
+  named : bytes_eq dim.name name ≡ true
+
+known_dim : (h : Header) (name : List ℕ) → is_none (find_dim h name) ≡ false → IsKnownDim h.dims name (dim_id h name)
+known_dim h name e = by_found (find_dim h name) refl e
+  where
+    by_found : (o : Option ℕ) → find_dim h name ≡ o → is_none o ≡ false → IsKnownDim h.dims name (dim_id h name)
+    by_found None g f = absurd cc
+    by_found (Some k) g f =
+        let found = first_at (λ (d : Dim). bytes_eq d.name name) 0 k h.dims (sym (position_from-zero (λ (d : Dim). bytes_eq d.name name) h.dims) ∙ g) in
+        let place = found.place in
+        let same : found.at ≡ unwrap_or (find_dim h name) 0 = (let e' : found.at ≡ k = omega arith in e') ∙ sym (ap (λ (o : Option ℕ). unwrap_or o 0) g) in
+        subst (λ (n : ℕ). IsKnownDim h.dims name n) same (record { dim = found.item; there = found.there; named = found.passes })
+
+not_record : (dims : List Dim) (name : List ℕ) (k : ℕ) (d : Dim) → list_any (λ (d : Dim). bytes_eq d.name name && d.len == 0) dims ≡ false → slice_get dims k ≡ Some d
+    → bytes_eq d.name name ≡ true → is_record_at dims k ≡ false
+not_record dims name k d h g e =
+    ap (λ (o : Option Dim). length_of o == 0) g
+    ∙ not_both (bytes_eq d.name name) (d.len == 0)
+    (each_at (λ (d : Dim). (bytes_eq d.name name && d.len == 0) ≡ false) dims k d (fails_each (λ (d : Dim). bytes_eq d.name name && d.len == 0) dims h) g) e
+
+ids_known : (h : Header) (names : List (List ℕ)) → AllByRecursion (λ n. is_none (find_dim h n) ≡ false) names → AllByRecursion (λ n. dim_id h n < length h.dims) names
+ids_known h names all =
+    each_then (λ n. is_none (find_dim h n) ≡ false) (λ n. dim_id h n < length h.dims)
+    (λ n e. let found = known_dim h n e in within h.dims (dim_id h n) found.dim found.there) names all
+
+later_mapped : {A B : Type 0} (P : B → Type 0) (f : A → B) (xs : List A) → AllByRecursion P (map f (drop 1 xs)) → AllByRecursion P (drop 1 (map f xs))
+later_mapped P f [] h = tt
+later_mapped P f (x ∷ xs) h = h
+
+fit_new_var : (h : Header) (kind : NcType) (name : List ℕ) (names : List (List ℕ)) → HasNoFault h (extra.Var kind name names) → is_lawful_extra (extra.Var kind name names) ≡ true
+    → IsFitShape h.version h.dims (map (dim_id h) names) kind []
+fit_new_var h kind name names none lawful =
+    let few : length names ≤ 32 = le_told (length names) 32 lawful in
+    let long = length-map names (dim_id h) in
+    let there = fails_each (λ n. is_none (find_dim h n)) names none.known in
+    record {
+      few = omega arith;
+      known = each_mapped (λ id. id < length h.dims) (dim_id h) names (ids_known h names there);
+      later =
+          later_mapped (λ id. is_record_at h.dims id ≡ false) (dim_id h) names
+          (each_mapped (λ id. is_record_at h.dims id ≡ false) (dim_id h) (drop 1 names)
+          (each_both (λ n. is_none (find_dim h n) ≡ false) (λ n. is_record_name h n ≡ false) (λ n. is_record_at h.dims (dim_id h n) ≡ false)
+          (λ n e f. let found = known_dim h n e in not_record h.dims n (dim_id h n) found.dim f found.there found.named) (drop 1 names)
+          (each_later (λ n. is_none (find_dim h n) ≡ false) names there) (fails_each (is_record_name h) (drop 1 names) none.shape)));
+      known_type = le_test _ _ (not_lt_told _ _ none.kind);
+      typed = tt;
+    }
+
+with_var : (h : Header) (kind : NcType) (name : List ℕ) (names : List (List ℕ)) → IsFit h → HasNoFault h (extra.Var kind name names)
+    → is_lawful_extra (extra.Var kind name names) ≡ true → IsFit (with_extra h (extra.Var kind name names))
+with_var h kind name names fit none lawful =
+    let v = new_var in
+    let long = length-append h.vars (v ∷ []) in
+    let room = not_le_told most_vars (length h.vars) none.room in
+    record {
+      few_dims = fit.few_dims;
+      few_vars = omega arith;
+      lengths = fit.lengths;
+      one_record = fit.one_record;
+      attrs = fit.attrs;
+      vars = each_push (IsFitVar h.version h.dims) h.vars v fit.vars (fit_new_var h kind name names none lawful);
+    }
+  where
+    new_var : Var
+    new_var = record { name = name; dims = map (dim_id h) names; attrs = []; kind = kind; begin = 0 }
+
+-- ---- one more attribute
+
+typed : (h : Header) (owner : Option (List ℕ)) (a : Attr) → HasNoFault h (extra.Att owner a) → is_whole_extra (extra.Att owner a) ≡ true → IsTyped h.version a
+typed h owner a none whole = record { kind = le_test _ _ (not_lt_told _ _ none.kind); whole = eq_told (length a.bytes) (a.count * size_of a.kind) whole }
+
+pub attr_pushed : (P : Var → Type 0) (name : List ℕ) (a : Attr) (vs : List Var) → ((v : Var) → P v → P (record v { attrs = v.attrs ++ a ∷ [] }))
+    → AllByRecursion P vs → AllByRecursion P (with_attr name a vs)
+attr_pushed P name a [] push all = tt
+attr_pushed P name a (v ∷ vs) push all = by_name (bytes_eq v.name name) (attr_pushed P name a vs push all.1)
+  where
+    by_name : (t : Bool) → AllByRecursion P (with_attr name a vs) → AllByRecursion P (cond t (record v { attrs = v.attrs ++ a ∷ [] } ∷ vs) (v ∷ with_attr name a vs))
+    by_name true rest = (push v all.0, all.1)
+    by_name false rest = (all.0, rest)
+
+attr_long : (name : List ℕ) (a : Attr) (vs : List Var) → length (with_attr name a vs) ≡ length vs
+attr_long name a [] = refl
+attr_long name a (v ∷ vs) = by_name (bytes_eq v.name name) (attr_long name a vs)
+  where
+    by_name : (t : Bool) → length (with_attr name a vs) ≡ length vs → length (cond t (record v { attrs = v.attrs ++ a ∷ [] } ∷ vs) (v ∷ with_attr name a vs)) ≡ length (v ∷ vs)
+    by_name true rest = refl
+    by_name false rest = ap suc rest
+
+fit_with_attr : (version : ℕ) (dims : List Dim) (a : Attr) (ids : List ℕ) (kind : NcType) (attrs : List Attr) → IsTyped version a
+    → IsFitShape version dims ids kind attrs → IsFitShape version dims ids kind (attrs ++ a ∷ [])
+fit_with_attr version dims a ids kind attrs t fit =
+    record { few = fit.few; known = fit.known; later = fit.later; known_type = fit.known_type; typed = each_push (IsTyped version) attrs a fit.typed t }
+
+with_file_attr : (h : Header) (a : Attr) → IsFit h → IsTyped h.version a → IsFit (with_extra h (extra.Att None a))
+with_file_attr h a fit t =
+    record {
+      few_dims = fit.few_dims;
+      few_vars = fit.few_vars;
+      lengths = fit.lengths;
+      one_record = fit.one_record;
+      attrs = each_push (IsTyped h.version) h.attrs a fit.attrs t;
+      vars = fit.vars;
+    }
+
+with_var_attr : (h : Header) (owner : List ℕ) (a : Attr) → IsFit h → IsTyped h.version a → IsFit (with_extra h (extra.Att (Some owner) a))
+with_var_attr h owner a fit t =
+    let long = attr_long owner a h.vars in
+    record {
+      few_dims = fit.few_dims;
+      few_vars = omega (arith, long, fit.few_vars);
+      lengths = fit.lengths;
+      one_record = fit.one_record;
+      attrs = fit.attrs;
+      vars =
+          attr_pushed (IsFitVar h.version h.dims) owner a h.vars (λ v f. fit_with_attr h.version h.dims a v.dims v.kind v.attrs t f) fit.vars;
+    }
+
+-- ---- all extras
+
+one_more : (h : Header) (e : Extra) → IsFit h → HasNoFault h e → is_lawful_extra e ≡ true → is_whole_extra e ≡ true → IsFit (with_extra h e)
+one_more h (extra.Dim d) fit none lawful whole = with_dim h d fit none lawful
+one_more h (extra.Var kind name names) fit none lawful whole = with_var h kind name names fit none lawful
+one_more h (extra.Att None a) fit none lawful whole = with_file_attr h a fit (typed h None a none whole)
+one_more h (extra.Att (Some owner) a) fit none lawful whole = with_var_attr h owner a fit (typed h (Some owner) a none whole)
+
+no_first : (h : Header) (k : ℕ) (e : Extra) (extras : List Extra) → extras_from h k (e ∷ extras) ≡ None
+    → (extra_fault h k e ≡ None) × (extras_from (with_extra h e) (suc k) extras ≡ None)
+no_first h k e extras none = by_fault (extra_fault h k e) none
+  where
+    by_fault : (o : Option RedefErr) → elim o as (λ u. Option RedefErr) [ Some fault ↦ Some fault | None ↦ extras_from (with_extra h e) (suc k) extras ] ≡ None
+        → (o ≡ None) × (extras_from (with_extra h e) (suc k) extras ≡ None)
+    by_fault (Some fault) g = absurd cc
+    by_fault None g = (refl, g)
+
+pub all_more : (h : Header) (k : ℕ) (extras : List Extra) → IsFit h → extras_from h k extras ≡ None → list_all is_lawful_extra extras ≡ true
+    → list_all is_whole_extra extras ≡ true → IsFit (added h extras)
+all_more h k [] fit none lawful whole = fit
+all_more h k (e ∷ extras) fit none lawful whole =
+    let first = no_first h k e extras none in
+    all_more (with_extra h e) (suc k) extras
+    (one_more h e fit (no_fault_of h k e first.0) (and_left (is_lawful_extra e) _ lawful) (and_left (is_whole_extra e) _ whole))
+    first.1 (and_right (is_lawful_extra e) _ lawful) (and_right (is_whole_extra e) _ whole)
+
+pub record HasVersionOf (old new : Header) : Type 0 where
+  pub version : new.version ≡ old.version
+  pub records : new.records ≡ old.records
+
+one_same : (h : Header) (e : Extra) → HasVersionOf h (with_extra h e)
+one_same h (extra.Dim d) = record { version = refl; records = refl }
+one_same h (extra.Var kind name names) = record { version = refl; records = refl }
+one_same h (extra.Att None a) = record { version = refl; records = refl }
+one_same h (extra.Att (Some owner) a) = record { version = refl; records = refl }
+
+pub all_same : (h : Header) (extras : List Extra) → HasVersionOf h (added h extras)
+all_same h [] = record { version = refl; records = refl }
+all_same h (e ∷ extras) =
+    let one = one_same h e in
+    let rest = all_same (with_extra h e) extras in
+    record { version = rest.version ∙ one.version; records = rest.records ∙ one.records }

@@ -1,0 +1,186 @@
+-- The old variables in the header with what is added: their begins, slabs and records.
+use Rattle.std.proofs.Common.{◌≡◌, ℕ, zero, suc, ◌+◌, ◌*◌, ◌<◌, ◌≤◌, List, [], ◌∷◌, ◌++◌, length, Bool, true, false, cond, Some, None, refl, sym, ap, subst, ◌∙◌, arith}
+use Rattle.std.specs.Prelude.{not, nat_lt, nat_le, sum_by, slice_get, bytes_eq}
+use Rattle.std.specs.List.{enumerate_from}
+use Rattle.std.proofs.lemmas.Bool.Decides.{nat_tests}
+use Rattle.std.proofs.lemmas.List.Sums.{sum_by-cons}
+use Rattle.std.proofs.lemmas.List.Filters.{sum_by-filter_both}
+use Rattle.nc_base.specs.declared.header.Header.{Header}
+use Rattle.nc_base.specs.declared.header.Attr.{Attr}
+use Rattle.nc_base.specs.declared.header.Var.{Var}
+use Rattle.nc_base.specs.declared.header.NcType.{NcType}
+use Rattle.nc_base.specs.declared.script.Extra.{Extra}
+use Rattle.nc_base.specs.declared.script.Extra.TheVariants as extra
+use Rattle.serial_spec.specs.ExternalForm.{size_of}
+use Rattle.serial_spec.specs.Layout.{product, lengths, starts_with_zero, without_record, is_record, round_up, slab, vsize, recsize, record_share, record_variables}
+use Rattle.serial_spec.specs.HeaderGrammar.{is_sound}
+use Rattle.serial_spec.specs.Redefinition.{Numbered, with_attr, with_extra, added, records_in, old_of, begins_by_number}
+use Rattle.serial_spec.proofs.AddedLaws.{redefined_keeps}
+use Rattle.var_layout.proofs.Soundness.{recsize_below}
+use Rattle.redef_laws.proofs.FieldLaws.{lt_test}
+use Rattle.redef_laws.proofs.RebegunLaws.{rebegun_at}
+use Rattle.redef_laws.proofs.BeginLaws.{vsizes}
+use Rattle.redef_laws.proofs.PlaceLaws.{numbered, old_records, new_records}
+
+-- ---- begins
+
+in_front : (vs ws : List Var) (k : ℕ) (v : Var) → slice_get vs k ≡ Some v → slice_get (vs ++ ws) k ≡ Some v
+in_front [] ws k v h = absurd cc
+in_front (x ∷ vs) ws zero v h = h
+in_front (x ∷ vs) ws (suc k) v h = in_front vs ws k v h
+
+abbrev BeginsAt : List Var → ℕ → ℕ → Type 0
+BeginsAt vs k b = (w : Var) × (slice_get vs k ≡ Some w) × (w.begin ≡ b)
+
+attr_begin : (name : List ℕ) (a : Attr) (vs : List Var) (k : ℕ) (v : Var) → slice_get vs k ≡ Some v → BeginsAt (with_attr name a vs) k v.begin
+attr_begin name a [] k v h = absurd cc
+attr_begin name a (x ∷ vs) k v h = by_name (λ j y g. attr_begin name a vs j y g) (bytes_eq x.name name) k h
+  where
+    by_name : ((j : ℕ) (y : Var) → slice_get vs j ≡ Some y → BeginsAt (with_attr name a vs) j y.begin)
+        → (t : Bool) (k : ℕ) → slice_get (x ∷ vs) k ≡ Some v → BeginsAt (cond t (record x { attrs = x.attrs ++ a ∷ [] } ∷ vs) (x ∷ with_attr name a vs)) k v.begin
+    by_name rest true zero h = let same : x ≡ v = cc in (record x { attrs = x.attrs ++ a ∷ [] }, refl, ap (λ (y : Var). y.begin) same)
+    by_name rest true (suc k) h = (v, h, refl)
+    by_name rest false zero h = (v, h, refl)
+    by_name rest false (suc k) h = rest k v h
+
+one_begin : (h : Header) (e : Extra) (k : ℕ) (v : Var) → slice_get h.vars k ≡ Some v → BeginsAt (with_extra h e).vars k v.begin
+one_begin h (extra.Dim d) k v g = (v, g, refl)
+one_begin h (extra.Var kind name dims) k v g = (v, in_front h.vars _ k v g, refl)
+one_begin h (extra.Att None a) k v g = (v, g, refl)
+one_begin h (extra.Att (Some owner) a) k v g = attr_begin owner a h.vars k v g
+
+begin_kept : (h : Header) (extras : List Extra) (k : ℕ) (v : Var) → slice_get h.vars k ≡ Some v → BeginsAt (added h extras).vars k v.begin
+begin_kept h [] k v g = (v, g, refl)
+begin_kept h (e ∷ extras) k v g =
+    let one = one_begin h e k v g in
+    let rest = begin_kept (with_extra h e) extras k one.0 one.1 in
+    (rest.0, rest.1, rest.2 ∙ one.2)
+
+-- ---- an old variable
+
+-- the variable w of the new header is v of the old one, with the same begin
+pub record IsKept (old header : Header) (v w : Var) : Type 0 where
+  pub begin : w.begin ≡ v.begin
+  pub kind : is_record header w ≡ is_record old v
+  pub slab : slab header w ≡ slab old v
+
+slab_of : (ls ls' : List ℕ) (kind kind' : NcType) → ls ≡ ls' → kind ≡ kind' → product (without_record ls) * size_of kind ≡ product (without_record ls') * size_of kind'
+slab_of ls ls' kind kind' e f = ap (λ (ns : List ℕ). product (without_record ns) * size_of kind) e ∙ ap (λ (k : NcType). product (without_record ls') * size_of k) f
+
+one_var : (header : Header) (k : ℕ) (x y : Var) → slice_get header.vars k ≡ Some x → slice_get header.vars k ≡ Some y → x ≡ y
+one_var header k x y e f = cc
+
+pub kept_var : (old : Header) (extras : List Extra) (k : ℕ) (v : Var) → is_sound old ≡ true → slice_get old.vars k ≡ Some v
+    → (w : Var) × (slice_get (added old extras).vars k ≡ Some w) × IsKept old (added old extras) v w
+kept_var old extras k v sound g =
+    let header = added old extras in
+    let moved = redefined_keeps old extras sound k v g in
+    let found = rebegun_at (begins_by_number header (length old.vars)) 0 header.vars k moved.0 moved.1 in
+    let there = begin_kept old extras k v g in
+    let same : there.0 ≡ found.0 = one_var header k there.0 found.0 there.1 found.1 in
+    let long : lengths header found.0 ≡ lengths old v = ap (λ (w : Var). lengths header w) found.2 ∙ moved.3 in
+    let kind : found.0.kind ≡ v.kind = ap (λ (w : Var). w.kind) found.2 ∙ moved.2 in (
+      found.0,
+      found.1,
+      record {
+        begin = sym (ap (λ (w : Var). w.begin) same) ∙ there.2;
+        kind = ap (λ (ns : List ℕ). starts_with_zero ns) long;
+        slab = slab_of (lengths header found.0) (lengths old v) found.0.kind v.kind long kind;
+      },
+    )
+
+pub item_at : {A : Type 0} (xs : List A) (k : ℕ) → k < length xs → (x : A) × (slice_get xs k ≡ Some x)
+item_at [] k h = absurd (omega arith)
+item_at (x ∷ xs) zero h = (x, refl)
+item_at (x ∷ xs) (suc k) h = item_at xs k (omega arith)
+
+-- the old variable of a number
+pub old_var : (old : Header) (extras : List Extra) (k : ℕ) (w : Var) → is_sound old ≡ true → k < length old.vars → slice_get (added old extras).vars k ≡ Some w
+    → (v : Var) × (slice_get old.vars k ≡ Some v) × IsKept old (added old extras) v w
+old_var old extras k w sound l g =
+    let found = item_at old.vars k l in
+    let kept = kept_var old extras k found.0 sound found.1 in
+    let same = one_var (added old extras) k kept.0 w kept.1 g in
+    (found.0, found.1, subst (λ (x : Var). IsKept old (added old extras) found.0 x) same kept.2)
+
+-- ---- records
+
+none_old : (header : Header) (n a : ℕ) (vs : List Var) → n ≤ a → old_of n (records_in header (enumerate_from a vs)) ≡ []
+none_old header n a [] l = refl
+none_old header n a (v ∷ vs) l = by_tests (is_record header v) (none_old header n (a + 1) vs (omega arith))
+  where
+    past : nat_lt a n ≡ false
+    past = grind (arith, nat_tests)
+
+    by_tests : (t : Bool) → old_of n (records_in header (enumerate_from (a + 1) vs)) ≡ []
+        → old_of n (cond t ((a, v) ∷ records_in header (enumerate_from (a + 1) vs)) (records_in header (enumerate_from (a + 1) vs))) ≡ []
+    by_tests true rest =
+        ap (λ (t : Bool). cond t ((a, v) ∷ old_of n (records_in header (enumerate_from (a + 1) vs))) (old_of n (records_in header (enumerate_from (a + 1) vs)))) past ∙ rest
+    by_tests false rest = rest
+
+-- the old record variables have the sizes that they had
+old_sizes : (old header : Header) (n a : ℕ) (os vs : List Var) → n ≡ a + length os
+    → ((k : ℕ) (v : Var) → slice_get os k ≡ Some v → (w : Var) × (slice_get vs k ≡ Some w) × IsKept old header v w)
+    → vsizes header (old_of n (records_in header (enumerate_from a vs))) ≡ sum_by (λ v. record_share old v) os
+old_sizes old header n a [] vs e kept = ap (λ (ps : List Numbered). vsizes header ps) (none_old header n a vs (omega arith))
+old_sizes old header n a (o ∷ os) [] e kept = let found = kept 0 o refl in absurd (nothing_there found.0 found.1)
+  where
+    nothing_there : (w : Var) → None ≡ Some w → ⊥
+    nothing_there w f = cc
+old_sizes old header n a (o ∷ os) (w ∷ vs) e kept =
+    by_kind (is_record header w) refl (old_sizes old header n (a + 1) os vs (omega arith) (λ k v g. kept (suc k) v g))
+  where
+    inside : nat_lt a n ≡ true
+    inside = lt_test a n (omega arith)
+
+    own : IsKept old header o w
+    own = let found = kept 0 o refl in first found.0 found.1 found.2
+      where
+        first : (x : Var) → Some w ≡ Some x → IsKept old header o x → IsKept old header o w
+        first x f k = let same : x ≡ w = cc in subst (λ (y : Var). IsKept old header o y) same k
+
+    by_kind : (t : Bool) → is_record header w ≡ t → vsizes header (old_of n (records_in header (enumerate_from (a + 1) vs))) ≡ sum_by (λ v. record_share old v) os
+        → vsizes header (old_of n (cond t ((a, w) ∷ records_in header (enumerate_from (a + 1) vs)) (records_in header (enumerate_from (a + 1) vs)))) ≡ sum_by (λ v. record_share old v) (o ∷ os)
+    by_kind true f rest =
+        let more = ap (λ (t : Bool). vsizes header (cond t ((a, w) ∷ old_of n (records_in header (enumerate_from (a + 1) vs))) (old_of n (records_in header (enumerate_from (a + 1) vs))))) inside in
+        let here = sum_by-cons (λ (p : Numbered). vsize header p.1) (a, w) (old_of n (records_in header (enumerate_from (a + 1) vs))) in
+        let there = sum_by-cons (λ v. record_share old v) o os in
+        let share = ap (λ (t : Bool). cond t (vsize old o) 0) (sym own.kind ∙ f) in
+        let size = ap (λ (m : ℕ). round_up 4 m) own.slab in
+        omega arith
+    by_kind false f rest =
+        let there = sum_by-cons (λ v. record_share old v) o os in
+        let share = ap (λ (t : Bool). cond t (vsize old o) 0) (sym own.kind ∙ f) in
+        omega arith
+
+pub old_recsize : (old : Header) (extras : List Extra) → is_sound old ≡ true → recsize old ≤ vsizes (added old extras) (old_records (added old extras) (length old.vars))
+old_recsize old extras sound =
+    let plain : length old.vars ≡ 0 + length old.vars = omega arith in
+    let sizes = old_sizes old (added old extras) (length old.vars) 0 old.vars (added old extras).vars plain (λ k v g. kept_var old extras k v sound g) in
+    let below = recsize_below old in
+    omega arith
+
+-- all record variables are old or new
+records_whole : (header : Header) (a : ℕ) (vs : List Var) → vsizes header (records_in header (enumerate_from a vs)) ≡ sum_by (λ v. vsize header v) (record_variables header vs)
+records_whole header a [] = refl
+records_whole header a (v ∷ vs) = by_kind (is_record header v) (records_whole header (a + 1) vs)
+  where
+    by_kind : (t : Bool) → vsizes header (records_in header (enumerate_from (a + 1) vs)) ≡ sum_by (λ w. vsize header w) (record_variables header vs)
+        → vsizes header (cond t ((a, v) ∷ records_in header (enumerate_from (a + 1) vs)) (records_in header (enumerate_from (a + 1) vs)))
+        ≡ sum_by (λ w. vsize header w) (cond t (v ∷ record_variables header vs) (record_variables header vs))
+    by_kind true rest =
+        sum_by-cons (λ (p : Numbered). vsize header p.1) (a, v) (records_in header (enumerate_from (a + 1) vs)) ∙ ap (λ (m : ℕ). vsize header v + m) rest
+        ∙ sym (sum_by-cons (λ w. vsize header w) v (record_variables header vs))
+    by_kind false rest = rest
+
+pub all_sizes : (header : Header) (n : ℕ) → vsizes header (old_records header n) + vsizes header (new_records header n) ≡ sum_by (λ v. vsize header v) (record_variables header header.vars)
+all_sizes header n =
+    sum_by-filter_both (λ (p : Numbered). nat_lt p.0 n) (λ (p : Numbered). nat_le n p.0) (λ p. other p.0) (λ (p : Numbered). vsize header p.1) (records_in header (numbered header))
+    ∙ records_whole header 0 header.vars
+  where
+    other : (k : ℕ) → nat_le n k ≡ not (nat_lt k n)
+    other k = by_test (nat_lt k n) refl
+      where
+        by_test : (t : Bool) → nat_lt k n ≡ t → nat_le n k ≡ not t
+        by_test true e = grind (arith, nat_tests)
+        by_test false e = grind (arith, nat_tests)

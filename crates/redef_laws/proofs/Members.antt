@@ -1,0 +1,89 @@
+-- Members of lists: of filtered, mapped, numbered and paired ones.
+use Rattle.std.proofs.Common.{◌≡◌, ℕ, zero, suc, ◌+◌, refl, ◌∙◌, ap, inl, inr, List, [], ◌∷◌, map, Bool, true, false, cond, Some, arith}
+use Rattle.std.specs.Prelude.{filter, zip, slice_get}
+use Rattle.std.specs.List.{enumerate_from}
+use Rattle.overlay_laws.specs.Entries.{In}
+
+pub in_filter : {X : Type 0} (t : X → Bool) (xs : List X) (x : X) → In xs x → t x ≡ true → In (filter t xs) x
+in_filter t [] x h e = absurd h
+in_filter {X} t (y ∷ ys) x (inl g) e = kept (t y) (ap t g ∙ e)
+  where
+    kept : (b : Bool) → b ≡ true → In (cond b (y ∷ filter t ys) (filter t ys)) x
+    kept true f = inl g
+    kept false f = cc
+in_filter {X} t (y ∷ ys) x (inr h) e = kept (in_filter t ys x h e) (t y)
+  where
+    kept : In (filter t ys) x → (b : Bool) → In (cond b (y ∷ filter t ys) (filter t ys)) x
+    kept k true = inr k
+    kept k false = k
+
+pub in_map : {X Y : Type 0} (f : X → Y) (xs : List X) (x : X) → In xs x → In (map f xs) (f x)
+in_map f [] x h = absurd h
+in_map f (y ∷ ys) x (inl e) = inl (ap f e)
+in_map f (y ∷ ys) x (inr h) = inr (in_map f ys x h)
+
+pub map_in : {X Y : Type 0} (f : X → Y) (xs : List X) (y : Y) → In (map f xs) y → (x : X) × In xs x × (f x ≡ y)
+map_in f [] y h = absurd h
+map_in f (x ∷ xs) y (inl e) = (x, inl refl, e)
+map_in f (x ∷ xs) y (inr h) = let r = map_in f xs y h in (r.0, inr r.1, r.2)
+
+-- ---- numbers
+
+numbered : {X : Type 0} (n : ℕ) (xs : List X) (k : ℕ) (x : X) → slice_get xs k ≡ Some x → slice_get (enumerate_from n xs) k ≡ Some (n + k, x)
+numbered n [] k x h = absurd cc
+numbered n (y ∷ xs) zero x h =
+    let same : y ≡ x = cc in
+    let plain : n ≡ n + 0 = omega arith in
+    λ t. Some (plain t, same t)
+numbered n (y ∷ xs) (suc k) x h =
+    let next : n + 1 + k ≡ n + suc k = omega arith in
+    numbered (n + 1) xs k x h ∙ (λ t. Some (next t, x))
+
+pub numbered_at : {X : Type 0} (xs : List X) (k : ℕ) (x : X) → slice_get xs k ≡ Some x → slice_get (enumerate_from 0 xs) k ≡ Some (k, x)
+numbered_at xs k x h =
+    let plain : 0 + k ≡ k = omega arith in
+    numbered 0 xs k x h ∙ (λ t. Some (plain t, x))
+
+pub at_in : {X : Type 0} (xs : List X) (k : ℕ) (x : X) → slice_get xs k ≡ Some x → In xs x
+at_in [] k x h = absurd cc
+at_in (y ∷ xs) zero x h = inl cc
+at_in (y ∷ xs) (suc k) x h = inr (at_in xs k x h)
+
+pub in_numbered : {X : Type 0} (xs : List X) (k : ℕ) (x : X) → slice_get xs k ≡ Some x → In (enumerate_from 0 xs) (k, x)
+in_numbered xs k x h = at_in (enumerate_from 0 xs) k (k, x) (numbered_at xs k x h)
+
+numbered_from : {X : Type 0} (n : ℕ) (xs : List X) (p : ℕ × X) → In (enumerate_from n xs) p → (k : ℕ) × (p.0 ≡ n + k) × (slice_get xs k ≡ Some p.1)
+numbered_from n [] p h = absurd h
+numbered_from {X} n (y ∷ xs) p (inl e) =
+    let number : p.0 ≡ n + 0 = omega (arith, ap (λ (q : ℕ × X). q.0) e) in
+    (0, number, ap (λ (q : ℕ × X). Some q.1) e)
+numbered_from {X} n (y ∷ xs) p (inr h) =
+    let rest = numbered_from (n + 1) xs p h in
+    let number : p.0 ≡ n + suc rest.0 = omega (arith, rest.1) in
+    (suc rest.0, number, rest.2)
+
+pub numbered_in : {X : Type 0} (xs : List X) (p : ℕ × X) → In (enumerate_from 0 xs) p → slice_get xs p.0 ≡ Some p.1
+numbered_in xs p h =
+    let found = numbered_from 0 xs p h in
+    let same : p.0 ≡ found.0 = omega (arith, found.1) in
+    ap (λ (k : ℕ). slice_get xs k) same ∙ found.2
+
+pub zip_in : {X Y : Type 0} (xs : List X) (ys : List Y) (p : X × Y) → In (zip xs ys) p
+    → (k : ℕ) × (slice_get xs k ≡ Some p.0) × (slice_get ys k ≡ Some p.1)
+zip_in [] ys p h = absurd h
+zip_in (x ∷ xs) [] p h = absurd h
+zip_in {X} {Y} (x ∷ xs) (y ∷ ys) p (inl e) = (0, ap (λ (q : X × Y). Some q.0) e, ap (λ (q : X × Y). Some q.1) e)
+zip_in (x ∷ xs) (y ∷ ys) p (inr h) = let r = zip_in xs ys p h in (suc r.0, r.1, r.2)
+
+pub in_zip : {X Y : Type 0} (xs : List X) (ys : List Y) (k : ℕ) (x : X) (y : Y) → slice_get xs k ≡ Some x → slice_get ys k ≡ Some y → In {X = X × Y} (zip xs ys) (x, y)
+in_zip [] ys k x y h g = absurd cc
+in_zip (a ∷ xs) [] k x y h g = absurd cc
+in_zip (a ∷ xs) (b ∷ ys) zero x y h g =
+    let one : a ≡ x = cc in
+    let two : b ≡ y = cc in
+    inl (λ t. (one t, two t))
+in_zip (a ∷ xs) (b ∷ ys) (suc k) x y h g = inr (in_zip xs ys k x y h g)
+
+-- the first of a pair is a member of the first list
+pub zip_left : {X Y : Type 0} (xs : List X) (ys : List Y) (p : X × Y) → In (zip xs ys) p → In xs p.0
+zip_left xs ys p h = let r = zip_in xs ys p h in at_in xs r.0 p.0 r.1

@@ -1,0 +1,120 @@
+-- A file in which each slab stands at its new place is the redefined one: the redefined file is such a file, and there is no other.
+use Rattle.std.proofs.Common.{◌≡◌, ℕ, ◌+◌, ◌-◌, ◌<◌, ◌≤◌, refl, sym, ◌∙◌, ap, subst, inl, inr, ◌⊎◌, List, [], ◌∷◌, get_or, Bool, true, false, ◌&&◌, arith}
+use Rattle.std.proofs.lemmas.Bool.{cases_lt}
+use Rattle.std.proofs.lemmas.Grind.{same_number_lists}
+use Rattle.std.proofs.lemmas.List.{get_or-take}
+use Rattle.nc_base.specs.declared.header.Header.{Header}
+use Rattle.nc_base.specs.declared.script.Extra.{Extra}
+use Rattle.serial_spec.specs.DeviceCalls.{Slab, slabs}
+use Rattle.serial_spec.specs.File.{at}
+use Rattle.serial_spec.specs.HeaderGrammar.{header_len, is_sound, is_writable}
+use Rattle.serial_spec.specs.Place.{AreApart}
+use Rattle.serial_spec.specs.Redefinition.{redefined, KeepsVars, Moves, IsRedefined}
+use Rattle.serial_spec.proofs.AddedLaws.{redefined_keeps}
+use Rattle.serial_spec.proofs.CellLaws.{read_at}
+use Rattle.serial_spec.proofs.MoveLaws.{redefined_is}
+use Rattle.overlay_laws.specs.Entries.{In}
+use Rattle.redef_laws.specs.Applied.{IsApplied}
+use Rattle.redef_laws.specs.Shifted.{new_end, IsMoved}
+use Rattle.redef_laws.proofs.ElementSlabs.{HasSlab, element_in_slab, slab_bytes}
+
+-- ---- a byte lies in a slab, or apart from all
+
+abbrev IsIn : List Slab → ℕ → Type 0
+IsIn ss x = (s : Slab) × In ss s × (s.to ≤ x) × (x < s.to + s.len)
+
+abbrev IsBare : List Slab → ℕ → Type 0
+IsBare ss x = (s : Slab) → In ss s → (x < s.to) ⊎ (s.to + s.len ≤ x)
+
+in_or_bare : (ss : List Slab) (x : ℕ) → IsIn ss x ⊎ IsBare ss x
+in_or_bare [] x = inr (λ s h. absurd h)
+in_or_bare (t ∷ ss) x = by_first (cases_lt x t.to) (cases_lt x (t.to + t.len)) (in_or_bare ss x)
+  where
+    later : IsIn ss x → IsIn (t ∷ ss) x
+    later (s, h, low, high) = (s, inr h, low, high)
+
+    both : (x < t.to) ⊎ (t.to + t.len ≤ x) → IsBare ss x → IsBare (t ∷ ss) x
+    both h rest s (inl e) = subst (λ (u : Slab). (x < u.to) ⊎ (u.to + u.len ≤ x)) e h
+    both h rest s (inr i) = rest s i
+
+    by_rest : (x < t.to) ⊎ (t.to + t.len ≤ x) → IsIn ss x ⊎ IsBare ss x → IsIn (t ∷ ss) x ⊎ IsBare (t ∷ ss) x
+    by_rest h (inl i) = inl (later i)
+    by_rest h (inr rest) = inr (both h rest)
+
+    by_first : (x < t.to) ⊎ (t.to ≤ x) → (x < t.to + t.len) ⊎ (t.to + t.len ≤ x) → IsIn ss x ⊎ IsBare ss x → IsIn (t ∷ ss) x ⊎ IsBare (t ∷ ss) x
+    by_first (inl low) q rest = by_rest (inl low) rest
+    by_first (inr low) (inr high) rest = by_rest (inr high) rest
+    by_first (inr low) (inl high) rest = inl (t, inl refl, low, high)
+
+-- ---- there is one such file
+
+at_moved : (old new : Header) (file left : List ℕ) → IsMoved old new file left → (x : ℕ) → (i : IsIn (slabs old new) x) → at left x ≡ at file (i.0.from + (x - i.0.to))
+at_moved old new file left m x (s, h, low, high) =
+    let again : x ≡ s.to + (x - s.to) = omega arith in
+    ap (λ (y : ℕ). at left y) again ∙ m.moved s h (x - s.to) (omega arith)
+
+same_byte : (old new : Header) (file a b : List ℕ) → IsMoved old new file a → IsMoved old new file b → (x : ℕ) → at a x ≡ at b x
+same_byte old new file a b m n x = by_head (cases_lt x (header_len new)) (cases_lt x (new_end old new))
+  where
+    by_slab : header_len new ≤ x → x < new_end old new → IsIn (slabs old new) x ⊎ IsBare (slabs old new) x → at a x ≡ at b x
+    by_slab low high (inl i) = at_moved old new file a m x i ∙ sym (at_moved old new file b n x i)
+    by_slab low high (inr f) = m.bare x low high f ∙ sym (n.bare x low high f)
+
+    by_head : (x < header_len new) ⊎ (header_len new ≤ x) → (x < new_end old new) ⊎ (new_end old new ≤ x) → at a x ≡ at b x
+    by_head (inl l) q =
+        sym (get_or-take (header_len new) a x 0 l)
+        ∙ ap (λ (f : List ℕ). get_or f x 0) (m.head ∙ sym n.head)
+        ∙ get_or-take (header_len new) b x 0 l
+    by_head (inr l) (inl high) = by_slab l high (in_or_bare (slabs old new) x)
+    by_head (inr l) (inr high) = m.past x high ∙ sym (n.past x high)
+
+pub moved_once : (old new : Header) (file a b : List ℕ) → IsMoved old new file a → IsMoved old new file b → a ≡ b
+moved_once old new file a b m n = same_number_lists a b (m.long ∙ sym n.long) (λ x l. same_byte old new file a b m n x)
+
+-- ---- the redefined file is one
+
+pub redefined_moved : (old new : Header) (file left : List ℕ) → is_sound old ≡ true → KeepsVars old new → IsRedefined old new file left → IsMoved old new file left
+redefined_moved old new file left sound keeps r = record { long = r.long; head = r.head; moved = moved; bare = bare; past = r.past }
+  where
+    moved : (s : Slab) → In (slabs old new) s → (d : ℕ) → d < s.len → at left (s.to + d) ≡ at file (s.from + d)
+    moved s h d l =
+        let e = slab_bytes old new keeps s h d l in
+        ap (λ (y : ℕ). at left y) (sym e.after)
+        ∙ sym (read_at left e.to e.size e.byte e.inside)
+        ∙ ap (λ (bytes : List ℕ). get_or bytes e.byte 0) (r.moved e.from e.to e.size e.moves)
+        ∙ read_at file e.from e.size e.byte e.inside
+        ∙ ap (λ (y : ℕ). at file y) e.before
+
+    bare : (x : ℕ) → header_len new ≤ x → x < new_end old new → IsBare (slabs old new) x → at left x ≡ 0
+    bare x low high f = r.bare x low high each
+      where
+        each : (from to size : ℕ) → Moves old new from to size → AreApart to size x 1
+        each from to size m = apart (f found.0 found.1)
+          where
+            found : HasSlab old new from to size
+            found = element_in_slab old new sound keeps from to size m
+
+            apart : (x < found.0.to) ⊎ (found.0.to + found.0.len ≤ x) → AreApart to size x 1
+            apart (inl h) = let lies = found.2 in inr (omega arith)
+            apart (inr h) = let lies = found.2 in inl (omega arith)
+
+-- ---- the law
+
+both_left : (a b : Bool) → (a && b) ≡ true → a ≡ true
+both_left true b h = refl
+both_left false b h = h
+
+pub writable_is_sound : (header : Header) → is_writable header ≡ true → is_sound header ≡ true
+writable_is_sound header h = both_left _ _ (both_left _ _ (both_left _ _ (both_left _ _ h)))
+
+pub moved_is_redefined : (old new : Header) (extras : List Extra) (file left : List ℕ) → is_sound new ≡ true → IsApplied old extras new → IsMoved old new file left
+    → left ≡ redefined file old new
+moved_is_redefined old new extras file left sound a m =
+    moved_once old new file left (redefined file old new) m
+    (redefined_moved old new file (redefined file old new) old_sound keeps (redefined_is file old new sound keeps))
+  where
+    old_sound : is_sound old ≡ true
+    old_sound = both_left _ _ (both_left _ _ (both_left _ _ (both_left _ _ a.redefinable)))
+
+    keeps : KeepsVars old new
+    keeps = subst (KeepsVars old) (sym a.made) (redefined_keeps old extras old_sound)

@@ -1,0 +1,280 @@
+-- Where each variable of a redefined header begins.
+--     fixed_place, old_place, new_place     of a fixed variable, an old record variable, a new one
+--     fixed_places_apart, new_places_apart  of two
+--     any_place                             each number has a begin
+use Rattle.std.proofs.Common.{◌≡◌, ℕ, ◌+◌, ◌-◌, ◌<◌, ◌≤◌, min, List, [], ◌∷◌, ◌++◌, map, Bool, true, false, cond, Option, Some, None, refl, sym, ap, subst, ◌∙◌, inl, inr, ◌⊎◌, arith}
+use Rattle.std.specs.Prelude.{not, nat_lt, nat_le, ◌==◌, fold, slice_get, unwrap_or}
+use Rattle.std.specs.List.{enumerate_from, AllByRecursion}
+use Rattle.std.specs.Option.{option_or}
+use Rattle.std.proofs.lemmas.List.Folds.{find-append}
+use Rattle.nc_base.specs.declared.header.Header.{Header}
+use Rattle.nc_base.specs.declared.header.Var.{Var}
+use Rattle.serial_spec.specs.Layout.{slab, vsize, is_record, round_up}
+use Rattle.serial_spec.specs.HeaderGrammar.{header_len}
+use Rattle.serial_spec.specs.SharedByte.{least}
+use Rattle.serial_spec.specs.Place.{AreApart}
+use Rattle.serial_spec.specs.Redefinition.{Numbered, fixed_of, records_in, old_of, new_of, by_begin, fixed_order, fixed_begins, front_after, first_record, record_begins, begins_by_number, begin_of_number}
+use Rattle.overlay_laws.specs.Entries.{In}
+use Rattle.overlay_laws.proofs.HullLaws.{in_left, in_right}
+use Rattle.redef_laws.proofs.FieldLaws.{lt_test, le_test, lt_told, le_told, not_lt_told, not_le_told, not_true, each_both, each_then}
+use Rattle.redef_laws.proofs.BeginLaws.{in_filter, in_numbered, each_filter, each_filtered, each_append, each_by_begin, in_by_begin, Numbers, numbers_of, at_number, fixed_begin, fixed_apart, HasNone, fixed_none, mapped_begins, map_begin, map_none, vsizes, record_begin, record_apart}
+
+-- ---- the parts of the begins
+
+abbrev pub numbered : Header → List Numbered
+numbered header = enumerate_from 0 header.vars
+
+abbrev pub old_records : Header → ℕ → List Numbered
+old_records header n = old_of n (records_in header (numbered header))
+
+abbrev pub new_records : Header → ℕ → List Numbered
+new_records header n = new_of n (records_in header (numbered header))
+
+abbrev pub fixed_end : Header → ℕ → ℕ
+fixed_end header n = front_after header (header_len header) (fixed_order header n)
+
+-- the least begin of the old record variables
+abbrev pub old_first : Header → ℕ → ℕ
+old_first header n = unwrap_or (least (map (λ v. v.1.begin) (old_records header n))) 0
+
+-- where the record variables begin
+abbrev pub first_place : Header → ℕ → ℕ
+first_place header n = first_record (fixed_end header n) (least (map (λ v. v.1.begin) (old_records header n)))
+
+abbrev pub old_place_of : Header → ℕ → Var → ℕ
+old_place_of header n v = first_place header n + (v.begin - old_first header n)
+
+abbrev pub new_from : Header → ℕ → ℕ
+new_from header n = first_place header n + vsizes header (old_records header n)
+
+parts : (header : Header) (n : ℕ)
+    → begins_by_number header n
+    ≡ fixed_begins header (header_len header) (fixed_order header n) ++ mapped_begins (old_place_of header n) (old_records header n)
+    ++ record_begins header (new_from header n) (new_records header n)
+parts header n = refl
+
+pub first_up : (header : Header) (n : ℕ) → fixed_end header n ≤ first_place header n
+first_up header n = by_least (fixed_end header n) (least (map (λ v. v.1.begin) (old_records header n)))
+  where
+    by_least : (front : ℕ) (o : Option ℕ) → front ≤ first_record front o
+    by_least front None = omega arith
+    by_least front (Some begin) = by_test (nat_le front begin) refl
+      where
+        by_test : (t : Bool) → nat_le front begin ≡ t → front ≤ cond t begin (round_up 4 front)
+        by_test true e = le_told front begin e
+        by_test false e = omega arith
+
+-- ---- members
+
+in_whole : (header : Header) (k : ℕ) (v : Var) → slice_get header.vars k ≡ Some v → In (numbered header) (k, v)
+in_whole header k v g = let plain : 0 + k ≡ k = omega arith in subst (λ (m : ℕ). In (numbered header) (m, v)) plain (in_numbered 0 header.vars k v g)
+
+in_fixed : (header : Header) (n k : ℕ) (v : Var) → slice_get header.vars k ≡ Some v → is_record header v ≡ false → In (fixed_order header n) (k, v)
+in_fixed header n k v g e = by_number (nat_lt k n) refl
+  where
+    fixed : List Numbered
+    fixed = fixed_of header (numbered header)
+
+    there : In (fixed_of header (numbered header)) (k, v)
+    there = in_filter (λ (p : Numbered). not (is_record header p.1)) (numbered header) (k, v) (in_whole header k v g) (ap (λ (t : Bool). not t) e)
+
+    by_number : (t : Bool) → nat_lt k n ≡ t → In (fixed_order header n) (k, v)
+    by_number true l =
+        in_left (by_begin (old_of n (fixed_of header (numbered header)))) (new_of n (fixed_of header (numbered header))) (k, v)
+        (in_by_begin (old_of n (fixed_of header (numbered header))) (k, v) (in_filter (λ (p : Numbered). nat_lt p.0 n) (fixed_of header (numbered header)) (k, v) there l))
+    by_number false l =
+        in_right (by_begin (old_of n (fixed_of header (numbered header)))) (new_of n (fixed_of header (numbered header))) (k, v)
+        (in_filter (λ (p : Numbered). nat_le n p.0) (fixed_of header (numbered header)) (k, v) there (le_test n k (not_lt_told k n l)))
+
+pub in_old : (header : Header) (n k : ℕ) (v : Var) → slice_get header.vars k ≡ Some v → is_record header v ≡ true → k < n → In (old_records header n) (k, v)
+in_old header n k v g e l =
+    in_filter (λ (p : Numbered). nat_lt p.0 n) (records_in header (numbered header)) (k, v)
+    (in_filter (λ (p : Numbered). is_record header p.1) (numbered header) (k, v) (in_whole header k v g) e) (lt_test k n l)
+
+pub in_new : (header : Header) (n k : ℕ) (v : Var) → slice_get header.vars k ≡ Some v → is_record header v ≡ true → n ≤ k → In (new_records header n) (k, v)
+in_new header n k v g e l =
+    in_filter (λ (p : Numbered). nat_le n p.0) (records_in header (numbered header)) (k, v)
+    (in_filter (λ (p : Numbered). is_record header p.1) (numbered header) (k, v) (in_whole header k v g) e) (le_test n k l)
+
+-- what holds of each fixed variable, in the order in which they are placed
+each_fixed : (P : Numbered → Type 0) (header : Header) (n : ℕ) → AllByRecursion P (fixed_of header (numbered header)) → AllByRecursion P (fixed_order header n)
+each_fixed P header n all =
+    each_append P (by_begin (old_of n (fixed_of header (numbered header)))) (new_of n (fixed_of header (numbered header)))
+    (each_by_begin P (old_of n (fixed_of header (numbered header))) (each_filter P (λ p. nat_lt p.0 n) (fixed_of header (numbered header)) all))
+    (each_filter P (λ p. nat_le n p.0) (fixed_of header (numbered header)) all)
+
+fixed_numbers : (header : Header) (n : ℕ) → Numbers header.vars (fixed_order header n)
+fixed_numbers header n =
+    each_fixed (λ p. slice_get header.vars p.0 ≡ Some p.1) header n
+    (each_filter (λ (p : Numbered). slice_get header.vars p.0 ≡ Some p.1) (λ p. not (is_record header p.1)) (numbered header) (numbers_of header.vars))
+
+record_numbers : (header : Header) → Numbers header.vars (records_in header (numbered header))
+record_numbers header = each_filter (λ (p : Numbered). slice_get header.vars p.0 ≡ Some p.1) (λ p. is_record header p.1) (numbered header) (numbers_of header.vars)
+
+pub old_numbers : (header : Header) (n : ℕ) → Numbers header.vars (old_records header n)
+old_numbers header n = each_filter (λ (p : Numbered). slice_get header.vars p.0 ≡ Some p.1) (λ p. nat_lt p.0 n) (records_in header (numbered header)) (record_numbers header)
+
+pub new_numbers : (header : Header) (n : ℕ) → Numbers header.vars (new_records header n)
+new_numbers header n = each_filter (λ (p : Numbered). slice_get header.vars p.0 ≡ Some p.1) (λ p. nat_le n p.0) (records_in header (numbered header)) (record_numbers header)
+
+-- a record variable is no fixed one, and a new one is no old one
+not_fixed : (header : Header) (n k : ℕ) (v : Var) → slice_get header.vars k ≡ Some v → is_record header v ≡ true → HasNone k (fixed_order header n)
+not_fixed header n k v g e =
+    each_both (λ p. slice_get header.vars p.0 ≡ Some p.1) (λ p. not (is_record header p.1) ≡ true) (λ p. p.0 ≡ k → ⊥)
+    (λ p there plain same. other p there (not_true (is_record header p.1) plain) same) (fixed_order header n) (fixed_numbers header n)
+    (each_fixed (λ p. not (is_record header p.1) ≡ true) header n (each_filtered (λ (p : Numbered). not (is_record header p.1)) (numbered header)))
+  where
+    other : (p : Numbered) → slice_get header.vars p.0 ≡ Some p.1 → is_record header p.1 ≡ false → p.0 ≡ k → ⊥
+    other p there plain same =
+        let found = ap (λ (m : ℕ). slice_get header.vars m) same in
+        let var : p.1 ≡ v = cc in
+        let kind = ap (λ (w : Var). is_record header w) var in
+        absurd cc
+
+not_old : (header : Header) (n k : ℕ) → n ≤ k → HasNone k (old_records header n)
+not_old header n k l =
+    each_then (λ (p : Numbered). nat_lt p.0 n ≡ true) (λ p. p.0 ≡ k → ⊥) (λ p e same. let low = lt_told p.0 n e in absurd (omega arith)) (old_records header n)
+    (each_filtered (λ (p : Numbered). nat_lt p.0 n) (records_in header (numbered header)))
+
+-- ---- places
+
+first_of : (a b c : List (ℕ × ℕ)) (k : ℕ) (x : ℕ × ℕ) → at_number a k ≡ Some x → at_number (a ++ b ++ c) k ≡ Some x
+first_of a b c k x e =
+    find-append (λ p. p.0 == k) (a ++ b) c ∙ ap (λ o. option_or o (at_number c k)) (find-append (λ p. p.0 == k) a b)
+    ∙ ap (λ o. option_or (option_or o (at_number b k)) (at_number c k)) e
+
+second_of : (a b c : List (ℕ × ℕ)) (k : ℕ) (x : ℕ × ℕ) → at_number a k ≡ None → at_number b k ≡ Some x → at_number (a ++ b ++ c) k ≡ Some x
+second_of a b c k x none e =
+    find-append (λ p. p.0 == k) (a ++ b) c ∙ ap (λ o. option_or o (at_number c k)) (find-append (λ p. p.0 == k) a b)
+    ∙ ap (λ o. option_or (option_or o (at_number b k)) (at_number c k)) none ∙ ap (λ o. option_or o (at_number c k)) e
+
+third_of : (a b c : List (ℕ × ℕ)) (k : ℕ) (x : ℕ × ℕ) → at_number a k ≡ None → at_number b k ≡ None → at_number c k ≡ Some x → at_number (a ++ b ++ c) k ≡ Some x
+third_of a b c k x none none' e =
+    find-append (λ p. p.0 == k) (a ++ b) c ∙ ap (λ o. option_or o (at_number c k)) (find-append (λ p. p.0 == k) a b)
+    ∙ ap (λ o. option_or (option_or o (at_number b k)) (at_number c k)) none ∙ ap (λ o. option_or o (at_number c k)) none' ∙ e
+
+pub record IsFixedPlace (header : Header) (n k : ℕ) (v : Var) (b : ℕ) : Type 0 where
+  pub at : at_number (begins_by_number header n) k ≡ Some (k, b)
+  pub inner : at_number (fixed_begins header (header_len header) (fixed_order header n)) k ≡ Some (k, b)
+  pub low : header_len header ≤ b
+  pub high : b + slab header v ≤ fixed_end header n
+
+pub fixed_place : (header : Header) (n k : ℕ) (v : Var) → slice_get header.vars k ≡ Some v → is_record header v ≡ false → (b : ℕ) × IsFixedPlace header n k v b
+fixed_place header n k v g e =
+    let found = fixed_begin header header.vars (header_len header) (fixed_order header n) k v (fixed_numbers header n) g (in_fixed header n k v g e) in (
+      found.0,
+      record {
+        at =
+            first_of (fixed_begins header (header_len header) (fixed_order header n)) (mapped_begins (old_place_of header n) (old_records header n))
+            (record_begins header (new_from header n) (new_records header n)) k (k, found.0) found.1.at;
+        inner = found.1.at;
+        low = found.1.low;
+        high = found.1.high;
+      },
+    )
+
+pub fixed_places_apart : (header : Header) (n k m : ℕ) (v w : Var) (b c : ℕ) → slice_get header.vars k ≡ Some v → slice_get header.vars m ≡ Some w
+    → is_record header v ≡ false → is_record header w ≡ false → (k ≡ m → ⊥) → IsFixedPlace header n k v b → IsFixedPlace header n m w c
+    → AreApart b (slab header v) c (slab header w)
+fixed_places_apart header n k m v w b c g f d e other p q =
+    fixed_apart header header.vars (header_len header) (fixed_order header n) k m v w b c (fixed_numbers header n) g f (in_fixed header n k v g d) (in_fixed header n m w f e) other
+    p.inner q.inner
+
+pub old_place : (header : Header) (n k : ℕ) (v : Var) → slice_get header.vars k ≡ Some v → is_record header v ≡ true → k < n
+    → at_number (begins_by_number header n) k ≡ Some (k, old_place_of header n v)
+old_place header n k v g e l =
+    second_of (fixed_begins header (header_len header) (fixed_order header n)) (mapped_begins (old_place_of header n) (old_records header n))
+    (record_begins header (new_from header n) (new_records header n)) k (k, old_place_of header n v)
+    (fixed_none header (header_len header) (fixed_order header n) k (not_fixed header n k v g e))
+    (map_begin (old_place_of header n) header.vars (old_records header n) k v (old_numbers header n) g (in_old header n k v g e l))
+
+pub record IsNewPlace (header : Header) (n k : ℕ) (v : Var) (b : ℕ) : Type 0 where
+  pub at : at_number (begins_by_number header n) k ≡ Some (k, b)
+  pub inner : at_number (record_begins header (new_from header n) (new_records header n)) k ≡ Some (k, b)
+  pub low : new_from header n ≤ b
+  pub high : b + vsize header v ≤ new_from header n + vsizes header (new_records header n)
+
+pub new_place : (header : Header) (n k : ℕ) (v : Var) → slice_get header.vars k ≡ Some v → is_record header v ≡ true → n ≤ k → (b : ℕ) × IsNewPlace header n k v b
+new_place header n k v g e l =
+    let found = record_begin header header.vars (new_from header n) (new_records header n) k v (new_numbers header n) g (in_new header n k v g e l) in (
+      found.0,
+      record {
+        at =
+            third_of (fixed_begins header (header_len header) (fixed_order header n)) (mapped_begins (old_place_of header n) (old_records header n))
+            (record_begins header (new_from header n) (new_records header n)) k (k, found.0)
+            (fixed_none header (header_len header) (fixed_order header n) k (not_fixed header n k v g e))
+            (map_none (old_place_of header n) (old_records header n) k (not_old header n k l)) found.1.at;
+        inner = found.1.at;
+        low = found.1.low;
+        high = found.1.high;
+      },
+    )
+
+pub new_places_apart : (header : Header) (n k m : ℕ) (v w : Var) (b c : ℕ) → slice_get header.vars k ≡ Some v → slice_get header.vars m ≡ Some w
+    → is_record header v ≡ true → is_record header w ≡ true → n ≤ k → n ≤ m → (k ≡ m → ⊥) → IsNewPlace header n k v b → IsNewPlace header n m w c
+    → AreApart b (vsize header v) c (vsize header w)
+new_places_apart header n k m v w b c g f d e l l' other p q =
+    record_apart header header.vars (new_from header n) (new_records header n) k m v w b c (new_numbers header n) g f (in_new header n k v g d l) (in_new header n m w f e l') other
+    p.inner q.inner
+
+pub any_place : (header : Header) (n k : ℕ) (v : Var) → slice_get header.vars k ≡ Some v → (b : ℕ) × (at_number (begins_by_number header n) k ≡ Some (k, b))
+any_place header n k v g = by_kind (is_record header v) (nat_lt k n) refl refl
+  where
+    by_kind : (t u : Bool) → is_record header v ≡ t → nat_lt k n ≡ u → (b : ℕ) × (at_number (begins_by_number header n) k ≡ Some (k, b))
+    by_kind false u e l = let found = fixed_place header n k v g e in (found.0, found.1.at)
+    by_kind true true e l = (old_place_of header n v, old_place header n k v g e (lt_told k n l))
+    by_kind true false e l = let found = new_place header n k v g e (not_lt_told k n l) in (found.0, found.1.at)
+
+pub begin_is : (found : List (ℕ × ℕ)) (k b : ℕ) → at_number found k ≡ Some (k, b) → begin_of_number found k ≡ b
+begin_is found k b e = ap (λ (o : Option (ℕ × ℕ)). elim o as (λ q. ℕ) [ None ↦ 0 | Some p ↦ p.1 ]) e
+
+-- ---- the least begin of the old record variables
+
+min_low : (xs : List ℕ) (a : ℕ) → fold (λ x y. min x y) a xs ≤ a
+min_low [] a = omega arith
+min_low (x ∷ xs) a = let rest = min_low xs (min a x) in omega arith
+
+min_each : (xs : List ℕ) (a y : ℕ) → In xs y → fold (λ x z. min x z) a xs ≤ y
+min_each [] a y h = absurd h
+min_each (x ∷ xs) a y (inl e) = let rest = min_low xs (min a x) in omega arith
+min_each (x ∷ xs) a y (inr h) = min_each xs (min a x) y h
+
+min_is : (xs : List ℕ) (a : ℕ) → (fold (λ x y. min x y) a xs ≡ a) ⊎ In xs (fold (λ x y. min x y) a xs)
+min_is [] a = inl refl
+min_is (x ∷ xs) a = by_rest (min_is xs (min a x)) (nat_le a x) refl
+  where
+    by_rest : (fold (λ x y. min x y) (min a x) xs ≡ min a x) ⊎ In xs (fold (λ x y. min x y) (min a x) xs) → (t : Bool) → nat_le a x ≡ t
+        → (fold (λ x y. min x y) (min a x) xs ≡ a) ⊎ In (x ∷ xs) (fold (λ x y. min x y) (min a x) xs)
+    by_rest (inr h) t e = inr (inr h)
+    by_rest (inl s) true e = let l = le_told a x e in inl (s ∙ (let m : min a x ≡ a = omega arith in m))
+    by_rest (inl s) false e = let l = not_le_told a x e in inr (inl (sym (s ∙ (let m : min a x ≡ x = omega arith in m))))
+
+least_low : (xs : List ℕ) (y : ℕ) → In xs y → unwrap_or (least xs) 0 ≤ y
+least_low [] y h = absurd h
+least_low (x ∷ xs) y (inl e) = let l = min_low xs x in omega arith
+least_low (x ∷ xs) y (inr h) = min_each xs x y h
+
+least_in : (xs : List ℕ) (y : ℕ) → In xs y → In xs (unwrap_or (least xs) 0)
+least_in [] y h = absurd h
+least_in (x ∷ xs) y h = elim (min_is xs x) [ inl e ↦ inl (sym e) | inr g ↦ inr g ]
+
+in_mapped : {A B : Type 0} (f : A → B) (xs : List A) (x : A) → In xs x → In (map f xs) (f x)
+in_mapped f [] x h = absurd h
+in_mapped f (y ∷ xs) x (inl e) = inl (ap f e)
+in_mapped f (y ∷ xs) x (inr h) = inr (in_mapped f xs x h)
+
+mapped_in : {A B : Type 0} (f : A → B) (xs : List A) (y : B) → In (map f xs) y → (x : A) × In xs x × (f x ≡ y)
+mapped_in f [] y h = absurd h
+mapped_in f (x ∷ xs) y (inl e) = (x, inl refl, e)
+mapped_in f (x ∷ xs) y (inr h) = let found = mapped_in f xs y h in (found.0, inr found.1, found.2)
+
+pub old_first_low : (header : Header) (n : ℕ) (p : Numbered) → In (old_records header n) p → old_first header n ≤ p.1.begin
+old_first_low header n p h =
+    least_low (map (λ v. v.1.begin) (old_records header n)) p.1.begin (in_mapped (λ (q : Numbered). q.1.begin) (old_records header n) p h)
+
+-- an old record variable has it
+pub old_first_is : (header : Header) (n : ℕ) (p : Numbered) → In (old_records header n) p
+    → (q : Numbered) × In (old_records header n) q × (q.1.begin ≡ old_first header n)
+old_first_is header n p h =
+    mapped_in (λ (q : Numbered). q.1.begin) (old_records header n) (old_first header n)
+    (least_in (map (λ v. v.1.begin) (old_records header n)) p.1.begin (in_mapped (λ (q : Numbered). q.1.begin) (old_records header n) p h))

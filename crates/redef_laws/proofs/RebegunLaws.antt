@@ -1,0 +1,66 @@
+-- A header with other begins: what does not look at them stays.
+use Rattle.std.proofs.Common.{◌≡◌, ℕ, zero, suc, ◌+◌, List, [], ◌∷◌, length, map, Bool, true, false, cond, Some, refl, sym, ap, ◌∙◌, arith}
+use Rattle.std.specs.Prelude.{sum_by, slice_get}
+use Rattle.std.specs.List.{enumerate_from, AllByRecursion}
+use Rattle.std.proofs.lemmas.List.Sums.{sum_by-cons}
+use Rattle.nc_base.specs.declared.header.Header.{Header}
+use Rattle.nc_base.specs.declared.header.Var.{Var}
+use Rattle.serial_spec.specs.Layout.{slab, is_record, recsize, record_size, record_variables}
+use Rattle.serial_spec.specs.HeaderGrammar.{header_len, variable}
+use Rattle.serial_spec.specs.Redefinition.{begin_of_number, with_begins}
+use Rattle.var_layout.proofs.WrittenLengths.{list_len, variable_len, canon_len}
+use Rattle.var_layout.proofs.CreatedFiles.{at_begin}
+
+-- variables of which the first has number n, with the begins that are found
+abbrev pub rebegun : List (ℕ × ℕ) → ℕ → List Var → List Var
+rebegun found n vs = map (λ v. record v.1 { begin = begin_of_number found v.0 }) (enumerate_from n vs)
+
+pub rebegun_each : (P : Var → Type 0) → ((v : Var) (b : ℕ) → P v → P (at_begin v b)) → (found : List (ℕ × ℕ)) (n : ℕ) (vs : List Var)
+    → AllByRecursion P vs → AllByRecursion P (rebegun found n vs)
+rebegun_each P keep found n [] all = tt
+rebegun_each P keep found n (v ∷ vs) all = (keep v (begin_of_number found n) all.0, rebegun_each P keep found (n + 1) vs all.1)
+
+pub rebegun_long : (found : List (ℕ × ℕ)) (n : ℕ) (vs : List Var) → length (rebegun found n vs) ≡ length vs
+rebegun_long found n [] = refl
+rebegun_long found n (v ∷ vs) = ap suc (rebegun_long found (n + 1) vs)
+
+pub rebegun_sum : (f : Var → ℕ) → ((v : Var) (b : ℕ) → f (at_begin v b) ≡ f v) → (found : List (ℕ × ℕ)) (n : ℕ) (vs : List Var)
+    → sum_by f (rebegun found n vs) ≡ sum_by f vs
+rebegun_sum f same found n [] = refl
+rebegun_sum f same found n (v ∷ vs) =
+    sum_by-cons f (at_begin v (begin_of_number found n)) (rebegun found (n + 1) vs)
+    ∙ ap (λ (m : ℕ). m + sum_by f (rebegun found (n + 1) vs)) (same v (begin_of_number found n))
+    ∙ ap (λ (m : ℕ). f v + m) (rebegun_sum f same found (n + 1) vs)
+    ∙ sym (sum_by-cons f v vs)
+
+pub rebegun_at : (found : List (ℕ × ℕ)) (n : ℕ) (vs : List Var) (k : ℕ) (w : Var) → slice_get (rebegun found n vs) k ≡ Some w
+    → (v : Var) × (slice_get vs k ≡ Some v) × (at_begin v (begin_of_number found (n + k)) ≡ w)
+rebegun_at found n [] k w h = absurd cc
+rebegun_at found n (v ∷ vs) zero w h =
+    (v, refl, ap (λ (m : ℕ). at_begin v (begin_of_number found m)) (let e : n + 0 ≡ n = omega arith in e) ∙ (let e : at_begin v (begin_of_number found n) ≡ w = cc in e))
+rebegun_at found n (v ∷ vs) (suc k) w h =
+    let rest = rebegun_at found (n + 1) vs k w h in
+    (rest.0, rest.1, ap (λ (m : ℕ). at_begin rest.0 (begin_of_number found m)) (let e : n + suc k ≡ n + 1 + k = omega arith in e) ∙ rest.2)
+
+rebegun_slabs : (header : Header) (found : List (ℕ × ℕ)) (n : ℕ) (vs : List Var)
+    → map (λ v. slab header v) (record_variables header (rebegun found n vs)) ≡ map (λ v. slab header v) (record_variables header vs)
+rebegun_slabs header found n [] = refl
+rebegun_slabs header found n (v ∷ vs) = by_test (is_record header v) (rebegun_slabs header found (n + 1) vs)
+  where
+    by_test : (t : Bool) → map (λ w. slab header w) (record_variables header (rebegun found (n + 1) vs)) ≡ map (λ w. slab header w) (record_variables header vs)
+        → map (λ w. slab header w) (cond t (at_begin v (begin_of_number found n) ∷ record_variables header (rebegun found (n + 1) vs)) (record_variables header (rebegun found (n + 1) vs)))
+        ≡ map (λ w. slab header w) (cond t (v ∷ record_variables header vs) (record_variables header vs))
+    by_test true rest = ap (λ ns. slab header v ∷ ns) rest
+    by_test false rest = rest
+
+pub rebegun_recsize : (header : Header) (found : List (ℕ × ℕ)) → recsize (with_begins header found) ≡ recsize header
+rebegun_recsize header found = ap (λ ns. record_size ns) (rebegun_slabs header found 0 header.vars)
+
+pub rebegun_len : (header : Header) (found : List (ℕ × ℕ)) → header_len (with_begins header found) ≡ header_len header
+rebegun_len header found =
+    let new = canon_len (with_begins header found) in
+    let old = canon_len header in
+    let new_list = list_len header.version 11 (λ v. variable (with_begins header found) v) (rebegun found 0 header.vars) in
+    let old_list = list_len header.version 11 (λ v. variable header v) header.vars in
+    let same = rebegun_sum (λ v. length (variable header v)) (λ v b. variable_len header (at_begin v b) ∙ sym (variable_len header v)) found 0 header.vars in
+    omega (arith, new, old, new_list, old_list, same)

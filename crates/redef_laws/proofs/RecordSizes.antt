@@ -1,0 +1,77 @@
+-- A record grows by the variables that are added to it.
+use Rattle.std.proofs.Common.{◌≡◌, ℕ, suc, ◌*◌, ◌≤◌, refl, ◌∙◌, ap, List, [], ◌∷◌, ◌++◌, map, Bool, true, false, cond, Some, None, arith}
+use Rattle.std.proofs.lemmas.List.Sums.{sum_by-cons}
+use Rattle.std.specs.Prelude.{slice_get, filter, sum_by}
+use Rattle.nc_base.specs.declared.header.Header.{Header}
+use Rattle.nc_base.specs.declared.header.Var.{Var}
+use Rattle.serial_spec.specs.ExternalForm.{size_of}
+use Rattle.serial_spec.specs.Layout.{product, without_record, starts_with_zero, lengths, is_record, slab, recsize, record_size, round_up}
+use Rattle.serial_spec.specs.Redefinition.{KeepsVars}
+
+pub same_slab : (old new : Header) (v w : Var) → w.kind ≡ v.kind → lengths new w ≡ lengths old v → slab new w ≡ slab old v
+same_slab old new v w kind lens = λ t. product (without_record (lens t)) * size_of (kind t)
+
+pub same_record : (old new : Header) (v w : Var) → lengths new w ≡ lengths old v → is_record new w ≡ is_record old v
+same_record old new v w lens = ap starts_with_zero lens
+
+-- ---- the slabs of a record
+
+abbrev sizes_in : Header → List Var → List ℕ
+sizes_in header vars = map (λ v. slab header v) (filter (λ v. is_record header v) vars)
+
+-- each variable stands in the other list too, of the same kind and lengths
+abbrev StandIn : Header → Header → List Var → List Var → Type 0
+StandIn old new vs ws = (k : ℕ) (v : Var) → slice_get vs k ≡ Some v → (w : Var) × (slice_get ws k ≡ Some w) × (w.kind ≡ v.kind) × (lengths new w ≡ lengths old v)
+
+sizes_more : (old new : Header) (vs ws : List Var) → StandIn old new vs ws → (more : List ℕ) × (sizes_in new ws ≡ sizes_in old vs ++ more)
+sizes_more old new [] ws h = (sizes_in new ws, refl)
+sizes_more old new (v ∷ vs) [] h = absurd (none (h 0 v refl).1)
+  where
+    none : {w : Var} → None ≡ Some w → ⊥
+    none e = cc
+sizes_more old new (v ∷ vs) (y ∷ ws) h =
+    let rest = sizes_more old new vs ws (λ k x e. h (suc k) x e) in
+    let found = h 0 v refl in
+    (rest.0, joined found.0 found.1 found.2 found.3 rest.0 rest.1)
+  where
+    by_kind : (more : List ℕ) → slab new y ≡ slab old v → sizes_in new ws ≡ sizes_in old vs ++ more → (s t : Bool) → s ≡ t
+        → map (λ x. slab new x) (cond s (y ∷ filter (λ x. is_record new x) ws) (filter (λ x. is_record new x) ws))
+        ≡ map (λ x. slab old x) (cond t (v ∷ filter (λ x. is_record old x) vs) (filter (λ x. is_record old x) vs)) ++ more
+    by_kind more size e true true s = λ t. size t ∷ e t
+    by_kind more size e true false s = cc
+    by_kind more size e false true s = cc
+    by_kind more size e false false s = e
+
+    joined : (w : Var) → Some y ≡ Some w → w.kind ≡ v.kind → lengths new w ≡ lengths old v → (more : List ℕ) → sizes_in new ws ≡ sizes_in old vs ++ more
+        → sizes_in new (y ∷ ws) ≡ sizes_in old (v ∷ vs) ++ more
+    joined w there kind lens more e =
+        let same : y ≡ w = cc in
+        let own = ap (λ (x : Var). x.kind) same ∙ kind in
+        let all = ap (λ (x : Var). lengths new x) same ∙ lens in
+        by_kind more (same_slab old new v y own all) e (is_record new y) (is_record old v) (same_record old new v y all)
+
+-- ---- their sum
+
+sum_grows : (xs ys : List ℕ) → sum_by (λ n. round_up 4 n) xs ≤ sum_by (λ n. round_up 4 n) (xs ++ ys)
+sum_grows [] ys = omega arith
+sum_grows (n ∷ xs) ys =
+    let rest = sum_grows xs ys in
+    let one = sum_by-cons (λ n. round_up 4 n) n xs in
+    let all = sum_by-cons (λ n. round_up 4 n) n (xs ++ ys) in
+    omega arith
+
+size_grows : (xs ys : List ℕ) → record_size xs ≤ record_size (xs ++ ys)
+size_grows [] ys = omega arith
+size_grows (n ∷ []) [] = omega arith
+size_grows (n ∷ []) (m ∷ ys) =
+    let all = sum_by-cons (λ n. round_up 4 n) n (m ∷ ys) in
+    let up : n ≤ round_up 4 n = omega arith in
+    omega arith
+size_grows (n ∷ m ∷ xs) ys = sum_grows (n ∷ m ∷ xs) ys
+
+pub record_grows : (old new : Header) → KeepsVars old new → recsize old ≤ recsize new
+record_grows old new keeps =
+    let all = sizes_more old new old.vars new.vars keeps in
+    let grows = size_grows (sizes_in old old.vars) all.0 in
+    let same : recsize new ≡ record_size (sizes_in old old.vars ++ all.0) = ap record_size all.1 in
+    omega arith

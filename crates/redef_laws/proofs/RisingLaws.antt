@@ -1,0 +1,305 @@
+-- The slabs of the old variables as they rise: they are all slabs, and each begins above those before it.
+use Rattle.std.proofs.Common.{◌≡◌, ℕ, zero, suc, ◌+◌, ◌*◌, ◌<◌, ◌≤◌, refl, sym, ◌∙◌, ap, subst, inl, inr, ◌⊎◌, ◌↔◌, List, [], ◌∷◌, Bool, true, false, true≢false, not, Some, slice_get, reverse, arith}
+use Rattle.std.proofs.lemmas.Nat.{mul-le}
+use Rattle.std.proofs.lemmas.List.Sums.{sum_by-append}
+use Rattle.std.proofs.lemmas.List.Filters.{sum_by-filter_both}
+use Rattle.std.specs.Prelude.{filter, map, flat_map, zip, sum_by, nat_lt}
+use Rattle.std.specs.List.{range_with_len}
+use borrow.Author.Tests.{ltb-true, ltb-false}
+use Rattle.nc_base.specs.declared.header.Header.{Header}
+use Rattle.nc_base.specs.declared.header.Var.{Var}
+use Rattle.serial_spec.specs.DeviceCalls.{Slab, highest_first, slabs, slabs_of, stores, zero_calls}
+use Rattle.serial_spec.specs.HeaderGrammar.{header_len, is_sound}
+use Rattle.serial_spec.specs.Layout.{is_record, recsize, slab, share}
+use Rattle.serial_spec.proofs.ApartLaws.{none_shared, slab_fits}
+use Rattle.serial_spec.specs.Redefinition.{is_redefinable}
+use Rattle.var_layout.proofs.Soundness.{and_left}
+use Rattle.overlay_laws.specs.Entries.{In}
+use Rattle.overlay_laws.proofs.HullLaws.{filter_in, in_left, in_right, in_flat, flat_in, in_range, range_low, range_high}
+use Rattle.redef_laws.specs.Rising.{first_slab, lowest_first, fixed_slabs, record_slabs, in_record, slabs_of_record, rising, changes, gaps, IsRisen}
+use Rattle.redef_laws.specs.Shifted.{new_end, AreShifted}
+use Rattle.redef_laws.proofs.ChainLaws.{Ascends, AreDistinct, ascends_joined, lowest_members, lowest_ascends, shifted_risen}
+use Rattle.redef_laws.proofs.OldBegins.{ShareNone, zip_shares_none, filter_shares_none, either_way, Follows, fixed_begins_differ, fixed_below_record, records_follow, record_begins_differ}
+use Rattle.redef_laws.proofs.Members.{in_map, map_in, zip_in}
+use Rattle.redef_laws.proofs.FallingLaws.{falls_backwards}
+use Rattle.redef_laws.proofs.GapLaws.{zeros_between}
+use Rattle.redef_laws.proofs.SumLaws.{HaveSameSums, sum_mapped, sum_joined, sum_same, sum_turned, sum_lowest, sums_members, sums_back}
+
+-- the old variables with the new ones
+abbrev pairs : Header → Header → List (Var × Var)
+pairs old new = zip old.vars new.vars
+
+abbrev fixed_pairs : Header → Header → List (Var × Var)
+fixed_pairs old new = filter (λ p. not (is_record old p.0)) (pairs old new)
+
+abbrev record_pairs : Header → Header → List (Var × Var)
+record_pairs old new = filter (λ p. is_record old p.0) (pairs old new)
+
+-- ---- the slabs as they rise are all slabs
+
+-- a variable's slab in record r
+abbrev slab_in : Header → Header → Var × Var → ℕ → Slab
+slab_in old new p r = in_record (recsize old) (recsize new) r (first_slab old p)
+
+slabs_fixed : (old new : Header) (p : Var × Var) → is_record old p.0 ≡ false → slabs_of old new p ≡ first_slab old p ∷ []
+slabs_fixed old new p e = ap (λ b. elim b as (λ _. List Slab) [ false ↦ first_slab old p ∷ [] | true ↦ map (slab_in old new p) (range_with_len 0 old.records) ]) e
+
+slabs_record : (old new : Header) (p : Var × Var) → is_record old p.0 ≡ true → slabs_of old new p ≡ map (slab_in old new p) (range_with_len 0 old.records)
+slabs_record old new p e = ap (λ b. elim b as (λ _. List Slab) [ false ↦ first_slab old p ∷ [] | true ↦ map (slab_in old new p) (range_with_len 0 old.records) ]) e
+
+-- the sum over a variable's slabs in all records
+abbrev record_sum : Header → Header → (Slab → ℕ) → Var × Var → ℕ
+record_sum old new f p = sum_by (λ r. f (slab_in old new p r)) (range_with_len 0 old.records)
+
+no_not : (b : Bool) → not b ≡ true → b ≡ false
+no_not false h = refl
+no_not true h = cc
+
+fixed_sum : (old new : Header) (f : Slab → ℕ) → sum_by (λ p. sum_by f (slabs_of old new p)) (fixed_pairs old new) ≡ sum_by f (fixed_slabs old new)
+fixed_sum old new f =
+    sum_same (λ p. sum_by f (slabs_of old new p)) (λ p. f (first_slab old p)) (fixed_pairs old new)
+    (λ p m. ap (sum_by f) (slabs_fixed old new p (no_not (is_record old p.0) (filter_in (λ q. not (is_record old q.0)) (pairs old new) p m).1)) ∙ omega arith)
+    ∙ sym (sum_mapped f (first_slab old) (fixed_pairs old new))
+    ∙ sym (sum_lowest f (map (first_slab old) (fixed_pairs old new)))
+
+sum_of_record : (old new : Header) (f : Slab → ℕ) (r : ℕ) → sum_by f (slabs_of_record old new r) ≡ sum_by (λ p. f (slab_in old new p r)) (record_pairs old new)
+sum_of_record old new f r =
+    sum_mapped f (in_record (recsize old) (recsize new) r) (record_slabs old new)
+    ∙ sum_lowest (λ s. f (in_record (recsize old) (recsize new) r s)) (map (first_slab old) (record_pairs old new))
+    ∙ sum_mapped (λ s. f (in_record (recsize old) (recsize new) r s)) (first_slab old) (record_pairs old new)
+
+records_sum : (old new : Header) (f : Slab → ℕ)
+    → sum_by (λ p. sum_by f (slabs_of old new p)) (record_pairs old new) ≡ sum_by f (flat_map (slabs_of_record old new) (range_with_len 0 old.records))
+records_sum old new f =
+    sum_same (λ p. sum_by f (slabs_of old new p)) (record_sum old new f) (record_pairs old new)
+    (λ p m. ap (sum_by f) (slabs_record old new p (filter_in (λ q. is_record old q.0) (pairs old new) p m).1)
+    ∙ sum_mapped f (slab_in old new p) (range_with_len 0 old.records))
+    ∙ sum_turned (λ p r. f (slab_in old new p r)) (record_pairs old new) (range_with_len 0 old.records)
+    ∙ sum_same (λ r. sum_by (λ p. f (slab_in old new p r)) (record_pairs old new)) (λ r. sum_by f (slabs_of_record old new r)) (range_with_len 0 old.records)
+    (λ r m. sym (sum_of_record old new f r))
+    ∙ sym (sum_joined f (slabs_of_record old new) (range_with_len 0 old.records))
+
+not_not : (b : Bool) → b ≡ not (not b)
+not_not true = refl
+not_not false = refl
+
+pub rising_sums : (old new : Header) → HaveSameSums (rising old new) (slabs old new)
+rising_sums old new f =
+    sum_by-append f (fixed_slabs old new) (flat_map (slabs_of_record old new) (range_with_len 0 old.records))
+    ∙ (λ i. sym (fixed_sum old new f) i + sym (records_sum old new f) i)
+    ∙ sum_by-filter_both (λ p. not (is_record old p.0)) (λ p. is_record old p.0) (λ p. not_not (is_record old p.0)) (λ p. sum_by f (slabs_of old new p)) (pairs old new)
+    ∙ sym (sum_joined f (slabs_of old new) (pairs old new))
+
+-- ---- lists of slabs by their variables
+
+pairs_share_none : (old new : Header) → is_sound old ≡ true → ShareNone old (pairs old new)
+pairs_share_none old new h = zip_shares_none old (header_len old) 0 old.vars new.vars (none_shared old h)
+
+first_slabs_distinct : (old : Header) (ps : List (Var × Var)) → ShareNone old ps
+    → ((p q : Var × Var) → In ps p → In ps q → share old p.0 q.0 ≡ false → p.0.begin ≡ q.0.begin → ⊥) → AreDistinct (map (first_slab old) ps)
+first_slabs_distinct old [] h k = tt
+first_slabs_distinct old (p ∷ ps) h k = (
+  (λ t m e.
+      let r = map_in (first_slab old) ps t m in
+      k p r.0 (inl refl) (inr r.1) (h.0 r.0 r.1) (e ∙ sym (ap (λ (z : Slab). z.from) r.2))),
+  first_slabs_distinct old ps h.1 (λ q r m n. k q r (inr m) (inr n)),
+)
+
+in_record_ascends : (old_step step r : ℕ) (ss : List Slab) → Ascends ss → Ascends (map (in_record old_step step r) ss)
+in_record_ascends old_step step r [] h = tt
+in_record_ascends old_step step r (s ∷ ss) h = (
+  (λ t m.
+      let u = map_in (in_record old_step step r) ss t m in
+      let low = h.0 u.0 u.1 in
+      let from : u.0.from + r * old_step ≡ t.from = ap (λ (z : Slab). z.from) u.2 in
+      let lower : s.from + r * old_step < u.0.from + r * old_step = omega arith in
+      omega arith),
+  in_record_ascends old_step step r ss h.1,
+)
+
+flat_ascends : (f : ℕ → List Slab) (a n : ℕ) → ((r : ℕ) → Ascends (f r))
+    → ((r q : ℕ) (s t : Slab) → r < q → q < a + n → In (f r) s → In (f q) t → s.from < t.from) → Ascends (flat_map f (range_with_len a n))
+flat_ascends f a zero h k = tt
+flat_ascends f a (suc n) h k =
+    ascends_joined (f a) (flat_map f (range_with_len (a + 1) n)) (h a)
+    (flat_ascends f (a + 1) n h (λ r q s t l m. k r q s t l (omega arith)))
+    (λ s t m g.
+    let r = flat_in f (range_with_len (a + 1) n) t g in
+    let low = range_low (a + 1) n r.0 r.1 in
+    let high = range_high (a + 1) n r.0 r.1 in
+    k a r.0 s t (omega arith) (omega arith) m r.2)
+
+-- ---- the slabs ascend
+
+-- an old header whose variables share no byte, and whose slabs all hold one
+record IsFull (old new : Header) : Type 0 where
+  sound : is_sound old ≡ true
+  some : (s : Slab) → In (slabs old new) s → 0 < s.len
+
+rising_in : (old new : Header) (s : Slab) → In (rising old new) s → In (slabs old new) s
+rising_in old new s h = sums_members (rising old new) (slabs old new) (rising_sums old new) s h
+
+in_lowest : (ss : List Slab) (s : Slab) → In ss s → In (lowest_first ss) s
+in_lowest ss s h = sums_members ss (lowest_first ss) (λ f. sym (sum_lowest f ss)) s h
+
+-- a fixed variable of the old header
+record IsFixed (old : Header) (p : Var × Var) : Type 0 where
+  fixed : is_record old p.0 ≡ false
+  full : 0 < slab old p.0
+
+-- a record variable of the old header, which has a record
+record IsRecord (old : Header) (p : Var × Var) : Type 0 where
+  recorded : is_record old p.0 ≡ true
+  full : 0 < slab old p.0
+  long : slab old p.0 ≤ recsize old
+
+fixed_full : (old new : Header) (p : Var × Var) → IsFull old new → In (fixed_pairs old new) p → IsFixed old p
+fixed_full old new p h m = record {
+  fixed = no_not (is_record old p.0) (filter_in (λ q. not (is_record old q.0)) (pairs old new) p m).1;
+  full = h.some (first_slab old p) (rising_in old new (first_slab old p)
+      (in_left (fixed_slabs old new) (flat_map (slabs_of_record old new) (range_with_len 0 old.records)) (first_slab old p)
+      (in_lowest (map (first_slab old) (fixed_pairs old new)) (first_slab old p) (in_map (first_slab old) (fixed_pairs old new) p m))));
+}
+
+record_full : (old new : Header) (p : Var × Var) → IsFull old new → 0 < old.records → In (record_pairs old new) p → IsRecord old p
+record_full old new p h some m = record {
+  recorded = kind.1;
+  full = h.some (slab_in old new p 0) (rising_in old new (slab_in old new p 0)
+      (in_right (fixed_slabs old new) (flat_map (slabs_of_record old new) (range_with_len 0 old.records)) (slab_in old new p 0)
+      (in_flat (slabs_of_record old new) (range_with_len 0 old.records) 0 (slab_in old new p 0) (in_range 0 old.records 0 (omega arith) (omega arith))
+      (in_map (in_record (recsize old) (recsize new) 0) (record_slabs old new) (first_slab old p)
+      (in_lowest (map (first_slab old) (record_pairs old new)) (first_slab old p) (in_map (first_slab old) (record_pairs old new) p m))))));
+  long = slab_fits old there.0 p.0 there.1 kind.1;
+}
+  where
+    kind : In (pairs old new) p × (is_record old p.0 ≡ true)
+    kind = filter_in (λ q. is_record old q.0) (pairs old new) p m
+
+    there : (k : ℕ) × (slice_get old.vars k ≡ Some p.0)
+    there = let r = zip_in old.vars new.vars p kind.0 in (r.0, r.1)
+
+-- a record begins above those before it
+next_record : (old : Header) (ps : List (Var × Var)) (p q : Var × Var) → ShareNone old ps → In ps p → In ps q → IsRecord old p → IsRecord old q
+    → p.0.begin < q.0.begin + recsize old
+next_record old ps p q h m n a b = by_way (either_way old ps p q h m n)
+  where
+    apart : Follows old p.0 q.0 ⊎ Follows old q.0 p.0 → p.0.begin < q.0.begin + recsize old
+    apart (inl f) = let c = a.full in let d = f.0 in omega arith
+    apart (inr f) = let c = a.full in let d = f.1 in omega arith
+
+    by_way : (p ≡ q) ⊎ ((share old p.0 q.0 ≡ false) ⊎ (share old q.0 p.0 ≡ false)) → p.0.begin < q.0.begin + recsize old
+    by_way (inl e) =
+        let same : p.0.begin ≡ q.0.begin = ap (λ (z : Var × Var). z.0.begin) e in
+        let c = a.full in
+        let d = a.long in
+        omega arith
+    by_way (inr (inl f)) = apart (records_follow old p.0 q.0 a.recorded b.recorded f)
+    by_way (inr (inr f)) = apart (elim (records_follow old q.0 p.0 b.recorded a.recorded f) [ inl g ↦ inr g | inr g ↦ inl g ])
+
+fixed_from : (old new : Header) (s : Slab) → In (fixed_slabs old new) s → (p : Var × Var) × In (fixed_pairs old new) p × (p.0.begin ≡ s.from)
+fixed_from old new s m =
+    let r = map_in (first_slab old) (fixed_pairs old new) s (lowest_members (map (first_slab old) (fixed_pairs old new)) s m) in
+    (r.0, r.1, ap (λ (z : Slab). z.from) r.2)
+
+record_from : (old new : Header) (r : ℕ) (s : Slab) → In (slabs_of_record old new r) s
+    → (p : Var × Var) × In (record_pairs old new) p × (p.0.begin + r * recsize old ≡ s.from)
+record_from old new r s m =
+    let u = map_in (in_record (recsize old) (recsize new) r) (record_slabs old new) s m in
+    let p = map_in (first_slab old) (record_pairs old new) u.0 (lowest_members (map (first_slab old) (record_pairs old new)) u.0 u.1) in
+    (p.0, p.1, ap (λ (z : Slab). z.from + r * recsize old) p.2 ∙ ap (λ (z : Slab). z.from) u.2)
+
+fixed_ascend : (old new : Header) → IsFull old new → Ascends (fixed_slabs old new)
+fixed_ascend old new h =
+    lowest_ascends (map (first_slab old) (fixed_pairs old new))
+    (first_slabs_distinct old (fixed_pairs old new) (filter_shares_none old (λ p. not (is_record old p.0)) (pairs old new) (pairs_share_none old new h.sound))
+    (λ p q m n g same.
+    let a = fixed_full old new p h m in
+    let b = fixed_full old new q h n in
+    fixed_begins_differ old p.0 q.0 a.fixed b.fixed a.full b.full g same))
+
+record_ascends : (old new : Header) → IsFull old new → 0 < old.records → Ascends (record_slabs old new)
+record_ascends old new h some =
+    lowest_ascends (map (first_slab old) (record_pairs old new))
+    (first_slabs_distinct old (record_pairs old new) (filter_shares_none old (λ p. is_record old p.0) (pairs old new) (pairs_share_none old new h.sound))
+    (λ p q m n g same.
+    let a = record_full old new p h some m in
+    let b = record_full old new q h some n in
+    record_begins_differ old p.0 q.0 a.recorded b.recorded a.full b.full g same))
+
+records_ascend : (old new : Header) → IsFull old new → 0 < old.records → Ascends (flat_map (slabs_of_record old new) (range_with_len 0 old.records))
+records_ascend old new h some =
+    flat_ascends (slabs_of_record old new) 0 old.records
+    (λ r. in_record_ascends (recsize old) (recsize new) r (record_slabs old new) (record_ascends old new h some))
+    (λ r q s t l e m n.
+    let a = record_from old new r s m in
+    let b = record_from old new q t n in
+    let next = next_record old (record_pairs old new) a.0 b.0
+    (filter_shares_none old (λ p. is_record old p.0) (pairs old new) (pairs_share_none old new h.sound)) a.1 b.1
+    (record_full old new a.0 h some a.1) (record_full old new b.0 h some b.1) in
+    let steps = mul-le (r + 1) (recsize old) q (recsize old) (omega arith) (omega arith) in
+    let from = a.2 in
+    let to = b.2 in
+    omega arith)
+
+fixed_below_records : (old new : Header) (s t : Slab) → IsFull old new → In (fixed_slabs old new) s
+    → In (flat_map (slabs_of_record old new) (range_with_len 0 old.records)) t → s.from < t.from
+fixed_below_records old new s t h m n =
+    let r = flat_in (slabs_of_record old new) (range_with_len 0 old.records) t n in
+    let high = range_high 0 old.records r.0 r.1 in
+    let a = fixed_from old new s m in
+    let b = record_from old new r.0 t r.2 in
+    let p = fixed_full old new a.0 h a.1 in
+    let q = record_full old new b.0 h (omega arith) b.1 in
+    let full = p.full in
+    let from = a.2 in
+    let to = b.2 in
+    let low = fixed_below_record old a.0.0 b.0.0 p.fixed q.recorded (two a.0 b.0 p.fixed q.recorded
+    (filter_in (λ z. not (is_record old z.0)) (pairs old new) a.0 a.1).0 (filter_in (λ z. is_record old z.0) (pairs old new) b.0 b.1).0) in
+    omega arith
+  where
+    two : (p q : Var × Var) → is_record old p.0 ≡ false → is_record old q.0 ≡ true → In (pairs old new) p → In (pairs old new) q
+        → (share old p.0 q.0 ≡ false) ⊎ (share old q.0 p.0 ≡ false)
+    two p q e f k l =
+        elim (either_way old (pairs old new) p q (pairs_share_none old new h.sound) k l) [
+          | inl g ↦ absurd (true≢false (sym f ∙ sym (ap (λ (z : Var × Var). is_record old z.0) g) ∙ e))
+          | inr g ↦ g
+        ]
+
+rising_ascends : (old new : Header) → IsFull old new → Ascends (rising old new)
+rising_ascends old new h =
+    ascends_joined (fixed_slabs old new) (flat_map (slabs_of_record old new) (range_with_len 0 old.records)) (fixed_ascend old new h)
+    (by_count (nat_lt 0 old.records) refl) (λ s t m n. fixed_below_records old new s t h m n)
+  where
+    by_count : (b : Bool) → nat_lt 0 old.records ≡ b → Ascends (flat_map (slabs_of_record old new) (range_with_len 0 old.records))
+    by_count true e = records_ascend old new h (ltb-true _ _ e)
+    by_count false e =
+        let few : old.records ≤ 0 = ltb-false _ _ e in
+        let none : 0 ≡ old.records = omega arith in
+        subst (λ (n : ℕ). Ascends (flat_map (slabs_of_record old new) (range_with_len 0 n))) none tt
+
+-- ---- the law
+
+pub redefinable_sound : (old : Header) → is_redefinable old ≡ true → is_sound old ≡ true
+redefinable_sound old h = and_left _ _ (and_left _ _ (and_left _ _ (and_left _ _ h)))
+
+-- both lists of slabs have the same members
+pub rising_all : (old new : Header) (s : Slab) → In (rising old new) s ↔ In (slabs old new) s
+rising_all old new s = (rising_in old new s, sums_members (slabs old new) (rising old new) (sums_back (rising old new) (slabs old new) (rising_sums old new)) s)
+
+pub rising_risen : (old new : Header) → is_sound old ≡ true → AreShifted (header_len old) (header_len new) (new_end old new) (slabs old new)
+    → IsRisen (header_len old) (header_len new) (rising old new)
+rising_risen old new h k =
+    shifted_risen (header_len old) (header_len new) (new_end old new) (slabs old new) (rising old new) k (rising_in old new)
+    (rising_ascends old new (record { sound = h; some = λ s m. (k.each s m).some }))
+
+pub rising_falls : (old new : Header) → is_sound old ≡ true → AreShifted (header_len old) (header_len new) (new_end old new) (slabs old new)
+    → highest_first (filter changes (slabs old new)) ≡ filter changes (reverse (rising old new))
+rising_falls old new h k =
+    falls_backwards (header_len old) (header_len new) (slabs old new) (rising old new) (rising_risen old new h k) (rising_sums old new)
+
+pub rising_zeros : (old new : Header) (z : ℕ) → is_sound old ≡ true → AreShifted (header_len old) (header_len new) (new_end old new) (slabs old new) → 0 < z
+    → zero_calls z old new ≡ flat_map (λ g. stores z g.0 g.1) (gaps (header_len new) (new_end old new) (rising old new))
+rising_zeros old new z h k some =
+    zeros_between z (header_len old) (header_len new) (new_end old new) (slabs old new) (rising old new) some (rising_risen old new h k)
+    (omega arith) (λ s m. (k.each s (rising_in old new s m)).inside)
+    ((λ s m. (rising_all old new s).1 m), (λ s m. (rising_all old new s).0 m))

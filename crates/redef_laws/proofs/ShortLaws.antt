@@ -1,0 +1,138 @@
+-- In a header that is short each name, list and attribute is short.
+use Rattle.std.proofs.Common.{◌≡◌, ℕ, ◌-◌, ◌*◌, ◌^◌, ◌≤◌, List, [], ◌∷◌, ◌++◌, length, true, ◌&&◌, refl, arith, length-append}
+use Rattle.std.specs.Prelude.{sum_by, replicate}
+use Rattle.std.specs.List.{AllByRecursion}
+use Rattle.std.proofs.lemmas.List.Sums.{sum_by-cons}
+use Rattle.nc_base.specs.declared.header.Header.{Header}
+use Rattle.nc_base.specs.declared.header.Dim.{Dim}
+use Rattle.nc_base.specs.declared.header.Attr.{Attr}
+use Rattle.nc_base.specs.declared.header.Var.{Var}
+use Rattle.nc_base.specs.declared.header.NcType.{NcType}
+use Rattle.nc_base.specs.declared.header.NcType.TheVariants.{Byte, Char, Short, Int, Float, Double, UByte, UShort, UInt, Int64, UInt64}
+use Rattle.serial_spec.specs.ExternalForm.{size_of}
+use Rattle.serial_spec.specs.Layout.{round_up}
+use Rattle.serial_spec.specs.HeaderGrammar.{name, padded, count, tag, number_of, list_of, dimension, attribute, variable, header_len, is_writable_attr, is_writable_list, fits_count, is_type}
+use Rattle.var_layout.proofs.WrittenLengths.{list_len, variable_len, canon_len}
+use Rattle.var_layout.proofs.LaidOut.{all_true}
+use Rattle.redef_laws.proofs.FieldLaws.{eq_test, small_fits, each_passes, each_both}
+use Rattle.redef_laws.proofs.GrownLaws.{IsTyped}
+
+-- ---- the parts of a list
+
+pub each_below : {A : Type 0} (f : A → ℕ) (m : ℕ) (xs : List A) → sum_by f xs ≤ m → AllByRecursion (λ x. f x ≤ m) xs
+each_below f m [] h = tt
+each_below f m (x ∷ xs) h = let e = sum_by-cons f x xs in (omega arith, each_below f m xs (omega arith))
+
+-- a list is no longer than its entries together, where each has a byte
+pub few_below : {A : Type 0} (f : A → ℕ) → ((x : A) → 1 ≤ f x) → (xs : List A) → length xs ≤ sum_by f xs
+few_below f some [] = omega arith
+few_below f some (x ∷ xs) = let e = sum_by-cons f x xs in let one = some x in let rest = few_below f some xs in omega arith
+
+-- ---- one entry
+
+padded_long : (text : List ℕ) → length text ≤ length (padded text)
+padded_long text = let whole = length-append text (replicate (round_up 4 (length text) - length text) 0) in omega arith
+
+name_long : (version : ℕ) (text : List ℕ) → length text ≤ length (name version text)
+name_long version text =
+    let whole = length-append (count version (length text)) (padded text) in
+    let inner = padded_long text in
+    omega arith
+
+pub dim_long : (version : ℕ) (d : Dim) → length d.name ≤ length (dimension version d)
+dim_long version d = let whole = length-append (name version d.name) (count version d.len) in let own = name_long version d.name in omega arith
+
+record IsAttrLong (version : ℕ) (a : Attr) : Type 0 where
+  named : length a.name ≤ length (attribute version a)
+  valued : length a.bytes ≤ length (attribute version a)
+  some : 1 ≤ length (attribute version a)
+
+attr_long : (version : ℕ) (a : Attr) → IsAttrLong version a
+attr_long version a =
+    let first = name version a.name in
+    let second = first ++ tag (number_of a.kind) in
+    let third = second ++ count version a.count in
+    let whole = length-append third (padded a.bytes) in
+    let counted = length-append second (count version a.count) in
+    let typed = length-append first (tag (number_of a.kind)) in
+    let own = name_long version a.name in
+    let inner = padded_long a.bytes in
+    let four : length (tag (number_of a.kind)) ≡ 4 = refl in
+    record { named = omega arith; valued = omega arith; some = omega arith }
+
+count_below : (n : ℕ) (kind : NcType) → n ≤ n * size_of kind
+count_below n Byte = omega arith
+count_below n Char = omega arith
+count_below n Short = omega arith
+count_below n Int = omega arith
+count_below n Float = omega arith
+count_below n Double = omega arith
+count_below n UByte = omega arith
+count_below n UShort = omega arith
+count_below n UInt = omega arith
+count_below n Int64 = omega arith
+count_below n UInt64 = omega arith
+
+attr_written : (version : ℕ) (a : Attr) → IsTyped version a → length (attribute version a) ≤ 2 ^ 20 → is_writable_attr version a ≡ true
+attr_written version a t short =
+    let long = attr_long version a in
+    let named = long.named in
+    let valued = long.valued in
+    let whole = t.whole in
+    let counted = count_below a.count a.kind in
+    all_true (fits_count version (length a.name) && is_type version a.kind && fits_count version a.count) _
+    (all_true (fits_count version (length a.name) && is_type version a.kind) _
+    (all_true (fits_count version (length a.name)) _ (small_fits version (length a.name) (omega arith)) t.kind)
+    (small_fits version a.count (omega arith)))
+    (eq_test (length a.bytes) (a.count * size_of a.kind) whole)
+
+-- ---- a list of attributes
+
+pub attrs_written : (version : ℕ) (attrs : List Attr) → AllByRecursion (IsTyped version) attrs → length (list_of version 12 (λ a. attribute version a) attrs) ≤ 2 ^ 20
+    → is_writable_list version (is_writable_attr version) attrs ≡ true
+attrs_written version attrs all short =
+    let whole = list_len version 12 (λ a. attribute version a) attrs in
+    let sum : sum_by (λ a. length (attribute version a)) attrs ≤ 2 ^ 20 = omega (arith, whole, short) in
+    let few = few_below (λ a. length (attribute version a)) (λ a. (attr_long version a).some) attrs in
+    all_true (fits_count version (length attrs)) _ (small_fits version (length attrs) (omega (arith, sum, few)))
+    (each_passes (is_writable_attr version) attrs
+    (each_both (IsTyped version) (λ a. length (attribute version a) ≤ 2 ^ 20) (λ a. is_writable_attr version a ≡ true) (attr_written version) attrs all
+    (each_below (λ a. length (attribute version a)) (2 ^ 20) attrs sum)))
+
+-- ---- a header
+
+pub record IsShort (header : Header) : Type 0 where
+  pub dims : AllByRecursion (λ d. length d.name ≤ 2 ^ 20) header.dims
+  pub attrs : length (list_of header.version 12 (λ a. attribute header.version a) header.attrs) ≤ 2 ^ 20
+  pub names : AllByRecursion (λ (v : Var). length v.name ≤ 2 ^ 20) header.vars
+  pub var_attrs : AllByRecursion (λ (v : Var). length (list_of header.version 12 (λ a. attribute header.version a) v.attrs) ≤ 2 ^ 20) header.vars
+
+pub is_short : (header : Header) → header_len header ≤ 2 ^ 20 → IsShort header
+is_short header h =
+    let version = header.version in
+    let whole = canon_len header in
+    let dims = list_len version 10 (λ d. dimension version d) header.dims in
+    let vars = list_len version 11 (λ v. variable header v) header.vars in
+    record {
+      dims =
+          each_below (λ (d : Dim). length d.name) (2 ^ 20) header.dims
+          (let l = names_below (λ (d : Dim). length d.name) (λ d. length (dimension version d)) (dim_long version) header.dims in omega (arith, whole, dims, h, l));
+      attrs = omega (arith, whole, h);
+      names =
+          each_below (λ (v : Var). length v.name) (2 ^ 20) header.vars
+          (let l = names_below (λ (v : Var). length v.name) (λ v. length (variable header v))
+          (λ v. let long = variable_len header v in let own = name_long version v.name in omega (arith, long, own)) header.vars in omega (arith, whole, vars, h, l));
+      var_attrs =
+          each_below (λ (v : Var). length (list_of version 12 (λ a. attribute version a) v.attrs)) (2 ^ 20) header.vars
+          (let l = names_below (λ (v : Var). length (list_of version 12 (λ a. attribute version a) v.attrs)) (λ v. length (variable header v))
+          (λ v. let long = variable_len header v in omega (arith, long)) header.vars in omega (arith, whole, vars, h, l));
+    }
+  where
+    names_below : {A : Type 0} (f g : A → ℕ) → ((x : A) → f x ≤ g x) → (xs : List A) → sum_by f xs ≤ sum_by g xs
+    names_below f g below [] = omega arith
+    names_below f g below (x ∷ xs) =
+        let e = sum_by-cons f x xs in
+        let e' = sum_by-cons g x xs in
+        let one = below x in
+        let rest = names_below f g below xs in
+        omega arith

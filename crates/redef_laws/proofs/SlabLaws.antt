@@ -1,0 +1,188 @@
+-- The slabs of the old variables: what they are, and where each lies.
+use Rattle.std.proofs.Common.{◌≡◌, ℕ, ◌+◌, ◌-◌, ◌*◌, ◌<◌, ◌≤◌, refl, sym, ◌∙◌, ap, inl, inr, ◌⊎◌, List, [], ◌∷◌, length, map, Bool, true, false, cond, Some, arith}
+use Rattle.std.proofs.lemmas.Bool.Decides.{nat_tests}
+use Rattle.std.proofs.lemmas.Nat.{mul-le}
+use Rattle.std.specs.Prelude.{slice_get, zip, ◌==◌}
+use Rattle.std.specs.List.{range_with_len}
+use Rattle.nc_base.specs.declared.header.Header.{Header}
+use Rattle.nc_base.specs.declared.header.Var.{Var}
+use Rattle.serial_spec.specs.DeviceCalls.{Slab, slabs, slabs_of}
+use Rattle.serial_spec.specs.HeaderGrammar.{is_sound, header_len}
+use Rattle.serial_spec.specs.Layout.{is_record, slab, vsize, recsize, record_slabs, last_share, end_of_var, lengths}
+use Rattle.serial_spec.specs.Redefinition.{KeepsVars}
+use Rattle.serial_spec.proofs.RoomLaws.{end_holds}
+use Rattle.overlay_laws.specs.Entries.{In}
+use Rattle.overlay_laws.proofs.HullLaws.{flat_in, range_high}
+use Rattle.redef_laws.specs.Shifted.{IsShifted, new_end}
+use Rattle.redef_laws.proofs.Members.{map_in, zip_in}
+use Rattle.redef_laws.proofs.RecordSizes.{same_slab, same_record, record_grows}
+use Rattle.redef_laws.proofs.SoundVars.{slab_holds, past_front}
+
+-- what a redefinition makes of the old variables
+pub record IsRaised (old new : Header) : Type 0 where
+  pub sound_old : is_sound old ≡ true
+  pub sound_new : is_sound new ≡ true
+  pub keeps : KeepsVars old new
+  pub up : (k : ℕ) (v w : Var) → slice_get old.vars k ≡ Some v → slice_get new.vars k ≡ Some w → v.begin ≤ w.begin
+  pub order : (k m : ℕ) (v w x y : Var) → slice_get old.vars k ≡ Some v → slice_get new.vars k ≡ Some w
+      → slice_get old.vars m ≡ Some x → slice_get new.vars m ≡ Some y → is_record old v ≡ is_record old x → v.begin < x.begin → w.begin ≤ y.begin
+
+-- ---- what the slabs are
+
+-- an old variable stands in both headers
+pub record IsPair (old new : Header) (k : ℕ) (v w : Var) : Type 0 where
+  pub at_old : slice_get old.vars k ≡ Some v
+  pub at_new : slice_get new.vars k ≡ Some w
+  pub size : slab new w ≡ slab old v
+  pub kind : is_record new w ≡ is_record old v
+
+pub record IsFixedSlab (old new : Header) (s : Slab) : Type 0 where
+  pub number : ℕ
+  pub was : Var
+  pub now : Var
+  pub pair : IsPair old new number was now
+  pub kind : is_record old was ≡ false
+  pub from : s.from ≡ was.begin
+  pub to : s.to ≡ now.begin
+  pub len : s.len ≡ slab old was
+
+pub record IsRecordSlab (old new : Header) (s : Slab) : Type 0 where
+  pub number : ℕ
+  pub was : Var
+  pub now : Var
+  pub pair : IsPair old new number was now
+  pub kind : is_record old was ≡ true
+  pub row : ℕ
+  pub below : row < old.records
+  pub from : s.from ≡ was.begin + row * recsize old
+  pub to : s.to ≡ now.begin + row * recsize new
+  pub len : s.len ≡ slab old was
+
+pub pair_at : (old new : Header) (k : ℕ) (v w : Var) → KeepsVars old new → slice_get old.vars k ≡ Some v → slice_get new.vars k ≡ Some w → IsPair old new k v w
+pair_at old new k v w keeps h g = by_found (keeps k v h)
+  where
+    by_found : (y : Var) × (slice_get new.vars k ≡ Some y) × (y.kind ≡ v.kind) × (lengths new y ≡ lengths old v) → IsPair old new k v w
+    by_found (y, there, kind, lens) =
+        let one : Some y ≡ Some w = sym there ∙ g in
+        let same : y ≡ w = cc in
+        record {
+          at_old = h;
+          at_new = g;
+          size = ap (λ (x : Var). slab new x) (sym same) ∙ same_slab old new v y kind lens;
+          kind = ap (λ (x : Var). is_record new x) (sym same) ∙ same_record old new v y lens;
+        }
+
+abbrev slabs_by : Header → Header → Var → Var → Bool → List Slab
+slabs_by old new v w t =
+    elim t [
+      | false ↦ record { from = v.begin; to = w.begin; len = slab old v } ∷ []
+      | true ↦ map (λ r. record { from = v.begin + r * recsize old; to = w.begin + r * recsize new; len = slab old v }) (range_with_len 0 old.records)
+    ]
+
+pub slab_in : (old new : Header) (s : Slab) → KeepsVars old new → In (slabs old new) s → IsFixedSlab old new s ⊎ IsRecordSlab old new s
+slab_in old new s keeps h =
+    let found = flat_in (slabs_of old new) (zip old.vars new.vars) s h in
+    let at = zip_in old.vars new.vars found.0 found.1 in
+    by_kind at.0 found.0.0 found.0.1 (pair_at old new at.0 found.0.0 found.0.1 keeps at.1 at.2) (is_record old found.0.0) refl found.2
+  where
+    by_kind : (k : ℕ) (v w : Var) → IsPair old new k v w → (t : Bool) → is_record old v ≡ t → In (slabs_by old new v w t) s
+        → IsFixedSlab old new s ⊎ IsRecordSlab old new s
+    by_kind k v w pair false e (inl g) =
+        inl (record {
+          number = k;
+          was = v;
+          now = w;
+          pair = pair;
+          kind = e;
+          from = sym (ap (λ (q : Slab). q.from) g);
+          to = sym (ap (λ (q : Slab). q.to) g);
+          len = sym (ap (λ (q : Slab). q.len) g);
+        })
+    by_kind k v w pair false e (inr g) = absurd g
+    by_kind k v w pair true e g =
+        let at = map_in (λ r. record { from = v.begin + r * recsize old; to = w.begin + r * recsize new; len = slab old v }) (range_with_len 0 old.records) s g in
+        let high = range_high 0 old.records at.0 at.1 in
+        inr (record {
+          number = k;
+          was = v;
+          now = w;
+          pair = pair;
+          kind = e;
+          row = at.0;
+          below = omega arith;
+          from = sym (ap (λ (q : Slab). q.from) at.2);
+          to = sym (ap (λ (q : Slab). q.to) at.2);
+          len = sym (ap (λ (q : Slab). q.len) at.2);
+        })
+
+-- ---- where a slab lies
+
+slab_below : (header : Header) (v : Var) → slab header v ≤ vsize header v
+slab_below header v = omega arith
+
+slab_shared : (header : Header) (v : Var) → slab header v ≤ last_share header v
+slab_shared header v = by_test (length (record_slabs header) == 1)
+  where
+    by_test : (t : Bool) → slab header v ≤ cond t (slab header v) (vsize header v)
+    by_test true = omega arith
+    by_test false = slab_below header v
+
+fixed_ends : (header : Header) (n : ℕ) (v : Var) → is_record header v ≡ false → v.begin + slab header v ≤ end_of_var header n v
+fixed_ends header n v e =
+    let own : end_of_var header n v ≡ v.begin + vsize header v =
+    ap (λ (t : Bool). cond t (cond (n == 0) 0 (v.begin + (n - 1) * recsize header + last_share header v)) (v.begin + vsize header v)) e in
+    let below = slab_below header v in
+    omega arith
+
+some_record : (r n : ℕ) → r < n → (n == 0) ≡ false
+some_record r n h = grind (arith, nat_tests)
+
+record_ends : (header : Header) (n r : ℕ) (v : Var) → is_record header v ≡ true → r < n → v.begin + r * recsize header + slab header v ≤ end_of_var header n v
+record_ends header n r v e h =
+    let some = some_record r n h in
+    let own : end_of_var header n v ≡ v.begin + (n - 1) * recsize header + last_share header v =
+    ap (λ (t : Bool). cond t (cond (n == 0) 0 (v.begin + (n - 1) * recsize header + last_share header v)) (v.begin + vsize header v)) e
+    ∙ ap (λ (t : Bool). cond t 0 (v.begin + (n - 1) * recsize header + last_share header v)) some in
+    let rows : r * recsize header ≤ (n - 1) * recsize header = mul-le r (recsize header) (n - 1) (recsize header) (omega arith) (omega arith) in
+    let below = slab_shared header v in
+    omega arith
+
+fixed_lies : (old new : Header) → IsRaised old new → (s : Slab) → IsFixedSlab old new s → IsShifted (header_len old) (header_len new) (new_end old new) s
+fixed_lies old new raised s f =
+    let holds = slab_holds old f.number f.was raised.sound_old f.pair.at_old in
+    let before = past_front old f.number f.was raised.sound_old f.pair.at_old in
+    let after = past_front new f.number f.now raised.sound_new f.pair.at_new in
+    let up = raised.up f.number f.was f.now f.pair.at_old f.pair.at_new in
+    let own = fixed_ends new old.records f.now (f.pair.kind ∙ f.kind) in
+    let whole = end_holds new (header_len new) old.records f.number f.now f.pair.at_new in
+    record {
+      some = omega (arith, f.len, holds);
+      old_past = omega (arith, f.from, before);
+      up = omega (arith, f.from, f.to, up);
+      past = omega (arith, f.to, after);
+      inside = omega (arith, f.to, f.len, f.pair.size, own, whole);
+    }
+
+record_lies : (old new : Header) → IsRaised old new → (s : Slab) → IsRecordSlab old new s → IsShifted (header_len old) (header_len new) (new_end old new) s
+record_lies old new raised s f =
+    let holds = slab_holds old f.number f.was raised.sound_old f.pair.at_old in
+    let before = past_front old f.number f.was raised.sound_old f.pair.at_old in
+    let after = past_front new f.number f.now raised.sound_new f.pair.at_new in
+    let up = raised.up f.number f.was f.now f.pair.at_old f.pair.at_new in
+    let own = record_ends new old.records f.row f.now (f.pair.kind ∙ f.kind) f.below in
+    let whole = end_holds new (header_len new) old.records f.number f.now f.pair.at_new in
+    let rows = mul-le f.row (recsize old) f.row (recsize new) (omega arith) (record_grows old new raised.keeps) in
+    record {
+      some = omega (arith, f.len, holds);
+      old_past = omega (arith, f.from, before);
+      up = omega (arith, f.from, f.to, up, rows);
+      past = omega (arith, f.to, after);
+      inside = omega (arith, f.to, f.len, f.pair.size, own, whole);
+    }
+
+pub slab_lies : (old new : Header) → IsRaised old new → (s : Slab) → In (slabs old new) s → IsShifted (header_len old) (header_len new) (new_end old new) s
+slab_lies old new raised s h =
+    elim (slab_in old new s raised.keeps h) [
+      | inl f ↦ fixed_lies old new raised s f
+      | inr f ↦ record_lies old new raised s f
+    ]

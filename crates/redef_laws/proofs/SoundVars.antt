@@ -1,0 +1,149 @@
+-- The slabs of a sound header's variables: each holds a byte, and no two of them share one.
+use Rattle.std.proofs.Common.{◌≡◌, ℕ, zero, suc, ◌+◌, ◌*◌, ◌<◌, ◌≤◌, refl, inl, inr, ◌⊎◌, List, [], ◌∷◌, Bool, true, false, cond, ◌||◌, Some, arith}
+use Rattle.std.proofs.lemmas.Bool.{cases_lt}
+use Rattle.std.proofs.lemmas.Bool.Decides.{nat_tests}
+use Rattle.std.proofs.lemmas.Nat.{mul-le}
+use Rattle.std.specs.Prelude.{slice_get, drop, nat_lt, nat_le, ◌==◌}
+use Rattle.std.specs.List.{AllByRecursion}
+use borrow.Author.Tests.{ltb-false}
+use Rattle.nc_base.specs.declared.header.Header.{Header}
+use Rattle.nc_base.specs.declared.header.Var.{Var}
+use Rattle.serial_spec.specs.ExternalForm.{size_of}
+use Rattle.serial_spec.specs.Layout.{product, without_record, lengths, inner_lengths, is_record, slab, recsize, meet}
+use Rattle.serial_spec.specs.HeaderGrammar.{is_sound, header_len}
+use Rattle.serial_spec.proofs.ApartLaws.{none_from, none_shared, past_header}
+use Rattle.serial_spec.proofs.RoomLaws.{none_later}
+use Rattle.var_layout.proofs.ElementPlaces.{size_pos}
+
+-- ---- one variable
+
+product_holds : (ns : List ℕ) → AllByRecursion (λ n. (n == 0) ≡ false) ns → 1 ≤ product ns
+product_holds [] h = omega arith
+product_holds (n ∷ ns) h =
+    let some : 1 ≤ n = above_zero n h.0 in
+    let rest = product_holds ns h.1 in
+    let all : 1 * 1 ≤ n * product ns = mul-le 1 1 n (product ns) some rest in
+    omega arith
+  where
+    above_zero : (m : ℕ) → (m == 0) ≡ false → 1 ≤ m
+    above_zero m e = grind (arith, nat_tests)
+
+inner_holds : (ls : List ℕ) → AllByRecursion (λ n. (n == 0) ≡ false) (drop 1 ls) → 1 ≤ product (without_record ls)
+inner_holds [] h = omega arith
+inner_holds (zero ∷ ns) h = product_holds ns h
+inner_holds (suc n ∷ ns) h =
+    let rest = product_holds ns h in
+    let all : 1 * 1 ≤ suc n * product ns = mul-le 1 1 (suc n) (product ns) (omega arith) rest in
+    omega arith
+
+-- a slab holds a byte
+pub slab_holds : (header : Header) (k : ℕ) (v : Var) → is_sound header ≡ true → slice_get header.vars k ≡ Some v → 0 < slab header v
+slab_holds header k v sound h =
+    let some = inner_holds (lengths header v) (none_later header k v sound h) in
+    let size = size_pos v.kind in
+    let all : 1 * 1 ≤ product (inner_lengths header v) * size_of v.kind = mul-le 1 1 (product (inner_lengths header v)) (size_of v.kind) some size in
+    omega arith
+
+pub past_front : (header : Header) (k : ℕ) (v : Var) → is_sound header ≡ true → slice_get header.vars k ≡ Some v → header_len header ≤ v.begin
+past_front header k v sound h = past_header header (header_len header) 0 header.vars k v (none_shared header sound) h
+
+-- ---- two variables: n bytes from a, and m bytes from b
+
+-- `share` on numbers, by whether the variables are record variables
+abbrev share_by : ℕ → ℕ → ℕ → ℕ → ℕ → Bool → Bool → Bool
+share_by size a n b m s t =
+    cond s (cond t (cond (nat_le a b) (nat_lt b (a + n) || nat_lt (a + size) (b + m)) (nat_lt a (b + m) || nat_lt (b + size) (a + n))) (nat_lt a (b + m)))
+    (cond t (nat_lt b (a + n)) (meet a n b m))
+
+-- Within one record the n bytes come before the m bytes.
+pub record InTurn (size a n b m : ℕ) : Type 0 where
+  pub next : a + n ≤ b
+  pub last : b + m ≤ a + size
+
+-- what it says that they share no byte, by whether each is a record variable: s tells of the first one, t of the second
+pub record IsApart (size a n b m : ℕ) (s t : Bool) : Type 0 where
+  pub both_fixed : s ≡ false → t ≡ false → (a + n ≤ b) ⊎ (b + m ≤ a)
+  pub record_last : s ≡ false → t ≡ true → a + n ≤ b
+  pub record_first : s ≡ true → t ≡ false → b + m ≤ a
+  pub both_records : s ≡ true → t ≡ true → InTurn size a n b m ⊎ InTurn size b m a n
+
+other : (t : Bool) {A : Type 0} → t ≡ false → t ≡ true → A
+other t p q = absurd (contrary t p q)
+  where
+    contrary : (u : Bool) → u ≡ false → u ≡ true → ⊥
+    contrary true p q = cc
+    contrary false p q = cc
+
+meet_apart : (a n b m : ℕ) → 0 < n → 0 < m → meet a n b m ≡ false → (a + n ≤ b) ⊎ (b + m ≤ a)
+meet_apart a n b m p q h = by_order (cases_lt a b)
+  where
+    by_order : (a < b) ⊎ (b ≤ a) → (a + n ≤ b) ⊎ (b + m ≤ a)
+    by_order (inl l) = inl (grind (arith, nat_tests))
+    by_order (inr l) = inr (grind (arith, nat_tests))
+
+in_turn : (size a n b m : ℕ) → (nat_lt b (a + n) || nat_lt (a + size) (b + m)) ≡ false → InTurn size a n b m
+in_turn size a n b m h = record { next = grind (arith, nat_tests); last = grind (arith, nat_tests) }
+
+one_then_other : (size a n b m : ℕ) (c : Bool) → cond c (nat_lt b (a + n) || nat_lt (a + size) (b + m)) (nat_lt a (b + m) || nat_lt (b + size) (a + n)) ≡ false
+    → InTurn size a n b m ⊎ InTurn size b m a n
+one_then_other size a n b m true h = inl (in_turn size a n b m h)
+one_then_other size a n b m false h = inr (in_turn size b m a n h)
+
+unshared : (size a n b m : ℕ) (s t : Bool) → 0 < n → 0 < m → share_by size a n b m s t ≡ false → IsApart size a n b m s t
+unshared size a n b m false false p q h =
+    record {
+      both_fixed = λ e f. meet_apart a n b m p q h;
+      record_last = λ e f. other false refl f;
+      record_first = λ e f. other false refl e;
+      both_records = λ e f. other false refl e;
+    }
+unshared size a n b m false true p q h =
+    record {
+      both_fixed = λ e f. other true f refl;
+      record_last = λ e f. ltb-false _ _ h;
+      record_first = λ e f. other false refl e;
+      both_records = λ e f. other false refl e;
+    }
+unshared size a n b m true false p q h =
+    record {
+      both_fixed = λ e f. other true e refl;
+      record_last = λ e f. other true e refl;
+      record_first = λ e f. ltb-false _ _ h;
+      both_records = λ e f. other false refl f;
+    }
+unshared size a n b m true true p q h =
+    record {
+      both_fixed = λ e f. other true e refl;
+      record_last = λ e f. other true e refl;
+      record_first = λ e f. other true f refl;
+      both_records = λ e f. one_then_other size a n b m (nat_le a b) h;
+    }
+
+swapped : {A B : Type 0} → A ⊎ B → B ⊎ A
+swapped (inl x) = inr x
+swapped (inr y) = inl y
+
+turned : (size a n b m : ℕ) (s t : Bool) → IsApart size a n b m s t → IsApart size b m a n t s
+turned size a n b m s t h =
+    record {
+      both_fixed = λ e f. swapped (h.both_fixed f e);
+      record_last = λ e f. h.record_first f e;
+      record_first = λ e f. h.record_last f e;
+      both_records = λ e f. swapped (h.both_records f e);
+    }
+
+pub vars_apart : (header : Header) (k m : ℕ) (v w : Var) → is_sound header ≡ true → slice_get header.vars k ≡ Some v → slice_get header.vars m ≡ Some w
+    → (k ≡ m → ⊥) → IsApart (recsize header) v.begin (slab header v) w.begin (slab header w) (is_record header v) (is_record header w)
+vars_apart header k m v w sound h g differ = by_order (cases_lt k m) (cases_lt m k)
+  where
+    alone : (i j : ℕ) (x y : Var) → slice_get header.vars i ≡ Some x → slice_get header.vars j ≡ Some y → i < j
+        → IsApart (recsize header) x.begin (slab header x) y.begin (slab header y) (is_record header x) (is_record header y)
+    alone i j x y e f l =
+        unshared (recsize header) x.begin (slab header x) y.begin (slab header y) (is_record header x) (is_record header y) (slab_holds header i x sound e) (slab_holds header j y sound f)
+        (none_from header (header_len header) 0 header.vars i j x y (none_shared header sound) e f l)
+
+    by_order : (k < m) ⊎ (m ≤ k) → (m < k) ⊎ (k ≤ m) → IsApart (recsize header) v.begin (slab header v) w.begin (slab header w) (is_record header v) (is_record header w)
+    by_order (inl l) o = alone k m v w h g l
+    by_order (inr l) (inl o) =
+        turned (recsize header) w.begin (slab header w) v.begin (slab header v) (is_record header w) (is_record header v) (alone m k w v g h o)
+    by_order (inr l) (inr o) = absurd (differ (let e : k ≡ m = omega arith in e))

@@ -1,0 +1,299 @@
+-- The header of an accepted redefinition is sound, and each of its numbers fits its field.
+use Rattle.std.proofs.Common.{◌≡◌, ℕ, suc, ◌+◌, ◌-◌, ◌^◌, ◌<◌, ◌≤◌, List, [], ◌∷◌, length, take, drop, Bool, true, false, cond, ◌&&◌, Option, Some, None, refl, sym, ap, subst, ◌∙◌, arith}
+use Rattle.std.specs.Prelude.{not, nat_lt, nat_le, ◌==◌, count_by, filter, find, position, option_map, is_none, slice_get, sum_by}
+use Rattle.std.specs.List.{AllByRecursion}
+use Rattle.std.specs.Option.{option_or}
+use Rattle.std.proofs.lemmas.Bool.Decides.{nat_tests}
+use Rattle.std.proofs.lemmas.List.Sums.{length-filter, sum_by-cons}
+use Rattle.nc_base.specs.declared.header.Header.{Header}
+use Rattle.nc_base.specs.declared.header.Dim.{Dim}
+use Rattle.nc_base.specs.declared.header.Var.{Var}
+use Rattle.nc_base.specs.declared.script.Extra.{Extra}
+use Rattle.nc_base.specs.declared.errors.LayoutErr.TheVariants as layout
+use Rattle.nc_base.specs.declared.errors.RedefErr.{RedefErr}
+use Rattle.nc_base.specs.declared.errors.RedefErr.TheVariants as redef
+use Rattle.serial_spec.specs.Limits.{most_dims, most_vars, most_dims_of_var, most_header_bytes, file_limit, record_limit}
+use Rattle.serial_spec.specs.Layout.{vsize, record_share, sharing}
+use Rattle.serial_spec.specs.HeaderGrammar.{attribute, list_of, is_sound, is_version, counts_are_small, header_len, record_later, is_record_id, bad_id, all_ones, measure, past_bound, keeps_bound, fits_count, is_type, is_writable, is_writable_dim, is_writable_attr, is_writable_list, is_writable_var}
+use Rattle.serial_spec.specs.Redefinition.{added, extras_fault, begins_by_number, with_begins, redefined_header, redefined_fault, is_large_var, is_far_begin, is_bad_begin, size_fault}
+use Rattle.serial_spec.proofs.ApartLaws.{neither}
+use Rattle.serial_spec.proofs.RoomLaws.{unmapped}
+use Rattle.redef_laws.specs.Applied.{IsApplied}
+use Rattle.var_layout.proofs.Soundness.{and_left, and_right}
+use Rattle.var_layout.proofs.LaidOut.{all_true}
+use Rattle.redef_laws.proofs.FieldLaws.{not_both, not_true, not_false, lt_told, not_lt_told, le_test, not_le_told, each_passes, each_fails, each_then, each_both, small_fits, count_fits, begin_fits}
+use Rattle.redef_laws.proofs.GrownLaws.{HasFitLength, IsFitVar, IsFit, is_record_dim, each_at, all_more, all_same, HasVersionOf}
+use Rattle.redef_laws.proofs.ShortLaws.{is_short, attrs_written}
+use Rattle.redef_laws.proofs.FitLaws.{IsChecked, checked, passes_checks, none_found, finds_none, IsOpened, opened_old}
+use Rattle.redef_laws.proofs.RebegunLaws.{rebegun_each, rebegun_long}
+use Rattle.redef_laws.proofs.ApartLaws.{placed, redefined_apart}
+
+-- ---- no fault
+
+pub record HasNoFault (old : Header) (extras : List Extra) : Type 0 where
+  pub accepted : extras_fault old extras ≡ None
+  pub sizes : position (is_large_var (redefined_header old extras)) (redefined_header old extras).vars ≡ None
+  pub short : header_len (redefined_header old extras) ≤ 2 ^ 20
+  pub begins : find (is_bad_begin (redefined_header old extras)) (begins_by_number (added old extras) (length old.vars)) ≡ None
+
+no_choice : {A : Type 0} (t : Bool) (x : A) → cond t (Some x) None ≡ None → t ≡ false
+no_choice true x h = absurd cc
+no_choice false x h = refl
+
+pub no_fault : (old : Header) (extras : List Extra) → redefined_fault old extras ≡ None → HasNoFault old extras
+no_fault old extras h = by_extras (extras_fault old extras) refl h
+  where
+    by_layout : extras_fault old extras ≡ None
+        → option_map (λ e. redef.Layout e)
+        (option_or (size_fault (redefined_header old extras))
+        (option_map (λ b. layout.BeginRange b.0) (find (is_bad_begin (redefined_header old extras)) (begins_by_number (added old extras) (length old.vars))))) ≡ None
+        → HasNoFault old extras
+    by_layout none g =
+        let new = redefined_header old extras in
+        let both = neither (size_fault new) _ (unmapped (λ e. redef.Layout e) _ g) in
+        let sizes = neither (option_map (λ k. layout.VarSize k) (position (is_large_var new) new.vars)) _ both.0 in
+        record {
+          accepted = none;
+          sizes = unmapped (λ k. layout.VarSize k) (position (is_large_var new) new.vars) sizes.0;
+          short = not_lt_told (2 ^ 20) (header_len new) (no_choice (nat_lt most_header_bytes (header_len new)) layout.HeaderRange sizes.1);
+          begins = unmapped (λ b. layout.BeginRange b.0) (find (is_bad_begin new) (begins_by_number (added old extras) (length old.vars))) both.1;
+        }
+
+    by_extras : (o : Option RedefErr) → extras_fault old extras ≡ o
+        → elim o as (λ u. Option RedefErr) [
+          | Some fault ↦ Some fault
+          | None ↦
+              option_map (λ e. redef.Layout e)
+              (option_or (size_fault (redefined_header old extras))
+              (option_map (λ b. layout.BeginRange b.0) (find (is_bad_begin (redefined_header old extras)) (begins_by_number (added old extras) (length old.vars)))))
+        ] ≡ None
+        → HasNoFault old extras
+    by_extras (Some fault) e g = absurd cc
+    by_extras None e g = by_layout e g
+
+-- ---- each variable keeps its bound
+
+-- what is not found fails the test
+found_fails : {A : Type 0} (bad p : A → Bool) (xs : List A) (x : A) → find bad xs ≡ None → find p xs ≡ Some x → bad x ≡ false
+found_fails bad p [] x h g = absurd cc
+found_fails {A} bad p (y ∷ xs) x h g = by_tests (bad y) (p y) refl h g (λ h' g'. found_fails bad p xs x h' g')
+  where
+    by_tests : (s t : Bool) → bad y ≡ s → cond s (Some y) (find bad xs) ≡ None → cond t (Some y) (find p xs) ≡ Some x
+        → (find bad xs ≡ None → find p xs ≡ Some x → bad x ≡ false) → bad x ≡ false
+    by_tests true t e i j rest = absurd cc
+    by_tests false true e i j rest = let same : y ≡ x = cc in sym (ap bad same) ∙ e
+    by_tests false false e i j rest = rest i j
+
+-- what is said of a variable's begin and end
+pub record IsBound (header : Header) (k : ℕ) (v : Var) : Type 0 where
+  pub near : is_far_begin header v ≡ false
+  pub keeps : keeps_bound header (sum_by (λ w. record_share header w) (take k header.vars)) v ≡ true
+
+bound_by : (header : Header) (k b : ℕ) (v : Var) → slice_get header.vars k ≡ Some v → is_bad_begin header (k, b) ≡ false → IsBound header k v
+bound_by header k b v g h =
+    let kept : (not (is_far_begin header v) && keeps_bound header (sum_by (λ w. record_share header w) (take k header.vars)) v) ≡ true =
+    not_false _ (sym (ap (λ (o : Option Var). elim o as (λ u. Bool) [ None ↦ false | Some w ↦ not (not (is_far_begin header w) && keeps_bound header (sum_by (λ x. record_share header x) (take k header.vars)) w) ]) g) ∙ h) in
+    record { near = not_true (is_far_begin header v) (and_left _ _ kept); keeps = and_right (not (is_far_begin header v)) _ kept }
+
+pub each_bound : (old : Header) (extras : List Extra) → HasNoFault old extras → (k : ℕ) (x : Var) → slice_get (redefined_header old extras).vars k ≡ Some x
+    → IsBound (redefined_header old extras) k x
+each_bound old extras none k x g =
+    let header = added old extras in
+    let n = length old.vars in
+    let p = placed header n k x g in
+    bound_by (redefined_header old extras) k x.begin x g
+    (found_fails (is_bad_begin (redefined_header old extras)) (λ b. b.0 == k) (begins_by_number header n) (k, x.begin) none.begins p.1.found)
+
+past_none : (header : Header) (vs : List Var) (before n : ℕ)
+    → ((k : ℕ) (v : Var) → slice_get vs k ≡ Some v → keeps_bound header (before + sum_by (λ w. record_share header w) (take k vs)) v ≡ true)
+    → past_bound header before n vs ≡ None
+past_none header [] before n h = refl
+past_none header (v ∷ vs) before n h =
+    let here : keeps_bound header before v ≡ true =
+    ap (λ (m : ℕ). keeps_bound header m v) (let e : before ≡ before + 0 = omega arith in e) ∙ h 0 v refl in
+    let rest = past_none header vs (before + record_share header v) (suc n)
+    (λ k w g. ap (λ (m : ℕ). keeps_bound header m w) (shifted before (record_share header v) (sum_by (λ x. record_share header x) (take k vs)) _ (sum_by-cons (λ x. record_share header x) v (take k vs))) ∙ h (suc k) w g) in
+    ap (λ (t : Bool). cond t (past_bound header (before + record_share header v) (suc n) vs) (Some n)) here ∙ rest
+  where
+    shifted : (b s r t : ℕ) → t ≡ s + r → b + s + r ≡ b + t
+    shifted b s r t e = omega arith
+
+measured : (header : Header) → ((k : ℕ) (v : Var) → slice_get header.vars k ≡ Some v → IsBound header k v) → measure header ≡ None
+measured header h =
+    past_none header header.vars 0 0
+    (λ k v g. let plain : 0 + sum_by (λ w. record_share header w) (take k header.vars) ≡ sum_by (λ w. record_share header w) (take k header.vars) = omega arith in
+    ap (λ (m : ℕ). keeps_bound header m v) plain ∙ (h k v g).keeps)
+
+-- ---- the header is sound
+
+each_from : {A : Type 0} (P : A → Type 0) (xs : List A) → ((k : ℕ) (x : A) → slice_get xs k ≡ Some x → P x) → AllByRecursion P xs
+each_from P [] h = tt
+each_from P (x ∷ xs) h = (h 0 x refl, each_from P xs (λ k y g. h (suc k) y g))
+
+-- all that is known of a new header
+pub record IsKnown (old new : Header) : Type 0 where
+  pub opened : IsOpened old
+  pub same : HasVersionOf old new
+  pub fit : IsFit new
+  pub short : header_len new ≤ 2 ^ 20
+  pub sizes : position (is_large_var new) new.vars ≡ None
+  pub bound : (k : ℕ) (v : Var) → slice_get new.vars k ≡ Some v → IsBound new k v
+  pub apart : sharing new (header_len new) ≡ None
+
+fit_rebegun : (header : Header) (found : List (ℕ × ℕ)) → IsFit header → IsFit (with_begins header found)
+fit_rebegun header found fit =
+    let long = rebegun_long found 0 header.vars in
+    record {
+      few_dims = fit.few_dims;
+      few_vars = omega (arith, long, fit.few_vars);
+      lengths = fit.lengths;
+      one_record = fit.one_record;
+      attrs = fit.attrs;
+      vars = rebegun_each (IsFitVar header.version header.dims) (λ v b f. f) found 0 header.vars fit.vars;
+    }
+
+pub known : (old new : Header) (extras : List Extra) → IsApplied old extras new → IsKnown old new
+known old new extras applied =
+    let opened = opened_old old applied.redefinable in
+    let none = no_fault old extras applied.faultless in
+    let fit = all_more old 0 extras opened.fit none.accepted applied.lawful applied.whole in
+    let header = added old extras in
+    let whole : IsKnown old (redefined_header old extras) = record {
+      opened = opened;
+      same = record { version = (all_same old extras).version; records = (all_same old extras).records };
+      fit = fit_rebegun header (begins_by_number header (length old.vars)) fit;
+      short = none.short;
+      sizes = none.sizes;
+      bound = each_bound old extras none;
+      apart = redefined_apart old extras opened.sound fit;
+    } in
+    subst (λ (h : Header). IsKnown old h) (sym applied.made) whole
+
+checks : (old new : Header) → IsKnown old new → IsChecked new
+checks old new k =
+    let c = checked old k.opened.sound in
+    let fit = k.fit in
+    record {
+      one_record = one_at_most (count_by (λ (d : Dim). d.len == 0) new.dims) (length (filter is_record_dim new.dims)) (length-filter is_record_dim new.dims) fit.one_record;
+      first =
+          finds_none (record_later new) new.vars
+          (each_then (IsFitVar new.version new.dims) (λ v. record_later new v ≡ false) (λ v f. each_fails (λ id. is_record_id new id) (drop 1 v.dims) f.later) new.vars fit.vars);
+      ids =
+          finds_none (bad_id new) new.vars
+          (each_then (IsFitVar new.version new.dims) (λ v. bad_id new v ≡ false)
+          (λ v f. each_fails (λ id. nat_le (length new.dims) id) v.dims
+          (each_then (λ id. id < length new.dims) (λ id. nat_le (length new.dims) id ≡ false) (λ id l. above (length new.dims) id l) v.dims f.known)) new.vars fit.vars);
+      counted = ap (λ (n : ℕ). n == all_ones new.version) k.same.records ∙ ap (λ (v : ℕ). old.records == all_ones v) k.same.version ∙ c.counted;
+      measured = measured new k.bound;
+      few = ap (λ (n : ℕ). nat_le (record_limit new.version) n) k.same.records ∙ ap (λ (v : ℕ). nat_le (record_limit v) old.records) k.same.version ∙ c.few;
+      apart = k.apart;
+    }
+  where
+    one_at_most : (n m : ℕ) → m ≡ n → m ≤ 1 → nat_lt 1 n ≡ false
+    one_at_most n m e l = grind (arith, nat_tests)
+
+    above : (n id : ℕ) → id < n → nat_le n id ≡ false
+    above n id l = grind (arith, nat_tests)
+
+counts : (header : Header) → IsFit header → counts_are_small header ≡ true
+counts header fit =
+    all_true (nat_le (length header.dims) most_dims && nat_le (length header.vars) most_vars) _
+    (all_true (nat_le (length header.dims) most_dims) _ (le_test (length header.dims) 1024 fit.few_dims) (le_test (length header.vars) 8192 fit.few_vars))
+    (each_passes (λ (v : Var). nat_le (length v.dims) most_dims_of_var) header.vars
+    (each_then (IsFitVar header.version header.dims) (λ (v : Var). nat_le (length v.dims) most_dims_of_var ≡ true) (λ v f. le_test (length v.dims) 32 f.few) header.vars fit.vars))
+
+pub sound : (old new : Header) → IsKnown old new → is_sound new ≡ true
+sound old new k =
+    all_true (is_version new.version && counts_are_small new && nat_le (header_len new) most_header_bytes) _
+    (all_true (is_version new.version && counts_are_small new) _
+    (all_true (is_version new.version) _ (ap (λ (v : ℕ). is_version v) k.same.version ∙ k.opened.version) (counts new k.fit))
+    (le_test (header_len new) (2 ^ 20) k.short))
+    (ap (λ o. is_none o) (passes_checks new (checks old new k)))
+
+-- ---- each number fits its field
+
+dims_written : (old new : Header) → IsKnown old new → is_writable_list new.version (is_writable_dim new.version) new.dims ≡ true
+dims_written old new k =
+    let few = k.fit.few_dims in
+    all_true (fits_count new.version (length new.dims)) _ (small_fits new.version (length new.dims) (omega arith))
+    (each_passes (is_writable_dim new.version) new.dims
+    (each_both (λ d. length d.name ≤ 2 ^ 20) (HasFitLength new.version) (λ d. is_writable_dim new.version d ≡ true) (dim_written new.version) new.dims
+    (is_short new k.short).dims k.fit.lengths))
+  where
+    dim_written : (version : ℕ) (d : Dim) → length d.name ≤ 2 ^ 20 → HasFitLength version d → is_writable_dim version d ≡ true
+    dim_written version d short fit =
+        all_true (fits_count version (length d.name) && fits_count version d.len) _
+        (all_true (fits_count version (length d.name)) _ (small_fits version (length d.name) (omega arith)) fit.fits)
+        (le_test d.len file_limit fit.small)
+
+-- what is known of one variable of a new header
+record IsKnownVar (header : Header) (k : ℕ) (v : Var) : Type 0 where
+  fit : IsFitVar header.version header.dims v
+  few_dims : length header.dims ≤ 1024
+  named : length v.name ≤ 2 ^ 20
+  attrs : length (list_of header.version 12 (λ a. attribute header.version a) v.attrs) ≤ 2 ^ 20
+  stored : is_large_var header v ≡ false
+  bound : IsBound header k v
+
+dims_of_var : (header : Header) (k : ℕ) (v : Var) → IsKnownVar header k v → is_writable_list header.version (λ id. fits_count header.version id) v.dims ≡ true
+dims_of_var header k v is =
+    let few = is.fit.few in
+    let all = is.few_dims in
+    all_true (fits_count header.version (length v.dims)) _ (small_fits header.version (length v.dims) (omega arith))
+    (each_passes (λ id. fits_count header.version id) v.dims
+    (each_then (λ id. id < length header.dims) (λ id. fits_count header.version id ≡ true) (λ id l. small_fits header.version id (omega arith)) v.dims is.fit.known))
+
+size_fits : (header : Header) (v : Var) → vsize header v < 2 ^ 62 → is_large_var header v ≡ false → fits_count header.version (vsize header v) ≡ true
+size_fits header v l h =
+    count_fits header.version (vsize header v) l
+    (λ e. let m = not_lt_told (2 ^ 31 - 4) (vsize header v) (not_both (not (header.version == 5)) _ h (ap (λ (t : Bool). not t) e)) in omega arith)
+
+var_written : (header : Header) (k : ℕ) (v : Var) → IsKnownVar header k v → is_writable_var header v ≡ true
+var_written header k v is =
+    let version = header.version in
+    let named = is.named in
+    let names = fits_count version (length v.name) in
+    let dims = is_writable_list version (λ id. fits_count version id) v.dims in
+    let attrs = is_writable_list version (is_writable_attr version) v.attrs in
+    let end = lt_told (v.begin + vsize header v) file_limit (and_right (nat_lt (vsize header v) file_limit) _ (and_left (nat_lt (vsize header v) file_limit && nat_lt (v.begin + vsize header v) file_limit) _ is.bound.keeps)) in
+    all_true (names && dims && attrs && is_type version v.kind && fits_count version (vsize header v)) _
+    (all_true (names && dims && attrs && is_type version v.kind) _
+    (all_true (names && dims && attrs) _
+    (all_true (names && dims) _
+    (all_true names _ (small_fits version (length v.name) (omega arith)) (dims_of_var header k v is))
+    (attrs_written version v.attrs is.fit.typed is.attrs))
+    is.fit.known_type)
+    (size_fits header v (omega arith) is.stored))
+    (begin_fits version v.begin (omega arith) (λ e. not_le_told (2 ^ 31) v.begin (not_both (version == 1) _ is.bound.near e)))
+
+vars_written : (old new : Header) → IsKnown old new → is_writable_list new.version (is_writable_var new) new.vars ≡ true
+vars_written old new k =
+    let few = k.fit.few_vars in
+    let short = is_short new k.short in
+    all_true (fits_count new.version (length new.vars)) _ (small_fits new.version (length new.vars) (omega arith))
+    (each_passes (is_writable_var new) new.vars
+    (each_from (λ v. is_writable_var new v ≡ true) new.vars
+    (λ i v g. var_written new i v (record {
+      fit = each_at (IsFitVar new.version new.dims) new.vars i v k.fit.vars g;
+      few_dims = k.fit.few_dims;
+      named = each_at (λ (w : Var). length w.name ≤ 2 ^ 20) new.vars i v short.names g;
+      attrs = each_at (λ (w : Var). length (list_of new.version 12 (λ a. attribute new.version a) w.attrs) ≤ 2 ^ 20) new.vars i v short.var_attrs g;
+      stored = each_at (λ w. is_large_var new w ≡ false) new.vars i v (none_found (is_large_var new) new.vars k.sizes) g;
+      bound = k.bound i v g;
+    }))))
+
+pub written : (old new : Header) (extras : List Extra) → IsApplied old extras new → is_writable new ≡ true
+written old new extras applied =
+    let k = known old new extras applied in
+    let version = new.version in
+    let records = fits_count version new.records in
+    let dims = is_writable_list version (is_writable_dim version) new.dims in
+    let attrs = is_writable_list version (is_writable_attr version) new.attrs in
+    all_true (is_sound new && records && dims && attrs) _
+    (all_true (is_sound new && records && dims) _
+    (all_true (is_sound new && records) _
+    (all_true (is_sound new) _ (sound old new k)
+    (ap (λ (v : ℕ). fits_count v new.records) k.same.version ∙ ap (λ (n : ℕ). fits_count old.version n) k.same.records ∙ k.opened.records))
+    (dims_written old new k))
+    (attrs_written version new.attrs k.fit.attrs (is_short new k.short).attrs))
+    (vars_written old new k)
