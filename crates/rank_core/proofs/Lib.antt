@@ -16,3 +16,4 @@ pub mod FillPostLaws
 pub mod FillLookLaws
 pub mod LookLaws
 pub mod TargetLaws
+mod FittingLaws

@@ -8,3 +8,4 @@ pub mod Offering
 pub mod Stepped
 pub mod Heard
 pub mod Targets
+pub mod Fitting

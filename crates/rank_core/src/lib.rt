@@ -4,6 +4,7 @@
 
 mod answering;
 mod changing;
+mod fitting;
 mod hearing;
 mod looking;
 mod names;

@@ -13,6 +13,9 @@ mod parts;
 mod region;
 mod target;
 
+pub(crate) use filling::record_limit;
+pub(crate) use parts::element_count;
+
 use crate::Names;
 use filling::look_record;
 use nc_base::{CallErr, Code, Form, Given, Header, Memory, PostList, Values};

@@ -95,7 +95,8 @@ fn is_record_past(header: &Header, number: u64) -> bool
     file_end(header, number + 1) >= FILE_LIMIT
 }
 
-fn record_limit(version: u8) -> u64
+/// A record count is below this.
+pub(crate) fn record_limit(version: u8) -> u64
     ensures { result ≡ limits.record_limit version }
 {
     if version == 5 {

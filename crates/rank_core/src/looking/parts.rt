@@ -80,7 +80,7 @@ fn elements_of_all(regions: &[Region]) -> u64
 }
 
 /// How many elements the counts make.
-pub(super) fn element_count(counts: &[u64]) -> u64
+pub(crate) fn element_count(counts: &[u64]) -> u64
     requires few { product counts.now ≤ most_elements }
     ensures { result ≡ product counts.now }
 {

@@ -1,0 +1,27 @@
+-- Numbers of two lists that are the same, place by place.
+use Rattle.std.proofs.Common.{◌≡◌, ℕ, suc, ◌+◌, ◌<◌, ◌∙◌, ap, sym, subst, refl, List, [], ◌∷◌, ◌++◌, length, map, take, Bool, true, false, bytes_eq, get_or, arith}
+use Rattle.std.proofs.Math.Seq.{take-length, take-suc}
+use Rattle.std.proofs.lemmas.List.{map-append}
+use Rattle.std.proofs.lemmas.Slice.Eq.{bytes_eq-Decides}
+use Rattle.rank_core.proofs.HeardLaws.{same_at, same_long}
+
+pub are_same : (xs ys : List ℕ) → xs ≡ ys → bytes_eq xs ys ≡ true
+are_same xs ys e = (bytes_eq-Decides xs ys).1 e
+
+pub not_same : (xs ys : List ℕ) → (xs ≡ ys → ⊥) → bytes_eq xs ys ≡ false
+not_same xs ys n = by_value (bytes_eq xs ys) refl
+  where
+    by_value : (b : Bool) → b ≡ bytes_eq xs ys → bytes_eq xs ys ≡ false
+    by_value true f = absurd (n ((bytes_eq-Decides xs ys).0 (sym f)))
+    by_value false f = sym f
+
+-- one place more
+pub same_more : {A B : Type 0} (f : A → ℕ) (g : B → ℕ) (xs : List A) (ys : List B) (i : ℕ) (x : A) (y : B) → map f (take i xs) ≡ map g (take i ys)
+    → i < length xs → i < length ys → x ≡ get_or xs i x → y ≡ get_or ys i y → f x ≡ g y → map f (take (i + 1) xs) ≡ map g (take (i + 1) ys)
+same_more f g xs ys i x y h l k e d same =
+    let n : i + 1 ≡ suc i = omega arith in
+    ap (λ (m : ℕ). map f (take m xs)) n ∙ ap (map f) (take-suc xs i x l) ∙ map-append f (take i xs) (get_or xs i x ∷ [])
+    ∙ (λ j. h j ++ one j ∷ []) ∙ sym (map-append g (take i ys) (get_or ys i y ∷ [])) ∙ sym (ap (map g) (take-suc ys i y k)) ∙ sym (ap (λ (m : ℕ). map g (take m ys)) n)
+  where
+    one : f (get_or xs i x) ≡ g (get_or ys i y)
+    one = ap f (sym e) ∙ same ∙ ap g d
