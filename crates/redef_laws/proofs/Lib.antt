@@ -26,3 +26,4 @@ pub mod FallingLaws
 pub mod GapLaws
 pub mod OldBegins
 pub mod RisingLaws
+pub mod AppliedLaws

@@ -1,0 +1,133 @@
+-- The additions, one after another.
+use Rattle.std.proofs.Common.{◌≡◌, ℕ, zero, suc, ◌+◌, ◌<◌, ◌≤◌, List, [], ◌∷◌, ◌++◌, length, get_or, drop, fold, Bool, true, false, cond, Option, Some, None, refl, sym, ap, subst, ◌∙◌, arith, length-append}
+use Rattle.std.specs.Prelude.{position, bytes_eq, not, nat_lt, nat_le}
+use Rattle.std.specs.List.{prefix_len}
+use Rattle.std.proofs.Math.ListN.{set}
+use Rattle.std.proofs.lemmas.Bool.Decides.{nat_tests}
+use Rattle.std.proofs.lemmas.List.{drop_more, drop_all}
+use Rattle.std.proofs.lemmas.List.Quantifiers.{position-Some}
+use Rattle.nc_base.specs.declared.header.Header.{Header}
+use Rattle.nc_base.specs.declared.header.Var.{Var}
+use Rattle.nc_base.specs.declared.header.Attr.{Attr}
+use Rattle.nc_base.specs.declared.script.Extra.{Extra}
+use Rattle.nc_base.specs.declared.script.Extra.TheVariants as extra
+use Rattle.nc_base.specs.declared.errors.RedefErr.{RedefErr}
+use Rattle.nc_base.specs.declared.errors.RedefErr.TheVariants as redef
+use Rattle.serial_spec.specs.Limits.{most_dims}
+use Rattle.serial_spec.specs.Redefinition.{with_attr, with_extra, first_fault, extra_fault, extras_from, extras_fault, added, is_taken, is_unknown, has_bad_shape, is_one_too_many, has_bad_kind}
+
+-- the first variable of the name
+attr_at : (name : List ℕ) (a : Attr) (vs : List Var) (k : ℕ) (d : Var) → k < length vs → bytes_eq (get_or vs k d).name name ≡ true
+    → ((j : ℕ) → j < k → bytes_eq (get_or vs j d).name name ≡ false)
+    → with_attr name a vs ≡ set vs k (record (get_or vs k d) { attrs = (get_or vs k d).attrs ++ a ∷ [] })
+attr_at name a [] k d h e f = absurd (omega arith)
+attr_at name a (v ∷ vs) zero d h e f =
+    ap (λ (t : Bool). cond t (record v { attrs = v.attrs ++ a ∷ [] } ∷ vs) (v ∷ with_attr name a vs)) e
+attr_at name a (v ∷ vs) (suc k) d h e f =
+    ap (λ (t : Bool). cond t (record v { attrs = v.attrs ++ a ∷ [] } ∷ vs) (v ∷ with_attr name a vs)) (f 0 (omega arith))
+    ∙ ap (λ ws. v ∷ ws) (attr_at name a vs k d (omega arith) e (λ j g. f (suc j) (omega arith)))
+
+attr_there : (name : List ℕ) (a : Attr) (vs : List Var) (k : ℕ) (d : Var) → position (λ (v : Var). bytes_eq v.name name) vs ≡ Some k
+    → with_attr name a vs ≡ set vs k (record (get_or vs k d) { attrs = (get_or vs k d).attrs ++ a ∷ [] })
+attr_there name a vs k d e =
+    let found = position-Some (λ (v : Var). bytes_eq v.name name) vs k d e in
+    attr_at name a vs k d found.0 found.1 found.2
+
+-- what a push to the attributes of the variable at k leaves
+pub attr_pushed : (name : List ℕ) (a : Attr) (vs items left : List Var) (k : ℕ) (v : Var) (attrs : List Attr) → position (λ (w : Var). bytes_eq w.name name) vs ≡ Some k
+    → items ≡ vs → v ≡ get_or items k v → attrs ≡ v.attrs ++ a ∷ [] → left ≡ set items k (record v { attrs = attrs })
+    → left ≡ with_attr name a vs
+attr_pushed name a vs items left k v attrs e same there pushed set_there =
+    let here : get_or vs k v ≡ v = sym (there ∙ ap (λ (ws : List Var). get_or ws k v) same) in
+    set_there ∙ ap (λ (ws : List Var). set ws k (record v { attrs = attrs })) same
+    ∙ ap (λ (bs : List Attr). set vs k (record v { attrs = bs })) pushed
+    ∙ ap (λ (w : Var). set vs k (record w { attrs = w.attrs ++ a ∷ [] })) (sym here)
+    ∙ sym (attr_there name a vs k v e)
+
+pub attr_nowhere : (name : List ℕ) (a : Attr) (vs : List Var) → position (λ (v : Var). bytes_eq v.name name) vs ≡ None → with_attr name a vs ≡ vs
+attr_nowhere name a vs e = all_other vs (fewer _ _ e)
+  where
+    fewer : (n m : ℕ) → cond (nat_lt n m) (Some n) None ≡ None → m ≤ n
+    fewer n m g = by_test (nat_lt n m) refl g
+      where
+        by_test : (t : Bool) → nat_lt n m ≡ t → cond t (Some n) None ≡ None → m ≤ n
+        by_test true f g = cc
+        by_test false f g = grind (arith, nat_tests)
+
+    all_other : (ws : List Var) → length ws ≤ prefix_len (λ (v : Var). not (bytes_eq v.name name)) ws → with_attr name a ws ≡ ws
+    all_other [] h = refl
+    all_other (w ∷ ws) h = by_name (bytes_eq w.name name) h (all_other ws)
+      where
+        by_name : (t : Bool) → length (w ∷ ws) ≤ cond (not t) (1 + prefix_len (λ (v : Var). not (bytes_eq v.name name)) ws) 0
+            → (length ws ≤ prefix_len (λ (v : Var). not (bytes_eq v.name name)) ws → with_attr name a ws ≡ ws)
+            → cond t (record w { attrs = w.attrs ++ a ∷ [] } ∷ ws) (w ∷ with_attr name a ws) ≡ w ∷ ws
+        by_name true g rest = absurd (omega arith)
+        by_name false g rest = ap (λ vs. w ∷ vs) (rest (omega arith))
+
+-- ---- extra after extra
+
+pub extras_goes_on : (header : Header) (k : ℕ) (e : Extra) (es : List Extra) → extra_fault header k e ≡ None
+    → extras_from header k (e ∷ es) ≡ extras_from (with_extra header e) (suc k) es
+extras_goes_on header k e es h = ap (λ (o : Option RedefErr). elim o [ Some f ↦ Some f | None ↦ extras_from (with_extra header e) (suc k) es ]) h
+
+pub extras_stops : (header : Header) (k : ℕ) (e : Extra) (es : List Extra) (f : RedefErr) → extra_fault header k e ≡ Some f
+    → extras_from header k (e ∷ es) ≡ Some f
+extras_stops header k e es f h = ap (λ (o : Option RedefErr). elim o [ Some g ↦ Some g | None ↦ extras_from (with_extra header e) (suc k) es ]) h
+
+fourth_passes : (a b c d e : Bool) (p q r s t : RedefErr) → first_fault ((a, p) ∷ (b, q) ∷ (c, r) ∷ (d, s) ∷ (e, t) ∷ []) ≡ None → d ≡ false
+fourth_passes true b c d e p q r s t h = cc
+fourth_passes false true c d e p q r s t h = cc
+fourth_passes false false true d e p q r s t h = cc
+fourth_passes false false false true e p q r s t h = cc
+fourth_passes false false false false e p q r s t h = refl
+
+-- no dimension is added where there are as many as can be
+pub few_still : (header : Header) (k : ℕ) (e : Extra) → extra_fault header k e ≡ None → length header.dims ≤ most_dims → length (with_extra header e).dims ≤ most_dims
+few_still header k (extra.Dim d) h few =
+    let room : nat_le most_dims (length header.dims) ≡ false = fourth_passes (is_taken header (extra.Dim d)) (is_unknown header (extra.Dim d)) (has_bad_shape header (extra.Dim d)) (is_one_too_many header (extra.Dim d)) (has_bad_kind header (extra.Dim d))
+    (redef.Taken k) (redef.Unknown k) (redef.Shape k) (redef.TooMany k) (redef.Kind k) h in
+    let below : length header.dims < most_dims = grind (arith, nat_tests) in
+    let more = length-append header.dims (d ∷ []) in
+    omega arith
+few_still header k (extra.Var kind name dims) h few = few
+few_still header k (extra.Att None a) h few = few
+few_still header k (extra.Att (Some owner) a) h few = few
+
+-- after the first k extras
+pub record AddedSoFar (header : Header) (extras : List Extra) (k : ℕ) (new : Header) : Type 0 where
+  pub few : length new.dims ≤ most_dims
+  pub fault : extras_from new k (drop k extras) ≡ extras_fault header extras
+  pub rest : fold with_extra new (drop k extras) ≡ added header extras
+
+pub added_next : (header : Header) (extras : List Extra) (k : ℕ) (new after : Header) (e : Extra) → k < length extras → e ≡ get_or extras k e
+    → extra_fault new k e ≡ None → after ≡ with_extra new e → AddedSoFar header extras k new → AddedSoFar header extras (k + 1) after
+added_next header extras k new after e within there none made so_far =
+    let next = drop_more extras k e within ∙ ap (λ (x : Extra). x ∷ drop (k + 1) extras) (sym there) in
+    record {
+      few = subst (λ (h : Header). length h.dims ≤ most_dims) (sym made) (few_still new k e none so_far.few);
+      fault =
+          ap (λ (h : Header). extras_from h (k + 1) (drop (k + 1) extras)) made
+          ∙ ap (λ (n : ℕ). extras_from (with_extra new e) n (drop (k + 1) extras)) (let g : k + 1 ≡ suc k = omega arith in g)
+          ∙ sym (extras_goes_on new k e (drop (k + 1) extras) none)
+          ∙ sym (ap (λ es. extras_from new k es) next)
+          ∙ so_far.fault;
+      rest =
+          ap (λ (h : Header). fold with_extra h (drop (k + 1) extras)) made
+          ∙ sym (ap (λ es. fold with_extra new es) next)
+          ∙ so_far.rest;
+    }
+
+pub added_stops : (header : Header) (extras : List Extra) (k : ℕ) (new : Header) (e : Extra) (f : RedefErr) → k < length extras → e ≡ get_or extras k e
+    → extra_fault new k e ≡ Some f → AddedSoFar header extras k new → extras_fault header extras ≡ Some f
+added_stops header extras k new e f within there some so_far =
+    sym so_far.fault
+    ∙ ap (λ es. extras_from new k es) (drop_more extras k e within ∙ ap (λ (x : Extra). x ∷ drop (k + 1) extras) (sym there))
+    ∙ extras_stops new k e (drop (k + 1) extras) f some
+
+pub added_whole : (header : Header) (extras : List Extra) (k : ℕ) (new : Header) → length extras ≤ k → AddedSoFar header extras k new
+    → (extras_fault header extras ≡ None) × (new ≡ added header extras)
+added_whole header extras k new past so_far =
+    let none = drop_all k extras past in (
+      sym so_far.fault ∙ ap (λ es. extras_from new k es) none,
+      sym (ap (λ es. fold with_extra new es) none) ∙ so_far.rest,
+    )

@@ -1,0 +1,34 @@
+-- The calls of a relocation, one worker's after another's.
+use Rattle.std.proofs.Common.{◌≡◌, ℕ, ◌≤◌, refl, sym, ◌∙◌, ap, List, [], ◌∷◌, ◌++◌, length, Option, Some, None, arith}
+use Rattle.std.specs.Prelude.{reverse, IfSome}
+use Rattle.nc_base.specs.declared.header.Header.{Header}
+use Rattle.nc_base.specs.declared.step.DiskCall.{DiskCall}
+use Rattle.nc_base.specs.declared.step.DiskCall.TheVariants.{Store}
+use Rattle.nc_outside.specs.Told.{with_end}
+use Rattle.serial_spec.specs.DeviceCalls.{Slab, grow_to}
+use Rattle.serial_spec.specs.HeaderGrammar.{header_len}
+use Rattle.redef_laws.specs.Rising.{gaps, rising}
+use Rattle.redef_laws.specs.Shifted.{new_end}
+use Rattle.redef_mover.specs.Moves.{all_calls, gap_calls}
+use Rattle.redef_mover.specs.Carried.{carry_calls}
+use Rattle.redef_mover.proofs.ToldSteps.{calls_more}
+
+pub four_parts : (told first second third last : Option (List DiskCall)) (a b c d : List DiskCall) → first ≡ with_end told a → second ≡ with_end first b
+    → third ≡ with_end second c → last ≡ with_end third d → last ≡ with_end told (a ++ b ++ c ++ d)
+four_parts told first second third last a b c d e f g h =
+    calls_more told third last (a ++ b ++ c) d (a ++ b ++ c ++ d) refl
+    (calls_more told second third (a ++ b) c (a ++ b ++ c) refl (calls_more told first second a b (a ++ b) refl e f) g) h
+
+pub carry_called : (held : Option (List ℕ)) (told first second third last : Option (List DiskCall)) (z : ℕ) (old new : Header) (ss : List Slab) (begin end n : ℕ)
+    → ss ≡ rising old new → begin ≡ header_len new → end ≡ new_end old new → n ≡ header_len new
+    → IfSome held (λ file. first ≡ with_end told (grow_to (length file) end)) → second ≡ with_end first (all_calls z (reverse ss))
+    → third ≡ with_end second (gap_calls z (gaps begin end ss)) → last ≡ with_end third (Store 0 n ∷ [])
+    → IfSome held (λ file. last ≡ with_end told (carry_calls z old new file))
+carry_called None told first second third last z old new ss begin end n e b x k f g h i = tt
+carry_called (Some file) told first second third last z old new ss begin end n e b x k f g h i =
+    four_parts told first second third last (grow_to (length file) (new_end old new)) (all_calls z (reverse (rising old new)))
+    (gap_calls z (gaps (header_len new) (new_end old new) (rising old new))) (Store 0 (header_len new) ∷ [])
+    (f ∙ ap (λ (y : ℕ). with_end told (grow_to (length file) y)) x)
+    (g ∙ ap (λ ys. with_end first (all_calls z (reverse ys))) e)
+    (h ∙ (λ t. with_end second (gap_calls z (gaps (b t) (x t) (e t)))))
+    (i ∙ ap (λ (y : ℕ). with_end third (Store 0 y ∷ [])) k)

@@ -1,0 +1,226 @@
+-- The bytes of a file with zeros in a gap, and the windows of a gap.
+use Rattle.std.proofs.Common.{◌≡◌, ℕ, zero, suc, ◌+◌, ◌-◌, ◌*◌, ◌<◌, ◌≤◌, min, ◌⊎◌, inl, inr, refl, sym, ◌∙◌, ap, subst, List, [], ◌∷◌, ◌++◌, length, map, take, drop, get_or, Option, Some, None, arith}
+use Rattle.std.specs.Prelude.{flat_map, fold, replicate}
+use Rattle.std.proofs.lemmas.Grind.{flat_map-append, fold-append}
+use Rattle.std.specs.List.{range_with_len}
+use Rattle.std.proofs.Math.ListN.{drop_of_length-le}
+use Rattle.std.proofs.lemmas.List.{drop_more, length-replicate, map-append, take-replicate}
+use Rattle.nc_base.specs.declared.step.DiskCall.{DiskCall}
+use Rattle.nc_base.specs.declared.step.DiskCall.TheVariants.{Store}
+use Rattle.serial_spec.specs.DeviceCalls.{Slab, stores}
+use Rattle.serial_spec.specs.File.{at, written}
+use Rattle.serial_spec.proofs.FileLaws.{at-written_before, at-written_after, length-written_inside}
+use Rattle.serial_spec.proofs.SaidLaws.{at-written_inside}
+use Rattle.nc_outside.specs.Told.{after, with_end}
+use Rattle.nc_outside.proofs.ToldLaws.{after-after, after-same, with_end-with_end, with_end-nil}
+use Rattle.redef_laws.specs.Rising.{gaps}
+use Rattle.redef_mover.specs.declared.slabs.Shift.{Shift}
+use Rattle.redef_mover.specs.declared.slabs.Slabs.{Slabs}
+use Rattle.redef_mover.specs.Moves.{all_cleared, behind, cleared, further, gap_calls, gaps_before, listed, slab_of, slabs_at, AreClearable, AreSpaced}
+use Rattle.redef_mover.proofs.MovesLaws.{map_id, no_further}
+use Rattle.redef_mover.proofs.SlabLaws.{below_or, same_files, write_none}
+use Rattle.redef_mover.proofs.WindowLaws.{count_is, range_joined, windows_of}
+
+-- ---- one gap
+
+zeros_long : (n : ℕ) → length {A = ℕ} (replicate n 0) ≡ n
+zeros_long n = length-replicate {A = ℕ} n 0
+
+zero_at : (n k : ℕ) → ◌≡◌ {A = ℕ} (get_or (replicate n 0) k 0) 0
+zero_at zero k = refl
+zero_at (suc n) zero = refl
+zero_at (suc n) (suc k) = zero_at n k
+
+pub cleared_long : (file : List ℕ) (x n : ℕ) → x + n ≤ length file → length (cleared file (x, n)) ≡ length file
+cleared_long file x n h = let bytes = zeros_long n in length-written_inside file x (replicate n 0) (omega arith)
+
+pub cleared_before : (file : List ℕ) (x n y : ℕ) → y < x → at (cleared file (x, n)) y ≡ at file y
+cleared_before file x n y h = at-written_before file (replicate n 0) x y h
+
+pub cleared_after : (file : List ℕ) (x n y : ℕ) → x + n ≤ y → at (cleared file (x, n)) y ≡ at file y
+cleared_after file x n y h = let bytes = zeros_long n in at-written_after file (replicate n 0) x y (omega arith)
+
+pub cleared_inside : (file : List ℕ) (x n y : ℕ) → x ≤ y → y < x + n → at (cleared file (x, n)) y ≡ 0
+cleared_inside file x n y h k = let bytes = zeros_long n in at-written_inside file (replicate n 0) x y h (omega arith) ∙ zero_at n (y - x)
+
+-- ---- one window more
+
+both_cleared : (file : List ℕ) (x a b c : ℕ) → c ≡ a + b → x + c ≤ length file → cleared (cleared file (x, a)) (x + a, b) ≡ cleared file (x, c)
+both_cleared file x a b c e h =
+    same_files (cleared (cleared file (x, a)) (x + a, b)) (cleared file (x, c))
+    (cleared_long (cleared file (x, a)) (x + a) b room ∙ cleared_long file x a (omega arith) ∙ sym (cleared_long file x c h)) each
+  where
+    room : x + a + b ≤ length (cleared file (x, a))
+    room = let long = cleared_long file x a (omega arith) in omega arith
+
+    each : (y : ℕ) → at (cleared (cleared file (x, a)) (x + a, b)) y ≡ at (cleared file (x, c)) y
+    each y = elim (below_or y x) [
+      | inl l ↦ cleared_before (cleared file (x, a)) (x + a) b y (omega arith) ∙ cleared_before file x a y l ∙ sym (cleared_before file x c y l)
+      | inr l ↦ elim (below_or y (x + a)) [
+        | inl m ↦ cleared_before (cleared file (x, a)) (x + a) b y m ∙ cleared_inside file x a y l m ∙ sym (cleared_inside file x c y l (omega arith))
+        | inr m ↦ elim (below_or y (x + c)) [
+          | inl n ↦ cleared_inside (cleared file (x, a)) (x + a) b y m (omega arith) ∙ sym (cleared_inside file x c y l n)
+          | inr n ↦ cleared_after (cleared file (x, a)) (x + a) b y (omega arith) ∙ cleared_after file x a y m ∙ sym (cleared_after file x c y n)
+        ]
+      ]
+    ]
+
+-- the bytes of a window are zeros
+pub window_zeros : (zeros bytes : List ℕ) (n : ℕ) → zeros ≡ replicate (length zeros) 0 → n ≤ length zeros → bytes ≡ take n zeros → bytes ≡ replicate n 0
+window_zeros zeros bytes n e h k = k ∙ ap (λ (zs : List ℕ). take n zs) e ∙ take-replicate {X = ℕ} n (length zeros) 0 h
+
+pub zeros_count : (bytes : List ℕ) (n : ℕ) → bytes ≡ replicate n 0 → length bytes ≡ n
+zeros_count bytes n e = ap (λ (b : List ℕ). length b) e ∙ zeros_long n
+
+pub window_cleared : (file bytes : List ℕ) (x len z j n place from : ℕ) → x + len ≤ length file → j * z < len → n ≡ min z (len - j * z) → bytes ≡ replicate n 0
+    → from ≡ 0 → place ≡ x + j * z → written (cleared file (x, min len (j * z))) (place - from) bytes ≡ cleared file (x, min len ((j + 1) * z))
+window_cleared file bytes x len z j n place from h l k b f e =
+    let more : (j + 1) * z ≡ j * z + z = omega arith in
+    let there : place - from ≡ x + min len (j * z) = omega arith in
+    (λ t. written (cleared file (x, min len (j * z))) (there t) (b t))
+    ∙ both_cleared file x (min len (j * z)) n (min len ((j + 1) * z)) (omega arith) (omega arith)
+
+pub none_cleared : (file : List ℕ) (x n : ℕ) → n ≡ 0 → x ≤ length file → cleared file (x, n) ≡ file
+none_cleared file x n e h = ap (λ (m : ℕ). cleared file (x, m)) e ∙ write_none file x h
+
+-- ---- the stores so far
+
+abbrev pub stores_before : ℕ → ℕ → ℕ → ℕ → List DiskCall
+stores_before z x len j = map (λ i. Store (x + i * z) (min z (len - i * z))) (range_with_len 0 j)
+
+pub stores_more : (z x len j place n : ℕ) (bytes : List ℕ) → place ≡ x + j * z → n ≡ min z (len - j * z) → length bytes ≡ n
+    → stores_before z x len j ++ Store place (length bytes) ∷ [] ≡ stores_before z x len (j + 1)
+stores_more z x len j place n bytes e k long =
+    let first : j ≡ 0 + j = omega arith in
+    (λ t. stores_before z x len j ++ Store (e t) ((long ∙ k) t) ∷ [])
+    ∙ ap (λ (i : ℕ). stores_before z x len j ++ Store (x + i * z) (min z (len - i * z)) ∷ []) first
+    ∙ sym (map-append (λ i. Store (x + i * z) (min z (len - i * z))) (range_with_len 0 j) (range_with_len (0 + j) 1))
+    ∙ ap (λ js. map (λ i. Store (x + i * z) (min z (len - i * z))) js) (range_joined 0 j 1 (j + 1) refl)
+
+pub all_stored : (z x len j count : ℕ) → 0 < z → j ≡ count → count ≡ windows_of z len → stores_before z x len j ≡ stores z x len
+all_stored z x len j count h e k = ap (λ (i : ℕ). stores_before z x len i) (e ∙ k ∙ count_is z len h)
+
+-- ---- gaps that are left
+
+pub left_cleared : (whole mid now : Option (List ℕ)) (g : ℕ × ℕ) (rest all : List (ℕ × ℕ)) → all ≡ g ∷ rest → after (λ file. all_cleared file all) mid ≡ whole
+    → now ≡ after (λ file. cleared file g) mid → after (λ file. all_cleared file rest) now ≡ whole
+left_cleared whole mid now g rest all e w k =
+    ap (λ told. after (λ file. all_cleared file rest) told) k
+    ∙ after-after (λ file. all_cleared file rest) (λ file. cleared file g) mid
+    ∙ ap (λ gaps. after (λ file. all_cleared file gaps) mid) (sym e)
+    ∙ w
+
+pub left_stored : (whole mid now : Option (List DiskCall)) (z : ℕ) (g : ℕ × ℕ) (rest all : List (ℕ × ℕ)) → all ≡ g ∷ rest → with_end mid (gap_calls z all) ≡ whole
+    → now ≡ with_end mid (stores z g.0 g.1) → with_end now (gap_calls z rest) ≡ whole
+left_stored whole mid now z g rest all e w k =
+    ap (λ told. with_end told (gap_calls z rest)) k
+    ∙ with_end-with_end mid (stores z g.0 g.1) (gap_calls z rest)
+    ∙ ap (λ gaps. with_end mid (gap_calls z gaps)) (sym e)
+    ∙ w
+
+pub none_uncleared : (whole now : Option (List ℕ)) (rest : List (ℕ × ℕ)) → rest ≡ [] → after (λ file. all_cleared file rest) now ≡ whole → now ≡ whole
+none_uncleared whole None rest e w = w
+none_uncleared whole (Some file) rest e w = ap (λ gaps. Some (all_cleared file gaps)) (sym e) ∙ w
+
+pub none_unstored : (whole now : Option (List DiskCall)) (z : ℕ) (rest : List (ℕ × ℕ)) → rest ≡ [] → with_end now (gap_calls z rest) ≡ whole → now ≡ whole
+none_unstored whole now z rest e w = sym (with_end-nil now) ∙ ap (λ gaps. with_end now (gap_calls z gaps)) (sym e) ∙ w
+
+-- ---- slabs that are left, from the first one on
+
+pub slabs_left : (a b : ℕ) (ss : List Shift) (k : ℕ) (d : Shift) → k < length ss
+    → map (further a b) (map slab_of (drop k ss)) ≡ further a b (slab_of (get_or ss k d)) ∷ map (further a b) (map slab_of (drop (k + 1) ss))
+slabs_left a b ss k d h = ap (λ xs. map (further a b) (map slab_of xs)) (drop_more ss k d h)
+
+pub none_after : (a b : ℕ) (ss : List Shift) (k : ℕ) → length ss ≤ k → map (further a b) (map slab_of (drop k ss)) ≡ []
+none_after a b ss k h = ap (λ xs. map (further a b) (map slab_of xs)) (drop_of_length-le ss h)
+
+-- the first of them, its gap and what is behind it
+pub record IsFirst (long z room at : ℕ) (s : Slab) (others : List Slab) : Type 0 where
+  pub low : at ≤ s.to
+  pub inside : s.to + s.len ≤ long
+  pub fits : min z (s.to - at) ≤ room
+  pub rest : AreClearable long z room (s.to + s.len) others
+
+pub spaced_low : (at end : ℕ) (ss : List Slab) → AreSpaced at end ss → at ≤ end
+spaced_low at end [] h = h
+spaced_low at end (s ∷ others) h = let low : at ≤ s.to = h.0 in let rest = spaced_low (s.to + s.len) end others h.1 in omega arith
+
+pub first_clearable : (long z room at : ℕ) (s : Slab) (others ss : List Slab) → ss ≡ s ∷ others → AreClearable long z room at ss → IsFirst long z room at s others
+first_clearable long z room at s others ss e h =
+    let there : AreSpaced at h.end (s ∷ others) = subst (λ (xs : List Slab). AreSpaced at h.end xs) e h.spaced in
+    let low : at ≤ s.to = there.0 in
+    let high = spaced_low (s.to + s.len) h.end others there.1 in
+    let inside = h.inside in
+    let fits = h.fits in
+    record {
+      low = low;
+      inside = omega arith;
+      fits = omega arith;
+      rest = record { end = h.end; spaced = there.1; inside = inside; fits = fits };
+    }
+
+-- ---- the slabs of records that are left
+
+pub gaps_append : (at end : ℕ) (ss others : List Slab) → gaps at end (ss ++ others) ≡ gaps_before at ss ++ gaps (behind at ss) end others
+gaps_append at end [] others = refl
+gaps_append at end (s ∷ ss) others = ap (λ gs. (at, s.to - at) ∷ gs) (gaps_append (s.to + s.len) end ss others)
+
+pub spaced_front : (at end : ℕ) (ss others : List Slab) → AreSpaced at end (ss ++ others) → AreSpaced at end ss
+spaced_front at end [] others h = spaced_low at end others h
+spaced_front at end (s ∷ ss) others h = (h.0, spaced_front (s.to + s.len) end ss others h.1)
+
+pub spaced_rest : (at end : ℕ) (ss others : List Slab) → AreSpaced at end (ss ++ others) → AreSpaced (behind at ss) end others
+spaced_rest at end [] others h = h
+spaced_rest at end (s ∷ ss) others h = spaced_rest (s.to + s.len) end ss others h.1
+
+pub all_left_cleared : (whole mid now : Option (List ℕ)) (part rest all : List (ℕ × ℕ)) → all ≡ part ++ rest → after (λ file. all_cleared file all) mid ≡ whole
+    → now ≡ after (λ file. all_cleared file part) mid → after (λ file. all_cleared file rest) now ≡ whole
+all_left_cleared whole mid now part rest all e w k =
+    ap (λ told. after (λ file. all_cleared file rest) told) k
+    ∙ after-after (λ file. all_cleared file rest) (λ file. all_cleared file part) mid
+    ∙ after-same (λ file. all_cleared (all_cleared file part) rest) (λ file. all_cleared file all) mid
+    (λ file. sym (fold-append cleared file part rest) ∙ ap (λ gs. all_cleared file gs) (sym e))
+    ∙ w
+
+pub all_left_stored : (whole mid now : Option (List DiskCall)) (z : ℕ) (part rest all : List (ℕ × ℕ)) → all ≡ part ++ rest → with_end mid (gap_calls z all) ≡ whole
+    → now ≡ with_end mid (gap_calls z part) → with_end now (gap_calls z rest) ≡ whole
+all_left_stored whole mid now z part rest all e w k =
+    ap (λ told. with_end told (gap_calls z rest)) k
+    ∙ with_end-with_end mid (gap_calls z part) (gap_calls z rest)
+    ∙ ap (λ calls. with_end mid calls) (sym (flat_map-append (λ g. stores z g.0 g.1) part rest) ∙ ap (λ gs. gap_calls z gs) (sym e))
+    ∙ w
+
+-- the slabs of the records from this one on
+abbrev pub above : Slabs → ℕ → List Slab
+above slabs r = flat_map (slabs_at slabs.step slabs.records.items) (range_with_len r (slabs.count - r))
+
+pub next_record : (slabs : Slabs) (r a b : ℕ) → r < slabs.count → a ≡ r * slabs.step.old → b ≡ r * slabs.step.new
+    → above slabs r ≡ map (further a b) (map slab_of slabs.records.items) ++ above slabs (r + 1)
+next_record slabs r a b l e f =
+    let more : slabs.count - r ≡ suc (slabs.count - (r + 1)) = omega arith in
+    ap (λ (n : ℕ). flat_map (slabs_at slabs.step slabs.records.items) (range_with_len r n)) more
+    ∙ (λ t. map (further (sym e t) (sym f t)) (map slab_of slabs.records.items) ++ above slabs (r + 1))
+
+pub no_record : (slabs : Slabs) (r : ℕ) → slabs.count ≤ r → above slabs r ≡ []
+no_record slabs r h =
+    let none : slabs.count - r ≡ 0 = omega arith in
+    ap (λ (n : ℕ). flat_map (slabs_at slabs.step slabs.records.items) (range_with_len r n)) none
+
+pub fixed_first : (slabs : Slabs) (a b : ℕ) → a ≡ 0 → b ≡ 0 → listed slabs ≡ map (further a b) (map slab_of slabs.fixed.items) ++ above slabs 0
+fixed_first slabs a b e f =
+    let all : slabs.count ≡ slabs.count - 0 = omega arith in
+    (λ t. sym (map_id (further a b) (map slab_of slabs.fixed.items) (λ s. no_further a b s e f)) t ++ flat_map (slabs_at slabs.step slabs.records.items) (range_with_len 0 (all t)))
+
+-- the slabs in front can be cleared
+pub front_clearable : (long z room at end : ℕ) (ss others all : List Slab) → all ≡ ss ++ others → AreSpaced at end all → end ≤ long → min z end ≤ room
+    → AreClearable long z room at ss
+front_clearable long z room at end ss others all e h inside fits =
+    record { end = end; spaced = spaced_front at end ss others (subst (λ (xs : List Slab). AreSpaced at end xs) e h); inside = inside; fits = fits }
+
+pub spaced_on : (at place end : ℕ) (ss others all : List Slab) → all ≡ ss ++ others → place ≡ behind at ss → AreSpaced at end all → AreSpaced place end others
+spaced_on at place end ss others all e p h =
+    subst (λ (x : ℕ). AreSpaced x end others) (sym p) (spaced_rest at end ss others (subst (λ (xs : List Slab). AreSpaced at end xs) e h))
+
+pub gaps_on : (at place end : ℕ) (ss others all : List Slab) → all ≡ ss ++ others → place ≡ behind at ss → gaps at end all ≡ gaps_before at ss ++ gaps place end others
+gaps_on at place end ss others all e p =
+    ap (λ xs. gaps at end xs) e ∙ gaps_append at end ss others ∙ ap (λ (x : ℕ). gaps_before at ss ++ gaps x end others) (sym p)

@@ -1,0 +1,141 @@
+-- Slabs moved one after another: what is left to be moved gives the whole.
+use Rattle.std.proofs.Common.{◌≡◌, ℕ, zero, suc, ◌+◌, ◌-◌, ◌*◌, ◌<◌, ◌≤◌, refl, sym, ◌∙◌, ap, subst, List, [], ◌∷◌, ◌++◌, length, map, take, get_or, Option, Some, None, append_assoc, ◌⊎◌, inl, inr, arith}
+use Rattle.std.specs.Prelude.{fold, filter, flat_map, reverse}
+use Rattle.std.specs.List.{range_with_len}
+use Rattle.std.proofs.lemmas.Grind.{fold-append, flat_map-append}
+use Rattle.std.proofs.lemmas.List.{append-nil, map-append, reverse-append, take_more}
+use Rattle.std.proofs.lemmas.List.Elements.{filter-append}
+use Rattle.nc_base.specs.declared.step.DiskCall.{DiskCall}
+use Rattle.nc_outside.specs.Told.{after, with_end}
+use Rattle.nc_outside.proofs.ToldLaws.{after-after, after-same, with_end-with_end, with_end-nil}
+use Rattle.serial_spec.specs.DeviceCalls.{Slab}
+use Rattle.overlay_laws.specs.Entries.{In}
+use Rattle.overlay_laws.proofs.HullLaws.{in_flat, in_left, in_range, in_right}
+use Rattle.redef_laws.specs.Rising.{changes}
+use Rattle.redef_mover.specs.declared.slabs.Shift.{Shift}
+use Rattle.redef_mover.specs.declared.slabs.Slabs.{Slabs}
+use Rattle.redef_mover.specs.Moves.{all_calls, all_moved, further, listed, slab_calls, slab_moved, slab_of, slabs_at}
+use Rattle.redef_mover.proofs.WindowLaws.{range_joined}
+
+-- ---- two lists of slabs
+
+pub moved_append : (file : List ℕ) (a b : List Slab) → all_moved file (a ++ b) ≡ all_moved (all_moved file a) b
+moved_append file a b = ap (λ ss. fold slab_moved file ss) (filter-append changes a b) ∙ fold-append slab_moved file (filter changes a) (filter changes b)
+
+pub called_append : (z : ℕ) (a b : List Slab) → all_calls z (a ++ b) ≡ all_calls z a ++ all_calls z b
+called_append z a b = ap (λ ss. flat_map (slab_calls z) ss) (filter-append changes a b) ∙ flat_map-append (slab_calls z) (filter changes a) (filter changes b)
+
+-- ---- what is left
+
+pub left_moved : (whole mid now : Option (List ℕ)) (part rest all : List Slab) → all ≡ part ++ rest → after (λ file. all_moved file all) mid ≡ whole
+    → now ≡ after (λ file. all_moved file part) mid → after (λ file. all_moved file rest) now ≡ whole
+left_moved whole mid now part rest all e w k =
+    ap (λ told. after (λ file. all_moved file rest) told) k
+    ∙ after-after (λ file. all_moved file rest) (λ file. all_moved file part) mid
+    ∙ after-same (λ file. all_moved (all_moved file part) rest) (λ file. all_moved file all) mid
+    (λ file. sym (moved_append file part rest) ∙ ap (λ ss. all_moved file ss) (sym e))
+    ∙ w
+
+pub left_called : (whole mid now : Option (List DiskCall)) (z : ℕ) (part rest all : List Slab) → all ≡ part ++ rest → with_end mid (all_calls z all) ≡ whole
+    → now ≡ with_end mid (all_calls z part) → with_end now (all_calls z rest) ≡ whole
+left_called whole mid now z part rest all e w k =
+    ap (λ told. with_end told (all_calls z rest)) k
+    ∙ with_end-with_end mid (all_calls z part) (all_calls z rest)
+    ∙ ap (λ calls. with_end mid calls) (sym (called_append z part rest) ∙ ap (λ ss. all_calls z ss) (sym e))
+    ∙ w
+
+pub none_left : (whole now : Option (List ℕ)) (rest : List Slab) → rest ≡ [] → after (λ file. all_moved file rest) now ≡ whole → now ≡ whole
+none_left whole None rest e w = w
+none_left whole (Some file) rest e w = ap (λ ss. Some (all_moved file ss)) (sym e) ∙ w
+
+pub none_uncalled : (whole now : Option (List DiskCall)) (z : ℕ) (rest : List Slab) → rest ≡ [] → with_end now (all_calls z rest) ≡ whole → now ≡ whole
+none_uncalled whole now z rest e w = sym (with_end-nil now) ∙ ap (λ ss. with_end now (all_calls z ss)) (sym e) ∙ w
+
+-- ---- a list from its end
+
+map_twice : {A B C : Type 0} (f : B → C) (g : A → B) (xs : List A) → map f (map g xs) ≡ map (λ x. f (g x)) xs
+map_twice f g [] = refl
+map_twice f g (x ∷ xs) = ap (λ ys. f (g x) ∷ ys) (map_twice f g xs)
+
+pub last_first : {A B : Type 0} (f : A → B) (xs : List A) (k n : ℕ) (d : A) → n ≡ k + 1 → k < length xs
+    → reverse (map f (take n xs)) ≡ f (get_or xs k d) ∷ reverse (map f (take k xs))
+last_first f xs k n d e h =
+    ap (λ (m : ℕ). reverse (map f (take m xs))) e
+    ∙ ap (λ ys. reverse (map f ys)) (take_more xs k d h)
+    ∙ ap (λ ys. reverse ys) (map-append f (take k xs) (get_or xs k d ∷ []))
+    ∙ reverse-append (map f (take k xs)) (f (get_or xs k d) ∷ [])
+
+-- the slabs of one record from the last one down: the last of the first n, and those before it
+pub slab_first : (a b : ℕ) (ss : List Shift) (k n : ℕ) (d : Shift) (s : Slab) → s ≡ further a b (slab_of (get_or ss k d)) → n ≡ k + 1 → k < length ss
+    → reverse (map (further a b) (map slab_of (take n ss))) ≡ (s ∷ []) ++ reverse (map (further a b) (map slab_of (take k ss)))
+slab_first a b ss k n d s e m h =
+    ap (λ ys. reverse ys) (map_twice (further a b) slab_of (take n ss))
+    ∙ last_first (λ s. further a b (slab_of s)) ss k n d m h
+    ∙ (λ t. sym e t ∷ reverse (sym (map_twice (further a b) slab_of (take k ss)) t))
+
+pub in_at : {A : Type 0} (xs : List A) (k : ℕ) (d : A) → k < length xs → In xs (get_or xs k d)
+in_at [] k d h = absurd (omega arith)
+in_at (x ∷ xs) zero d h = inl refl
+in_at (x ∷ xs) (suc k) d h = inr (in_at xs k d (omega arith))
+
+pub in_map : {A B : Type 0} (f : A → B) (xs : List A) (x : A) → In xs x → In (map f xs) (f x)
+in_map f [] x h = h
+in_map f (y ∷ xs) x (inl e) = inl (ap f e)
+in_map f (y ∷ xs) x (inr h) = inr (in_map f xs x h)
+
+pub in_record : (a b : ℕ) (ss : List Shift) (k : ℕ) (d : Shift) → k < length ss → In (map (further a b) (map slab_of ss)) (further a b (slab_of (get_or ss k d)))
+in_record a b ss k d h = in_map (further a b) (map slab_of ss) (slab_of (get_or ss k d)) (in_map slab_of ss (get_or ss k d) (in_at ss k d h))
+
+-- ---- records from the last one down
+
+-- the slabs below those that were moved, where n records are left
+abbrev pub below : Slabs → ℕ → List Slab
+below slabs n = reverse (map slab_of slabs.fixed.items ++ flat_map (slabs_at slabs.step slabs.records.items) (range_with_len 0 n))
+
+pub record_first : (slabs : Slabs) (r n a b : ℕ) → n ≡ r + 1 → a ≡ r * slabs.step.old → b ≡ r * slabs.step.new
+    → below slabs n ≡ reverse (map (further a b) (map slab_of slabs.records.items)) ++ below slabs r
+record_first slabs r n a b e f g =
+    let f_of = slabs_at slabs.step slabs.records.items in
+    let fixed = map slab_of slabs.fixed.items in
+    ap (λ (m : ℕ). below slabs m) e
+    ∙ ap (λ rs. reverse (fixed ++ flat_map f_of rs)) (sym (range_joined 0 r 1 (r + 1) refl))
+    ∙ ap (λ ss. reverse (fixed ++ ss)) (flat_map-append f_of (range_with_len 0 r) (range_with_len (0 + r) 1))
+    ∙ ap (λ ss. reverse ss) (sym (append_assoc fixed (flat_map f_of (range_with_len 0 r)) (flat_map f_of (range_with_len (0 + r) 1))))
+    ∙ reverse-append (fixed ++ flat_map f_of (range_with_len 0 r)) (flat_map f_of (range_with_len (0 + r) 1))
+    ∙ ap (λ ss. reverse ss ++ below slabs r) one
+  where
+    one : flat_map (slabs_at slabs.step slabs.records.items) (range_with_len (0 + r) 1) ≡ map (further a b) (map slab_of slabs.records.items)
+    one =
+        let same : 0 + r ≡ r = omega arith in
+        append-nil (slabs_at slabs.step slabs.records.items (0 + r))
+        ∙ ap (λ (m : ℕ). slabs_at slabs.step slabs.records.items m) same
+        ∙ (λ t. map (further (sym f t) (sym g t)) (map slab_of slabs.records.items))
+
+pub no_further : (a b : ℕ) (s : Slab) → a ≡ 0 → b ≡ 0 → further a b s ≡ s
+no_further a b s e f =
+    let from : s.from + a ≡ s.from = omega arith in
+    let to : s.to + b ≡ s.to = omega arith in
+    λ t. record { from = from t; to = to t; len = s.len }
+
+pub map_id : {A : Type 0} (f : A → A) (xs : List A) → ((x : A) → f x ≡ x) → map f xs ≡ xs
+map_id f [] h = refl
+map_id f (x ∷ xs) h = λ t. h x t ∷ map_id f xs h t
+
+pub fixed_last : (slabs : Slabs) (n a b : ℕ) → n ≡ 0 → a ≡ 0 → b ≡ 0 → below slabs n ≡ reverse (map (further a b) (map slab_of slabs.fixed.items))
+fixed_last slabs n a b e f g =
+    ap (λ (m : ℕ). below slabs m) e
+    ∙ ap (λ ss. reverse ss) (append-nil (map slab_of slabs.fixed.items) ∙ sym (map_id (further a b) (map slab_of slabs.fixed.items) (λ s. no_further a b s f g)))
+
+-- ---- each slab is one of those listed
+
+pub fixed_listed : (slabs : Slabs) (a b : ℕ) (s : Slab) → a ≡ 0 → b ≡ 0 → In (map (further a b) (map slab_of slabs.fixed.items)) s → In (listed slabs) s
+fixed_listed slabs a b s e f h =
+    in_left (map slab_of slabs.fixed.items) (flat_map (slabs_at slabs.step slabs.records.items) (range_with_len 0 slabs.count)) s
+    (subst (λ (ss : List Slab). In ss s) (map_id (further a b) (map slab_of slabs.fixed.items) (λ s. no_further a b s e f)) h)
+
+pub record_listed : (slabs : Slabs) (r a b : ℕ) (s : Slab) → r < slabs.count → a ≡ r * slabs.step.old → b ≡ r * slabs.step.new
+    → In (map (further a b) (map slab_of slabs.records.items)) s → In (listed slabs) s
+record_listed slabs r a b s l e f h =
+    in_right (map slab_of slabs.fixed.items) (flat_map (slabs_at slabs.step slabs.records.items) (range_with_len 0 slabs.count)) s
+    (in_flat (slabs_at slabs.step slabs.records.items) (range_with_len 0 slabs.count) r s (in_range 0 slabs.count r (omega arith) (omega arith))
+    (subst (λ (ss : List Slab). In ss s) (λ t. map (further (e t) (f t)) (map slab_of slabs.records.items)) h))

@@ -1,0 +1,371 @@
+-- The header with its new begins, and why there is none.
+use Rattle.std.proofs.Common.{◌≡◌, ℕ, zero, suc, ◌+◌, ◌-◌, ◌*◌, ◌^◌, ◌<◌, List, [], ◌∷◌, length, take, map, Bool, true, false, cond, Option, Some, None, refl, sym, ap, ◌∙◌, arith}
+use Rattle.std.specs.Prelude.{sum_by, find, position, option_map, slice_get, nat_lt, nat_le, not, ◌==◌, ◌&&◌, ◌||◌, if◌then◌else◌}
+use Rattle.std.specs.List.{enumerate_from, prefix_len}
+use Rattle.std.specs.Option.{option_or}
+use Rattle.std.proofs.lemmas.Bool.Decides.{nat_tests}
+use Rattle.std.proofs.lemmas.List.Sums.{sum_by-cons}
+use Rattle.nc_base.specs.declared.header.Header.{Header}
+use Rattle.nc_base.specs.declared.header.Var.{Var}
+use Rattle.nc_base.specs.declared.script.Extra.{Extra}
+use Rattle.nc_base.specs.declared.errors.LayoutErr.{LayoutErr}
+use Rattle.nc_base.specs.declared.errors.LayoutErr.TheVariants as layout
+use Rattle.nc_base.specs.declared.errors.RedefErr.{RedefErr}
+use Rattle.nc_base.specs.declared.errors.RedefErr.TheVariants as redef
+use Rattle.serial_spec.specs.Limits.{most_header_bytes, file_limit}
+use Rattle.serial_spec.specs.HeaderGrammar.{header_len, variable, keeps_bound}
+use Rattle.serial_spec.specs.Layout.{is_record, slab, vsize, record_share, record_slabs, record_size, record_variables}
+use Rattle.serial_spec.specs.Redefinition.{Numbered, is_large_var, size_fault, is_far_begin, is_bad_begin, begin_of_number, with_begins, begins_by_number, extras_fault, added, redefined_header, redefined_fault}
+use Rattle.var_layout.specs.Capped.{capped}
+use Rattle.var_layout.proofs.WrittenLengths.{list_len, variable_len, canon_len}
+use Rattle.redef_mover.specs.Placing.{capped_pairs}
+
+-- ---- what does not look at the begins
+
+abbrev begun : ℕ → List (ℕ × ℕ) → List Var → List Var
+begun n found vars = map (λ (v : Numbered). record v.1 { begin = begin_of_number found v.0 }) (enumerate_from n vars)
+
+begun_sum : (f : Var → ℕ) → ((v : Var) (b : ℕ) → f (record v { begin = b }) ≡ f v) → (found : List (ℕ × ℕ)) (n : ℕ) (vars : List Var) → sum_by f (begun n found vars) ≡ sum_by f vars
+begun_sum f same found n [] = refl
+begun_sum f same found n (v ∷ vars) =
+    sum_by-cons f (record v { begin = begin_of_number found n }) (begun (n + 1) found vars)
+    ∙ ap (λ (m : ℕ). m + sum_by f (begun (n + 1) found vars)) (same v (begin_of_number found n))
+    ∙ ap (λ (m : ℕ). f v + m) (begun_sum f same found (n + 1) vars) ∙ sym (sum_by-cons f v vars)
+
+begun_sum_front : (f : Var → ℕ) → ((v : Var) (b : ℕ) → f (record v { begin = b }) ≡ f v) → (found : List (ℕ × ℕ)) (n : ℕ) (vars : List Var) (k : ℕ)
+    → sum_by f (take k (begun n found vars)) ≡ sum_by f (take k vars)
+begun_sum_front f same found n [] zero = refl
+begun_sum_front f same found n [] (suc k) = refl
+begun_sum_front f same found n (v ∷ vars) zero = refl
+begun_sum_front f same found n (v ∷ vars) (suc k) =
+    sum_by-cons f (record v { begin = begin_of_number found n }) (take k (begun (n + 1) found vars))
+    ∙ ap (λ (m : ℕ). m + sum_by f (take k (begun (n + 1) found vars))) (same v (begin_of_number found n))
+    ∙ ap (λ (m : ℕ). f v + m) (begun_sum_front f same found (n + 1) vars k) ∙ sym (sum_by-cons f v (take k vars))
+
+begun_slabs : (header : Header) (found : List (ℕ × ℕ)) (n : ℕ) (vars : List Var)
+    → map (λ v. slab header v) (record_variables header (begun n found vars)) ≡ map (λ v. slab header v) (record_variables header vars)
+begun_slabs header found n [] = refl
+begun_slabs header found n (v ∷ vars) = by_test (is_record header v) (begun_slabs header found (n + 1) vars)
+  where
+    by_test : (t : Bool) → map (λ w. slab header w) (record_variables header (begun (n + 1) found vars)) ≡ map (λ w. slab header w) (record_variables header vars)
+        → map (λ w. slab header w) (cond t (record v { begin = begin_of_number found n } ∷ record_variables header (begun (n + 1) found vars)) (record_variables header (begun (n + 1) found vars)))
+        ≡ map (λ w. slab header w) (cond t (v ∷ record_variables header vars) (record_variables header vars))
+    by_test true rest = ap (λ ns. slab header v ∷ ns) rest
+    by_test false rest = rest
+
+begun_large : (header : Header) (found : List (ℕ × ℕ)) (n : ℕ) (vars : List Var)
+    → prefix_len (λ v. not (is_large_var header v)) (begun n found vars) ≡ prefix_len (λ v. not (is_large_var header v)) vars
+begun_large header found n [] = refl
+begun_large header found n (v ∷ vars) = ap (λ (m : ℕ). cond (not (is_large_var header v)) (1 + m) 0) (begun_large header found (n + 1) vars)
+
+length-begun : (found : List (ℕ × ℕ)) (n : ℕ) (vars : List Var) → length (begun n found vars) ≡ length vars
+length-begun found n [] = refl
+length-begun found n (v ∷ vars) = ap (λ (m : ℕ). suc m) (length-begun found (n + 1) vars)
+
+len_kept : (header : Header) (found : List (ℕ × ℕ)) → header_len (with_begins header found) ≡ header_len header
+len_kept header found =
+    let new = canon_len (with_begins header found) in
+    let old = canon_len header in
+    let new_list = list_len header.version 11 (λ v. variable (with_begins header found) v) (begun 0 found header.vars) in
+    let old_list = list_len header.version 11 (λ v. variable header v) header.vars in
+    let same = begun_sum (λ v. length (variable header v)) (λ v b. variable_len header (record v { begin = b }) ∙ sym (variable_len header v)) found 0 header.vars in
+    omega (arith, new, old, new_list, old_list, same)
+
+pub size_kept : (header : Header) (found : List (ℕ × ℕ)) → size_fault (with_begins header found) ≡ size_fault header
+size_kept header found =
+    ap (λ (m : ℕ). option_or (option_map (λ k. layout.VarSize k) (cond (nat_lt m (length (begun 0 found header.vars))) (Some m) None))
+    (if nat_lt most_header_bytes (header_len (with_begins header found)) then Some layout.HeaderRange else None)) (begun_large header found 0 header.vars)
+    ∙ ap (λ (m : ℕ). option_or (option_map (λ k. layout.VarSize k) (cond (nat_lt (prefix_len (λ v. not (is_large_var header v)) header.vars) m) (Some (prefix_len (λ v. not (is_large_var header v)) header.vars)) None))
+    (if nat_lt most_header_bytes (header_len (with_begins header found)) then Some layout.HeaderRange else None)) (length-begun found 0 header.vars)
+    ∙ ap (λ (m : ℕ). option_or (option_map (λ k. layout.VarSize k) (position (is_large_var header) header.vars)) (if nat_lt most_header_bytes m then Some layout.HeaderRange else None)) (len_kept header found)
+
+-- ---- whether a begin is out of range, by its number alone
+
+-- of a variable at this begin, where the variables before it add so much to a record, and the record variables have these slabs
+unfoldable bad_by : Header → Var → ℕ → ℕ → List ℕ → Bool
+bad_by header v begin before slabs =
+    not (not (header.version == 1 && nat_le (2 ^ 31) begin)
+    && (nat_lt (vsize header v) file_limit && nat_lt (begin + vsize header v) file_limit
+    && (not (is_record header v)
+    || (nat_lt (before + vsize header v) file_limit
+    && (header.records == 0 || nat_lt (begin + (header.records - 1) * record_size slabs + (if length slabs == 1 then slab header v else vsize header v)) file_limit)))))
+
+unfoldable bad_at : Header → ℕ → Var → ℕ → Bool
+bad_at header k v begin = bad_by header v begin (sum_by (λ w. record_share header w) (take k header.vars)) (record_slabs header)
+
+get_begun : (found : List (ℕ × ℕ)) (n : ℕ) (vars : List Var) (k : ℕ)
+    → slice_get (begun n found vars) k ≡ option_map (λ (v : Var). record v { begin = begin_of_number found (n + k) }) (slice_get vars k)
+get_begun found n [] k = refl
+get_begun found n (v ∷ vars) zero = ap (λ (m : ℕ). Some (record v { begin = begin_of_number found m })) (let e : n ≡ n + 0 = omega arith in e)
+get_begun found n (v ∷ vars) (suc k) =
+    get_begun found (n + 1) vars k
+    ∙ ap (λ (m : ℕ). option_map (λ (w : Var). record w { begin = begin_of_number found m }) (slice_get vars k)) (let e : n + 1 + k ≡ n + suc k = omega arith in e)
+
+unfoldable bad_of : Header → List (ℕ × ℕ) → ℕ → Option Var → Bool
+bad_of header found k None = false
+bad_of header found k (Some v) = bad_at header k v (begin_of_number found k)
+
+no_var : (header : Header) (found : List (ℕ × ℕ)) (k : ℕ) → bad_of header found k None ≡ false
+unfolding bad_of
+no_var header found k = refl
+
+one_var : (header : Header) (found : List (ℕ × ℕ)) (k : ℕ) (v : Var)
+    → bad_of header found k (Some v) ≡ bad_by header v (begin_of_number found k) (sum_by (λ w. record_share header w) (take k header.vars)) (record_slabs header)
+unfolding bad_of bad_at
+one_var header found k v = refl
+
+bad_is : (header : Header) (found : List (ℕ × ℕ)) (b : ℕ × ℕ) → is_bad_begin (with_begins header found) b ≡ bad_of header found b.0 (slice_get header.vars b.0)
+unfolding bad_of bad_at bad_by
+bad_is header found b =
+    ap (λ (o : Option Var). elim o [
+      | None ↦ false
+      | Some v ↦ not (not (is_far_begin (with_begins header found) v) && keeps_bound (with_begins header found) (sum_by (λ w. record_share (with_begins header found) w) (take b.0 (with_begins header found).vars)) v)
+    ]) (get_begun found 0 header.vars b.0)
+    ∙ by_var (slice_get header.vars b.0)
+  where
+    by_var : (o : Option Var)
+        → elim (option_map (λ (v : Var). record v { begin = begin_of_number found (0 + b.0) }) o) [
+          | None ↦ false
+          | Some v ↦ not (not (is_far_begin (with_begins header found) v) && keeps_bound (with_begins header found) (sum_by (λ w. record_share (with_begins header found) w) (take b.0 (with_begins header found).vars)) v)
+        ] ≡ bad_of header found b.0 o
+    by_var None = refl
+    by_var (Some v) =
+        ap (λ (m : ℕ). bad_by header v (begin_of_number found m) (sum_by (λ w. record_share header w) (take b.0 (begun 0 found header.vars))) (record_slabs (with_begins header found))) (let e : 0 + b.0 ≡ b.0 = omega arith in e)
+        ∙ ap (λ (m : ℕ). bad_by header v (begin_of_number found b.0) m (record_slabs (with_begins header found))) (begun_sum_front (λ w. record_share header w) (λ w c. refl) found 0 header.vars b.0)
+        ∙ ap (λ (ns : List ℕ). bad_by header v (begin_of_number found b.0) (sum_by (λ w. record_share header w) (take b.0 header.vars)) ns) (begun_slabs header found 0 header.vars)
+
+-- ---- capped begins
+
+far_capped : (n : ℕ) → nat_le (2 ^ 31) (capped n) ≡ nat_le (2 ^ 31) n
+far_capped n = by_tests (nat_le (2 ^ 31) (capped n)) (nat_le (2 ^ 31) n) refl refl
+  where
+    by_tests : (t u : Bool) → nat_le (2 ^ 31) (capped n) ≡ t → nat_le (2 ^ 31) n ≡ u → t ≡ u
+    by_tests true true e f = refl
+    by_tests true false e f = absurd (grind (arith, nat_tests))
+    by_tests false true e f = absurd (grind (arith, nat_tests))
+    by_tests false false e f = refl
+
+sum_capped : (n m : ℕ) → nat_lt (capped n + m) (2 ^ 62) ≡ nat_lt (n + m) (2 ^ 62)
+sum_capped n m = by_tests (nat_lt (capped n + m) (2 ^ 62)) (nat_lt (n + m) (2 ^ 62)) refl refl
+  where
+    by_tests : (t u : Bool) → nat_lt (capped n + m) (2 ^ 62) ≡ t → nat_lt (n + m) (2 ^ 62) ≡ u → t ≡ u
+    by_tests true true e f = refl
+    by_tests true false e f = absurd (grind (arith, nat_tests))
+    by_tests false true e f = absurd (grind (arith, nat_tests))
+    by_tests false false e f = refl
+
+two_capped : (n m k : ℕ) → nat_lt (capped n + m + k) (2 ^ 62) ≡ nat_lt (n + m + k) (2 ^ 62)
+two_capped n m k =
+    ap (λ (i : ℕ). nat_lt i (2 ^ 62)) (let e : capped n + m + k ≡ capped n + (m + k) = omega arith in e) ∙ sum_capped n (m + k)
+    ∙ ap (λ (i : ℕ). nat_lt i (2 ^ 62)) (let e : n + (m + k) ≡ n + m + k = omega arith in e)
+
+bad_capped : (header : Header) (v : Var) (begin before : ℕ) (slabs : List ℕ) → bad_by header v (capped begin) before slabs ≡ bad_by header v begin before slabs
+unfolding bad_by
+bad_capped header v begin before slabs =
+    ap (λ (t : Bool). whole t (nat_lt (capped begin + vsize header v) file_limit) (nat_lt (capped begin + (header.records - 1) * record_size slabs + (if length slabs == 1 then slab header v else vsize header v)) file_limit)) (far_capped begin)
+    ∙ ap (λ (t : Bool). whole (nat_le (2 ^ 31) begin) t (nat_lt (capped begin + (header.records - 1) * record_size slabs + (if length slabs == 1 then slab header v else vsize header v)) file_limit)) (sum_capped begin (vsize header v))
+    ∙ ap (λ (t : Bool). whole (nat_le (2 ^ 31) begin) (nat_lt (begin + vsize header v) file_limit) t)
+    (two_capped begin ((header.records - 1) * record_size slabs) (if length slabs == 1 then slab header v else vsize header v))
+  where
+    whole : Bool → Bool → Bool → Bool
+    whole t u w =
+        not (not (header.version == 1 && t)
+        && (nat_lt (vsize header v) file_limit && u
+        && (not (is_record header v) || (nat_lt (before + vsize header v) file_limit && (header.records == 0 || w)))))
+
+number_capped : (found : List (ℕ × ℕ)) (k : ℕ) → begin_of_number (capped_pairs found) k ≡ capped (begin_of_number found k)
+number_capped [] k = refl
+number_capped (b ∷ found) k = by_test (b.0 == k) (number_capped found k)
+  where
+    by_test : (t : Bool) → begin_of_number (capped_pairs found) k ≡ capped (begin_of_number found k)
+        → elim (cond t (Some (b.0, capped b.1)) (find (λ (x : ℕ × ℕ). x.0 == k) (capped_pairs found))) [ None ↦ 0 | Some x ↦ x.1 ]
+        ≡ capped (elim (cond t (Some b) (find (λ (x : ℕ × ℕ). x.0 == k) found)) [ None ↦ 0 | Some x ↦ x.1 ])
+    by_test true rest = refl
+    by_test false rest = rest
+
+same_bad : (header : Header) (found : List (ℕ × ℕ)) (b : ℕ × ℕ) → is_bad_begin (with_begins header (capped_pairs found)) (b.0, capped b.1) ≡ is_bad_begin (with_begins header found) b
+same_bad header found b =
+    bad_is header (capped_pairs found) (b.0, capped b.1) ∙ by_var (slice_get header.vars b.0) ∙ sym (bad_is header found b)
+  where
+    by_var : (o : Option Var) → bad_of header (capped_pairs found) b.0 o ≡ bad_of header found b.0 o
+    by_var None = no_var header (capped_pairs found) b.0 ∙ sym (no_var header found b.0)
+    by_var (Some v) =
+        one_var header (capped_pairs found) b.0 v
+        ∙ ap (λ (n : ℕ). bad_by header v n (sum_by (λ w. record_share header w) (take b.0 header.vars)) (record_slabs header)) (number_capped found b.0)
+        ∙ bad_capped header v (begin_of_number found b.0) (sum_by (λ w. record_share header w) (take b.0 header.vars)) (record_slabs header)
+        ∙ sym (one_var header found b.0 v)
+
+-- ---- the first that is out of range
+
+pub same_first : (header : Header) (all found : List (ℕ × ℕ)) (f : ℕ → RedefErr)
+    → option_map (λ (b : ℕ × ℕ). f b.0) (find (is_bad_begin (with_begins header (capped_pairs all))) (capped_pairs found))
+    ≡ option_map (λ (b : ℕ × ℕ). f b.0) (find (is_bad_begin (with_begins header all)) found)
+same_first header all [] f = refl
+same_first header all (b ∷ found) f =
+    ap (λ (t : Bool). option_map (λ (x : ℕ × ℕ). f x.0) (cond t (Some (b.0, capped b.1)) (find (is_bad_begin (with_begins header (capped_pairs all))) (capped_pairs found)))) (same_bad header all b)
+    ∙ by_test (is_bad_begin (with_begins header all) b) (same_first header all found f)
+  where
+    by_test : (t : Bool)
+        → option_map (λ (x : ℕ × ℕ). f x.0) (find (is_bad_begin (with_begins header (capped_pairs all))) (capped_pairs found))
+        ≡ option_map (λ (x : ℕ × ℕ). f x.0) (find (is_bad_begin (with_begins header all)) found)
+        → option_map (λ (x : ℕ × ℕ). f x.0) (cond t (Some (b.0, capped b.1)) (find (is_bad_begin (with_begins header (capped_pairs all))) (capped_pairs found)))
+        ≡ option_map (λ (x : ℕ × ℕ). f x.0) (cond t (Some b) (find (is_bad_begin (with_begins header all)) found))
+    by_test true rest = refl
+    by_test false rest = rest
+
+none_left : {A B : Type 0} (f : A → B) (o : Option A) → option_map f o ≡ None → o ≡ None
+none_left f None h = refl
+none_left f (Some x) h = cc
+
+pub none_first : (header : Header) (found : List (ℕ × ℕ)) → find (is_bad_begin (with_begins header (capped_pairs found))) (capped_pairs found) ≡ None
+    → find (is_bad_begin (with_begins header found)) found ≡ None
+none_first header found h =
+    none_left (λ (b : ℕ × ℕ). redef.Taken b.0) (find (is_bad_begin (with_begins header found)) found)
+    (sym (same_first header found found (λ k. redef.Taken k)) ∙ ap (λ (o : Option (ℕ × ℕ)). option_map (λ (b : ℕ × ℕ). redef.Taken b.0) o) h)
+
+-- what another test finds fails the one that finds none
+fails_found : {A : Type 0} (p q : A → Bool) (xs : List A) (x : A) → find p xs ≡ None → find q xs ≡ Some x → p x ≡ false
+fails_found p q [] x h e = cc
+fails_found p q (y ∷ xs) x h e = by_tests (p y) (q y) refl h e (λ g f. fails_found p q xs x g f)
+  where
+    by_tests : (t u : Bool) → p y ≡ t → cond t (Some y) (find p xs) ≡ None → cond u (Some y) (find q xs) ≡ Some x → (find p xs ≡ None → find q xs ≡ Some x → p x ≡ false) → p x ≡ false
+    by_tests true u a g f rest = cc
+    by_tests false true a g f rest = let same : y ≡ x = cc in ap (λ z. p z) (sym same) ∙ a
+    by_tests false false a g f rest = rest g f
+
+found_passes : {A : Type 0} (q : A → Bool) (xs : List A) (x : A) → find q xs ≡ Some x → q x ≡ true
+found_passes q [] x e = cc
+found_passes q (y ∷ xs) x e = by_test (q y) refl e (λ f. found_passes q xs x f)
+  where
+    by_test : (u : Bool) → q y ≡ u → cond u (Some y) (find q xs) ≡ Some x → (find q xs ≡ Some x → q x ≡ true) → q x ≡ true
+    by_test true a f rest = let same : y ≡ x = cc in ap (λ z. q z) (sym same) ∙ a
+    by_test false a f rest = rest f
+
+good_small : (header : Header) (v : Var) (begin before : ℕ) (slabs : List ℕ) → bad_by header v begin before slabs ≡ false → capped begin ≡ begin
+unfolding bad_by
+good_small header v begin before slabs h =
+    by_tests (header.version == 1 && nat_le (2 ^ 31) begin) (nat_lt (vsize header v) file_limit) (nat_lt (begin + vsize header v) file_limit)
+    (not (is_record header v)
+    || (nat_lt (before + vsize header v) file_limit
+    && (header.records == 0 || nat_lt (begin + (header.records - 1) * record_size slabs + (if length slabs == 1 then slab header v else vsize header v)) file_limit)))
+    refl h
+  where
+    by_tests : (t u w x : Bool) → nat_lt (begin + vsize header v) file_limit ≡ w → not (not t && (u && w && x)) ≡ false → capped begin ≡ begin
+    by_tests true u w x e f = cc
+    by_tests false true true x e f = let below : begin + vsize header v < 2 ^ 62 = grind (arith, nat_tests) in omega arith
+    by_tests false true false x e f = cc
+    by_tests false false w x e f = cc
+
+-- where no begin is out of range, each is below 2^62
+number_same : (header : Header) (found : List (ℕ × ℕ)) (k : ℕ) (v : Var) → find (is_bad_begin (with_begins header found)) found ≡ None → slice_get header.vars k ≡ Some v
+    → begin_of_number (capped_pairs found) k ≡ begin_of_number found k
+number_same header found k v none there = number_capped found k ∙ by_place (find (λ (b : ℕ × ℕ). b.0 == k) found) refl
+  where
+    by_place : (o : Option (ℕ × ℕ)) → find (λ (b : ℕ × ℕ). b.0 == k) found ≡ o → capped (begin_of_number found k) ≡ begin_of_number found k
+    by_place None e = let zero_begin : begin_of_number found k ≡ 0 = ap (λ (p : Option (ℕ × ℕ)). elim p [ None ↦ 0 | Some x ↦ x.1 ]) e in omega arith
+    by_place (Some b) e =
+        let passes = found_passes (λ (x : ℕ × ℕ). x.0 == k) found b e in
+        let same : b.0 ≡ k = grind (arith, nat_tests) in
+        let good = sym (fails_found (is_bad_begin (with_begins header found)) (λ (x : ℕ × ℕ). x.0 == k) found b none e) ∙ bad_is header found b in
+        good_small header v (begin_of_number found k) (sum_by (λ w. record_share header w) (take k header.vars)) (record_slabs header)
+        (sym (one_var header found k v) ∙ ap (λ (p : Option Var). bad_of header found k p) (sym there)
+        ∙ ap (λ (n : ℕ). bad_of header found n (slice_get header.vars n)) (sym same) ∙ sym good)
+
+begun_same : (found : List (ℕ × ℕ)) (n : ℕ) (vars : List Var) → ((j : ℕ) (v : Var) → slice_get vars j ≡ Some v → begin_of_number (capped_pairs found) (n + j) ≡ begin_of_number found (n + j))
+    → begun n (capped_pairs found) vars ≡ begun n found vars
+begun_same found n [] h = refl
+begun_same found n (v ∷ vars) h =
+    let e : n ≡ n + 0 = omega arith in
+    let here = ap (λ (m : ℕ). begin_of_number (capped_pairs found) m) e ∙ h 0 v refl ∙ ap (λ (m : ℕ). begin_of_number found m) (sym e) in
+    ap (λ (m : ℕ). record v { begin = m } ∷ begun (n + 1) (capped_pairs found) vars) here
+    ∙ ap (λ ws. record v { begin = begin_of_number found n } ∷ ws)
+    (begun_same found (n + 1) vars (λ j w g.
+    let f : n + 1 + j ≡ n + suc j = omega arith in
+    ap (λ (m : ℕ). begin_of_number (capped_pairs found) m) f ∙ h (suc j) w g ∙ ap (λ (m : ℕ). begin_of_number found m) (sym f)))
+
+pub capped_none : (header : Header) (found : List (ℕ × ℕ)) → find (is_bad_begin (with_begins header found)) found ≡ None → with_begins header (capped_pairs found) ≡ with_begins header found
+capped_none header found none =
+    ap (λ vars. record header { vars = vars })
+    (begun_same found 0 header.vars (λ j v there.
+    let e : j ≡ 0 + j = omega arith in
+    ap (λ (m : ℕ). begin_of_number (capped_pairs found) m) (sym e) ∙ number_same header found j v none there ∙ ap (λ (m : ℕ). begin_of_number found m) e))
+
+-- ---- the fault of a whole redefinition
+
+abbrev layout_part : Header → Header → ℕ → Option RedefErr
+layout_part made header n =
+    option_map (λ e. redef.Layout e)
+    (option_or (size_fault made) (option_map (λ (b : ℕ × ℕ). layout.BeginRange b.0) (find (is_bad_begin made) (begins_by_number header n))))
+
+abbrev fault_by : Option RedefErr → Option RedefErr → Option RedefErr
+fault_by o other = elim o [ Some f ↦ Some f | None ↦ other ]
+
+pub fault_of_extra : (old : Header) (extras : List Extra) (f : RedefErr) → extras_fault old extras ≡ Some f → redefined_fault old extras ≡ Some f
+fault_of_extra old extras f h = ap (λ (o : Option RedefErr). fault_by o (layout_part (redefined_header old extras) (added old extras) (length old.vars))) h
+
+past_extras : (old : Header) (extras : List Extra) → extras_fault old extras ≡ None
+    → redefined_fault old extras ≡ layout_part (redefined_header old extras) (added old extras) (length old.vars)
+past_extras old extras h = ap (λ (o : Option RedefErr). fault_by o (layout_part (redefined_header old extras) (added old extras) (length old.vars))) h
+
+-- the first of two faults, each told as one of a redefinition
+first_told : (a : Option LayoutErr) (o : Option (ℕ × ℕ)) (e : RedefErr) → Some e ≡ option_map (λ x. redef.Layout x) a
+    → option_map (λ x. redef.Layout x) (option_or a (option_map (λ (b : ℕ × ℕ). layout.BeginRange b.0) o)) ≡ Some e
+first_told None o e h = cc
+first_told (Some x) o e h = sym h
+
+second_told : (a : Option LayoutErr) (o : Option (ℕ × ℕ)) → a ≡ None
+    → option_map (λ x. redef.Layout x) (option_or a (option_map (λ (b : ℕ × ℕ). layout.BeginRange b.0) o)) ≡ option_map (λ (b : ℕ × ℕ). redef.Layout (layout.BeginRange b.0)) o
+second_told None None h = refl
+second_told None (Some b) h = refl
+second_told (Some x) o h = cc
+
+pub fault_of_size : (old new : Header) (extras : List Extra) (e : RedefErr) → extras_fault old extras ≡ None → new ≡ added old extras → Some e ≡ option_map (λ x. redef.Layout x) (size_fault new)
+    → redefined_fault old extras ≡ Some e
+fault_of_size old new extras e none made told =
+    let header = added old extras in
+    let found = begins_by_number header (length old.vars) in
+    past_extras old extras none
+    ∙ first_told (size_fault (with_begins header found)) (find (is_bad_begin (with_begins header found)) found) e
+    (told ∙ ap (λ (h : Header). option_map (λ x. redef.Layout x) (size_fault h)) made ∙ ap (λ (o : Option LayoutErr). option_map (λ x. redef.Layout x) o) (sym (size_kept header found)))
+
+past_sizes : (old new : Header) (extras : List Extra) → extras_fault old extras ≡ None → new ≡ added old extras → option_map (λ x. redef.Layout x) (size_fault new) ≡ None
+    → redefined_fault old extras
+    ≡ option_map (λ (b : ℕ × ℕ). redef.Layout (layout.BeginRange b.0)) (find (is_bad_begin (redefined_header old extras)) (begins_by_number (added old extras) (length old.vars)))
+past_sizes old new extras none made small =
+    let header = added old extras in
+    let found = begins_by_number header (length old.vars) in
+    past_extras old extras none
+    ∙ second_told (size_fault (with_begins header found)) (find (is_bad_begin (with_begins header found)) found)
+    (size_kept header found ∙ ap (λ (h : Header). size_fault h) (sym made) ∙ none_left (λ x. redef.Layout x) (size_fault new) small)
+
+pub fault_of_begin : (old new left : Header) (extras : List Extra) (places : List (ℕ × ℕ)) (e : RedefErr) → extras_fault old extras ≡ None → new ≡ added old extras
+    → option_map (λ x. redef.Layout x) (size_fault new) ≡ None → places ≡ capped_pairs (begins_by_number new (length old.vars)) → left ≡ with_begins new places
+    → option_map (λ (b : ℕ × ℕ). redef.Layout (layout.BeginRange b.0)) (find (is_bad_begin left) places) ≡ Some e → redefined_fault old extras ≡ Some e
+fault_of_begin old new left extras places e none made small placed begun_left told =
+    let header = added old extras in
+    let found = begins_by_number header (length old.vars) in
+    let same : places ≡ capped_pairs found = placed ∙ ap (λ (h : Header). capped_pairs (begins_by_number h (length old.vars))) made in
+    let left_is : left ≡ with_begins header (capped_pairs found) = begun_left ∙ ap (λ (h : Header). with_begins h places) made ∙ ap (λ ps. with_begins header ps) same in
+    past_sizes old new extras none made small
+    ∙ sym (same_first header found found (λ k. redef.Layout (layout.BeginRange k)))
+    ∙ sym (ap (λ (h : Header). option_map (λ (b : ℕ × ℕ). redef.Layout (layout.BeginRange b.0)) (find (is_bad_begin h) places)) left_is
+    ∙ ap (λ ps. option_map (λ (b : ℕ × ℕ). redef.Layout (layout.BeginRange b.0)) (find (is_bad_begin (with_begins header (capped_pairs found))) ps)) same)
+    ∙ told
+
+pub no_fault : (old new left : Header) (extras : List Extra) (places : List (ℕ × ℕ)) → extras_fault old extras ≡ None → new ≡ added old extras
+    → option_map (λ x. redef.Layout x) (size_fault new) ≡ None → places ≡ capped_pairs (begins_by_number new (length old.vars)) → left ≡ with_begins new places
+    → find (is_bad_begin left) places ≡ None → (redefined_fault old extras ≡ None) × (left ≡ redefined_header old extras)
+no_fault old new left extras places none made small placed begun_left good =
+    let header = added old extras in
+    let found = begins_by_number header (length old.vars) in
+    let same : places ≡ capped_pairs found = placed ∙ ap (λ (h : Header). capped_pairs (begins_by_number h (length old.vars))) made in
+    let left_is : left ≡ with_begins header (capped_pairs found) = begun_left ∙ ap (λ (h : Header). with_begins h places) made ∙ ap (λ ps. with_begins header ps) same in
+    let clean : find (is_bad_begin (with_begins header (capped_pairs found))) (capped_pairs found) ≡ None =
+    sym (ap (λ (h : Header). find (is_bad_begin h) places) left_is ∙ ap (λ ps. find (is_bad_begin (with_begins header (capped_pairs found))) ps) same) ∙ good in
+    let exact = none_first header found clean in (
+      past_sizes old new extras none made small ∙ ap (λ (o : Option (ℕ × ℕ)). option_map (λ (b : ℕ × ℕ). redef.Layout (layout.BeginRange b.0)) o) exact,
+      left_is ∙ capped_none header found exact,
+    )
+
+pub length_kept : (header left : Header) (found : List (ℕ × ℕ)) → left ≡ with_begins header found → length left.vars ≡ length header.vars
+length_kept header left found e = ap (λ (h : Header). length h.vars) e ∙ length-begun found 0 header.vars

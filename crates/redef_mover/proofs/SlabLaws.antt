@@ -1,0 +1,111 @@
+-- The bytes of a file in which a slab was moved.
+use Rattle.std.proofs.Common.{◌≡◌, ℕ, ◌+◌, ◌-◌, ◌<◌, ◌≤◌, ◌⊎◌, inl, inr, refl, sym, ◌∙◌, ap, subst, List, [], ◌++◌, length, take, drop, get_or, Bool, true, false, arith}
+use Rattle.std.specs.Prelude.{nat_lt}
+use Rattle.std.proofs.lemmas.Grind.{same_number_lists}
+use Rattle.std.proofs.lemmas.List.{append-nil, take-append-drop}
+use borrow.Author.Tests.{ltb-true, ltb-false}
+use Rattle.serial_spec.specs.DeviceCalls.{Slab}
+use Rattle.serial_spec.specs.File.{at, read, written}
+use Rattle.serial_spec.proofs.CellLaws.{read_long, read_at}
+use Rattle.serial_spec.proofs.FileLaws.{at-written_before, at-written_after, length-written_inside, written-inside}
+use Rattle.serial_spec.proofs.SaidLaws.{at-written_inside}
+use Rattle.redef_mover.specs.Moves.{slab_moved}
+
+pub below_or : (a b : ℕ) → (a < b) ⊎ (b ≤ a)
+below_or a b = by_test (nat_lt a b) refl
+  where
+    by_test : (t : Bool) → nat_lt a b ≡ t → (a < b) ⊎ (b ≤ a)
+    by_test true e = inl (ltb-true _ _ e)
+    by_test false e = inr (ltb-false _ _ e)
+
+-- two files as long as one another, of which each byte is the same
+pub same_files : (f g : List ℕ) → length f ≡ length g → ((x : ℕ) → at f x ≡ at g x) → f ≡ g
+same_files f g e h = same_number_lists f g e (λ x l. h x)
+
+-- ---- a write
+
+pub write_none : (file : List ℕ) (place : ℕ) → place ≤ length file → written file place [] ≡ file
+write_none file place h =
+    let same : place + 0 ≡ place = omega arith in
+    written-inside file place [] (omega arith)
+    ∙ (λ t. append-nil (take place file) t ++ drop (same t) file)
+    ∙ take-append-drop place file
+
+-- ---- one slab
+
+pub moved_long : (file : List ℕ) (s : Slab) → s.to + s.len ≤ length file → length (slab_moved file s) ≡ length file
+moved_long file s h =
+    let bytes = read_long file s.from s.len in
+    length-written_inside file s.to (read file s.from s.len) (omega arith)
+
+pub moved_before : (file : List ℕ) (s : Slab) (x : ℕ) → x < s.to → at (slab_moved file s) x ≡ at file x
+moved_before file s x h = at-written_before file (read file s.from s.len) s.to x h
+
+pub moved_after : (file : List ℕ) (s : Slab) (x : ℕ) → s.to + s.len ≤ x → at (slab_moved file s) x ≡ at file x
+moved_after file s x h =
+    let bytes = read_long file s.from s.len in
+    at-written_after file (read file s.from s.len) s.to x (omega arith)
+
+pub moved_inside : (file : List ℕ) (s : Slab) (x : ℕ) → s.to ≤ x → x < s.to + s.len → at (slab_moved file s) x ≡ at file (s.from + (x - s.to))
+moved_inside file s x h k =
+    let bytes = read_long file s.from s.len in
+    at-written_inside file (read file s.from s.len) s.to x h (omega arith) ∙ read_at file s.from s.len (x - s.to) (omega arith)
+
+pub moved_none : (file : List ℕ) (s : Slab) → s.len ≡ 0 → s.to ≤ length file → slab_moved file s ≡ file
+moved_none file s e h = ap (λ (n : ℕ). written file s.to (read file s.from n)) e ∙ write_none file s.to h
+
+-- a slab that stays
+pub moved_nowhere : (file : List ℕ) (s : Slab) → s.from ≡ s.to → s.to + s.len ≤ length file → slab_moved file s ≡ file
+moved_nowhere file s e h = same_files (slab_moved file s) file (moved_long file s h) each
+  where
+    each : (x : ℕ) → at (slab_moved file s) x ≡ at file x
+    each x = elim (below_or x s.to) [
+      | inl l ↦ moved_before file s x l
+      | inr l ↦ elim (below_or x (s.to + s.len)) [
+        | inl m ↦ (let same : s.from + (x - s.to) ≡ x = omega arith in moved_inside file s x l m ∙ ap (λ (y : ℕ). at file y) same)
+        | inr m ↦ moved_after file s x m
+      ]
+    ]
+
+-- ---- the upper part first, then the lower one
+
+pub record AreParts (low high whole : Slab) : Type 0 where
+  pub up : low.from ≤ low.to
+  pub from : high.from ≡ low.from + low.len
+  pub to : high.to ≡ low.to + low.len
+  pub first : whole.from ≡ low.from
+  pub place : whole.to ≡ low.to
+  pub all : whole.len ≡ low.len + high.len
+
+pub both_moved : (file : List ℕ) (low high whole : Slab) → AreParts low high whole → whole.to + whole.len ≤ length file
+    → slab_moved (slab_moved file high) low ≡ slab_moved file whole
+both_moved file low high whole p h =
+    same_files (slab_moved (slab_moved file high) low) (slab_moved file whole)
+    (moved_long (slab_moved file high) low room ∙ moved_long file high (omega arith) ∙ sym (moved_long file whole h)) each
+  where
+    room : low.to + low.len ≤ length (slab_moved file high)
+    room = let long = moved_long file high (omega arith) in omega arith
+
+    in_low : (x : ℕ) → low.to ≤ x → x < low.to + low.len → at (slab_moved (slab_moved file high) low) x ≡ at (slab_moved file whole) x
+    in_low x l m =
+        let place : whole.from + (x - whole.to) ≡ low.from + (x - low.to) = omega arith in
+        moved_inside (slab_moved file high) low x l m ∙ moved_before file high (low.from + (x - low.to)) (omega arith)
+        ∙ sym (moved_inside file whole x (omega arith) (omega arith) ∙ ap (λ (y : ℕ). at file y) place)
+
+    in_high : (x : ℕ) → low.to + low.len ≤ x → x < whole.to + whole.len → at (slab_moved (slab_moved file high) low) x ≡ at (slab_moved file whole) x
+    in_high x l m =
+        let place : whole.from + (x - whole.to) ≡ high.from + (x - high.to) = omega arith in
+        moved_after (slab_moved file high) low x l ∙ moved_inside file high x (omega arith) (omega arith)
+        ∙ sym (moved_inside file whole x (omega arith) (omega arith) ∙ ap (λ (y : ℕ). at file y) place)
+
+    each : (x : ℕ) → at (slab_moved (slab_moved file high) low) x ≡ at (slab_moved file whole) x
+    each x = elim (below_or x low.to) [
+      | inl l ↦ moved_before (slab_moved file high) low x l ∙ moved_before file high x (omega arith) ∙ sym (moved_before file whole x (omega arith))
+      | inr l ↦ elim (below_or x (low.to + low.len)) [
+        | inl m ↦ in_low x l m
+        | inr m ↦ elim (below_or x (whole.to + whole.len)) [
+          | inl n ↦ in_high x m n
+          | inr n ↦ moved_after (slab_moved file high) low x m ∙ moved_after file high x (omega arith) ∙ sym (moved_after file whole x n)
+        ]
+      ]
+    ]

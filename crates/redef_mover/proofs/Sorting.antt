@@ -1,0 +1,199 @@
+-- A stable sort by a number leaves just one list: the one that insertion leaves.
+use Rattle.std.proofs.Common.{◌≡◌, ℕ, suc, ◌<◌, ◌≤◌, List, [], ◌∷◌, length, get_or, map, Bool, true, false, cond, refl, sym, ap, ◌∙◌, arith, inl, inr, ◌⊎◌}
+use Rattle.std.specs.Prelude.{filter, nat_lt, nat_le, not, ◌==◌, ◌&&◌}
+use Rattle.std.specs.List.{list_all}
+use Rattle.std.specs.List.Sorted.{IsNonDecreasingBy, IsStableByKey, ties}
+use Rattle.std.specs.Ordering.{nat_cmp, is_lt}
+use Rattle.std.specs.declared.cmp.Ordering.TheVariants.{Less, Equal, Greater}
+use Rattle.std.proofs.lemmas.Bool.Decides.{nat_tests}
+use Rattle.std.proofs.lemmas.Bool.{cases_lt}
+
+abbrev pub put_by : {A : Type 0} → (A → ℕ) → A → List A → List A
+put_by key x [] = x ∷ []
+put_by key x (y ∷ ys) = cond (nat_le (key x) (key y)) (x ∷ y ∷ ys) (y ∷ put_by key x ys)
+
+abbrev pub sorted_by : {A : Type 0} → (A → ℕ) → List A → List A
+sorted_by key [] = []
+sorted_by key (x ∷ xs) = put_by key x (sorted_by key xs)
+
+-- the items of this number
+abbrev pub of_key : {A : Type 0} → (A → ℕ) → ℕ → List A → List A
+of_key key n xs = filter (λ x. key x == n) xs
+
+abbrev pub lies_below : {A : Type 0} → (A → ℕ) → ℕ → List A → Bool
+lies_below key n xs = list_all (λ x. nat_le n (key x)) xs
+
+abbrev pub Rises : {A : Type 0} → (A → ℕ) → List A → Type 0
+Rises key [] = Unit {0}
+Rises key (x ∷ xs) = (lies_below key (key x) xs ≡ true) × Rises key xs
+
+-- ---- what insertion leaves
+
+put_keeps : {A : Type 0} (key : A → ℕ) (n : ℕ) (x : A) (xs : List A) → of_key key n (put_by key x xs) ≡ of_key key n (x ∷ xs)
+put_keeps key n x [] = refl
+put_keeps key n x (y ∷ ys) = by_order (nat_le (key x) (key y)) refl (put_keeps key n x ys)
+  where
+    apart : (t u : Bool) → (key x == n) ≡ t → (key y == n) ≡ u → nat_le (key x) (key y) ≡ false → of_key key n (put_by key x ys) ≡ cond t (x ∷ of_key key n ys) (of_key key n ys)
+        → cond u (y ∷ of_key key n (put_by key x ys)) (of_key key n (put_by key x ys)) ≡ cond t (x ∷ cond u (y ∷ of_key key n ys) (of_key key n ys)) (cond u (y ∷ of_key key n ys) (of_key key n ys))
+    apart true true e f g rest = absurd (grind (arith, nat_tests))
+    apart true false e f g rest = rest
+    apart false true e f g rest = ap (λ zs. y ∷ zs) rest
+    apart false false e f g rest = rest
+
+    by_order : (t : Bool) → nat_le (key x) (key y) ≡ t → of_key key n (put_by key x ys) ≡ of_key key n (x ∷ ys)
+        → of_key key n (cond t (x ∷ y ∷ ys) (y ∷ put_by key x ys)) ≡ of_key key n (x ∷ y ∷ ys)
+    by_order true e rest = refl
+    by_order false e rest = apart (key x == n) (key y == n) refl refl e rest
+
+pub sorted_keeps : {A : Type 0} (key : A → ℕ) (n : ℕ) (xs : List A) → of_key key n (sorted_by key xs) ≡ of_key key n xs
+sorted_keeps key n [] = refl
+sorted_keeps key n (x ∷ xs) =
+    put_keeps key n x (sorted_by key xs) ∙ ap (λ ys. cond (key x == n) (x ∷ ys) ys) (sorted_keeps key n xs)
+
+and_both : (t u : Bool) → (t && u) ≡ true → (t ≡ true) × (u ≡ true)
+and_both true u e = (refl, e)
+and_both false u e = cc
+
+put_below : {A : Type 0} (key : A → ℕ) (n : ℕ) (x : A) (xs : List A) → n ≤ key x → lies_below key n xs ≡ true → lies_below key n (put_by key x xs) ≡ true
+put_below key n x [] h e = let first : nat_le n (key x) ≡ true = grind (arith, nat_tests) in ap (λ (t : Bool). t && true) first
+put_below key n x (y ∷ ys) h e =
+    let both = and_both (nat_le n (key y)) (lies_below key n ys) e in
+    by_order (nat_le (key x) (key y)) both.0 (put_below key n x ys h both.1)
+  where
+    first : nat_le n (key x) ≡ true
+    first = grind (arith, nat_tests)
+
+    by_order : (t : Bool) → nat_le n (key y) ≡ true → lies_below key n (put_by key x ys) ≡ true → lies_below key n (cond t (x ∷ y ∷ ys) (y ∷ put_by key x ys)) ≡ true
+    by_order true f rest = ap (λ (t : Bool). t && lies_below key n (y ∷ ys)) first ∙ e
+    by_order false f rest = ap (λ (t : Bool). t && lies_below key n (put_by key x ys)) f ∙ rest
+
+lower : {A : Type 0} (key : A → ℕ) (n m : ℕ) (xs : List A) → n ≤ m → lies_below key m xs ≡ true → lies_below key n xs ≡ true
+lower key n m [] h e = refl
+lower key n m (x ∷ xs) h e =
+    let both = and_both (nat_le m (key x)) (lies_below key m xs) e in
+    let m_le = both.0 in
+    let first : nat_le n (key x) ≡ true = grind (arith, nat_tests) in
+    ap (λ (t : Bool). t && lies_below key n xs) first ∙ lower key n m xs h both.1
+
+put_rises : {A : Type 0} (key : A → ℕ) (x : A) (xs : List A) → Rises key xs → Rises key (put_by key x xs)
+put_rises key x [] h = (refl, tt)
+put_rises key x (y ∷ ys) h = by_order (nat_le (key x) (key y)) refl (put_rises key x ys h.1)
+  where
+    by_order : (t : Bool) → nat_le (key x) (key y) ≡ t → Rises key (put_by key x ys) → Rises key (cond t (x ∷ y ∷ ys) (y ∷ put_by key x ys))
+    by_order true e rest =
+        (ap (λ (t : Bool). t && lies_below key (key x) ys) e ∙ lower key (key x) (key y) ys (let g : key x ≤ key y = grind (arith, nat_tests) in g) h.0, h)
+    by_order false e rest = (put_below key (key y) x ys (let g : key y ≤ key x = grind (arith, nat_tests) in g) h.0, rest)
+
+pub sorted_rises : {A : Type 0} (key : A → ℕ) (xs : List A) → Rises key (sorted_by key xs)
+sorted_rises key [] = tt
+sorted_rises key (x ∷ xs) = put_rises key x (sorted_by key xs) (sorted_rises key xs)
+
+-- ---- there is one such list
+
+own_key : {A : Type 0} (key : A → ℕ) (x : A) (xs : List A) → of_key key (key x) (x ∷ xs) ≡ x ∷ of_key key (key x) xs
+own_key key x xs = ap (λ (t : Bool). cond t (x ∷ of_key key (key x) xs) (of_key key (key x) xs)) (let e : (key x == key x) ≡ true = grind (arith, nat_tests) in e)
+
+other_key : {A : Type 0} (key : A → ℕ) (n : ℕ) (x : A) (xs : List A) → (key x == n) ≡ false → of_key key n (x ∷ xs) ≡ of_key key n xs
+other_key key n x xs e = ap (λ (t : Bool). cond t (x ∷ of_key key n xs) (of_key key n xs)) e
+
+none_lower : {A : Type 0} (key : A → ℕ) (n m : ℕ) (xs : List A) → n < m → lies_below key m xs ≡ true → of_key key n xs ≡ []
+none_lower key n m [] h e = refl
+none_lower key n m (x ∷ xs) h e =
+    let both = and_both (nat_le m (key x)) (lies_below key m xs) e in
+    let le = both.0 in
+    other_key key n x xs (let f : (key x == n) ≡ false = grind (arith, nat_tests) in f) ∙ none_lower key n m xs h both.1
+
+none_before : {A : Type 0} (key : A → ℕ) (n : ℕ) (x : A) (xs : List A) → n < key x → Rises key (x ∷ xs) → of_key key n (x ∷ xs) ≡ []
+none_before key n x xs h r = other_key key n x xs (let f : (key x == n) ≡ false = grind (arith, nat_tests) in f) ∙ none_lower key n (key x) xs h r.0
+
+not_lower : {A : Type 0} (key : A → ℕ) (x y : A) (xs ys : List A) → Rises key (y ∷ ys) → ((n : ℕ) → of_key key n (x ∷ xs) ≡ of_key key n (y ∷ ys)) → key x < key y → ⊥
+not_lower key x y xs ys r same h =
+    let e = sym (own_key key x xs) ∙ same (key x) ∙ none_before key (key x) y ys h r in
+    cc
+
+pub one_sorted : {A : Type 0} (key : A → ℕ) (xs ys : List A) → Rises key xs → Rises key ys → ((n : ℕ) → of_key key n xs ≡ of_key key n ys) → xs ≡ ys
+one_sorted key [] [] r s same = refl
+one_sorted key [] (y ∷ ys) r s same = let e = same (key y) ∙ own_key key y ys in cc
+one_sorted key (x ∷ xs) [] r s same = let e = sym (own_key key x xs) ∙ same (key x) in cc
+one_sorted {A} key (x ∷ xs) (y ∷ ys) r s same = whole (first (key_of (cases_lt (key x) (key y)) (cases_lt (key y) (key x)))) (one_sorted key xs ys r.1 s.1)
+  where
+    key_of : (key x < key y) ⊎ (key y ≤ key x) → (key y < key x) ⊎ (key x ≤ key y) → key x ≡ key y
+    key_of (inl h) b = absurd (not_lower key x y xs ys s same h)
+    key_of (inr g) (inl h) = absurd (not_lower key y x ys xs r (λ n. sym (same n)) h)
+    key_of (inr g) (inr h) = omega arith
+
+    first : key x ≡ key y → (x ≡ y) × (of_key key (key x) xs ≡ of_key key (key x) ys)
+    first e =
+        let both : (x ∷ of_key key (key x) xs) ≡ (y ∷ of_key key (key x) ys) =
+        sym (own_key key x xs) ∙ same (key x) ∙ ap (λ (t : Bool). cond t (y ∷ of_key key (key x) ys) (of_key key (key x) ys)) (let f : (key y == key x) ≡ true = grind (arith, nat_tests) in f) in
+        (cc, cc)
+
+    rest : x ≡ y → of_key key (key x) xs ≡ of_key key (key x) ys → (n : ℕ) → of_key key n xs ≡ of_key key n ys
+    rest e here n = by_test (key x == n) refl
+      where
+        by_test : (t : Bool) → (key x == n) ≡ t → of_key key n xs ≡ of_key key n ys
+        by_test true f =
+            let same_key : key x ≡ n = grind (arith, nat_tests) in
+            ap (λ (m : ℕ). of_key key m xs) (sym same_key) ∙ here ∙ ap (λ (m : ℕ). of_key key m ys) same_key
+        by_test false f = sym (other_key key n x xs f) ∙ same n ∙ other_key key n y ys (ap (λ z. key z == n) (sym e) ∙ f)
+
+    whole : (x ≡ y) × (of_key key (key x) xs ≡ of_key key (key x) ys) → (((n : ℕ) → of_key key n xs ≡ of_key key n ys) → xs ≡ ys) → (x ∷ xs) ≡ (y ∷ ys)
+    whole h tails = ap (λ z. z ∷ xs) h.0 ∙ ap (λ zs. y ∷ zs) (tails (rest h.0 h.1))
+
+-- ---- from what a sort ensures
+
+all_from : {A : Type 0} (key : A → ℕ) (n : ℕ) (d : A) (xs : List A) → ((j : ℕ) → j < length xs → n ≤ key (get_or xs j d)) → lies_below key n xs ≡ true
+all_from key n d [] h = refl
+all_from key n d (x ∷ xs) h =
+    let le = h 0 (omega arith) in
+    ap (λ (t : Bool). t && lies_below key n xs) (let e : nat_le n (key x) ≡ true = grind (arith, nat_tests) in e)
+    ∙ all_from key n d xs (λ j g. h (suc j) (omega arith))
+
+pub rises_from : {A : Type 0} (key : A → ℕ) (xs : List A) → IsNonDecreasingBy key xs → Rises key xs
+rises_from key [] h = tt
+rises_from key (x ∷ xs) h =
+    (all_from key (key x) x xs (λ j g. h 0 (suc j) x (omega arith) (omega arith)), rises_from key xs (λ i j d a b. h (suc i) (suc j) d (omega arith) (omega arith)))
+
+pub sort_is : {A : Type 0} (key : A → ℕ) (xs ys : List A) → IsNonDecreasingBy key ys → ((n : ℕ) → of_key key n ys ≡ of_key key n xs) → ys ≡ sorted_by key xs
+sort_is key xs ys up stable =
+    one_sorted key ys (sorted_by key xs) (rises_from key ys up) (sorted_rises key xs) (λ n. stable n ∙ sym (sorted_keeps key n xs))
+
+put_map : {A B : Type 0} (key : B → ℕ) (f : A → B) (x : A) (xs : List A) → put_by key (f x) (map f xs) ≡ map f (put_by (λ a. key (f a)) x xs)
+put_map key f x [] = refl
+put_map key f x (y ∷ ys) = by_order (nat_le (key (f x)) (key (f y))) (put_map key f x ys)
+  where
+    by_order : (t : Bool) → put_by key (f x) (map f ys) ≡ map f (put_by (λ a. key (f a)) x ys)
+        → cond t (f x ∷ f y ∷ map f ys) (f y ∷ put_by key (f x) (map f ys)) ≡ map f (cond t (x ∷ y ∷ ys) (y ∷ put_by (λ a. key (f a)) x ys))
+    by_order true rest = refl
+    by_order false rest = ap (λ zs. f y ∷ zs) rest
+
+pub sorted_map : {A B : Type 0} (key : B → ℕ) (f : A → B) (xs : List A) → sorted_by key (map f xs) ≡ map f (sorted_by (λ a. key (f a)) xs)
+sorted_map key f [] = refl
+sorted_map key f (x ∷ xs) = ap (λ ys. put_by key (f x) ys) (sorted_map key f xs) ∙ put_map key f x (sorted_by (λ a. key (f a)) xs)
+
+same_filter : {A : Type 0} (p q : A → Bool) → ((x : A) → p x ≡ q x) → (xs : List A) → filter p xs ≡ filter q xs
+same_filter p q same [] = refl
+same_filter p q same (x ∷ xs) = ap (λ (t : Bool). cond t (x ∷ filter p xs) (filter p xs)) (same x) ∙ ap (λ ys. cond (q x) (x ∷ ys) ys) (same_filter p q same xs)
+
+tie_is : (a b : ℕ) → (not (is_lt (nat_cmp a b)) && not (is_lt (nat_cmp b a))) ≡ (b == a)
+tie_is a b = by_tests (nat_lt a b) (a == b) (nat_lt b a) (b == a) refl refl refl refl
+  where
+    by_tests : (t u v w : Bool) → nat_lt a b ≡ t → (a == b) ≡ u → nat_lt b a ≡ v → (b == a) ≡ w
+        → (not (is_lt (cond t Less (cond u Equal Greater))) && not (is_lt (cond v Less (cond w Equal Greater)))) ≡ w
+    by_tests true u v true e f g h = absurd (grind (arith, nat_tests))
+    by_tests true u v false e f g h = refl
+    by_tests false true true true e f g h = absurd (grind (arith, nat_tests))
+    by_tests false true true false e f g h = refl
+    by_tests false false true true e f g h = absurd (grind (arith, nat_tests))
+    by_tests false false true false e f g h = refl
+    by_tests false true false true e f g h = refl
+    by_tests false true false false e f g h = absurd (grind (arith, nat_tests))
+    by_tests false false false true e f g h = refl
+    by_tests false false false false e f g h = absurd (grind (arith, nat_tests))
+
+-- from the clause of a stable sort, where each number is the key of something
+pub stable_is : {A : Type 0} (key : A → ℕ) (xs ys : List A) (at : ℕ → A) → ((n : ℕ) → key (at n) ≡ n) → IsStableByKey key nat_cmp xs ys → (n : ℕ) → of_key key n ys ≡ of_key key n xs
+stable_is {A} key xs ys at e stable n = sym (ties_are ys) ∙ stable (at n) ∙ ties_are xs
+  where
+    ties_are : (zs : List A) → filter (ties (λ x y. is_lt (nat_cmp (key x) (key y))) (at n)) zs ≡ of_key key n zs
+    ties_are zs = same_filter (ties (λ x y. is_lt (nat_cmp (key x) (key y))) (at n)) (λ x. key x == n) (λ y. tie_is (key (at n)) (key y) ∙ ap (λ (m : ℕ). key y == m) (e n)) zs

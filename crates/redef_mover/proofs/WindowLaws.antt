@@ -1,0 +1,127 @@
+-- The windows of a slab from its top.
+use Rattle.std.proofs.Common.{◌≡◌, ℕ, zero, suc, ◌+◌, ◌-◌, ◌*◌, ◌/◌, ◌%◌, ◌<◌, ◌≤◌, min, refl, sym, ◌∙◌, ap, List, [], ◌∷◌, ◌++◌, length, take, drop, Option, Some, None, arith}
+use Rattle.std.specs.Prelude.{flat_map, IfSome}
+use Rattle.std.specs.List.{range_with_len}
+use Rattle.std.proofs.Math.Nat.{mul-le-mul_right}
+use Rattle.std.proofs.lemmas.Grind.{div_ceil_times, flat_map-append}
+use Rattle.std.proofs.lemmas.List.{append-nil, drop_more}
+use Rattle.std.proofs.lemmas.Nat.{div-add-mod', div-mul-add, mod_below}
+use Rattle.nc_base.specs.declared.step.DiskCall.{DiskCall}
+use Rattle.serial_spec.specs.DeviceCalls.{Slab, move_window, window_count}
+use Rattle.serial_spec.specs.File.{at, read, written}
+use Rattle.nc_outside.specs.Told.{after, with_end}
+use Rattle.redef_mover.specs.Moves.{slab_calls, slab_moved, window, window_calls}
+use Rattle.redef_mover.proofs.SlabLaws.{both_moved, moved_none}
+
+-- ---- how many windows
+
+-- the count that the code takes
+abbrev pub windows_of : ℕ → ℕ → ℕ
+windows_of z len = len / z + min 1 (len % z)
+
+count_by_rest : (z len q r : ℕ) → 0 < z → r < z → q * z + r ≡ len → q + min 1 r ≡ (len + (z - 1)) / z
+count_by_rest z len q zero h l e =
+    let whole : q * z + (z - 1) ≡ len + (z - 1) = omega arith in
+    let none : q + min 1 0 ≡ q = omega arith in
+    none ∙ sym (div-mul-add q z (z - 1) (omega arith)) ∙ ap (λ (n : ℕ). n / z) whole
+count_by_rest z len q (suc r) h l e =
+    let more : (q + 1) * z ≡ q * z + z = omega arith in
+    let whole : (q + 1) * z + r ≡ len + (z - 1) = omega arith in
+    let one : q + min 1 (suc r) ≡ q + 1 = omega arith in
+    one ∙ sym (div-mul-add (q + 1) z r (omega arith)) ∙ ap (λ (n : ℕ). n / z) whole
+
+pub count_is : (z len : ℕ) → 0 < z → windows_of z len ≡ window_count z len
+count_is z len h = count_by_rest z len (len / z) (len % z) h (mod_below len z h) (div-add-mod' len z)
+
+pub window_inside : (z len j count : ℕ) → 0 < z → count ≡ windows_of z len → j < count → j * z < len
+window_inside z len j count h e l =
+    let bounds = div_ceil_times len z h in
+    let next : j + 1 ≤ windows_of z len = omega arith in
+    let far : (j + 1) * z ≤ windows_of z len * z = mul-le-mul_right z next in
+    let more : (j + 1) * z ≡ j * z + z = omega arith in
+    let high = bounds.1 in
+    omega arith
+
+pub windows_reach : (z len count : ℕ) → 0 < z → count ≡ windows_of z len → len ≤ count * z
+windows_reach z len count h e =
+    let bounds = div_ceil_times len z h in
+    let low = bounds.0 in
+    let same : count * z ≡ windows_of z len * z = ap (λ (n : ℕ). n * z) e in
+    omega arith
+
+-- ---- a read
+
+slice_step : (b : List ℕ) (from n : ℕ) → from < length b → take (suc n) (drop from b) ≡ at b from ∷ take n (drop (from + 1) b)
+slice_step b from n h = ap (λ (xs : List ℕ). take (suc n) xs) (drop_more b from 0 h)
+
+-- bytes read within a file, as a slice of it
+pub read_slice : (file : List ℕ) (x n : ℕ) → x + n ≤ length file → read file x n ≡ take n (drop x file)
+read_slice file x zero h = refl
+read_slice file x (suc n) h =
+    ap (λ r. at file x ∷ r) (read_slice file (x + 1) n (omega arith)) ∙ sym (slice_step file x n (omega arith))
+
+-- a window that is written as it was read
+pub window_told : (held mid now : Option (List ℕ)) (bytes : List ℕ) (w : Slab) (m begin again size : ℕ) → IfSome held (λ b. length b ≡ size) → w.from + w.len ≤ size
+    → m ≡ w.len → begin ≡ 0 → again ≡ begin → IfSome held (λ file. bytes ≡ take m (drop (w.from - begin) file)) → mid ≡ held
+    → now ≡ after (λ file. written file (w.to - again) bytes) mid → now ≡ after (λ file. slab_moved file w) held
+window_told None mid now bytes w m begin again size long room e b a read f k = k ∙ ap (λ h. after (λ file. written file (w.to - again) bytes) h) f
+window_told (Some file) mid now bytes w m begin again size long room e b a read f k =
+    let from : w.from - begin ≡ w.from = omega arith in
+    let to : w.to - again ≡ w.to = omega arith in
+    k ∙ ap (λ h. after (λ file. written file (w.to - again) bytes) h) f
+    ∙ (λ t. Some (written file (to t) (read t)))
+    ∙ (λ t. Some (written file w.to (take (e t) (drop (from t) file))))
+    ∙ ap (λ b. Some (written file w.to b)) (sym (read_slice file w.from w.len (omega arith)))
+
+-- ---- the windows so far
+
+-- the part of a slab that the first j windows from the top hold
+abbrev pub upper : ℕ → Slab → ℕ → Slab
+upper z s j =
+    let rest = s.len - j * z in
+    record { from = s.from + rest; to = s.to + rest; len = s.len - rest }
+
+pub none_moved : (z : ℕ) (s : Slab) (file : List ℕ) → s.to + s.len ≤ length file → slab_moved file (upper z s 0) ≡ file
+none_moved z s file h = moved_none file (upper z s 0) (omega arith) (omega arith)
+
+pub window_moved : (z j : ℕ) (s : Slab) (file : List ℕ) → s.from ≤ s.to → j * z < s.len → s.to + s.len ≤ length file
+    → slab_moved (slab_moved file (upper z s j)) (window z s j) ≡ slab_moved file (upper z s (j + 1))
+window_moved z j s file up l h =
+    let more : (j + 1) * z ≡ j * z + z = omega arith in
+    both_moved file (window z s j) (upper z s j) (upper z s (j + 1))
+    (record { up = omega arith; from = omega arith; to = omega arith; first = omega arith; place = omega arith; all = omega arith })
+    (omega arith)
+
+pub whole_moved : (z j : ℕ) (s : Slab) (file : List ℕ) → s.len ≤ j * z → slab_moved file (upper z s j) ≡ slab_moved file s
+whole_moved z j s file h =
+    let from : s.from + (s.len - j * z) ≡ s.from = omega arith in
+    let to : s.to + (s.len - j * z) ≡ s.to = omega arith in
+    let len : s.len - (s.len - j * z) ≡ s.len = omega arith in
+    λ t. slab_moved file (record { from = from t; to = to t; len = len t })
+
+-- ---- the calls so far
+
+abbrev pub calls_before : ℕ → Slab → ℕ → List DiskCall
+calls_before z s j = flat_map (move_window z s) (range_with_len 0 j)
+
+pub range_joined : (a m n k : ℕ) → k ≡ m + n → range_with_len a m ++ range_with_len (a + m) n ≡ range_with_len a k
+range_joined a zero n k e =
+    let first : a + 0 ≡ a = omega arith in
+    let all : n ≡ k = omega arith in
+    λ t. range_with_len (first t) (all t)
+range_joined a (suc m) n zero e = absurd (omega arith)
+range_joined a (suc m) n (suc k) e =
+    let next : a + suc m ≡ a + 1 + m = omega arith in
+    ap (λ (b : ℕ). a ∷ range_with_len (a + 1) m ++ range_with_len b n) next
+    ∙ ap (λ ns. a ∷ ns) (range_joined (a + 1) m n k (omega arith))
+
+pub window_called : (z j : ℕ) (s : Slab) → calls_before z s j ++ window_calls (window z s j) ≡ calls_before z s (j + 1)
+window_called z j s =
+    let first : j ≡ 0 + j = omega arith in
+    ap (λ calls. calls_before z s j ++ calls) (sym (append-nil (move_window z s j)))
+    ∙ ap (λ (i : ℕ). calls_before z s j ++ flat_map (move_window z s) (range_with_len i 1)) first
+    ∙ sym (flat_map-append (move_window z s) (range_with_len 0 j) (range_with_len (0 + j) 1))
+    ∙ ap (λ js. flat_map (move_window z s) js) (range_joined 0 j 1 (j + 1) refl)
+
+pub all_called : (z j count : ℕ) (s : Slab) → 0 < z → j ≡ count → count ≡ windows_of z s.len → calls_before z s j ≡ slab_calls z s
+all_called z j count s h e k = ap (λ (i : ℕ). calls_before z s i) (e ∙ k ∙ count_is z s.len h)

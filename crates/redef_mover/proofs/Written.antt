@@ -1,0 +1,277 @@
+-- The begins that are written, and the numbers of those that are found.
+use Rattle.std.proofs.Common.{◌≡◌, ℕ, zero, suc, ◌+◌, ◌-◌, ◌<◌, ◌≤◌, List, [], ◌∷◌, ◌++◌, length, take, get_or, map, Bool, true, false, cond, Some, None, refl, sym, ap, ◌∙◌, arith}
+use Rattle.std.specs.Prelude.{filter, sum_by, find, nat_lt, nat_le, not, ◌==◌, ◌&&◌, unwrap_or}
+use Rattle.std.specs.List.{enumerate_from}
+use Rattle.std.proofs.Math.ListN.{set}
+use Rattle.std.proofs.lemmas.Bool.Decides.{nat_tests}
+use Rattle.std.proofs.lemmas.List.{take_more, take_all, map-append}
+use Rattle.std.proofs.lemmas.List.Sums.{sum_by-cons, sum_by-append}
+use Rattle.nc_base.specs.declared.header.Header.{Header}
+use Rattle.nc_base.specs.declared.header.Var.{Var}
+use Rattle.serial_spec.specs.HeaderGrammar.{header_len}
+use Rattle.serial_spec.specs.Layout.{is_record, slab, vsize}
+use Rattle.serial_spec.specs.SharedByte.{least}
+use Rattle.serial_spec.specs.Redefinition.{Numbered, fixed_of, records_in, old_of, new_of, inserted, by_begin, begin_at, fixed_begins, fixed_order, record_begins, front_after, first_record, begins_by_number, begin_of_number}
+use Rattle.var_layout.specs.Capped.{capped}
+use Rattle.redef_mover.specs.declared.placing.Place.{Place}
+use Rattle.redef_mover.specs.Placing.{pairs, capped_pairs, HasOneEach}
+use Rattle.redef_mover.proofs.Ranges.{times}
+
+-- ---- the last begin of a number wins
+
+abbrev last_begin : List (ℕ × ℕ) → ℕ → ℕ → ℕ
+last_begin [] k begin = begin
+last_begin (b ∷ found) k begin = last_begin found k (cond (b.0 == k) b.1 begin)
+
+abbrev pub with_last : ℕ → List (ℕ × ℕ) → List Var → List Var
+with_last n found [] = []
+with_last n found (v ∷ vars) = record v { begin = last_begin found n v.begin } ∷ with_last (n + 1) found vars
+
+last_push : (found : List (ℕ × ℕ)) (b : ℕ × ℕ) (k begin : ℕ) → last_begin (found ++ b ∷ []) k begin ≡ cond (b.0 == k) b.1 (last_begin found k begin)
+last_push [] b k begin = refl
+last_push (c ∷ found) b k begin = last_push found b k (cond (c.0 == k) c.1 begin)
+
+last_other : (found : List (ℕ × ℕ)) (b : ℕ × ℕ) (k begin : ℕ) → (b.0 == k) ≡ false → last_begin (found ++ b ∷ []) k begin ≡ last_begin found k begin
+last_other found b k begin e = last_push found b k begin ∙ ap (λ (t : Bool). cond t b.1 (last_begin found k begin)) e
+
+later_same : (n : ℕ) (found : List (ℕ × ℕ)) (b : ℕ × ℕ) (vars : List Var) → b.0 < n → with_last n (found ++ b ∷ []) vars ≡ with_last n found vars
+later_same n found b [] h = refl
+later_same n found b (v ∷ vars) h =
+    ap (λ (m : ℕ). record v { begin = m } ∷ with_last (n + 1) (found ++ b ∷ []) vars) (last_other found b n v.begin (let e : (b.0 == n) ≡ false = grind (arith, nat_tests) in e))
+    ∙ ap (λ ws. record v { begin = last_begin found n v.begin } ∷ ws) (later_same (n + 1) found b vars (omega arith))
+
+set_last : (n : ℕ) (found : List (ℕ × ℕ)) (j begin : ℕ) (d : Var) (vars : List Var) → j < length vars
+    → set (with_last n found vars) j (record (get_or (with_last n found vars) j d) { begin = begin }) ≡ with_last n (found ++ (n + j, begin) ∷ []) vars
+set_last n found j begin d [] h = absurd (omega arith)
+set_last n found zero begin d (v ∷ vars) h =
+    let same : (n + 0 == n) ≡ true = grind (arith, nat_tests) in
+    ap (λ (m : ℕ). record v { begin = m } ∷ with_last (n + 1) found vars)
+    (sym (last_push found (n + 0, begin) n v.begin ∙ ap (λ (t : Bool). cond t begin (last_begin found n v.begin)) same))
+    ∙ ap (λ ws. record v { begin = last_begin (found ++ (n + 0, begin) ∷ []) n v.begin } ∷ ws) (sym (later_same (n + 1) found (n + 0, begin) vars (omega arith)))
+set_last n found (suc j) begin d (v ∷ vars) h =
+    let other : (n + suc j == n) ≡ false = grind (arith, nat_tests) in
+    ap (λ (m : ℕ). record v { begin = m } ∷ set (with_last (n + 1) found vars) j (record (get_or (with_last (n + 1) found vars) j d) { begin = begin }))
+    (sym (last_other found (n + suc j, begin) n v.begin other))
+    ∙ ap (λ ws. record v { begin = last_begin (found ++ (n + suc j, begin) ∷ []) n v.begin } ∷ ws)
+    (set_last (n + 1) found j begin d vars (omega arith) ∙ ap (λ (m : ℕ). with_last (n + 1) (found ++ (m, begin) ∷ []) vars) (let e : n + 1 + j ≡ n + suc j = omega arith in e))
+
+length-with_last : (n : ℕ) (found : List (ℕ × ℕ)) (vars : List Var) → length (with_last n found vars) ≡ length vars
+length-with_last n found [] = refl
+length-with_last n found (v ∷ vars) = ap (λ (m : ℕ). suc m) (length-with_last (n + 1) found vars)
+
+pub last_none : (n : ℕ) (vars : List Var) → vars ≡ with_last n [] vars
+last_none n [] = refl
+last_none n (v ∷ vars) = ap (λ ws. v ∷ ws) (last_none (n + 1) vars)
+
+-- ---- of each number once
+
+not_there : (found : List (ℕ × ℕ)) (k begin : ℕ) → times k found ≡ 0 → last_begin found k begin ≡ begin
+not_there [] k begin h = refl
+not_there (b ∷ found) k begin h = by_test (b.0 == k) refl (λ g. not_there found k begin g)
+  where
+    one : times k (b ∷ found) ≡ cond (b.0 == k) 1 0 + times k found
+    one = sum_by-cons (λ (x : ℕ × ℕ). cond (x.0 == k) 1 0) b found
+
+    by_test : (t : Bool) → (b.0 == k) ≡ t → (times k found ≡ 0 → last_begin found k begin ≡ begin) → last_begin found k (cond t b.1 begin) ≡ begin
+    by_test true e rest = absurd (omega (arith, one, ap {B = ℕ} (λ (u : Bool). cond u 1 0) e, h))
+    by_test false e rest = rest (omega (arith, one, ap {B = ℕ} (λ (u : Bool). cond u 1 0) e, h))
+
+once : (found : List (ℕ × ℕ)) (k begin : ℕ) → times k found ≡ 1 → last_begin found k begin ≡ begin_of_number found k
+once [] k begin h = absurd (omega arith)
+once (b ∷ found) k begin h = by_test (b.0 == k) refl (λ g. once found k begin g)
+  where
+    one : times k (b ∷ found) ≡ cond (b.0 == k) 1 0 + times k found
+    one = sum_by-cons (λ (x : ℕ × ℕ). cond (x.0 == k) 1 0) b found
+
+    by_test : (t : Bool) → (b.0 == k) ≡ t → (times k found ≡ 1 → last_begin found k begin ≡ begin_of_number found k)
+        → last_begin found k (cond t b.1 begin) ≡ elim (cond t (Some b) (find (λ (x : ℕ × ℕ). x.0 == k) found)) [ None ↦ 0 | Some x ↦ x.1 ]
+    by_test true e rest = not_there found k b.1 (omega (arith, one, ap {B = ℕ} (λ (u : Bool). cond u 1 0) e, h))
+    by_test false e rest = rest (omega (arith, one, ap {B = ℕ} (λ (u : Bool). cond u 1 0) e, h))
+
+each_once : (n count : ℕ) (found : List (ℕ × ℕ)) (vars : List Var) → HasOneEach count found → n + length vars ≤ count
+    → with_last n found vars ≡ map (λ (v : Numbered). record v.1 { begin = begin_of_number found v.0 }) (enumerate_from n vars)
+each_once n count found [] h l = refl
+each_once n count found (v ∷ vars) h l =
+    let inside : nat_lt n count ≡ true = grind (arith, nat_tests) in
+    ap (λ (m : ℕ). record v { begin = m } ∷ with_last (n + 1) found vars) (once found n v.begin (h n ∙ ap {B = ℕ} (λ (t : Bool). cond t 1 0) inside))
+    ∙ ap (λ ws. record v { begin = begin_of_number found n } ∷ ws) (each_once (n + 1) count found vars h (omega arith))
+
+-- ---- place after place
+
+pub written_next : (vars now after : List Var) (places : List Place) (i : ℕ) (p : Place) (v : Var) → i < length places → p ≡ get_or places i p → p.number < length vars
+    → v ≡ get_or now p.number v → after ≡ set now p.number (record v { begin = p.begin })
+    → now ≡ with_last 0 (pairs (take i places)) vars → after ≡ with_last 0 (pairs (take (i + 1) places)) vars
+written_next vars now after places i p v h there inside here set_there so_far =
+    set_there
+    ∙ ap (λ (w : Var). set now p.number (record w { begin = p.begin })) here
+    ∙ ap (λ (ws : List Var). set ws p.number (record (get_or ws p.number v) { begin = p.begin })) so_far
+    ∙ set_last 0 (pairs (take i places)) p.number p.begin v vars inside
+    ∙ ap (λ (m : ℕ). with_last 0 (pairs (take i places) ++ (m, p.begin) ∷ []) vars) (let e : 0 + p.number ≡ p.number = omega arith in e)
+    ∙ ap (λ bs. with_last 0 bs vars)
+    (sym (ap (λ (ps : List Place). pairs ps) (take_more places i p h ∙ ap (λ (q : Place). take i places ++ q ∷ []) (sym there))
+    ∙ map-append (λ (q : Place). (q.number, q.begin)) (take i places) (p ∷ [])))
+
+pub written_whole : (vars now : List Var) (places : List Place) (i : ℕ) → length places ≤ i → HasOneEach (length vars) (pairs places) → now ≡ with_last 0 (pairs (take i places)) vars
+    → now ≡ map (λ (v : Numbered). record v.1 { begin = begin_of_number (pairs places) v.0 }) (enumerate_from 0 vars)
+written_whole vars now places i past one so_far =
+    so_far ∙ ap (λ (ps : List Place). with_last 0 (pairs ps) vars) (take_all i places past) ∙ each_once 0 (length vars) (pairs places) vars one (omega arith)
+
+-- ---- the numbers of the begins that are found
+
+numbered : ℕ → List Numbered → ℕ
+numbered k vars = sum_by (λ v. cond (v.0 == k) 1 0) vars
+
+numbered_none : (k : ℕ) → numbered k [] ≡ 0
+unfolding numbered
+numbered_none k = refl
+
+numbered_cons : (k : ℕ) (v : Numbered) (vars : List Numbered) → numbered k (v ∷ vars) ≡ cond (v.0 == k) 1 0 + numbered k vars
+unfolding numbered
+numbered_cons k v vars = sum_by-cons (λ (x : Numbered). cond (x.0 == k) 1 0) v vars
+
+times_cons : (k : ℕ) (b : ℕ × ℕ) (found : List (ℕ × ℕ)) → times k (b ∷ found) ≡ cond (b.0 == k) 1 0 + times k found
+times_cons k b found = sum_by-cons (λ (x : ℕ × ℕ). cond (x.0 == k) 1 0) b found
+
+numbered_append : (k : ℕ) (vars more : List Numbered) → numbered k (vars ++ more) ≡ numbered k vars + numbered k more
+unfolding numbered
+numbered_append k vars more = sum_by-append (λ (x : Numbered). cond (x.0 == k) 1 0) vars more
+
+times_append : (k : ℕ) (found more : List (ℕ × ℕ)) → times k (found ++ more) ≡ times k found + times k more
+times_append k found more = sum_by-append (λ (x : ℕ × ℕ). cond (x.0 == k) 1 0) found more
+
+times_fixed : (k : ℕ) (header : Header) (front : ℕ) (vars : List Numbered) → times k (fixed_begins header front vars) ≡ numbered k vars
+unfolding numbered
+times_fixed k header front [] = refl
+times_fixed k header front (v ∷ vars) =
+    let rest = times_fixed k header (begin_at front v.1 + slab header v.1) vars in
+    let a = times_cons k (v.0, begin_at front v.1) (fixed_begins header (begin_at front v.1 + slab header v.1) vars) in
+    a ∙ ap (λ (n : ℕ). cond (v.0 == k) 1 0 + n) rest ∙ sym (numbered_cons k v vars)
+
+times_kept : (k m low : ℕ) (vars : List Numbered) → times k (map (λ (v : Numbered). (v.0, m + (v.1.begin - low))) vars) ≡ numbered k vars
+unfolding numbered
+times_kept k m low [] = refl
+times_kept k m low (v ∷ vars) =
+    times_cons k (v.0, m + (v.1.begin - low)) (map (λ (w : Numbered). (w.0, m + (w.1.begin - low))) vars)
+    ∙ ap (λ (n : ℕ). cond (v.0 == k) 1 0 + n) (times_kept k m low vars) ∙ sym (numbered_cons k v vars)
+
+times_records : (k : ℕ) (header : Header) (at : ℕ) (vars : List Numbered) → times k (record_begins header at vars) ≡ numbered k vars
+unfolding numbered
+times_records k header at [] = refl
+times_records k header at (v ∷ vars) =
+    times_cons k (v.0, at) (record_begins header (at + vsize header v.1) vars)
+    ∙ ap (λ (n : ℕ). cond (v.0 == k) 1 0 + n) (times_records k header (at + vsize header v.1) vars) ∙ sym (numbered_cons k v vars)
+
+times_capped : (k : ℕ) (found : List (ℕ × ℕ)) → times k (capped_pairs found) ≡ times k found
+times_capped k [] = refl
+times_capped k (b ∷ found) =
+    times_cons k (b.0, capped b.1) (capped_pairs found) ∙ ap (λ (n : ℕ). cond (b.0 == k) 1 0 + n) (times_capped k found) ∙ sym (times_cons k b found)
+
+numbered_inserted : (k : ℕ) (v : Numbered) (vars : List Numbered) → numbered k (inserted v vars) ≡ cond (v.0 == k) 1 0 + numbered k vars
+numbered_inserted k v [] = numbered_cons k v []
+numbered_inserted k v (w ∷ vars) = by_test (nat_le v.1.begin w.1.begin) (numbered_inserted k v vars)
+  where
+    by_test : (t : Bool) → numbered k (inserted v vars) ≡ cond (v.0 == k) 1 0 + numbered k vars
+        → numbered k (cond t (v ∷ w ∷ vars) (w ∷ inserted v vars)) ≡ cond (v.0 == k) 1 0 + numbered k (w ∷ vars)
+    by_test true rest = numbered_cons k v (w ∷ vars)
+    by_test false rest =
+        let a = numbered_cons k w (inserted v vars) in
+        let b = numbered_cons k w vars in
+        omega (arith, a, b, rest)
+
+numbered_sorted : (k : ℕ) (vars : List Numbered) → numbered k (by_begin vars) ≡ numbered k vars
+numbered_sorted k [] = refl
+numbered_sorted k (v ∷ vars) =
+    numbered_inserted k v (by_begin vars) ∙ ap (λ (n : ℕ). cond (v.0 == k) 1 0 + n) (numbered_sorted k vars) ∙ sym (numbered_cons k v vars)
+
+-- two tests of which each item passes one
+numbered_parts : (k : ℕ) (p q : Numbered → Bool) → ((v : Numbered) → q v ≡ not (p v)) → (vars : List Numbered) → numbered k (filter p vars) + numbered k (filter q vars) ≡ numbered k vars
+numbered_parts k p q other [] = omega (arith, numbered_none k)
+numbered_parts k p q other (v ∷ vars) =
+    ap (λ (t : Bool). numbered k (filter p (v ∷ vars)) + numbered k (cond t (v ∷ filter q vars) (filter q vars))) (other v)
+    ∙ by_test (p v) (numbered_parts k p q other vars)
+  where
+    by_test : (t : Bool) → numbered k (filter p vars) + numbered k (filter q vars) ≡ numbered k vars
+        → numbered k (cond t (v ∷ filter p vars) (filter p vars)) + numbered k (cond (not t) (v ∷ filter q vars) (filter q vars)) ≡ numbered k (v ∷ vars)
+    by_test true rest = let a = numbered_cons k v (filter p vars) in let b = numbered_cons k v vars in omega (arith, a, b, rest)
+    by_test false rest = let a = numbered_cons k v (filter q vars) in let b = numbered_cons k v vars in omega (arith, a, b, rest)
+
+numbered_all : (k n : ℕ) (vars : List Var) → numbered k (enumerate_from n vars) ≡ cond (nat_le n k && nat_lt k (n + length vars)) 1 0
+numbered_all k n [] = none (nat_le n k) (nat_lt k (n + 0)) refl refl
+  where
+    none : (t u : Bool) → nat_le n k ≡ t → nat_lt k (n + 0) ≡ u → numbered k [] ≡ cond (t && u) 1 0
+    none true true e f = absurd (grind (arith, nat_tests))
+    none true false e f = numbered_none k
+    none false u e f = numbered_none k
+numbered_all k n (v ∷ vars) =
+    numbered_cons k (n, v) (enumerate_from (n + 1) vars) ∙ ap (λ (m : ℕ). cond (n == k) 1 0 + m) (numbered_all k (n + 1) vars)
+    ∙ by_tests (n == k) (nat_le (n + 1) k) (nat_lt k (n + 1 + length vars)) (nat_le n k) (nat_lt k (n + suc (length vars))) refl refl refl refl refl
+  where
+    by_tests : (t u v w x : Bool) → (n == k) ≡ t → nat_le (n + 1) k ≡ u → nat_lt k (n + 1 + length vars) ≡ v → nat_le n k ≡ w → nat_lt k (n + suc (length vars)) ≡ x
+        → cond t 1 0 + cond (u && v) 1 0 ≡ cond (w && x) 1 0
+    by_tests true true v w x e f g h i = absurd (grind (arith, nat_tests))
+    by_tests true false v true true e f g h i = refl
+    by_tests true false v false x e f g h i = absurd (grind (arith, nat_tests))
+    by_tests true false v true false e f g h i = absurd (grind (arith, nat_tests))
+    by_tests false true true true true e f g h i = refl
+    by_tests false true true false x e f g h i = absurd (grind (arith, nat_tests))
+    by_tests false true true true false e f g h i = absurd (grind (arith, nat_tests))
+    by_tests false true false w true e f g h i = absurd (grind (arith, nat_tests))
+    by_tests false true false true false e f g h i = refl
+    by_tests false true false false false e f g h i = refl
+    by_tests false false v true x e f g h i = absurd (grind (arith, nat_tests))
+    by_tests false false v false x e f g h i = refl
+
+other_side : (m n : ℕ) → nat_le n m ≡ not (nat_lt m n)
+other_side m n = by_tests (nat_le n m) (nat_lt m n) refl refl
+  where
+    by_tests : (t u : Bool) → nat_le n m ≡ t → nat_lt m n ≡ u → t ≡ not u
+    by_tests true true e f = absurd (grind (arith, nat_tests))
+    by_tests true false e f = refl
+    by_tests false true e f = refl
+    by_tests false false e f = absurd (grind (arith, nat_tests))
+
+sides : (k n : ℕ) (vars : List Numbered) → numbered k (old_of n vars) + numbered k (new_of n vars) ≡ numbered k vars
+sides k n vars = numbered_parts k (λ (v : Numbered). nat_lt v.0 n) (λ (v : Numbered). nat_le n v.0) (λ v. other_side v.0 n) vars
+
+-- whatever the records' first begin and the least old one
+times_all : (k : ℕ) (header : Header) (n m low at : ℕ)
+    → times k (fixed_begins header (header_len header) (fixed_order header n)
+    ++ map (λ (v : Numbered). (v.0, m + (v.1.begin - low))) (old_of n (records_in header (enumerate_from 0 header.vars)))
+    ++ record_begins header at (new_of n (records_in header (enumerate_from 0 header.vars))))
+    ≡ numbered k (enumerate_from 0 header.vars)
+times_all k header n m low at =
+    let all = enumerate_from 0 header.vars in
+    let fixed = fixed_of header all in
+    let records = records_in header all in
+    let a = fixed_begins header (header_len header) (fixed_order header n) in
+    let b = map (λ (v : Numbered). (v.0, m + (v.1.begin - low))) (old_of n records) in
+    let c = record_begins header at (new_of n records) in
+    let in_a : times k a ≡ numbered k (old_of n fixed) + numbered k (new_of n fixed) =
+    times_fixed k header (header_len header) (fixed_order header n) ∙ numbered_append k (by_begin (old_of n fixed)) (new_of n fixed)
+    ∙ ap (λ (i : ℕ). i + numbered k (new_of n fixed)) (numbered_sorted k (old_of n fixed)) in
+    let kinds : numbered k records + numbered k fixed ≡ numbered k all =
+    numbered_parts k (λ (v : Numbered). is_record header v.1) (λ (v : Numbered). not (is_record header v.1)) (λ v. refl) all in
+    times_append k (a ++ b) c
+    ∙ ap (λ (i : ℕ). i + times k c) (times_append k a b ∙ ap (λ (i : ℕ). i + times k b) (in_a ∙ sides k n fixed))
+    ∙ ap (λ (i : ℕ). numbered k fixed + i + times k c) (times_kept k m low (old_of n records))
+    ∙ ap (λ (i : ℕ). numbered k fixed + numbered k (old_of n records) + i) (times_records k header at (new_of n records))
+    ∙ omega (arith, sides k n records, kinds)
+
+pub each_placed : (header : Header) (n : ℕ) → HasOneEach (length header.vars) (capped_pairs (begins_by_number header n))
+each_placed header n k =
+    let records = records_in header (enumerate_from 0 header.vars) in
+    let low = least (map (λ (v : Numbered). v.1.begin) (old_of n records)) in
+    let first = first_record (front_after header (header_len header) (fixed_order header n)) low in
+    times_capped k (begins_by_number header n)
+    ∙ times_all k header n first (unwrap_or low 0) (first + sum_by (λ (v : Numbered). vsize header v.1) (old_of n records))
+    ∙ numbered_all k 0 header.vars ∙ from_zero k (length header.vars)
+  where
+    from_zero : (i m : ℕ) → ◌≡◌ {A = ℕ} (cond (nat_le 0 i && nat_lt i (0 + m)) 1 0) (cond (nat_lt i m) 1 0)
+    from_zero i m = by_tests (nat_le 0 i) (nat_lt i (0 + m)) (nat_lt i m) refl refl refl
+      where
+        by_tests : (t u v : Bool) → nat_le 0 i ≡ t → nat_lt i (0 + m) ≡ u → nat_lt i m ≡ v → ◌≡◌ {A = ℕ} (cond (t && u) 1 0) (cond v 1 0)
+        by_tests true true true e f g = refl
+        by_tests true true false e f g = absurd (grind (arith, nat_tests))
+        by_tests true false true e f g = absurd (grind (arith, nat_tests))
+        by_tests true false false e f g = refl
+        by_tests false u v e f g = absurd (grind (arith, nat_tests))

@@ -1,0 +1,45 @@
+-- Each window goes on where the one before it ended.
+use Rattle.std.proofs.Common.{◌≡◌, ◌∙◌, ◌+◌, ◌-◌, ◌*◌, ◌<◌, ◌≤◌, min, refl, ap, length, List, [], ◌∷◌, ℕ, arith}
+use Rattle.nc_base.specs.declared.step.DiskCall.TheVariants.{Store}
+use Rattle.nc_outside.specs.Told.{after, with_end}
+use Rattle.serial_spec.specs.File.{written}
+use Rattle.redef_mover.specs.Moves.{cleared}
+use Rattle.redef_mover.proofs.ClearLaws.{all_stored, none_cleared, stores_before, stores_more, window_cleared, window_zeros, zeros_count}
+use Rattle.redef_mover.proofs.ToldSteps.{calls_more, told_more}
+use Rattle.redef_mover.proofs.WindowLaws.{window_inside}
+use Rattle.redef_mover.proofs.clearing.clear.Goals as goal
+
+pub loop-window-preserved : goal.loop-window-preserved
+loop-window-preserved g c =
+    let x = c.args.at in
+    let z = c.args.size in
+    let len = c.args.len in
+    let j = c.loop-window.window in
+    let inside : j * z < len = window_inside z len j c.div_ceil-window-end.result c.requires.some c.div_ceil-window-end.ensures c.loop-window-test.true in
+    let room : c.min.result ≤ length c.args.zeros.now = (let some = c.min.ensures in let most = c.requires.room in omega arith) in
+    let zeros = window_zeros c.args.zeros.now c.first_of-bytes.result.now c.min.result c.requires.zeros room c.first_of-bytes.ensures in
+    let later = c.in_ok-write_at.ensures.cause.later in
+    let before = c.loop-window.invariant.faults in
+    let end = c.requires.inside in
+    record {
+      from = c.in_ok-write_at.ensures.from ∙ c.loop-window.invariant.from;
+      len = c.in_ok-write_at.ensures.len ∙ c.loop-window.invariant.len;
+      bytes = told_more (g.D.Disk.held c.args.disk.now) (g.D.Disk.held c.loop-window.disk) (g.D.Disk.held c.write_at.new.self)
+          (λ file. cleared file (x, min len (j * z)))
+          (λ file. written file (x + j * z - g.D.Disk.from c.loop-window.disk) c.first_of-bytes.result.now)
+          (λ file. cleared file (x, min len ((j + 1) * z))) c.size-length.ensures.told
+          (λ file e. window_cleared file c.first_of-bytes.result.now x len z j c.min.result (x + j * z) (g.D.Disk.from c.loop-window.disk) (omega arith) inside c.min.ensures zeros
+          c.loop-window.invariant.from refl)
+          c.loop-window.invariant.bytes c.in_ok-write_at.ensures.bytes;
+      calls = calls_more (g.D.Disk.calls c.args.disk.now) (g.D.Disk.calls c.loop-window.disk) (g.D.Disk.calls c.write_at.new.self)
+          (stores_before z x len j) (Store (x + j * z) (length c.first_of-bytes.result.now) ∷ []) (stores_before z x len (j + 1))
+          (stores_more z x len j (x + j * z) c.min.result c.first_of-bytes.result.now refl c.min.ensures (zeros_count c.first_of-bytes.result.now c.min.result zeros))
+          c.loop-window.invariant.calls c.in_ok-write_at.ensures.calls;
+      faults = omega arith;
+    }
+
+pub returns-clause-calls : goal.returns-clause-calls
+returns-clause-calls g c =
+    c.loop-window.invariant.calls
+    ∙ ap (λ calls. with_end (g.D.Disk.calls c.args.disk.now) calls)
+    (all_stored c.args.size c.args.at c.args.len c.loop-window.window c.div_ceil-window-end.result c.requires.some (omega arith) c.div_ceil-window-end.ensures)

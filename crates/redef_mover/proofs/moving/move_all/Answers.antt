@@ -1,0 +1,74 @@
+-- The last of the records that are left is moved; the fixed variables come last.
+use Rattle.std.proofs.Common.{◌≡◌, ◌∙◌, ◌+◌, ◌-◌, ◌*◌, ◌<◌, ◌≤◌, sym, refl, subst, ap, length, List, [], ◌∷◌, ◌++◌, map, ℕ, arith}
+use Rattle.std.specs.Prelude.{reverse}
+use Rattle.nc_outside.specs.Told.{after, with_end}
+use Rattle.serial_spec.specs.DeviceCalls.{Slab}
+use Rattle.overlay_laws.specs.Entries.{In}
+use Rattle.redef_mover.specs.declared.slabs.Shift.{Shift}
+use Rattle.redef_mover.specs.Moves.{all_calls, all_moved, further, listed, slab_of, IsMovable}
+use Rattle.redef_mover.proofs.MovesLaws.{below, fixed_last, fixed_listed, left_called, left_moved, record_first, record_listed}
+use Rattle.redef_mover.proofs.ToldSteps.{on_ok}
+use Rattle.redef_mover.proofs.moving.move_all.Goals as goal
+
+abbrev rest : List Shift → ℕ → ℕ → List Slab
+rest ss a b = map (further a b) (map slab_of ss)
+
+pub move_slabs-requires-clause-movable : goal.move_slabs-requires-clause-movable
+move_slabs-requires-clause-movable g c κs within =
+    λ s h.
+    let there = subst (λ (ss : List Shift). In (rest ss c.times.result.old c.times.result.new) s) c.deref.ensures.value h in
+    let fit = c.requires.slabs.movable s
+    (record_listed c.args.slabs.now (c.loop-record.record - 1) c.times.result.old c.times.result.new s (omega arith) c.times.ensures.old c.times.ensures.new there) in
+    let up = fit.up in
+    let inside = fit.inside in
+    let fits = fit.fits in
+    let same = c.loop-record.invariant.len in
+    record { up = up; inside = omega arith; fits = omega arith }
+
+pub move_slabs-requires-2-clause-movable : goal.move_slabs-requires-2-clause-movable
+move_slabs-requires-2-clause-movable g c κs within =
+    λ s h.
+    let there = subst (λ (ss : List Shift). In (rest ss 0 0) s) c.deref-2.ensures.value h in
+    let fit = c.requires.slabs.movable s (fixed_listed c.args.slabs.now 0 0 s refl refl there) in
+    let up = fit.up in
+    let inside = fit.inside in
+    let fits = fit.fits in
+    let same = c.loop-record.invariant.len in
+    record { up = up; inside = omega arith; fits = omega arith }
+
+pub loop-record-preserved : goal.loop-record-preserved
+loop-record-preserved g c =
+    let next : c.loop-record.record ≡ c.loop-record.record - 1 + 1 = omega arith in
+    let first = record_first c.args.slabs.now (c.loop-record.record - 1) c.loop-record.record c.times.result.old c.times.result.new next c.times.ensures.old c.times.ensures.new
+    ∙ ap (λ (ss : List Shift). reverse (rest ss c.times.result.old c.times.result.new) ++ below c.args.slabs.now (c.loop-record.record - 1)) (sym c.deref.ensures.value) in
+    let later = c.in_ok-move_slabs.ensures.cause.later in
+    let before = c.loop-record.invariant.faults in
+    record {
+      from = c.in_ok-move_slabs.ensures.from;
+      len = c.in_ok-move_slabs.ensures.len ∙ c.loop-record.invariant.len;
+      bytes = left_moved (after (λ file. all_moved file (reverse (listed c.args.slabs.now))) (g.D.Disk.held c.args.disk.now))
+          (g.D.Disk.held c.loop-record.disk) (g.D.Disk.held c.move_slabs.new.disk)
+          (reverse (rest c.deref.result.now c.times.result.old c.times.result.new)) (below c.args.slabs.now (c.loop-record.record - 1)) (below c.args.slabs.now c.loop-record.record)
+          first c.loop-record.invariant.bytes c.in_ok-move_slabs.ensures.bytes;
+      calls = left_called (with_end (g.D.Disk.calls c.args.disk.now) (all_calls c.args.size (reverse (listed c.args.slabs.now))))
+          (g.D.Disk.calls c.loop-record.disk) (g.D.Disk.calls c.move_slabs.new.disk) c.args.size
+          (reverse (rest c.deref.result.now c.times.result.old c.times.result.new)) (below c.args.slabs.now (c.loop-record.record - 1)) (below c.args.slabs.now c.loop-record.record)
+          first c.loop-record.invariant.calls c.in_ok-move_slabs.ensures.calls;
+      faults = omega arith;
+    }
+
+pub returns-clause-bytes : goal.returns-clause-bytes
+returns-clause-bytes g c =
+    let end : c.loop-record.record ≡ 0 = omega arith in
+    let last = fixed_last c.args.slabs.now c.loop-record.record 0 0 end refl refl ∙ ap (λ (ss : List Shift). reverse (rest ss 0 0)) (sym c.deref-2.ensures.value) in
+    on_ok c.move_slabs-2.result
+    (λ told. told ∙ ap (λ ss. after (λ file. all_moved file ss) (g.D.Disk.held c.loop-record.disk)) (sym last) ∙ c.loop-record.invariant.bytes)
+    c.move_slabs-2.ensures.bytes
+
+pub returns-clause-calls : goal.returns-clause-calls
+returns-clause-calls g c =
+    let end : c.loop-record.record ≡ 0 = omega arith in
+    let last = fixed_last c.args.slabs.now c.loop-record.record 0 0 end refl refl ∙ ap (λ (ss : List Shift). reverse (rest ss 0 0)) (sym c.deref-2.ensures.value) in
+    on_ok c.move_slabs-2.result
+    (λ told. told ∙ ap (λ ss. with_end (g.D.Disk.calls c.loop-record.disk) (all_calls c.args.size ss)) (sym last) ∙ c.loop-record.invariant.calls)
+    c.move_slabs-2.ensures.calls

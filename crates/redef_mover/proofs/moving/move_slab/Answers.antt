@@ -1,0 +1,50 @@
+-- Each window goes on where the one above it ended.
+use Rattle.std.proofs.Common.{◌≡◌, ◌∙◌, ◌+◌, ◌*◌, ◌<◌, ◌≤◌, ap, length, List, ◌++◌, ℕ, arith}
+use Rattle.nc_outside.specs.Told.{after, with_end}
+use Rattle.redef_mover.specs.Moves.{slab_calls, slab_moved, slab_of, window, window_calls}
+use Rattle.redef_mover.proofs.ToldSteps.{calls_more, told_end, told_more}
+use Rattle.redef_mover.proofs.WindowLaws.{all_called, calls_before, upper, whole_moved, window_called, window_inside, window_moved, windows_reach}
+use Rattle.redef_mover.proofs.moving.move_slab.Goals as goal
+
+pub loop-number-preserved : goal.loop-number-preserved
+loop-number-preserved g c =
+    let s = slab_of c.args.slab.now in
+    let j = c.loop-number.number in
+    let z = c.args.size in
+    let inside : j * z < c.args.slab.now.len =
+    window_inside z c.args.slab.now.len j c.div_ceil-number-end.result c.requires.some c.div_ceil-number-end.ensures c.loop-number-test.true in
+    let up = c.requires.movable.up in
+    let room = c.requires.movable.inside in
+    let later = c.in_ok-move_window.ensures.cause.later in
+    let before = c.loop-number.invariant.faults in
+    record {
+      from = c.in_ok-move_window.ensures.from;
+      len = c.in_ok-move_window.ensures.len ∙ c.loop-number.invariant.len;
+      bytes = told_more (g.D.Disk.held c.args.disk.now) (g.D.Disk.held c.loop-number.disk) (g.D.Disk.held c.move_window.new.disk)
+          (λ file. slab_moved file (upper z s j)) (λ file. slab_moved file (slab_of c.window.result)) (λ file. slab_moved file (upper z s (j + 1)))
+          c.size-length.ensures.told
+          (λ file e. ap (λ w. slab_moved (slab_moved file (upper z s j)) w) c.window.ensures ∙ window_moved z j s file up inside (omega arith))
+          c.loop-number.invariant.bytes c.in_ok-move_window.ensures.bytes;
+      calls = calls_more (g.D.Disk.calls c.args.disk.now) (g.D.Disk.calls c.loop-number.disk) (g.D.Disk.calls c.move_window.new.disk)
+          (calls_before z s j) (window_calls (slab_of c.window.result)) (calls_before z s (j + 1))
+          (ap (λ w. calls_before z s j ++ window_calls w) c.window.ensures ∙ window_called z j s)
+          c.loop-number.invariant.calls c.in_ok-move_window.ensures.calls;
+      faults = omega arith;
+    }
+
+pub returns-clause-bytes : goal.returns-clause-bytes
+returns-clause-bytes g c =
+    let reached : c.args.slab.now.len ≤ c.loop-number.number * c.args.size =
+    (let far = windows_reach c.args.size c.args.slab.now.len c.div_ceil-number-end.result c.requires.some c.div_ceil-number-end.ensures in
+    let same : c.loop-number.number ≡ c.div_ceil-number-end.result = omega arith in
+    let times : c.loop-number.number * c.args.size ≡ c.div_ceil-number-end.result * c.args.size = ap (λ (n : ℕ). n * c.args.size) same in
+    omega arith) in
+    told_end (g.D.Disk.held c.args.disk.now) (g.D.Disk.held c.loop-number.disk) (λ file. slab_moved file (upper c.args.size (slab_of c.args.slab.now) c.loop-number.number))
+    (λ file. slab_moved file (slab_of c.args.slab.now)) c.size-length.ensures.told
+    (λ file e. whole_moved c.args.size c.loop-number.number (slab_of c.args.slab.now) file reached) c.loop-number.invariant.bytes
+
+pub returns-clause-calls : goal.returns-clause-calls
+returns-clause-calls g c =
+    c.loop-number.invariant.calls
+    ∙ ap (λ calls. with_end (g.D.Disk.calls c.args.disk.now) calls)
+    (all_called c.args.size c.loop-number.number c.div_ceil-number-end.result (slab_of c.args.slab.now) c.requires.some (omega arith) c.div_ceil-number-end.ensures)

@@ -1,0 +1,19 @@
+use Rattle.std.proofs.Common.{◌+◌, ◌∙◌}
+use Rattle.serial_spec.specs.HeaderGrammar.{header_len}
+use Rattle.serial_spec.specs.Redefinition.{fixed_order, front_after, first_record}
+use Rattle.redef_mover.specs.declared.placing.Side.TheVariants.{Old}
+use Rattle.redef_mover.specs.Placing.{records_at}
+use Rattle.redef_mover.proofs.Places.{placed_all, shares}
+use Rattle.redef_mover.proofs.placing.place_all.Goals as goal
+
+pub returns : goal.returns
+returns c =
+    let header = c.args.header.now in
+    let n = c.args.n in
+    let front = front_after header (header_len header) (fixed_order header n) in
+    let first = first_record front c.least_begin-least.result in
+    let fixed = c.in_ok-front.ensures.placed header (fixed_order header n) (header_len header) (c.as_slice.ensures ∙ c.in_ok-order.ensures) c.requires in
+    let old = c.in_ok-end.ensures first (c.first_record-first.ensures front fixed.1) in
+    let new = c.in_ok-place_new_records.ensures (first + shares header (records_at header n Old)) old.1 in
+    placed_all header n c.new-places.result c.place_fixed.new.places c.place_old_records.new.places c.place_new_records.new.places c.least_begin-least.result c.unwrap_or.result
+    c.new-places.ensures c.least_begin-least.ensures c.unwrap_or.ensures fixed.0 old.0 new

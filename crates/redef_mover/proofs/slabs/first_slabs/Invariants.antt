@@ -1,0 +1,12 @@
+-- The slabs of the variables so far that are of the kind.
+use Rattle.std.proofs.Common.{◌≡◌, length, map, take}
+use Rattle.std.specs.List.{filter, zip}
+use Rattle.serial_spec.specs.Layout.{is_record}
+use Rattle.redef_laws.specs.Rising.{first_slab}
+use Rattle.redef_mover.specs.Moves.{is_kind, slab_of}
+use Rattle.redef_mover.proofs.slabs.first_slabs.Given as goal
+
+abbrev pub invariant-loop-number : goal.invariant-loop-number
+invariant-loop-number l =
+    map slab_of l.slabs.items
+    ≡ map (first_slab l.old) (filter (λ p. is_kind l.records (is_record l.old p.0)) (take (length l.yielded) (zip l.old.vars l.new.vars)))

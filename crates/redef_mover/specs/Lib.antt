@@ -1,0 +1,5 @@
+pub mod Relocation
+pub mod Placing
+pub mod Ranges
+pub mod Moves
+pub mod Carried

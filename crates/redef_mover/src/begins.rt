@@ -1,0 +1,28 @@
+// The new begins in the header.
+ghost use Rattle.std.specs.Prelude.{◌≡◌, map, length};
+ghost use Rattle.std.specs.List.{enumerate_from};
+ghost use Rattle.serial_spec.specs.Redefinition.{begin_of_number};
+ghost use Rattle.serial_spec.specs.Redefinition as spec;
+ghost use Rattle.redef_mover.specs.Placing.{pairs, HasOneEach};
+
+use crate::placing::Place;
+use nc_base::{Header, Var, VarList};
+
+fn write_begins(vars: &mut [Var], places: &[Place])
+    requires { HasOneEach (length vars.old) (pairs places.now) }
+    ensures { vars.new ≡ map (λ v. record v.1 { begin = begin_of_number (pairs places.now) v.0 }) (enumerate_from 0 vars.old) }
+{
+    for place in places {
+        vars[place.number].begin = place.begin;
+    }
+}
+
+/// Gives the variables their new begins.
+pub(crate) fn set_begins(header: &mut Header, places: &[Place])
+    requires { HasOneEach (length header.old.vars) (pairs places.now) }
+    ensures { header.new ≡ spec.with_begins header.old (pairs places.now) }
+{
+    let mut vars = header.vars.take().into_vec();
+    write_begins(vars.as_mut_slice(), places);
+    header.vars = VarList::from_vec(vars);
+}

@@ -1,0 +1,32 @@
+// Sums of sizes and places that may be too large: exact below 2^62, and 2^62 from there on.
+ghost use Rattle.std.specs.Prelude.{◌≡◌, ◌+◌, ◌*◌, ◌≤◌, ◌^◌};
+ghost use Rattle.serial_spec.specs.Layout.{round_up};
+ghost use Rattle.var_layout.specs.Capped.{capped};
+
+use nc_base::FILE_LIMIT;
+
+fn cap(n: u128) -> u64
+    ensures { result ≡ capped n }
+{
+    n.min(FILE_LIMIT as u128) as u64
+}
+
+pub(crate) fn sum(a: u64, b: u64) -> u64
+    ensures { result ≡ capped (a + b) }
+{
+    cap(a as u128 + b as u128)
+}
+
+pub(crate) fn product(a: u64, b: u64) -> u64
+    ensures { result ≡ capped (a * b) }
+{
+    cap(a as u128 * b as u128)
+}
+
+/// The least multiple of 4 that is the place or more.
+pub(crate) fn padded(place: u64) -> u64
+    requires { place ≤ 2 ^ 62 }
+    ensures { result ≡ round_up 4 place }
+{
+    place.div_ceil(4) * 4
+}

@@ -1,0 +1,168 @@
+// Why an extra can't be added to a header.
+ghost use Rattle.std.specs.Prelude.{◌≡◌, ◌==◌, is_none};
+ghost use Rattle.std.specs.List.{list_any};
+ghost use Rattle.std.specs.Result.{result_err};
+ghost use Rattle.nc_base.specs.declared.header.Dim.{Dim};
+ghost use Rattle.serial_spec.specs.RankMachine.{find_dim};
+ghost use Rattle.serial_spec.specs.Redefinition as spec;
+
+use nc_base::{Attr, Extra, Header, MAX_DIMS, MAX_VARS, Name, NcType, RedefErr};
+use var_layout::{find_dim, find_var};
+
+/// The first length that a dimension of CDF-1 and CDF-2 can't have.
+const CLASSIC_LENGTH_LIMIT: u64 = 1 << 31;
+
+/// The attributes of the first variable of this name, or none.
+fn attrs_of_var<'a>(header: &'a Header, name: &[u8]) -> &'a [Attr]
+    ensures { result.now ≡ spec.attrs_of_var header.now name.now }
+{
+    for var in header.vars.as_slice() {
+        if var.name.as_slice() == name {
+            return var.attrs.as_slice();
+        }
+    }
+    &[]
+}
+
+fn has_attr(attrs: &[Attr], name: &[u8]) -> bool
+    ensures { result ≡ spec.has_attr attrs.now name.now }
+{
+    attrs.iter().any(|attr| attr.name.as_slice() == name)
+}
+
+/// Whether what it names is there already.
+fn is_taken(header: &Header, extra: &Extra) -> bool
+    ensures { result ≡ spec.is_taken header.now extra.now }
+{
+    match extra {
+        Extra::Dim(dim) => find_dim(header, dim.name.as_slice()).is_some(),
+        Extra::Var { name, .. } => find_var(header, name.as_slice()).is_some(),
+        Extra::Att { owner: None, attr } => has_attr(header.attrs.as_slice(), attr.name.as_slice()),
+        Extra::Att {
+            owner: Some(owner),
+            attr,
+        } => has_attr(attrs_of_var(header, owner.as_slice()), attr.name.as_slice()),
+    }
+}
+
+/// Whether a dimension of these names is not there.
+fn lacks_dim(header: &Header, names: &[Name]) -> bool
+    ensures { result ≡ list_any (λ n. is_none (find_dim header.now n)) names.now }
+{
+    names
+        .iter()
+        .any(|name| find_dim(header, name.as_slice()).is_none())
+}
+
+/// Whether what it needs is not there.
+fn is_unknown(header: &Header, extra: &Extra) -> bool
+    ensures { result ≡ spec.is_unknown header.now extra.now }
+{
+    match extra {
+        Extra::Var { dims, .. } => lacks_dim(header, dims.as_slice()),
+        Extra::Att {
+            owner: Some(owner),
+            ..
+        } => find_var(header, owner.as_slice()).is_none(),
+        Extra::Dim(_) | Extra::Att { owner: None, .. } => false,
+    }
+}
+
+fn is_record_name(header: &Header, name: &[u8]) -> bool
+    ensures { result ≡ spec.is_record_name header.now name.now }
+{
+    header
+        .dims
+        .as_slice()
+        .iter()
+        .any(|dim| dim.name.as_slice() == name && dim.len == 0)
+}
+
+fn has_record_dim(header: &Header) -> bool
+    ensures { result ≡ list_any (λ (d : Dim). d.len == 0) header.now.dims }
+{
+    header.dims.as_slice().iter().any(|dim| dim.len == 0)
+}
+
+/// Whether one of the names is that of the record dimension.
+fn has_record_name(header: &Header, names: &[Name]) -> bool
+    ensures { result ≡ list_any (spec.is_record_name header.now) names.now }
+{
+    names
+        .iter()
+        .any(|name| is_record_name(header, name.as_slice()))
+}
+
+/// Whether it makes a second record dimension, or has the record dimension elsewhere than first.
+fn has_bad_shape(header: &Header, extra: &Extra) -> bool
+    ensures { result ≡ spec.has_bad_shape header.now extra.now }
+{
+    match extra {
+        Extra::Dim(dim) => dim.len == 0 && has_record_dim(header),
+        Extra::Var { dims, .. } => match dims.as_slice() {
+            [] => false,
+            [_, inner @ ..] => has_record_name(header, inner),
+        },
+        Extra::Att { .. } => false,
+    }
+}
+
+fn is_one_too_many(header: &Header, extra: &Extra) -> bool
+    ensures { result ≡ spec.is_one_too_many header.now extra.now }
+{
+    match extra {
+        Extra::Dim(_) => MAX_DIMS <= header.dims.len(),
+        Extra::Var { .. } => MAX_VARS <= header.vars.len(),
+        Extra::Att { .. } => false,
+    }
+}
+
+/// Whether only CDF-5 has the type, and the header is of another version.
+fn is_later_type(header: &Header, kind: NcType) -> bool
+    ensures { result ≡ spec.is_later_type header.now kind }
+{
+    match kind {
+        NcType::UByte | NcType::UShort | NcType::UInt | NcType::Int64 | NcType::UInt64 => {
+            header.version != 5
+        }
+        NcType::Byte
+        | NcType::Char
+        | NcType::Short
+        | NcType::Int
+        | NcType::Float
+        | NcType::Double => false,
+    }
+}
+
+/// Whether the version lacks its type or length.
+fn has_bad_kind(header: &Header, extra: &Extra) -> bool
+    ensures { result ≡ spec.has_bad_kind header.now extra.now }
+{
+    match extra {
+        Extra::Dim(dim) => header.version != 5 && CLASSIC_LENGTH_LIMIT <= dim.len,
+        Extra::Var { kind, .. } => is_later_type(header, *kind),
+        Extra::Att { attr, .. } => is_later_type(header, attr.kind),
+    }
+}
+
+/// Refuses an extra, which has the number `k`, that can't be added.
+pub(crate) fn check_extra(header: &Header, k: usize, extra: &Extra) -> Result<(), RedefErr>
+    ensures { result_err result ≡ spec.extra_fault header.now k extra.now }
+{
+    if is_taken(header, extra) {
+        return Err(RedefErr::Taken(k));
+    }
+    if is_unknown(header, extra) {
+        return Err(RedefErr::Unknown(k));
+    }
+    if has_bad_shape(header, extra) {
+        return Err(RedefErr::Shape(k));
+    }
+    if is_one_too_many(header, extra) {
+        return Err(RedefErr::TooMany(k));
+    }
+    if has_bad_kind(header, extra) {
+        return Err(RedefErr::Kind(k));
+    }
+    Ok(())
+}

@@ -1,0 +1,21 @@
+//! Redefinition of an existing dataset, as by `open`, `redef`, definitions and `enddef` of the netCDF C library.
+#![tactic(auto)]
+
+mod adding;
+mod applying;
+mod begins;
+mod capped;
+mod carrying;
+mod clearing;
+mod extra_faults;
+mod layout_faults;
+mod moving;
+mod placing;
+mod relocating;
+mod slabs;
+
+pub use applying::apply;
+pub use relocating::relocate;
+
+#[cfg(test)]
+mod tests;
