@@ -377,3 +377,55 @@ pending 0
 rank 1
 0 fill_var_rec ok
 pending 0' 000000000000ffffffffffff
+
+run 'a dataset to add to' added.nc 80 "$(vector 1 '' '0 put_var_all v 1 2 3 4')" 'ranks 1
+order m0
+rank 0
+0 put_var_all ok
+pending 0' 00000001000000020000000300000004
+cp added.nc windows.nc
+cp added.nc taken.nc
+
+# The new header has 116 bytes: v moves there, and q stands behind it.
+both='ranks 1
+order m0 m1
+rank 0
+0 get_var_all ok 1 2 3 4
+1 get_var_all ok 0 0 0 0
+pending 0'
+
+run 'a variable is added to an opened dataset' added.nc 116 'open
+ranks 1
+var short q [x]
+data
+0 get_var_all v
+0 get_var_all q
+end' "$both" 000000010000000200000003000000040000000000000000
+
+run 'values move in windows' windows.nc 116 'open
+ranks 1
+hint ind_wr_buffer_size 6
+var short q [x]
+data
+0 get_var_all v
+0 get_var_all q
+end' "$both" 000000010000000200000003000000040000000000000000
+same 'and leave the same file' yes "$(cmp -s added.nc windows.nc && echo yes || echo no)"
+
+run 'a variable is added to records' grown.nc 116 'open
+ranks 1
+var int q [t]
+data
+0 get_var_all s
+0 get_var_all q
+end' 'ranks 1
+order m0 m1
+rank 0
+0 get_var_all ok 0 0 0 7
+1 get_var_all ok 0 0 0 0
+pending 0' 0000000000000000000000000000000000000000000000000007000000000000
+
+given=$(printf 'open\nranks 1\ndim x 9\ndata\nend\n' | "$program" taken.nc)
+same 'a name that is taken: status' 4 $?
+same 'a name that is taken: its line' 'ncrun: redefinition 0: name taken' "$given"
+same 'a name that is taken: the file' 00000001000000020000000300000004 "$(data_of taken.nc 80)"

@@ -38,6 +38,12 @@ other header bytes n e b h front rest s t f =
     clash : None ≡ Some e → ⊥
     clash x = cc
 
+-- ---- one header stands at a front
+
+pub begins_once : (header other : head.Header) (bytes : List ℕ) (n m : ℕ) → BeginsWith bytes header n → BeginsWith bytes other m → header ≡ other
+begins_once header other bytes n m b c =
+    (spells_once header other (take n bytes) (take m bytes) (drop n bytes) (drop m bytes) b.0 c.0 (take-append-drop n bytes ∙ sym (take-append-drop m bytes))).0
+
 pub no_fault : (header : head.Header) (bytes : List ℕ) (n : ℕ) → BeginsWith bytes header n → (e : HeaderErr) → HasFault bytes e → ⊥
 no_fault header bytes n b e (inl field) = clash (sym b.1 ∙ fault_only bytes e field)
   where

@@ -1,40 +1,22 @@
--- What is done of a built script is a run that ended well.
-use Rattle.std.proofs.Common.{◌≡◌, ℕ, Bool, true, false, List, [], ◌∷◌, ◌++◌, length, Option, Some, None, refl, sym, ap, subst, ◌∙◌}
-use Rattle.std.specs.Prelude.{IfSome, ◌==◌}
+-- What is done of a script is a run that ended well.
+use Rattle.std.proofs.Common.{◌≡◌, ℕ, List, [], ◌++◌, Option, Some, None, refl, sym, ap, subst, ◌∙◌}
+use Rattle.std.specs.Prelude.{IfSome}
 use Rattle.nc_base.specs.declared.answer.Answer.{Answer}
 use Rattle.nc_base.specs.declared.header.Header.{Header}
-use Rattle.nc_base.specs.declared.script.Extra.{Extra}
 use Rattle.nc_base.specs.declared.script.Script.{Script}
 use Rattle.nc_base.specs.declared.step.DiskCall.{DiskCall}
 use Rattle.nc_base.specs.declared.step.Mark.{Mark}
 use Rattle.nc_outside.specs.Told.{after, with_end}
-use Rattle.serial_spec.specs.DeviceCalls.{all_calls, opening_calls, redefining_calls, run_calls}
+use Rattle.serial_spec.specs.DeviceCalls.{run_calls}
 use Rattle.serial_spec.specs.History.{IsLegal}
-use Rattle.serial_spec.specs.Lawful.{is_empty}
-use Rattle.serial_spec.specs.Redefinition.{brought, redefined}
-use Rattle.serial_spec.specs.SerialEnd.{End, serial, serial_from, start}
+use Rattle.serial_spec.specs.Redefinition.{brought}
+use Rattle.serial_spec.specs.SerialEnd.{End, serial_from, start}
 use Rattle.script_spec.specs.Texts.{run_text}
-use Rattle.ncmpi_cli.specs.Built.{is_built}
 use Rattle.script_spec.specs.ScriptGrammar.{Reads}
 use Rattle.rank_meeting.specs.Begun.{HasBegun}
-use Rattle.ncmpi_cli.specs.Headline.{Asks, BeginsFor, IsDone, IsReady, Ran}
+use Rattle.ncmpi_cli.specs.Headline.{Asks, BeginsFor, IsDone, Ran}
+use Rattle.ncmpi_cli.specs.Opening.{first_calls, IsReady}
 use Rattle.ncmpi_cli.proofs.Ready.{same_script}
-
--- ---- nothing is added to the dataset
-
-none-added : (extras : List Extra) → is_empty extras ≡ true → extras ≡ []
-none-added [] h = refl
-none-added (x ∷ extras) h = absurd (clash h)
-  where
-    clash : false ≡ true → ⊥
-    clash e = cc
-
-calls-are : (script : Script) (header : Header) (file : List ℕ) (order : List Mark) → is_built script ≡ true
-    → all_calls script header header file order ≡ opening_calls script header file ++ run_calls script header (start script header file) order
-calls-are script header file order built =
-    let none : script.extra ≡ [] = none-added script.extra built in
-    ap (λ (x : List Extra). elim (length x == 0) [ true ↦ opening_calls script header file | false ↦ redefining_calls script.hints header header file ]
-    ++ run_calls script header (start script header (elim (length x == 0) [ true ↦ file | false ↦ redefined file header header ])) order) none
 
 -- ---- a file that is told
 
@@ -45,29 +27,27 @@ joined calls (Some old) opening run e = ap (λ (c : Option (List DiskCall)). wit
 
 pub done : (script : Script) (header : Header) (held_before held_mid held_after : Option (List ℕ)) (calls_before calls_mid calls_after : Option (List DiskCall))
     (order : List Mark) (records : ℕ) (answers : List (List Answer)) (pending : List ℕ) (text : List ℕ)
-    → is_built script ≡ true → IsReady script header held_before held_mid calls_before calls_mid
+    → (ready : IsReady script header held_before held_mid calls_before calls_mid)
     → IfSome held_mid (λ file. held_after ≡ Some (serial_from script header file order).bytes)
     → IfSome held_mid (λ file. records ≡ (serial_from script header file order).records)
     → IfSome held_mid (λ file. answers ≡ (serial_from script header file order).answers)
     → IfSome held_mid (λ file. pending ≡ (serial_from script header file order).pending)
     → IfSome held_mid (λ file. calls_after ≡ with_end calls_mid (run_calls script header file order))
     → text ≡ run_text script (record header { records = records }) order answers pending
-    → IfSome held_before (λ bytes. IsDone script header bytes held_after calls_before calls_after order text)
-done script header None held_mid held_after calls_before calls_mid calls_after order records answers pending text built ready b r a p k t = tt
-done script header (Some file) held_mid held_after calls_before calls_mid calls_after order records answers pending text built ready b r a p k t =
-    let mid : held_mid ≡ Some (start script header file) = ready.bytes in
-    let end : End = serial script header file order in
+    → IfSome held_before (λ bytes. IsDone script ready.old header bytes held_after calls_before calls_after order text)
+done script header None held_mid held_after calls_before calls_mid calls_after order records answers pending text ready b r a p k t = tt
+done script header (Some file) held_mid held_after calls_before calls_mid calls_after order records answers pending text ready b r a p k t =
+    let begun : List ℕ = start script header (brought script ready.old header file) in
+    let mid : held_mid ≡ Some begun = ready.bytes in
+    let end : End = serial_from script header begun order in
     let count : records ≡ end.records = subst (λ (h : Option (List ℕ)). IfSome h (λ f. records ≡ (serial_from script header f order).records)) mid r in
     let told : answers ≡ end.answers = subst (λ (h : Option (List ℕ)). IfSome h (λ f. answers ≡ (serial_from script header f order).answers)) mid a in
     let left : pending ≡ end.pending = subst (λ (h : Option (List ℕ)). IfSome h (λ f. pending ≡ (serial_from script header f order).pending)) mid p in
-    let made : calls_after ≡ with_end calls_mid (run_calls script header (start script header file) order) =
+    let made : calls_after ≡ with_end calls_mid (run_calls script header begun order) =
     subst (λ (h : Option (List ℕ)). IfSome h (λ f. calls_after ≡ with_end calls_mid (run_calls script header f order))) mid k in
     record {
       bytes = subst (λ (h : Option (List ℕ)). IfSome h (λ f. held_after ≡ Some (serial_from script header f order).bytes)) mid b;
-      calls =
-          made
-          ∙ joined calls_mid calls_before (opening_calls script header file) (run_calls script header (start script header file) order) ready.calls
-          ∙ ap (λ (c : List DiskCall). after (λ _. c) calls_before) (sym (calls-are script header file order built));
+      calls = made ∙ joined calls_mid calls_before (first_calls script ready.old header file) (run_calls script header begun order) ready.calls;
       lines =
           t
           ∙ ap (λ (n : ℕ). run_text script (record header { records = n }) order answers pending) count
@@ -104,12 +84,13 @@ ran script header left_before left_after held_before held_mid held_after calls_b
     subst (λ (o : List Mark). Ran left_before left_after held_before held_after calls_before calls_after o text) (sym same)
     (record {
       script = script;
+      old = ready.old;
       header = header;
       file = ready.file;
-      reads = asks.reads;
+      reads = asks;
       taken = taken;
       held = ready.held;
       heads = ready.heads;
       legal = legal;
-      done = done script header held_before held_mid held_after calls_before calls_mid calls_after end_order records answers pending text asks.built ready b r a p k t;
+      done = done script header held_before held_mid held_after calls_before calls_mid calls_after end_order records answers pending text ready b r a p k t;
     })

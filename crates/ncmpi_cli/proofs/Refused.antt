@@ -1,5 +1,5 @@
 -- A text that is refused, and one that is read.
-use Rattle.std.proofs.Common.{◌≡◌, ℕ, ◌<◌, ◌≤◌, Bool, true, false, List, [], length, Option, Some, None, inl, inr, ◌⊎◌, refl, sym, ap, ◌∙◌, arith}
+use Rattle.std.proofs.Common.{◌≡◌, ℕ, ◌<◌, ◌≤◌, List, [], length, Option, Some, None, option_map, inl, inr, ◌⊎◌, refl, sym, ap, ◌∙◌, arith}
 use Rattle.std.specs.Prelude.{IfSome, Result, Ok, Err}
 use Rattle.std.proofs.lemmas.Bool.{cases_lt}
 use Rattle.nc_base.specs.declared.errors.ScriptKind.{ScriptKind}
@@ -9,16 +9,15 @@ use Rattle.nc_base.specs.declared.script.Script.{Script}
 use Rattle.nc_outside.specs.Told.{after, with_front}
 use Rattle.script_spec.specs.ScriptGrammar.{fault_of, most_bytes, Reads, script_fault, script_of_text}
 use Rattle.script_spec.specs.Texts.{script_line}
-use Rattle.ncmpi_cli.specs.Built.{is_built}
 use Rattle.ncmpi_cli.specs.Headline.{Asks, refusal}
-use Rattle.ncmpi_cli.specs.Stops.{line_of, not_built_line, status_of, stop_of_kind, stop_of_script}
+use Rattle.ncmpi_cli.specs.Stops.{line_of, status_of, stop_of_kind, stop_of_script}
 use Rattle.ncmpi_cli.specs.declared.stop.Stop.{Stop}
 use Rattle.ncmpi_cli.specs.declared.stop.Stop.TheVariants as stops
 use Rattle.ncmpi_cli.proofs.Taken.{long_text, whole_text}
 
 -- the line that refuses a text, by what is read of it
 abbrev line_for : Result Script ScriptErr → Option (List ℕ)
-line_for told = elim told [ Err e ↦ Some (script_line e) | Ok script ↦ elim (is_built script) [ true ↦ None | false ↦ Some not_built_line ] ]
+line_for told = option_map script_line (fault_of told)
 
 -- what is so of the text that was taken is so of all that was left, however long it is
 pub of_all : (before left : Option (List ℕ)) (text : List ℕ) (P : Result Script ScriptErr → Type 0) → before ≡ with_front text left
@@ -66,18 +65,8 @@ refused before left text e stop b f h s st =
     let line : line_of stop ≡ Some (script_line e) = ap line_of (s ∙ own.1) in
     of_all before left text (λ told. line_for told ≡ line_of stop) b f (ap line_for fault ∙ sym line)
 
-pub not_built : (before left : Option (List ℕ)) (text : List ℕ) (script : Script) → before ≡ with_front text left
-    → (length text ≤ most_bytes → left ≡ after (λ _. []) left) → Reads text script → is_built script ≡ false
-    → IfSome before (λ t. refusal t ≡ Some not_built_line)
-not_built before left text script b f r n =
-    of_all before left text (λ told. line_for told ≡ Some not_built_line) b f
-    (ap line_for r ∙ ap (λ (x : Bool). elim x [ true ↦ None | false ↦ Some not_built_line ]) n)
-
--- ---- a script that is built
+-- ---- a script that is read
 
 pub asks : (before left : Option (List ℕ)) (text : List ℕ) (script : Script) → before ≡ with_front text left
-    → (length text ≤ most_bytes → left ≡ after (λ _. []) left) → Reads text script → is_built script ≡ true → Asks before script
-asks before left text script b f r h = record {
-  reads = of_all before left text (λ told. told ≡ Ok script) b f r;
-  built = h;
-}
+    → (length text ≤ most_bytes → left ≡ after (λ _. []) left) → Reads text script → Asks before script
+asks before left text script b f r = of_all before left text (λ told. told ≡ Ok script) b f r

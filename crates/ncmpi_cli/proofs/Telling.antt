@@ -1,40 +1,32 @@
 -- What the top call tells, by how a run ended.
-use Rattle.std.proofs.Common.{◌≡◌, ℕ, ◌+◌, ◌^◌, ◌≤◌, Bool, true, false, List, [], ◌∷◌, length, Option, Some, None, inl, inr, ◌⊎◌, refl, sym, ap, subst, ◌∙◌, arith}
-use Rattle.std.specs.Prelude.{IfSome, IsSomeAnd, Result, Ok, Err, is_some}
-use Rattle.nc_base.specs.declared.errors.HeaderErr.{HeaderErr}
+use Rattle.std.proofs.Common.{◌≡◌, ℕ, ◌≤◌, Bool, true, false, List, Option, Some, None, option_map, inl, inr, ◌⊎◌, refl, sym, ap, subst, ◌∙◌, arith}
+use Rattle.std.specs.Prelude.{IfSome, IsSomeAnd, Result, is_some}
 use Rattle.nc_base.specs.declared.errors.LayoutErr.{LayoutErr}
 use Rattle.nc_base.specs.declared.errors.ScriptErr.{ScriptErr}
 use Rattle.nc_base.specs.declared.script.Script.{Script}
 use Rattle.nc_outside.specs.Cause.{Rose}
-use Rattle.script_spec.specs.ScriptGrammar.{Reads}
+use Rattle.script_spec.specs.ScriptGrammar.{fault_of, Reads}
 use Rattle.script_spec.specs.Texts.{script_line}
-use Rattle.serial_spec.specs.HeaderGrammar.{HasFault}
-use Rattle.serial_spec.specs.Lawful.{are_lawful_hints}
 use Rattle.serial_spec.specs.Redefinition.{layout_fault}
-use Rattle.ncmpi_cli.specs.Built.{is_built}
-use Rattle.ncmpi_cli.specs.Headline.{align_of, Asks, AsksFor, front, IsBadDataset, IsFaultless, IsRight, IsWrong, refusal, TellsDataset}
-use Rattle.ncmpi_cli.specs.Stops.{line_of, not_built_line, status_of}
+use Rattle.ncmpi_cli.specs.Headline.{align_of, Asks, AsksFor, IsBadDataset, IsFaultyFile, IsRight, IsSoundFile, IsWrong, refusal, TellsDataset, TellsHeader, TellsRedefinition}
+use Rattle.ncmpi_cli.specs.Opening.{IsFaultless}
+use Rattle.ncmpi_cli.specs.Stops.{line_of, status_of}
 use Rattle.ncmpi_cli.specs.declared.stop.Stop.{Stop}
 use Rattle.ncmpi_cli.specs.declared.stop.Stop.TheVariants as stops
-use Rattle.serial_spec.proofs.SpellingLaws.{left, right}
-use Rattle.script_laws.proofs.LawfulLaws.{read_lawful}
 use Rattle.ncmpi_cli.proofs.Ready.{false-true, same_script}
 
--- ---- a text that is built is refused by nothing
+-- ---- a text that is read is refused by nothing
 
-abbrev line_for : Result Script ScriptErr → Option (List ℕ)
-line_for told = elim told [ Err e ↦ Some (script_line e) | Ok script ↦ elim (is_built script) [ true ↦ None | false ↦ Some not_built_line ] ]
+pub not_refused : (text : List ℕ) (script : Script) → Reads text script → refusal text ≡ None
+not_refused text script r = ap (λ (told : Result Script ScriptErr). option_map script_line (fault_of told)) r
 
-pub not_refused : (text : List ℕ) (script : Script) → Reads text script → is_built script ≡ true → refusal text ≡ None
-not_refused text script r b = ap line_for r ∙ ap (λ (x : Bool). elim x [ true ↦ None | false ↦ Some not_built_line ]) b
-
--- a stop whose line is that of a refusal tells of a text that is not built
+-- a stop that refuses a text has a line
 some_line : (stop : Stop) → status_of stop ≡ 3 → (line : List ℕ) × (line_of stop ≡ Some line)
 some_line (stops.Script e) s = (_, refl)
-some_line stops.NotBuilt s = (_, refl)
 some_line stops.Usage s = absurd (omega (arith, s))
 some_line (stops.Header e) s = absurd (omega (arith, s))
 some_line (stops.Layout e) s = absurd (omega (arith, s))
+some_line (stops.Redefinition e) s = absurd (omega (arith, s))
 some_line stops.Source s = absurd (omega (arith, s))
 some_line stops.Disk s = absurd (omega (arith, s))
 some_line stops.Memory s = absurd (omega (arith, s))
@@ -45,10 +37,10 @@ some-none line o e f = clash (sym e ∙ f)
     clash : Some line ≡ None → ⊥
     clash x = cc
 
-refused-asks : (text : List ℕ) (script : Script) (stop : Stop) → Asks (Some text) script → status_of stop ≡ 3 → refusal text ≡ line_of stop → ⊥
+refused-asks : (text : List ℕ) (script : Script) (stop : Stop) → Reads text script → status_of stop ≡ 3 → refusal text ≡ line_of stop → ⊥
 refused-asks text script stop a s e =
     let line = some_line stop s in
-    some-none line.0 (refusal text) (e ∙ line.1) (not_refused text script a.reads a.built)
+    some-none line.0 (refusal text) (e ∙ line.1) (not_refused text script a)
 
 -- ---- what is wrong with a dataset is not right
 
@@ -61,13 +53,21 @@ tells-right script held line t r = by_fresh script.fresh refl
         clash : Some e ≡ None → ⊥
         clash x = cc
 
-    of_header : (h : Option (List ℕ)) (e : HeaderErr) → IfSome h (λ file. HasFault (front file) e) → IsSomeAnd h (λ file. (x : HeaderErr) → HasFault (front file) x → ⊥) → ⊥
-    of_header None e f n = absurd n
-    of_header (Some file) e f n = n e f
+    of_header : (h : Option (List ℕ)) → TellsHeader h line → IsSomeAnd h (IsSoundFile script) → ⊥
+    of_header None t n = absurd n
+    of_header (Some file) t n = n.header t.0 t.1.0
+
+    of_redefinition : (h : Option (List ℕ)) → TellsRedefinition script h line → IsSomeAnd h (IsSoundFile script) → ⊥
+    of_redefinition None t n = absurd n
+    of_redefinition (Some file) t n = n.redefinition t.0 t.1.0
+
+    of_opened : TellsHeader held line ⊎ TellsRedefinition script held line → IsSomeAnd held (IsSoundFile script) → ⊥
+    of_opened (inl h) n = of_header held h n
+    of_opened (inr x) n = of_redefinition held x n
 
     by_fresh : (b : Bool) → script.fresh ≡ b → ⊥
     by_fresh true f = let c = t.created f in of_layout c.0 c.1.0 (r.created f)
-    by_fresh false f = let o = t.opened f in of_header held o.0 o.1.0 (r.opened f)
+    by_fresh false f = of_opened (t.opened f) (r.opened f)
 
 -- what has no fault is not wrong
 faultless-wrong : (script : Script) (held : Option (List ℕ)) → IsFaultless script held → IsWrong script held → ⊥
@@ -79,13 +79,17 @@ faultless-wrong script held n w = by_fresh script.fresh refl
         clash : Some e ≡ None → ⊥
         clash x = cc
 
-    of_header : (h : Option (List ℕ)) → IfSome h (λ file. (x : HeaderErr) → HasFault (front file) x → ⊥) → IsSomeAnd h (λ file. (e : HeaderErr) × HasFault (front file) e) → ⊥
-    of_header None f g = absurd g
-    of_header (Some file) f g = f g.0 g.1
+    of_file : (file : List ℕ) → IsSoundFile script file → IsFaultyFile script file → ⊥
+    of_file file f (inl g) = f.header g.0 g.1
+    of_file file f (inr g) = f.redefinition g.0 g.1
+
+    of_held : (h : Option (List ℕ)) → IfSome h (IsSoundFile script) → IsSomeAnd h (IsFaultyFile script) → ⊥
+    of_held None f g = absurd g
+    of_held (Some file) f g = of_file file f g
 
     by_fresh : (b : Bool) → script.fresh ≡ b → ⊥
     by_fresh true f = let c = w.created f in of_layout c.0 c.1 (n.created f)
-    by_fresh false f = of_header held (n.opened f) (w.opened f)
+    by_fresh false f = of_held held (n.opened f) (w.opened f)
 
 -- ---- the clauses of a run that ended early
 
@@ -93,8 +97,8 @@ faultless-wrong script held n w = by_fresh script.fresh refl
 four_line : (stop : Stop) → status_of stop ≡ 4 → (line : List ℕ) × (line_of stop ≡ Some line)
 four_line (stops.Header e) s = (_, refl)
 four_line (stops.Layout e) s = (_, refl)
+four_line (stops.Redefinition e) s = (_, refl)
 four_line (stops.Script e) s = absurd (omega (arith, s))
-four_line stops.NotBuilt s = absurd (omega (arith, s))
 four_line stops.Usage s = absurd (omega (arith, s))
 four_line stops.Source s = absurd (omega (arith, s))
 four_line stops.Disk s = absurd (omega (arith, s))
@@ -125,14 +129,14 @@ refused None held stop status (inl e) u s d k r = absurd r
 refused (Some text) held stop status (inl e) u s d k r = by_stop stop refl
   where
     none-some : (script : Script) → Asks (Some text) script → ⊥
-    none-some script a = false-true (is_some (refusal text)) (ap (λ (o : Option (List ℕ)). is_some o) (not_refused text script a.reads a.built)) r
+    none-some script a = false-true (is_some (refusal text)) (ap (λ (o : Option (List ℕ)). is_some o) (not_refused text script a)) r
 
     by_stop : (other : Stop) → stop ≡ other → (status ≡ 3) ⊎ (status ≡ 8)
     by_stop stops.Usage x = absurd (u x)
     by_stop (stops.Script f) x = inl (e ∙ ap status_of x)
-    by_stop stops.NotBuilt x = inl (e ∙ ap status_of x)
     by_stop (stops.Header f) x = let told = d (ap status_of x) in absurd (none-some told.0 told.1.0)
     by_stop (stops.Layout f) x = let told = d (ap status_of x) in absurd (none-some told.0 told.1.0)
+    by_stop (stops.Redefinition f) x = let told = d (ap status_of x) in absurd (none-some told.0 told.1.0)
     by_stop stops.Source x = absurd (s x)
     by_stop stops.Disk x = let told = k (ap status_of x) in absurd (none-some told.0 told.1)
     by_stop stops.Memory x = inr (e ∙ ap status_of x)
@@ -151,15 +155,15 @@ wants_memory (Some text) held stop status (inl e) u s k r d a = by_stop stop ref
     of_dataset x =
         let told = d x in
         let line = four_line stop x in
-        let same : told.0 ≡ a.0 = same_script text told.0 a.0 told.1.0.reads a.1.reads in
+        let same : told.0 ≡ a.0 = same_script text told.0 a.0 told.1.0 a.1 in
         tells-right a.0 held line.0 (subst (λ (z : Script). TellsDataset z held line.0) same (told-in _ (line_of stop) line.0 line.1 told.1.1)) a.2
 
     by_stop : (other : Stop) → stop ≡ other → (status ≡ 0) ⊎ (status ≡ 8)
     by_stop stops.Usage x = absurd (u x)
     by_stop (stops.Script f) x = absurd (refused-asks text a.0 stop a.1 (ap status_of x) (r (ap status_of x)))
-    by_stop stops.NotBuilt x = absurd (refused-asks text a.0 stop a.1 (ap status_of x) (r (ap status_of x)))
     by_stop (stops.Header f) x = absurd (of_dataset (ap status_of x))
     by_stop (stops.Layout f) x = absurd (of_dataset (ap status_of x))
+    by_stop (stops.Redefinition f) x = absurd (of_dataset (ap status_of x))
     by_stop stops.Source x = absurd (s x)
     by_stop stops.Disk x = absurd (k x)
     by_stop stops.Memory x = inr (e ∙ ap status_of x)
@@ -169,15 +173,9 @@ pub not_wrong : {Q : Type 0} (left held : Option (List ℕ)) (script : Script) �
     → IsSomeAnd left (λ text. AsksFor IsWrong text held) → Q
 not_wrong None held script a n w = absurd w
 not_wrong (Some text) held script a n w =
-    let same : w.0 ≡ script = same_script text w.0 script w.1.reads a.reads in
+    let same : w.0 ≡ script = same_script text w.0 script w.1 a in
     absurd (faultless-wrong script held n (subst (λ (z : Script). IsWrong z held) same w.2))
 
 -- a count that rose later rose
 pub rose_later : (before middle now : ℕ) → before ≤ middle → Rose middle now → Rose before now
 rose_later before middle now h r = omega (arith, h, r)
-
--- ---- what a script that is read keeps
-
-pub read_hints : (text : List ℕ) (script : Script) → Reads text script → are_lawful_hints script.hints ≡ true
-read_hints text script r =
-    right _ _ (left _ _ (left _ _ (left _ _ (left _ _ (left _ _ (left _ _ (left _ _ (left _ _ (left _ _ (read_lawful text script r))))))))))

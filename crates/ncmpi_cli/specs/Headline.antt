@@ -1,7 +1,15 @@
 -- What a run that ended well did, what refuses a script or a dataset, and what each status leaves.
-use Rattle.std.specs.Prelude.{ℕ, ◌^◌, ◌≡◌, ◌⊎◌, true, false, List, [], take, Option, Some, None, Ok, Err, IfSome, IsSomeAnd}
+--     AreHeadersOf script file old header    the first header of the dataset, and the one with which the ranks run
+--     IsDone, Ran, RanWell, RanToSink        what a run did to the file, and what it gave
+--     refusal text                           the line that refuses a text
+--     IsSoundFile, IsFaultyFile              whether an existing file can be opened as the script asks
+--     TellsDataset script held line          the line tells what is wrong with the dataset
+--     IsRight, IsWrong                       whether something is wrong with it
+--     BeginsFor, GivesLine                   the steps that were done, and the line that was given
+use Rattle.std.specs.Prelude.{ℕ, ◌^◌, ◌==◌, ◌≡◌, ◌⊎◌, true, false, List, [], take, length, Option, Some, None, option_map, IfSome, IsSomeAnd}
 use Rattle.nc_base.specs.declared.errors.HeaderErr.{HeaderErr}
 use Rattle.nc_base.specs.declared.errors.LayoutErr.{LayoutErr}
+use Rattle.nc_base.specs.declared.errors.RedefErr.{RedefErr}
 use Rattle.nc_base.specs.declared.header.Header.{Header}
 use Rattle.nc_base.specs.declared.script.Align.{Align}
 use Rattle.nc_base.specs.declared.script.Hints.{Hints}
@@ -10,18 +18,16 @@ use Rattle.nc_base.specs.declared.step.DiskCall.{DiskCall}
 use Rattle.nc_base.specs.declared.step.Mark.{Mark}
 use Rattle.nc_outside.specs.Told.{after, with_end}
 use Rattle.nc_outside.specs.Cause.{Rose}
-use Rattle.serial_spec.specs.DeviceCalls.{all_calls, opening_calls}
+use Rattle.serial_spec.specs.DeviceCalls.{all_calls}
 use Rattle.serial_spec.specs.Layout.{begins}
-use Rattle.serial_spec.specs.HeaderGrammar.{HasFault, header_len, is_sound}
+use Rattle.serial_spec.specs.HeaderGrammar.{HasFault, header_len}
 use Rattle.serial_spec.specs.History.{IsLegal}
-use Rattle.serial_spec.specs.Redefinition.{layout_fault}
-use Rattle.serial_spec.specs.SerialEnd.{End, serial, start}
+use Rattle.serial_spec.specs.Redefinition.{brought, layout_fault, redefined_fault, redefined_header}
+use Rattle.serial_spec.specs.SerialEnd.{End, serial}
 use Rattle.cdf_header.specs.Decoding.{BeginsWith}
 use Rattle.rank_meeting.specs.Begun.{HasBegun}
-use Rattle.script_spec.specs.ScriptGrammar.{Reads, script_of_text}
-use Rattle.script_spec.specs.Texts.{header_line, layout_line, run_text, script_line}
-use Rattle.ncmpi_cli.specs.Built.{is_built}
-use Rattle.ncmpi_cli.specs.Stops.{not_built_line}
+use Rattle.script_spec.specs.ScriptGrammar.{Reads, script_fault}
+use Rattle.script_spec.specs.Texts.{header_line, layout_line, redef_line, run_text, script_line}
 
 -- ---- the dataset that a script asks for
 
@@ -36,35 +42,47 @@ created_header script = begins script.header (align_of script.hints) (header_len
 abbrev pub front : List ℕ → List ℕ
 front file = take (2 ^ 20) file
 
--- A created dataset has the header that its script lays out, an opened one that which the front of its file spells.
-pub record IsHeaderOf (script : Script) (file : List ℕ) (header : Header) : Type 0 where
-  pub created : script.fresh ≡ true → header ≡ created_header script
-  pub opened : script.fresh ≡ false → (n : ℕ) × BeginsWith (front file) header n
+-- the header with which the ranks run, from the first one
+abbrev pub header_of_run : Script → Header → Header
+header_of_run script old = elim (length script.extra == 0) [ true ↦ old | false ↦ redefined_header old script.extra ]
+
+-- The first header of a created dataset is that which its script lays out, of an opened one that which the front of its file
+-- spells. The ranks run with what the script adds to it.
+pub record AreHeadersOf (script : Script) (file : List ℕ) (old header : Header) : Type 0 where
+  pub created : script.fresh ≡ true → old ≡ created_header script
+  pub opened : script.fresh ≡ false → (n : ℕ) × BeginsWith (front file) old n
+  pub made : header ≡ header_of_run script old
 
 -- ---- a run that ended well
 
 abbrev pub text_of : Script → Header → List Mark → End → List ℕ
 text_of script header order end = run_text script (record header { records = end.records }) order end.answers end.pending
 
+-- what the calls lead to, done one after another in the order: on what the file held or, where the script adds to it, on the
+-- redefined file
+abbrev pub end_of_run : Script → Header → Header → List ℕ → List Mark → End
+end_of_run script old header file order = serial script header (brought script old header file) order
+
 -- What was done to a file that is told: its bytes and the text are those of the calls done one after another in the order, and
 -- the device calls are those of the plan.
-pub record IsDone (script : Script) (header : Header) (file : List ℕ) (held_after : Option (List ℕ)) (calls_before calls_after : Option (List DiskCall)) (order : List Mark) (text : List ℕ) : Type 0 where
-  pub bytes : held_after ≡ Some (serial script header file order).bytes
-  pub calls : calls_after ≡ after (λ _. all_calls script header header file order) calls_before
-  pub lines : text ≡ text_of script header order (serial script header file order)
+pub record IsDone (script : Script) (old header : Header) (file : List ℕ) (held_after : Option (List ℕ)) (calls_before calls_after : Option (List DiskCall)) (order : List Mark) (text : List ℕ) : Type 0 where
+  pub bytes : held_after ≡ Some (end_of_run script old header file order).bytes
+  pub calls : calls_after ≡ after (λ _. all_calls script old header file order) calls_before
+  pub lines : text ≡ text_of script header order (end_of_run script old header file order)
 
 -- The script is the one that the source's text spells, which was taken to its end. The order is legal, and file, text and device
 -- calls are those of the calls done one after another in it, on what the dataset held.
 pub record Ran (left_before left_after held_before held_after : Option (List ℕ)) (calls_before calls_after : Option (List DiskCall)) (order : List Mark) (text : List ℕ) : Type 0 where
   pub script : Script
+  pub old : Header
   pub header : Header
   pub file : List ℕ
   pub reads : IfSome left_before (λ text. Reads text script)
   pub taken : left_after ≡ after (λ _. []) left_before
   pub held : IfSome held_before (λ bytes. bytes ≡ file)
-  pub heads : IsHeaderOf script file header
+  pub heads : AreHeadersOf script file old header
   pub legal : IsLegal script order
-  pub done : IfSome held_before (λ bytes. IsDone script header bytes held_after calls_before calls_after order text)
+  pub done : IfSome held_before (λ bytes. IsDone script old header bytes held_after calls_before calls_after order text)
 
 -- the same, with the text given whole
 pub record RanWell (left_before left_after held_before held_after : Option (List ℕ)) (calls_before calls_after : Option (List DiskCall)) (given_before given_after : Option (List ℕ)) (order : List Mark) : Type 0 where
@@ -81,42 +99,51 @@ pub record RanToSink (left_before left_after held_before held_after : Option (Li
 
 -- ---- what refuses a script or a dataset
 
--- the line that refuses a text, where one does
+-- the line that refuses a text, where it has a fault
 abbrev pub refusal : List ℕ → Option (List ℕ)
-refusal text =
-    elim (script_of_text text) [
-      | Err e ↦ Some (script_line e)
-      | Ok script ↦ elim (is_built script) [ true ↦ None | false ↦ Some not_built_line ]
-    ]
+refusal text = option_map script_line (script_fault text)
 
 -- some text spells the script
 abbrev pub IsRead : Script → Type 0
 IsRead script = (text : List ℕ) × Reads text script
 
--- the text is that of this script, which is built
-pub record Asks (left : Option (List ℕ)) (script : Script) : Type 0 where
-  pub reads : IfSome left (λ text. Reads text script)
-  pub built : is_built script ≡ true
+-- the text is that of this script
+abbrev pub Asks : Option (List ℕ) → Script → Type 0
+Asks left script = IfSome left (λ text. Reads text script)
 
--- nothing is wrong with the dataset, as far as it is told
-pub record IsFaultless (script : Script) (held : Option (List ℕ)) : Type 0 where
-  pub created : script.fresh ≡ true → layout_fault script.header (align_of script.hints) ≡ None
-  pub opened : script.fresh ≡ false → IfSome held (λ file. (e : HeaderErr) → HasFault (front file) e → ⊥)
+-- why a dataset with this header refuses what the script adds to it
+abbrev pub redefinition_fault : Script → Header → Option RedefErr
+redefinition_fault script old = elim (length script.extra == 0) [ true ↦ None | false ↦ redefined_fault old script.extra ]
 
--- What is made of a dataset before the ranks begin, and its header.
-pub record IsReady (script : Script) (header : Header) (held_before held_after : Option (List ℕ)) (calls_before calls_after : Option (List DiskCall)) : Type 0 where
-  pub file : List ℕ
-  pub held : IfSome held_before (λ bytes. bytes ≡ file)
-  pub heads : IsHeaderOf script file header
-  pub sound : is_sound header ≡ true
-  pub faultless : IsFaultless script held_before
-  pub bytes : held_after ≡ after (λ before. start script header before) held_before
-  pub calls : IfSome held_before (λ bytes. calls_after ≡ after (λ _. opening_calls script header bytes) calls_before)
+-- the header that the front of a file spells refuses what the script adds to it
+pub record HasRedefinitionFault (script : Script) (file : List ℕ) (e : RedefErr) : Type 0 where
+  pub old : Header
+  pub count : ℕ
+  pub begins : BeginsWith (front file) old count
+  pub refuses : redefinition_fault script old ≡ Some e
 
--- The line tells what is wrong with a dataset: with the layout of a created one, with the header of an opened one.
+-- nothing is wrong with an existing file: neither with its header, nor with its redefinition
+pub record IsSoundFile (script : Script) (file : List ℕ) : Type 0 where
+  pub header : (e : HeaderErr) → HasFault (front file) e → ⊥
+  pub redefinition : (e : RedefErr) → HasRedefinitionFault script file e → ⊥
+
+-- something is
+abbrev pub IsFaultyFile : Script → List ℕ → Type 0
+IsFaultyFile script file = ((e : HeaderErr) × HasFault (front file) e) ⊎ ((e : RedefErr) × HasRedefinitionFault script file e)
+
+-- the line tells what is wrong with a header
+abbrev pub TellsHeader : Option (List ℕ) → List ℕ → Type 0
+TellsHeader held line = (e : HeaderErr) × (IfSome held (λ file. HasFault (front file) e) × (line ≡ header_line e))
+
+-- the line tells what is wrong with a redefinition
+abbrev pub TellsRedefinition : Script → Option (List ℕ) → List ℕ → Type 0
+TellsRedefinition script held line = (e : RedefErr) × (IfSome held (λ file. HasRedefinitionFault script file e) × (line ≡ redef_line e))
+
+-- The line tells what is wrong with a dataset: with the layout of a created one, with the header of an opened one or with its
+-- redefinition.
 pub record TellsDataset (script : Script) (held : Option (List ℕ)) (line : List ℕ) : Type 0 where
   pub created : script.fresh ≡ true → (e : LayoutErr) × ((layout_fault script.header (align_of script.hints) ≡ Some e) × (line ≡ layout_line e))
-  pub opened : script.fresh ≡ false → (e : HeaderErr) × (IfSome held (λ file. HasFault (front file) e) × (line ≡ header_line e))
+  pub opened : script.fresh ≡ false → TellsHeader held line ⊎ TellsRedefinition script held line
 
 -- the same of the dataset that a text asks for
 pub record IsBadDataset (left held : Option (List ℕ)) (line : List ℕ) : Type 0 where
@@ -124,19 +151,19 @@ pub record IsBadDataset (left held : Option (List ℕ)) (line : List ℕ) : Type
   pub asks : Asks left script
   pub tells : TellsDataset script held line
 
--- the same of a dataset that is told where it is opened
+-- nothing is wrong with a dataset, which is told where it is opened
 pub record IsRight (script : Script) (held : Option (List ℕ)) : Type 0 where
   pub created : script.fresh ≡ true → layout_fault script.header (align_of script.hints) ≡ None
-  pub opened : script.fresh ≡ false → IsSomeAnd held (λ file. (e : HeaderErr) → HasFault (front file) e → ⊥)
+  pub opened : script.fresh ≡ false → IsSomeAnd held (IsSoundFile script)
 
 -- something is wrong with it
 pub record IsWrong (script : Script) (held : Option (List ℕ)) : Type 0 where
   pub created : script.fresh ≡ true → (e : LayoutErr) × (layout_fault script.header (align_of script.hints) ≡ Some e)
-  pub opened : script.fresh ≡ false → IsSomeAnd held (λ file. (e : HeaderErr) × HasFault (front file) e)
+  pub opened : script.fresh ≡ false → IsSomeAnd held (IsFaultyFile script)
 
 -- the text asks for a dataset of which this is so
 abbrev pub AsksFor : (Script → Option (List ℕ) → Type 0) → List ℕ → Option (List ℕ) → Type 0
-AsksFor P text held = (script : Script) × Asks (Some text) script × P script held
+AsksFor P text held = (script : Script) × Reads text script × P script held
 
 -- ---- what each status leaves
 

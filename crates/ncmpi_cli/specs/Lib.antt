@@ -1,6 +1,5 @@
 pub mod Limits
 pub mod Words
-pub mod Built
 pub mod Stops
 pub mod Headline
 pub mod Opening

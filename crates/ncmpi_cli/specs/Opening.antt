@@ -1,19 +1,24 @@
 -- How a dataset is made ready.
 --     IsOpened held header                  the front of an existing file spells the header
 --     filled_if, fill_calls_if              the fill of a new dataset, where it is asked for
---     opened_calls header file              the device calls that open an existing dataset
-use Rattle.std.specs.Prelude.{ℕ, ◌≡◌, List, [], ◌++◌, length, Bool, Option, IfSome, if◌then◌else◌}
+--     opened_calls header file              the device calls that open an existing dataset to which nothing is added
+--     first_calls script old header file    the device calls before the ranks begin
+--     IsFaultless script held               nothing is wrong with the dataset
+--     IsReady script header ..              what is made of a dataset before the ranks begin
+use Rattle.std.specs.Prelude.{ℕ, ◌==◌, ◌≡◌, List, [], ◌++◌, length, Bool, true, false, Option, None, IfSome, if◌then◌else◌}
 use Rattle.nc_base.specs.declared.header.Header.{Header}
 use Rattle.nc_base.specs.declared.script.Hints.{Hints}
+use Rattle.nc_base.specs.declared.script.Script.{Script}
 use Rattle.nc_base.specs.declared.step.DiskCall.{DiskCall}
-use Rattle.serial_spec.specs.DeviceCalls.{fill_calls, grow_to, head_load}
+use Rattle.nc_outside.specs.Told.{after}
+use Rattle.serial_spec.specs.DeviceCalls.{fill_calls, grow_to, head_load, opening_calls, redefining_calls}
 use Rattle.serial_spec.specs.Fill.{filled}
-use Rattle.serial_spec.specs.HeaderGrammar.{header_len}
+use Rattle.serial_spec.specs.HeaderGrammar.{header_len, is_sound}
 use Rattle.serial_spec.specs.Layout.{end_of}
+use Rattle.serial_spec.specs.Redefinition.{brought, layout_fault}
+use Rattle.serial_spec.specs.SerialEnd.{start}
 use Rattle.cdf_header.specs.Decoding.{BeginsWith}
-use Rattle.ncmpi_cli.specs.Headline.{front}
-use Rattle.ncmpi_cli.specs.declared.stop.Stop.{Stop}
-use Rattle.ncmpi_cli.specs.declared.stop.Stop.TheVariants as stop
+use Rattle.ncmpi_cli.specs.Headline.{align_of, front, AreHeadersOf, IsSoundFile}
 
 -- the front of what is held, or of some file where nothing is told, spells the header
 pub record IsOpened (held : Option (List ℕ)) (header : Header) : Type 0 where
@@ -21,13 +26,6 @@ pub record IsOpened (held : Option (List ℕ)) (header : Header) : Type 0 where
   pub told : IfSome held (λ bytes. bytes ≡ file)
   pub count : ℕ
   pub begins : BeginsWith (front file) header count
-
--- opening ends early by these alone
-abbrev pub IsOfOpening : Stop → Type 0
-IsOfOpening (stop.Header e) = Unit {0}
-IsOfOpening stop.Disk = Unit {0}
-IsOfOpening stop.Memory = Unit {0}
-IsOfOpening _ = ⊥
 
 abbrev pub filled_if : Bool → Header → List ℕ → List ℕ
 filled_if asked header file = if asked then filled header file else file
@@ -37,3 +35,27 @@ fill_calls_if asked hints header = if asked then fill_calls hints header else []
 
 abbrev pub opened_calls : Header → List ℕ → List DiskCall
 opened_calls header file = head_load file ++ grow_to (length file) (end_of header (header_len header) header.records)
+
+-- the device calls before the ranks begin
+abbrev pub first_calls : Script → Header → Header → List ℕ → List DiskCall
+first_calls script old header file =
+    elim (length script.extra == 0) [
+      | true ↦ opening_calls script header file
+      | false ↦ redefining_calls script.hints old header file
+    ]
+
+-- nothing is wrong with the dataset, as far as it is told
+pub record IsFaultless (script : Script) (held : Option (List ℕ)) : Type 0 where
+  pub created : script.fresh ≡ true → layout_fault script.header (align_of script.hints) ≡ None
+  pub opened : script.fresh ≡ false → IfSome held (IsSoundFile script)
+
+-- What is made of a dataset before the ranks begin, and its header.
+pub record IsReady (script : Script) (header : Header) (held_before held_after : Option (List ℕ)) (calls_before calls_after : Option (List DiskCall)) : Type 0 where
+  pub old : Header
+  pub file : List ℕ
+  pub held : IfSome held_before (λ bytes. bytes ≡ file)
+  pub heads : AreHeadersOf script file old header
+  pub sound : is_sound header ≡ true
+  pub faultless : IsFaultless script held_before
+  pub bytes : held_after ≡ after (λ before. start script header (brought script old header before)) held_before
+  pub calls : IfSome held_before (λ bytes. calls_after ≡ after (λ _. first_calls script old header bytes) calls_before)

@@ -4,8 +4,8 @@ ghost use Rattle.nc_outside.specs.Told.{after};
 ghost use Rattle.nc_outside.specs.Cause.{Rose};
 ghost use Rattle.serial_spec.specs.HeaderGrammar.{header_len, is_sound, is_writable};
 ghost use Rattle.serial_spec.specs.Layout.{end_of};
-ghost use Rattle.ncmpi_cli.specs.Built.{is_built};
-ghost use Rattle.ncmpi_cli.specs.Headline.{align_of, Asks, created_header, IsBeforeStart, IsRead, IsReady, refusal, TellsDataset};
+ghost use Rattle.ncmpi_cli.specs.Headline.{align_of, Asks, created_header, IsBeforeStart, IsRead, refusal, TellsDataset};
+ghost use Rattle.ncmpi_cli.specs.Opening.{IsReady};
 ghost use Rattle.ncmpi_cli.specs.Stops.{IsOfDataset, IsOfLayout, line_of, status_of};
 ghost use Rattle.nc_base.specs.declared.errors.LayoutErr.{LayoutErr};
 ghost use Rattle.nc_base.specs.declared.script.Script.{Script};
@@ -70,7 +70,6 @@ fn make_ready<D: Disk>(
     script: &Script,
 ) -> Result<Header, Stop>
     requires read { IsRead script.now }
-    requires built { is_built script.now ≡ true }
     ensures ready { IfOk result (λ header. IsReady script.now header (D.held disk.old) (D.held disk.new) (D.calls disk.old) (D.calls disk.new)) }
     ensures from { OnOk result (D.from disk.new ≡ 0) }
     ensures len { IfOk result (λ header. end_of header (header_len header) header.records ≤ D.len disk.new) }
@@ -87,7 +86,7 @@ fn make_ready<D: Disk>(
         fill(alloc, disk, script, &header)?;
         Ok(header)
     } else {
-        open(alloc, disk, name)
+        open(alloc, disk, name, script)
     }
 }
 

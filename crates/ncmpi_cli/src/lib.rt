@@ -2,11 +2,11 @@
 #![tactic(auto)]
 
 mod beginning;
-mod built;
 mod creating;
 mod ending;
 mod file_disk;
 mod opening;
+mod redefining;
 mod std_sink;
 mod std_source;
 mod stop;

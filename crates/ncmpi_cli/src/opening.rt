@@ -1,5 +1,5 @@
 // An existing dataset.
-ghost use Rattle.std.specs.Prelude.{◌≡◌, ◌≤◌, ◌^◌, ℕ, List, true, length, take, OnOk, OnErr, IfOk, IfErr, IfSome, IsErrOf, Err};
+ghost use Rattle.std.specs.Prelude.{◌≡◌, ◌≤◌, ◌^◌, ℕ, List, true, false, length, take, OnOk, OnErr, IfOk, IfErr, IfSome, IsErrOf, Err};
 ghost use Rattle.nc_base.specs.declared.errors.HeaderErr.{HeaderErr};
 ghost use Rattle.nc_outside.specs.Told.{after, with_end};
 ghost use Rattle.nc_outside.specs.Cause.{HasDiskCause, Rose};
@@ -7,34 +7,63 @@ ghost use Rattle.serial_spec.specs.DeviceCalls.{grow_to, head_load};
 ghost use Rattle.serial_spec.specs.File.{longer};
 ghost use Rattle.serial_spec.specs.HeaderGrammar.{HasFault, header_len, is_sound};
 ghost use Rattle.serial_spec.specs.Layout.{end_of};
-ghost use Rattle.ncmpi_cli.specs.Headline.{front};
-ghost use Rattle.ncmpi_cli.specs.Opening.{opened_calls, IsOpened, IsOfOpening};
+ghost use Rattle.serial_spec.specs.Redefinition.{is_redefinable};
+ghost use Rattle.ncmpi_cli.specs.Headline.{front, IsRead, TellsDataset};
+ghost use Rattle.ncmpi_cli.specs.Opening.{IsOpened, IsReady};
+ghost use Rattle.ncmpi_cli.specs.Stops.{line_of, status_of, IsOfHeader, IsOfOpening};
 
+use crate::redefining::redefine;
 use crate::stop::Stop;
 use cdf_header::decode;
-use nc_base::{Header, MAX_HEADER_BYTES};
+use nc_base::{Header, MAX_HEADER_BYTES, Script};
 use nc_outside::{Disk, DiskErr};
 use std::alloc::Global;
 use var_layout::end_of;
 
-/// Opens the dataset: reads its header, and makes a file that is shorter than its end as long.
-pub(crate) fn open<D: Disk>(alloc: Global, disk: &mut D, name: &str) -> Result<Header, Stop>
-    ensures opened { IfOk result (λ header. IsOpened (D.held disk.old) header) }
-    ensures sound { IfOk result (λ header. is_sound header ≡ true) }
-    ensures faultless { OnOk result (IfSome (D.held disk.old) (λ file. (e : HeaderErr) → HasFault (front file) e → ⊥)) }
-    ensures bytes { IfOk result (λ header. D.held disk.new ≡ after (λ file. longer file (end_of header (header_len header) header.records)) (D.held disk.old)) }
-    ensures calls { IfOk result (λ header. IfSome (D.held disk.old) (λ file. D.calls disk.new ≡ after (λ _. opened_calls header file) (D.calls disk.old))) }
+/// Opens the dataset, and makes it ready for the ranks: where the script adds to it, it is redefined; else a file that is shorter than
+/// its end is made as long.
+pub(crate) fn open<D: Disk>(
+    alloc: Global,
+    disk: &mut D,
+    name: &str,
+    script: &Script,
+) -> Result<Header, Stop>
+    requires read { IsRead script.now }
+    requires opened { script.now.fresh ≡ false }
+    ensures ready { IfOk result (λ header. IsReady script.now header (D.held disk.old) (D.held disk.new) (D.calls disk.old) (D.calls disk.new)) }
     ensures from { OnOk result (D.from disk.new ≡ 0) }
     ensures len { IfOk result (λ header. end_of header (header_len header) header.records ≤ D.len disk.new) }
-    ensures header { (e : HeaderErr) → result ≡ Err (Stop.Header e) → IfSome (D.held disk.old) (λ file. HasFault (front file) e) }
-    ensures unchanged { (e : HeaderErr) → result ≡ Err (Stop.Header e) → D.held disk.new ≡ D.held disk.old }
+    ensures bad { IfErr result (λ stop. status_of stop ≡ 4 → IfSome (line_of stop) (TellsDataset script.now (D.held disk.old))) }
+    ensures unchanged { IfErr result (λ stop. status_of stop ≡ 4 → D.held disk.new ≡ D.held disk.old) }
     ensures disk { IsErrOf result Stop.Disk → Rose (D.faults disk.old) (D.faults disk.new) }
     ensures later { D.faults disk.old ≤ D.faults disk.new }
     ensures only { IfErr result IsOfOpening }
 {
+    let old = read_header(alloc, disk, name)?;
+    if script.extra.is_empty() {
+        lengthen(alloc, disk, &old)?;
+        Ok(old)
+    } else {
+        redefine(alloc, disk, &old, script)
+    }
+}
+
+// Starts the disk, and reads the header of the dataset.
+fn read_header<D: Disk>(alloc: Global, disk: &mut D, name: &str) -> Result<Header, Stop>
+    ensures opened { IfOk result (λ header. IsOpened (D.held disk.old) header) }
+    ensures sound { IfOk result (λ header. is_sound header ≡ true) }
+    ensures redefinable { IfOk result (λ header. is_redefinable header ≡ true) }
+    ensures faultless { OnOk result (IfSome (D.held disk.old) (λ file. (e : HeaderErr) → HasFault (front file) e → ⊥)) }
+    ensures calls { OnOk result (IfSome (D.held disk.old) (λ file. D.calls disk.new ≡ after (λ _. head_load file) (D.calls disk.old))) }
+    ensures from { OnOk result (D.from disk.new ≡ 0) }
+    ensures held { D.held disk.new ≡ D.held disk.old }
+    ensures header { (e : HeaderErr) → result ≡ Err (Stop.Header e) → IfSome (D.held disk.old) (λ file. HasFault (front file) e) }
+    ensures disk { IsErrOf result Stop.Disk → Rose (D.faults disk.old) (D.faults disk.new) }
+    ensures later { D.faults disk.old ≤ D.faults disk.new }
+    ensures only { IfErr result IsOfHeader }
+{
     let bytes = first_bytes(alloc, disk, name)?;
     let (header, _) = decode(alloc, &bytes)?;
-    lengthen(alloc, disk, &header)?;
     Ok(header)
 }
 

@@ -2,21 +2,21 @@
 ghost use Rattle.std.specs.Prelude.{◌≡◌, None, IfOk, IsOk};
 ghost use Rattle.std.specs.Option.{option_map};
 ghost use Rattle.ncmpi_cli.specs.declared.stop.Stop.TheVariants.{Layout, Memory};
-ghost use Rattle.ncmpi_cli.specs.Stops.{fixed_line_of, line_of, status_of, stop_of_disk, stop_of_header, stop_of_script, stop_of_take};
+ghost use Rattle.ncmpi_cli.specs.Stops.{fixed_line_of, line_of, status_of, stop_of_disk, stop_of_header, stop_of_redefinition, stop_of_script, stop_of_take};
 
 use crate::streams::TakeErr;
-use nc_base::{Blob, HeaderErr, LayoutErr, ScriptErr, ScriptKind};
+use nc_base::{Blob, HeaderErr, LayoutErr, RedefErr, ScriptErr, ScriptKind};
 use nc_outside::DiskErr;
-use printed_text::{disk_line, header_line, layout_line, script_line, usage_line};
+use printed_text::{disk_line, header_line, layout_line, redef_line, script_line, usage_line};
 use std::alloc::{AllocError, Global};
 
 #[derive(Clone, Copy, Debug, PartialEq, Eq)]
 pub(crate) enum Stop {
     Usage,
     Script(ScriptErr),
-    NotBuilt,
     Header(HeaderErr),
     Layout(LayoutErr),
+    Redefinition(RedefErr),
     Source,
     Disk,
     Memory,
@@ -90,6 +90,17 @@ impl From<HeaderErr> for Stop {
     }
 }
 
+impl From<RedefErr> for Stop {
+    ghost from_gives = { λ e stop. stop ≡ stop_of_redefinition e };
+
+    fn from(e: RedefErr) -> Self {
+        match e {
+            RedefErr::Memory => Stop::Memory,
+            _ => Stop::Redefinition(e),
+        }
+    }
+}
+
 impl Stop {
     /// The status that the program ends with.
     pub(crate) fn status(self) -> u8
@@ -97,8 +108,8 @@ impl Stop {
     {
         match self {
             Stop::Usage => 2,
-            Stop::Script(_) | Stop::NotBuilt => 3,
-            Stop::Header(_) | Stop::Layout(_) => 4,
+            Stop::Script(_) => 3,
+            Stop::Header(_) | Stop::Layout(_) | Stop::Redefinition(_) => 4,
             Stop::Source => 5,
             Stop::Disk => 7,
             Stop::Memory => 8,
@@ -111,7 +122,6 @@ impl Stop {
     {
         match self {
             Stop::Usage => Some(usage_line()),
-            Stop::NotBuilt => Some(b"ncrun: script line 1: not built\n"),
             Stop::Disk => Some(disk_line()),
             _ => None,
         }
@@ -127,6 +137,7 @@ impl Stop {
             Stop::Script(e) => Ok(Some(script_line(alloc, &e)?)),
             Stop::Header(e) => Ok(Some(header_line(alloc, &e)?)),
             Stop::Layout(e) => Ok(Some(layout_line(alloc, &e)?)),
+            Stop::Redefinition(e) => Ok(Some(redef_line(alloc, &e)?)),
             _ => Ok(None),
         }
     }

@@ -5,7 +5,6 @@ ghost use Rattle.nc_outside.specs.Cause.{Rose};
 ghost use Rattle.ncmpi_cli.specs.Headline.{Asks, IsRead, refusal};
 ghost use Rattle.ncmpi_cli.specs.Stops.{line_of, status_of, IsOfTaking};
 
-use crate::built::is_built;
 use crate::stop::Stop;
 use crate::streams::take_all;
 use nc_base::Script;
@@ -24,9 +23,5 @@ pub(crate) fn take_script<S: Source>(alloc: Global, source: &mut S) -> Result<Sc
 {
     let text = take_all(alloc, source)?;
     let script = read_script(alloc, &text)?;
-    if is_built(&script) {
-        Ok(script)
-    } else {
-        Err(Stop::NotBuilt)
-    }
+    Ok(script)
 }

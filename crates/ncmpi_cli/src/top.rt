@@ -19,9 +19,9 @@ use std::sync::Wait;
 /// How a run ended.
 #[derive(Debug, Drop)]
 pub struct Outcome {
-    /// 0 where all was done and the text given whole; 2 for words of no form; 3 for a script that has a fault or is not
-    /// built; 4 for a dataset whose layout or header has a fault; 5, 6 and 7 for a fault of the source, the sink and the
-    /// disk; 8 for want of memory.
+    /// 0 where all was done and the text given whole; 2 for words of no form; 3 for a script that has a fault; 4 for a
+    /// dataset whose layout, header or redefinition has a fault; 5, 6 and 7 for a fault of the source, the sink and the disk;
+    /// 8 for want of memory.
     pub status: u8,
     /// The steps that were finished, in order.
     pub order: MarkList,
@@ -31,8 +31,8 @@ pub struct Outcome {
 
 /// Runs the script that the source has on the dataset that the words name, and gives its text to the sink.
 ///
-/// The words are those after the program's name: one, which does not begin with `-`. The ranks run in turn on one thread. So far a
-/// script that adds to an existing dataset is not built: it is refused, after every other fault of it.
+/// The words are those after the program's name: one, which does not begin with `-`. The ranks run in turn on one thread. Where the
+/// script adds to an existing dataset, that is redefined before the ranks begin.
 pub fn ncrun<R: Wait, S: Source, K: Sink, D: Disk, G: Gate>(
     rt: &R,
     alloc: Global,
@@ -54,7 +54,7 @@ pub fn ncrun<R: Wait, S: Source, K: Sink, D: Disk, G: Gate>(
     ensures sink { result.status ≡ 6 → Rose (K.faults out.old) (K.faults out.new) }
     ensures disk { result.status ≡ 7 → Rose (D.faults disk.old) (D.faults disk.new) }
 
-    // Where the source is not at fault, a text with a fault, or that is not built, is refused.
+    // Where the source is not at fault, a text with a fault is refused.
     ensures refused { is_form (texts words.now) ≡ true → IsSomeAnd (S.left script.old) (λ text. is_some (refusal text) ≡ true)
         → ¬ (Rose (S.faults script.old) (S.faults script.new)) → (result.status ≡ 3) ⊎ (result.status ≡ 8) }
 

@@ -24,10 +24,8 @@ fn words_of_no_form_are_answered_with_the_usage(rt: HostRuntime) -> Result<(), F
     ends(&rt, rt.alloc(), &["d.nc", "e.nc"], &run, &want)
 }
 
-const NOT_BUILT: &[u8] = b"ncrun: script line 1: not built\n";
-
-// The first fault of a script and its line; a script without a fault that is not built comes after every fault.
-const REFUSED: [(&[u8], &[u8]); 4] = [
+// The first fault of a script and its line.
+const REFUSED: [(&[u8], &[u8]); 3] = [
     (
         b"create 1\nranks 2\ndim x 4\nvar int v [x]\ndata\n0 iput_var1 0 v [0] 9\n0 wait_all all\nend\n",
         b"ncrun: script line 8: ranks 0 and 1 differ at collective call 0\n",
@@ -40,7 +38,6 @@ const REFUSED: [(&[u8], &[u8]); 4] = [
         b"create 1\nranks 2\ndim x 4\nvar int v [x]\ndata\n0 put_vara_all v [0] [2] 1 2\n1 put_vara_all v [2] [2] 3 4\nend\nx\n",
         b"ncrun: script line 9: text after end\n",
     ),
-    (b"open\nranks 1\ndim y 2\ndata\nend\n", NOT_BUILT),
 ];
 
 #[test]

@@ -3,5 +3,5 @@ use Rattle.ncmpi_cli.proofs.beginning.begin.Goals as goal
 
 pub returns-in_err-header-clause-unlaid : goal.returns-in_err-header-clause-unlaid
 returns-in_err-header-clause-unlaid g c =
-    unlaid (g.S.Source.left c.args.source.now) c.in_ok-script.script c.from_residual-in_err-header.result c.in_err-header.field-0.0 c.in_ok-script.ensures.asks.reads
+    unlaid (g.S.Source.left c.args.source.now) c.in_ok-script.script c.from_residual-in_err-header.result c.in_err-header.field-0.0 c.in_ok-script.ensures.asks
     c.from_residual-in_err-header.ensures.1 c.in_err-header.ensures.unlaid

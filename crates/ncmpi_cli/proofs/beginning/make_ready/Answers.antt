@@ -1,23 +1,16 @@
 use Rattle.std.proofs.Common.{◌∙◌}
 use Rattle.ncmpi_cli.proofs.Created.{sound_written}
-use Rattle.ncmpi_cli.proofs.Ready.{all-ready, bad-opened, created_long, ready-created}
-use Rattle.ncmpi_cli.proofs.Telling.{read_hints}
+use Rattle.ncmpi_cli.proofs.Keeping.{read_created, read_hints}
+use Rattle.ncmpi_cli.proofs.Ready.{created_long, ready-created}
 use Rattle.script_laws.proofs.RunLaws.{read_records}
 use Rattle.ncmpi_cli.proofs.beginning.make_ready.Goals as goal
 
 pub returns-in_ok-fill-clause-ready : goal.returns-in_ok-fill-clause-ready
 returns-in_ok-fill-clause-ready g c =
-    ready-created c.args.script.now c.in_ok-header.header _ (g.D.Disk.held c.create.new.disk) _ _ (g.D.Disk.calls c.create.new.disk) _ c.if-script.true c.in_ok-header.ensures.header
+    ready-created c.args.script.now c.in_ok-header.header _ (g.D.Disk.held c.create.new.disk) _ _ (g.D.Disk.calls c.create.new.disk) _ c.if-script.true
+    (read_created c.requires.read.0 c.args.script.now c.requires.read.1 c.if-script.true) c.in_ok-header.ensures.header
     (sound_written c.in_ok-header.header c.in_ok-header.ensures.writable) c.in_ok-header.ensures.faultless c.in_ok-create.ensures.bytes c.in_ok-fill.ensures.bytes
     c.in_ok-create.ensures.calls c.in_ok-fill.ensures.calls
-
-pub returns-else-script-clause-ready : goal.returns-else-script-clause-ready
-returns-else-script-clause-ready g c =
-    all-ready c.args.script.now _ _ _ _ c.open.result c.if-script.false c.open.ensures.opened c.open.ensures.sound c.open.ensures.faultless c.open.ensures.bytes c.open.ensures.calls
-
-pub returns-else-script-clause-bad : goal.returns-else-script-clause-bad
-returns-else-script-clause-bad g c =
-    bad-opened c.args.script.now (g.D.Disk.held c.args.disk.now) c.open.result c.if-script.false c.open.ensures.header c.open.ensures.only
 
 pub fill-requires-clause-sound : goal.fill-requires-clause-sound
 fill-requires-clause-sound g c = λ _ _. sound_written c.in_ok-header.header c.in_ok-header.ensures.writable

@@ -1,22 +1,29 @@
-use Rattle.std.proofs.Common.{◌≡◌, ◌⊎◌, List, ℕ, subst}
-use Rattle.nc_base.specs.declared.errors.HeaderErr.TheVariants as fault
-use Rattle.serial_spec.specs.HeaderGrammar.{HasFault}
-use Rattle.cdf_header.specs.Decoding.{BeginsWith}
-use Rattle.ncmpi_cli.proofs.Opened.{faultless, opened, tells}
+use Rattle.ncmpi_cli.proofs.Ready.{bad-header, bad-redefinition, false-true, no_extras, ready-kept, redefined-ready, redefined_long, some_extras}
 use Rattle.ncmpi_cli.proofs.opening.open.Goals as goal
 
-pub returns-in_err-header-clause-header : goal.returns-in_err-header-clause-header
-returns-in_err-header-clause-header g c = λ e r.
-    tells (g.D.Disk.held c.args.disk.now) c.in_ok-bytes.bytes.items _ c.in_err-header.field-0.0 e c.in_ok-bytes.ensures.bytes
-    (subst (λ (t : List ℕ). (c.in_err-header.field-0.0 ≡ fault.Memory) ⊎ HasFault t c.in_err-header.field-0.0) c.deref.ensures.value c.in_err-header.ensures.fault)
-    c.from_residual-in_err-header.ensures.1 r
+pub returns-in_err-old-clause-bad : goal.returns-in_err-old-clause-bad
+returns-in_err-old-clause-bad g c =
+    bad-header c.args.script.now (g.D.Disk.held c.args.disk.now) c.read_header.result c.in_err-old.field-0.0 c.from_residual.result c.requires.opened
+    c.in_err-old.was c.read_header.ensures.header c.read_header.ensures.only c.from_residual.ensures.1
 
-pub returns-clause-opened : goal.returns-clause-opened
-returns-clause-opened g c =
-    opened (g.D.Disk.held c.args.disk.now) c.in_ok-bytes.bytes.items c.in_ok-header.header c.in_ok-header.field-0-1 c.in_ok-bytes.ensures.bytes c.in_ok-bytes.ensures.few
-    (subst (λ (t : List ℕ). BeginsWith t c.in_ok-header.header c.in_ok-header.field-0-1) c.deref.ensures.value c.in_ok-header.ensures.found)
+pub returns-in_ok-lengthen-clause-ready : goal.returns-in_ok-lengthen-clause-ready
+returns-in_ok-lengthen-clause-ready g c =
+    ready-kept c.args.script.now c.in_ok-old.old (g.D.Disk.held c.args.disk.now) (g.D.Disk.held c.read_header.new.disk) _ _ (g.D.Disk.calls c.read_header.new.disk) _
+    c.requires.opened (no_extras c.args.script.now (c.is_empty.ensures.0 c.if-is_empty.true))
+    c.in_ok-old.ensures.opened c.in_ok-old.ensures.sound c.in_ok-old.ensures.faultless c.in_ok-old.ensures.held
+    c.in_ok-lengthen.ensures.bytes c.in_ok-old.ensures.calls c.in_ok-lengthen.ensures.calls
 
-pub returns-clause-faultless : goal.returns-clause-faultless
-returns-clause-faultless g c =
-    faultless (g.D.Disk.held c.args.disk.now) c.in_ok-bytes.bytes.items c.in_ok-header.header c.in_ok-header.field-0-1 c.in_ok-bytes.ensures.bytes
-    (subst (λ (t : List ℕ). BeginsWith t c.in_ok-header.header c.in_ok-header.field-0-1) c.deref.ensures.value c.in_ok-header.ensures.found)
+pub returns-else-is_empty-clause-ready : goal.returns-else-is_empty-clause-ready
+returns-else-is_empty-clause-ready g c =
+    redefined-ready c.args.script.now c.in_ok-old.old (g.D.Disk.held c.args.disk.now) (g.D.Disk.held c.read_header.new.disk) _ _ (g.D.Disk.calls c.read_header.new.disk) _ c.redefine.result c.requires.opened
+    (some_extras c.args.script.now (λ none. false-true _ c.if-is_empty.false (c.is_empty.ensures.1 none))) c.in_ok-old.ensures.opened c.in_ok-old.ensures.faultless c.in_ok-old.ensures.held c.redefine.ensures.applied c.redefine.ensures.bytes
+    c.in_ok-old.ensures.calls c.redefine.ensures.calls
+
+pub returns-else-is_empty-clause-len : goal.returns-else-is_empty-clause-len
+returns-else-is_empty-clause-len g c =
+    redefined_long c.in_ok-old.old (g.D.Disk.len c.redefine.new.disk) c.args.script.now.extra c.redefine.result c.redefine.ensures.applied c.redefine.ensures.len
+
+pub returns-else-is_empty-clause-bad : goal.returns-else-is_empty-clause-bad
+returns-else-is_empty-clause-bad g c =
+    bad-redefinition c.args.script.now c.in_ok-old.old (g.D.Disk.held c.args.disk.now) c.redefine.result c.requires.opened
+    (some_extras c.args.script.now (λ none. false-true _ c.if-is_empty.false (c.is_empty.ensures.1 none))) c.in_ok-old.ensures.opened c.redefine.ensures.refused c.redefine.ensures.only

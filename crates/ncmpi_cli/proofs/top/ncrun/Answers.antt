@@ -1,12 +1,9 @@
-use Rattle.std.proofs.Common.{◌≡◌, ◌∙◌, ap, refl, sym, List, ℕ, Some, rules}
+use Rattle.std.proofs.Common.{◌≡◌, ◌∙◌, ap, refl, List, ℕ, Some, rules}
 use Rattle.std.specs.Prelude.{Err}
-use Rattle.nc_base.specs.declared.header.Header.{Header}
 use Rattle.nc_base.specs.declared.run.RunEnd.{RunEnd}
 use Rattle.nc_base.specs.declared.script.Script.{Script}
-use Rattle.nc_base.specs.declared.step.Mark.{Mark}
 use Rattle.nc_base.specs.declared.step.StepErr.TheVariants as fault
 use Rattle.ncmpi_cli.specs.declared.stop.Stop.{Stop}
-use Rattle.serial_spec.specs.History.{IsLegal}
 use Rattle.script_spec.specs.Texts.{run_text}
 use Rattle.script_laws.proofs.LawfulLaws.{read_lawful}
 use Rattle.ncmpi_cli.proofs.Ran.{begins, begins_none, ran}
@@ -88,12 +85,12 @@ returns-in-Err-clause-steps g c = begins_none (g.S.Source.left c.args.script.now
 
 pub returns-in-None-clause-steps : goal.returns-in-None-clause-steps
 returns-in-None-clause-steps g c =
-    begins (g.S.Source.left c.args.script.now) c.in-Ok.begun.script _ c.run_in_turn-end.result.order c.in-Ok.ensures.asks.reads c.finish.ensures.order c.run_in_turn-end.ensures.begun
+    begins (g.S.Source.left c.args.script.now) c.in-Ok.begun.script _ c.run_in_turn-end.result.order c.in-Ok.ensures.asks c.finish.ensures.order c.run_in_turn-end.ensures.begun
 
 pub returns-in-Some-Disk-clause-steps : goal.returns-in-Some-Disk-clause-steps
 returns-in-Some-Disk-clause-steps g c =
-    begins (g.S.Source.left c.args.script.now) c.in-Ok.begun.script _ c.run_in_turn-end.result.order c.in-Ok.ensures.asks.reads c.tell-in-Some-Disk.ensures.order c.run_in_turn-end.ensures.begun
+    begins (g.S.Source.left c.args.script.now) c.in-Ok.begun.script _ c.run_in_turn-end.result.order c.in-Ok.ensures.asks c.tell-in-Some-Disk.ensures.order c.run_in_turn-end.ensures.begun
 
 pub returns-clause-steps : goal.returns-clause-steps
 returns-clause-steps g c =
-    begins (g.S.Source.left c.args.script.now) c.in-Ok.begun.script _ c.run_in_turn-end.result.order c.in-Ok.ensures.asks.reads c.tell-in-Some-Memory.ensures.order c.run_in_turn-end.ensures.begun
+    begins (g.S.Source.left c.args.script.now) c.in-Ok.begun.script _ c.run_in_turn-end.result.order c.in-Ok.ensures.asks c.tell-in-Some-Memory.ensures.order c.run_in_turn-end.ensures.begun

@@ -1,0 +1,73 @@
+-- The header and the file of a redefinition.
+use Rattle.std.proofs.Common.{◌≡◌, ℕ, ◌+◌, ◌-◌, ◌≤◌, List, [], ◌∷◌, ◌++◌, length, take, drop, replicate, fold, zip, Some, None, refl, ap, ◌∙◌, arith}
+use Rattle.std.proofs.lemmas.List.{length-append, length-drop, length-replicate, length-take}
+use Rattle.nc_base.specs.declared.header.Header.{Header}
+use Rattle.nc_base.specs.declared.header.Var.{Var}
+use Rattle.nc_base.specs.declared.script.Extra.{Extra}
+use Rattle.nc_base.specs.declared.script.Extra.TheVariants as extra
+use Rattle.serial_spec.specs.ExternalForm.{size_of}
+use Rattle.serial_spec.specs.File.{longer, read, written}
+use Rattle.serial_spec.specs.HeaderGrammar.{canon, header_len}
+use Rattle.serial_spec.specs.Layout.{end_of}
+use Rattle.serial_spec.specs.Place.{place}
+use Rattle.serial_spec.specs.Redefinition.{all_indices, moved, redefined, redefined_header, with_extra}
+use Rattle.serial_spec.proofs.FileLaws.{written-front}
+use Rattle.redef_laws.specs.Shifted.{new_end}
+
+-- ---- the record count stays
+
+extra_kept : (header : Header) (e : Extra) → (with_extra header e).records ≡ header.records
+extra_kept header (extra.Dim d) = refl
+extra_kept header (extra.Var kind name dims) = refl
+extra_kept header (extra.Att None a) = refl
+extra_kept header (extra.Att (Some owner) a) = refl
+
+added_kept : (extras : List Extra) (header : Header) → (fold with_extra header extras).records ≡ header.records
+added_kept [] header = refl
+added_kept (e ∷ extras) header = added_kept extras (with_extra header e) ∙ extra_kept header e
+
+pub records_kept : (old new : Header) (extras : List Extra) → new ≡ redefined_header old extras → new.records ≡ old.records
+records_kept old new extras e = ap (λ (h : Header). h.records) e ∙ added_kept extras old
+
+pub same_end : (old new : Header) (extras : List Extra) → new ≡ redefined_header old extras → end_of new (header_len new) new.records ≡ new_end old new
+same_end old new extras e = ap (λ (n : ℕ). end_of new (header_len new) n) (records_kept old new extras e)
+
+-- ---- the file is not shorter than its end
+
+written_grows : (file : List ℕ) (x : ℕ) (bytes : List ℕ) → length file ≤ length (written file x bytes)
+written_grows file x bytes =
+    let whole : List ℕ = longer file x in
+    let rest : List ℕ = drop (x + length bytes) file in
+    omega (
+      arith,
+      ap length (written-front file x bytes),
+      length-append (take x whole ++ bytes) rest,
+      length-append (take x whole) bytes,
+      length-take x whole,
+      length-append file (replicate (x - length file) 0),
+      length-replicate {A = ℕ} (x - length file) 0,
+      length-drop (x + length bytes) file,
+    )
+
+fold_grows : {A : Type 0} (f : List ℕ → A → List ℕ) → ((file : List ℕ) (a : A) → length file ≤ length (f file a)) → (list : List A) (file : List ℕ)
+    → length file ≤ length (fold f file list)
+fold_grows f g [] file = omega arith
+fold_grows f g (a ∷ list) file = omega (arith, g file a, fold_grows f g list (f file a))
+
+moved_grows : (old new : Header) (file into : List ℕ) (v : Var × Var) → length into ≤ length (moved old new file into v)
+moved_grows old new file into (v, w) =
+    fold_grows (λ f index. written f (place new w index) (read file (place old v index) (size_of v.kind)))
+    (λ f index. written_grows f (place new w index) (read file (place old v index) (size_of v.kind))) (all_indices old v) into
+
+pub long_enough : (old new : Header) (file : List ℕ) → new_end old new ≤ length (redefined file old new)
+long_enough old new file =
+    let end : ℕ = new_end old new in
+    let blank : List ℕ = canon new ++ replicate (end - header_len new) 0 ++ drop end file in
+    let grown : length blank ≤ length (redefined file old new) = fold_grows (moved old new file) (moved_grows old new file) (zip old.vars new.vars) blank in
+    omega (
+      arith,
+      grown,
+      length-append (canon new ++ replicate (end - header_len new) 0) (drop end file),
+      length-append (canon new) (replicate (end - header_len new) 0),
+      length-replicate {A = ℕ} (end - header_len new) 0,
+    )

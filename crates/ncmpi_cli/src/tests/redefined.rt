@@ -1,0 +1,167 @@
+// Datasets to which a script adds.
+use crate::ncrun;
+use crate::tests::files::{A_FRONT, AT_80, ONE_TO_FOUR};
+use crate::tests::{PLAIN, Run, Want, all_end, blob};
+use nc_base::{DiskCall, IdList};
+use nc_outside::{MemDisk, MemSink, MemSource, OpenGate};
+use std::alloc::Global;
+use std::process::Abort;
+use std::sync::Wait;
+use std::test::*;
+
+// `dim x 4`, `var int v [x]` with the values 1 2 3 4.
+const A_FILE: &[&[u8]] = &[A_FRONT, AT_80, ONE_TO_FOUR];
+
+const ADD_Q: Run = Run {
+    script: b"open\nranks 1\nvar short q [x]\ndata\n0 get_var_all v\n0 get_var_all q\nend\n",
+    held: A_FILE,
+    ..PLAIN
+};
+
+const ADD_Q_TEXT: &[u8] = b"\
+    ranks 1\norder m0 m1\nrank 0\n0 get_var_all ok 1 2 3 4\n1 get_var_all ok 0 0 0 0\npending 0\n\
+    // file format: CDF-1\nfile header:\n  size = 116 bytes\n  extent = 116 bytes\n\
+    dimensions:\n  x = 4\nfixed-size variables:\n  \
+    int v(x):\n    start file offset = 116\n    end file offset = 132\n    size in bytes = 16\n  \
+    short q(x):\n    start file offset = 132\n    end file offset = 140\n    size in bytes = 8\nrecord variables:\n";
+
+// The same with `var short q [x]`: v stands at 116, q at 132.
+const WITH_Q: &[&[u8]] = &[
+    b"CDF\x01\x00\x00\x00\x00\x00\x00\x00\x0a\x00\x00\x00\x01\x00\x00\x00\x01x\x00\x00\x00\x00\x00\x00\x04",
+    b"\x00\x00\x00\x00\x00\x00\x00\x00\x00\x00\x00\x0b\x00\x00\x00\x02",
+    b"\x00\x00\x00\x01v\x00\x00\x00\x00\x00\x00\x01\x00\x00\x00\x00\x00\x00\x00\x00\x00\x00\x00\x00",
+    b"\x00\x00\x00\x04\x00\x00\x00\x10\x00\x00\x00\x74",
+    b"\x00\x00\x00\x01q\x00\x00\x00\x00\x00\x00\x01\x00\x00\x00\x00\x00\x00\x00\x00\x00\x00\x00\x00",
+    b"\x00\x00\x00\x03\x00\x00\x00\x08\x00\x00\x00\x84",
+    ONE_TO_FOUR,
+    &[0; 8],
+];
+
+// `dim t unlimited`, `var short s [t]` with the records 0 0 0 7.
+const B_FOUR: &[&[u8]] = &[
+    b"CDF\x01\x00\x00\x00\x04\x00\x00\x00\x0a\x00\x00\x00\x01\x00\x00\x00\x01t\x00\x00\x00\x00\x00\x00\x00",
+    b"\x00\x00\x00\x00\x00\x00\x00\x00\x00\x00\x00\x0b\x00\x00\x00\x01",
+    b"\x00\x00\x00\x01s\x00\x00\x00\x00\x00\x00\x01\x00\x00\x00\x00\x00\x00\x00\x00\x00\x00\x00\x00",
+    b"\x00\x00\x00\x03\x00\x00\x00\x04\x00\x00\x00\x50",
+    b"\x00\x00\x00\x00\x00\x00\x00\x07",
+];
+
+// The same with `var int q [t]`: records of 8 bytes from 116.
+const B_WITH_Q: &[&[u8]] = &[
+    b"CDF\x01\x00\x00\x00\x04\x00\x00\x00\x0a\x00\x00\x00\x01\x00\x00\x00\x01t\x00\x00\x00\x00\x00\x00\x00",
+    b"\x00\x00\x00\x00\x00\x00\x00\x00\x00\x00\x00\x0b\x00\x00\x00\x02",
+    b"\x00\x00\x00\x01s\x00\x00\x00\x00\x00\x00\x01\x00\x00\x00\x00\x00\x00\x00\x00\x00\x00\x00\x00",
+    b"\x00\x00\x00\x03\x00\x00\x00\x04\x00\x00\x00\x74",
+    b"\x00\x00\x00\x01q\x00\x00\x00\x00\x00\x00\x01\x00\x00\x00\x00\x00\x00\x00\x00\x00\x00\x00\x00",
+    b"\x00\x00\x00\x04\x00\x00\x00\x04\x00\x00\x00\x78",
+    &[0; 24],
+    b"\x00\x07\x00\x00\x00\x00\x00\x00",
+];
+
+const B_WITH_Q_TEXT: &[u8] = b"\
+    ranks 1\norder m0 m1\nrank 0\n0 get_var_all ok 0 0 0 7\n1 get_var_all ok 0 0 0 0\npending 0\n\
+    // file format: CDF-1\nfile header:\n  size = 116 bytes\n  extent = 116 bytes\n\
+    dimensions:\n  t = UNLIMITED // (4 currently)\nfixed-size variables:\nrecord variables:\n  \
+    short s(t):\n    start file offset = 116\n    end file offset = 118\n    size in bytes = 2\n  \
+    int q(t):\n    start file offset = 120\n    end file offset = 124\n    size in bytes = 4\n";
+
+// Old values read as before, and those of an added variable as zeros. A name that is there already is refused, and the file stays.
+const ADDED: [(Run, Want); 3] = [
+    (
+        ADD_Q,
+        Want {
+            status: 0,
+            given: ADD_Q_TEXT,
+            held: WITH_Q,
+        },
+    ),
+    (
+        Run {
+            script: b"open\nranks 1\nvar int q [t]\ndata\n0 get_var_all s\n0 get_var_all q\nend\n",
+            held: B_FOUR,
+            ..PLAIN
+        },
+        Want {
+            status: 0,
+            given: B_WITH_Q_TEXT,
+            held: B_WITH_Q,
+        },
+    ),
+    (
+        Run {
+            script: b"open\nranks 1\ndim x 9\ndata\nend\n",
+            held: A_FILE,
+            ..PLAIN
+        },
+        Want {
+            status: 4,
+            given: b"ncrun: redefinition 0: name taken\n",
+            held: A_FILE,
+        },
+    ),
+];
+
+#[test]
+fn a_script_adds_to_a_dataset(rt: HostRuntime) -> Result<(), Fail> {
+    all_end(&rt, rt.alloc(), &ADDED)
+}
+
+fn has_calls<R: Abort + Wait>(
+    rt: &R,
+    alloc: Global,
+    script: &[u8],
+    calls: &[DiskCall],
+) -> Result<(), Fail> {
+    let mut source = MemSource::new(blob(alloc, &[script])?, IdList::new(alloc));
+    let mut disk = MemDisk::logged(alloc, blob(alloc, A_FILE)?)?;
+    let mut sink = MemSink::new(alloc, 4096, IdList::new(alloc))?;
+    let ended = ncrun(
+        rt,
+        alloc,
+        &["d.nc"],
+        &mut source,
+        &mut disk,
+        &mut sink,
+        &OpenGate,
+    );
+    assert_eq!(rt; ended.status, 0);
+    let told = disk.calls(alloc)?.ok_or("calls")?;
+    assert_eq!(rt; told.as_slice(), calls);
+    Ok(())
+}
+
+// The values move up from their end, zeros follow, and the header is stored last; in one window, and in windows of 6 bytes.
+#[test]
+fn a_dataset_is_redefined_by_these_calls(rt: HostRuntime) -> Result<(), Fail> {
+    let alloc = rt.alloc();
+    let whole = [
+        DiskCall::Load(0, 96),
+        DiskCall::Grow(140),
+        DiskCall::Load(80, 16),
+        DiskCall::Store(116, 16),
+        DiskCall::Store(132, 8),
+        DiskCall::Store(0, 116),
+        DiskCall::Load(116, 16),
+        DiskCall::Load(132, 8),
+    ];
+    has_calls(&rt, alloc, ADD_Q.script, &whole)?;
+    let in_windows = [
+        DiskCall::Load(0, 96),
+        DiskCall::Grow(140),
+        DiskCall::Load(90, 6),
+        DiskCall::Store(126, 6),
+        DiskCall::Load(84, 6),
+        DiskCall::Store(120, 6),
+        DiskCall::Load(80, 4),
+        DiskCall::Store(116, 4),
+        DiskCall::Store(132, 6),
+        DiskCall::Store(138, 2),
+        DiskCall::Store(0, 116),
+    ];
+    has_calls(
+        &rt,
+        alloc,
+        b"open\nranks 1\nhint ind_wr_buffer_size 6\nvar short q [x]\ndata\nend\n",
+        &in_windows,
+    )
+}
