@@ -1,25 +1,21 @@
 -- From the laws of a redefinition to what a relocation asks and promises.
-use Rattle.std.proofs.Common.{◌≡◌, ◌↔◌, ℕ, ◌<◌, ◌≤◌, ◌^◌, refl, sym, ◌∙◌, ap, subst, List, [], ◌∷◌, ◌++◌, length, map, Bool, true, false, Option, Some, None, arith}
-use Rattle.std.specs.Prelude.{◌&&◌, filter, flat_map, fold, reverse}
+use Rattle.std.proofs.Common.{◌≡◌, ◌↔◌, ℕ, ◌<◌, refl, sym, ◌∙◌, ap, List, [], ◌∷◌, ◌++◌, length, true, Some, None, arith}
+use Rattle.std.specs.Prelude.{filter, flat_map, reverse}
 use Rattle.nc_base.specs.declared.header.Header.{Header}
 use Rattle.nc_base.specs.declared.script.Extra.{Extra}
 use Rattle.nc_base.specs.declared.script.Extra.TheVariants as extra
-use Rattle.nc_base.specs.declared.step.DiskCall.{DiskCall}
 use Rattle.nc_base.specs.declared.step.DiskCall.TheVariants.{Store}
 use Rattle.serial_spec.specs.DeviceCalls.{Slab, grow_to, highest_first, move_calls, slabs, zero_calls}
-use Rattle.serial_spec.specs.HeaderGrammar.{header_len, is_sound, is_writable}
-use Rattle.serial_spec.specs.Redefinition.{added, redefined, redefined_header, with_extra}
+use Rattle.serial_spec.specs.HeaderGrammar.{header_len, is_writable}
+use Rattle.serial_spec.specs.Redefinition.{added, redefined, with_extra}
 use Rattle.serial_spec.proofs.SpellingLaws.{left}
 use Rattle.var_layout.proofs.ElementPlaces.{sound_end}
 use Rattle.overlay_laws.specs.Entries.{In}
 use Rattle.redef_laws.specs.Applied.{IsApplied}
 use Rattle.redef_laws.specs.Rising.{changes, gaps, rising, IsRisen}
 use Rattle.redef_laws.specs.Shifted.{new_end, AreShifted, IsMoved}
-use Rattle.redef_laws.proofs.AppliedLaws.{applied_shifted, applied_risen, applied_falls, applied_zeros, applied_moved}
-use Rattle.redef_laws.proofs.RisingLaws.{rising_all}
-use Rattle.redef_laws.proofs.WrittenLaws.{written}
 use Rattle.redef_mover.specs.Moves.{all_calls, gap_calls, slab_calls}
-use Rattle.redef_mover.specs.Carried.{carried, carry_calls, HasLaws, IsCarriable}
+use Rattle.redef_mover.specs.Carried.{carried, carry_calls, IsCarriable}
 use Rattle.redef_mover.specs.Relocation.{relocation_calls}
 use Rattle.redef_mover.proofs.CarryLaws.{carried_is}
 
@@ -53,7 +49,15 @@ carriable old new extras h writable shifted all risen =
       inside = λ s i. (shifted.each s ((all s).0 i)).inside;
     }
 
--- all of the laws as one record
+-- what is proved of a redefinition: it can be carried out, its slabs are those of the model, in the order of its calls, and a file with
+-- each slab at its new place is the redefined one
+pub record HasLaws (old new : Header) : Type 0 where
+  pub carriable : IsCarriable old new
+  pub all : (s : Slab) → In (rising old new) s ↔ In (slabs old new) s
+  pub falls : highest_first (filter changes (slabs old new)) ≡ filter changes (reverse (rising old new))
+  pub zeros : (z : ℕ) → 0 < z → zero_calls z old new ≡ gap_calls z (gaps (header_len new) (new_end old new) (rising old new))
+  pub moved : (file left : List ℕ) → IsMoved old new file left → left ≡ redefined file old new
+
 pub has_laws : (old new : Header) (extras : List Extra) → IsApplied old extras new → is_writable new ≡ true
     → AreShifted (header_len old) (header_len new) (new_end old new) (slabs old new) → ((s : Slab) → In (rising old new) s ↔ In (slabs old new) s)
     → IsRisen (header_len old) (header_len new) (rising old new)
@@ -74,8 +78,3 @@ moves_called z old new h = ap (λ ss. flat_map (slab_calls z) ss) h.falls
 pub relocation_called : (z : ℕ) (old new : Header) (file : List ℕ) → HasLaws old new → 0 < z → carry_calls z old new file ≡ relocation_calls z old new file
 relocation_called z old new file h l =
     λ t. grow_to (length file) (new_end old new) ++ sym (moves_called z old new h) t ++ sym (h.zeros z l) t ++ Store 0 (header_len new) ∷ []
-
-pub laws_of : (old new : Header) → (extras : List Extra) × IsApplied old extras new → HasLaws old new
-laws_of old new (extras, applied) =
-    has_laws old new extras applied (written old new extras applied) (applied_shifted old new extras applied) (rising_all old new) (applied_risen old new extras applied)
-    (applied_falls old new extras applied) (applied_zeros old new extras applied) (applied_moved old new extras applied)

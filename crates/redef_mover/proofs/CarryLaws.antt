@@ -1,12 +1,12 @@
 -- What a relocation makes of a file, byte by byte.
-use Rattle.std.proofs.Common.{◌≡◌, ℕ, zero, suc, ◌+◌, ◌-◌, ◌*◌, ◌^◌, ◌<◌, ◌≤◌, max, ◌⊎◌, inl, inr, refl, sym, ◌∙◌, ap, subst, List, [], ◌∷◌, ◌++◌, length, take, drop, get_or, Bool, true, false, cond, arith}
+use Rattle.std.proofs.Common.{◌≡◌, ℕ, ◌+◌, ◌-◌, ◌<◌, ◌≤◌, max, ◌⊎◌, inl, inr, refl, sym, ◌∙◌, ap, subst, List, [], ◌∷◌, ◌++◌, length, take, drop, Bool, true, false, cond, arith}
 use Rattle.std.specs.Prelude.{filter, fold, not, ◌==◌, reverse}
 use Rattle.std.proofs.lemmas.Grind.{common_steps, fold-append}
 use Rattle.std.proofs.lemmas.List.{reverse-append, take_at}
 use borrow.Author.Tests.{eqb-true}
 use Rattle.nc_base.specs.declared.header.Header.{Header}
 use Rattle.serial_spec.specs.DeviceCalls.{Slab, slabs}
-use Rattle.serial_spec.specs.File.{at, longer, written}
+use Rattle.serial_spec.specs.File.{at, longer}
 use Rattle.serial_spec.specs.HeaderGrammar.{canon, header_len}
 use Rattle.serial_spec.proofs.FileLaws.{at-longer, at-written_after, length-written_inside, written-inside}
 use Rattle.overlay_laws.specs.Entries.{In}
@@ -15,11 +15,11 @@ use Rattle.redef_laws.specs.Shifted.{new_end, IsMoved}
 use Rattle.redef_mover.specs.Moves.{all_cleared, all_moved, cleared, slab_moved, AreSpaced}
 use Rattle.redef_mover.specs.Carried.{carried, IsCarriable}
 use Rattle.redef_mover.proofs.ClearLaws.{cleared_after, cleared_before, cleared_inside, cleared_long, spaced_low}
-use Rattle.redef_mover.proofs.SlabLaws.{below_or, moved_after, moved_before, moved_inside, moved_long, moved_nowhere}
+use Rattle.redef_mover.proofs.SlabLaws.{moved_after, moved_before, moved_inside, moved_long, moved_nowhere}
 
 -- ---- where slabs lie
 
-pub risen_spaced : (a b end : ℕ) (ss : List Slab) → IsRisen a b ss → b ≤ end → ((s : Slab) → In ss s → s.to + s.len ≤ end) → AreSpaced b end ss
+risen_spaced : (a b end : ℕ) (ss : List Slab) → IsRisen a b ss → b ≤ end → ((s : Slab) → In ss s → s.to + s.len ≤ end) → AreSpaced b end ss
 risen_spaced a b end [] h l inside = l
 risen_spaced a b end (s ∷ ss) h l inside =
     (h.2, risen_spaced (s.from + s.len) (s.to + s.len) end ss h.4 (inside s (inl refl)) (λ t i. inside t (inr i)))
@@ -104,48 +104,48 @@ up_inside file a b end (t ∷ ss) s d r h (inr i) l =
 
 -- ---- zeros in the gaps
 
-gaps_long : (file : List ℕ) (b end : ℕ) (ss : List Slab) → AreSpaced b end ss → end ≤ length file → length (all_cleared file (gaps b end ss)) ≡ length file
-gaps_long file b end [] h l = cleared_long file b (end - b) (omega (arith, h, l))
-gaps_long file b end (s ∷ ss) h l =
+bare_long : (file : List ℕ) (b end : ℕ) (ss : List Slab) → AreSpaced b end ss → end ≤ length file → length (all_cleared file (gaps b end ss)) ≡ length file
+bare_long file b end [] h l = cleared_long file b (end - b) (omega (arith, h, l))
+bare_long file b end (s ∷ ss) h l =
     let low : b ≤ s.to = h.0 in
     let inside = spaced_low (s.to + s.len) end ss h.1 in
     let first = cleared_long file b (s.to - b) (omega arith) in
-    gaps_long (cleared file (b, s.to - b)) (s.to + s.len) end ss h.1 (omega arith) ∙ first
+    bare_long (cleared file (b, s.to - b)) (s.to + s.len) end ss h.1 (omega arith) ∙ first
 
-gaps_before : (file : List ℕ) (b end : ℕ) (ss : List Slab) (x : ℕ) → AreSpaced b end ss → x < b → at (all_cleared file (gaps b end ss)) x ≡ at file x
-gaps_before file b end [] x h l = cleared_before file b (end - b) x l
-gaps_before file b end (s ∷ ss) x h l =
+bare_before : (file : List ℕ) (b end : ℕ) (ss : List Slab) (x : ℕ) → AreSpaced b end ss → x < b → at (all_cleared file (gaps b end ss)) x ≡ at file x
+bare_before file b end [] x h l = cleared_before file b (end - b) x l
+bare_before file b end (s ∷ ss) x h l =
     let low : b ≤ s.to = h.0 in
-    gaps_before (cleared file (b, s.to - b)) (s.to + s.len) end ss x h.1 (omega arith) ∙ cleared_before file b (s.to - b) x l
+    bare_before (cleared file (b, s.to - b)) (s.to + s.len) end ss x h.1 (omega arith) ∙ cleared_before file b (s.to - b) x l
 
-gaps_after : (file : List ℕ) (b end : ℕ) (ss : List Slab) (x : ℕ) → AreSpaced b end ss → end ≤ x → at (all_cleared file (gaps b end ss)) x ≡ at file x
-gaps_after file b end [] x h l = cleared_after file b (end - b) x (omega (arith, h, l))
-gaps_after file b end (s ∷ ss) x h l =
+bare_after : (file : List ℕ) (b end : ℕ) (ss : List Slab) (x : ℕ) → AreSpaced b end ss → end ≤ x → at (all_cleared file (gaps b end ss)) x ≡ at file x
+bare_after file b end [] x h l = cleared_after file b (end - b) x (omega (arith, h, l))
+bare_after file b end (s ∷ ss) x h l =
     let low : b ≤ s.to = h.0 in
     let inside = spaced_low (s.to + s.len) end ss h.1 in
-    gaps_after (cleared file (b, s.to - b)) (s.to + s.len) end ss x h.1 l ∙ cleared_after file b (s.to - b) x (omega arith)
+    bare_after (cleared file (b, s.to - b)) (s.to + s.len) end ss x h.1 l ∙ cleared_after file b (s.to - b) x (omega arith)
 
-gaps_inside : (file : List ℕ) (b end : ℕ) (ss : List Slab) (s : Slab) (x : ℕ) → AreSpaced b end ss → In ss s → s.to ≤ x → x < s.to + s.len
+bare_inside : (file : List ℕ) (b end : ℕ) (ss : List Slab) (s : Slab) (x : ℕ) → AreSpaced b end ss → In ss s → s.to ≤ x → x < s.to + s.len
     → at (all_cleared file (gaps b end ss)) x ≡ at file x
-gaps_inside file b end [] s x h i l m = absurd i
-gaps_inside file b end (t ∷ ss) s x h (inl e) l m =
+bare_inside file b end [] s x h i l m = absurd i
+bare_inside file b end (t ∷ ss) s x h (inl e) l m =
     let low : b ≤ t.to = h.0 in
     let to : t.to ≡ s.to = ap (λ (u : Slab). u.to) e in
     let len : t.len ≡ s.len = ap (λ (u : Slab). u.len) e in
-    gaps_before (cleared file (b, t.to - b)) (t.to + t.len) end ss x h.1 (omega arith) ∙ cleared_after file b (t.to - b) x (omega arith)
-gaps_inside file b end (t ∷ ss) s x h (inr i) l m =
+    bare_before (cleared file (b, t.to - b)) (t.to + t.len) end ss x h.1 (omega arith) ∙ cleared_after file b (t.to - b) x (omega arith)
+bare_inside file b end (t ∷ ss) s x h (inr i) l m =
     let low : b ≤ t.to = h.0 in
     let first = spaced_from (t.to + t.len) end ss s h.1 i in
-    gaps_inside (cleared file (b, t.to - b)) (t.to + t.len) end ss s x h.1 i l m ∙ cleared_after file b (t.to - b) x (omega arith)
+    bare_inside (cleared file (b, t.to - b)) (t.to + t.len) end ss s x h.1 i l m ∙ cleared_after file b (t.to - b) x (omega arith)
 
-gaps_zero : (file : List ℕ) (b end : ℕ) (ss : List Slab) (x : ℕ) → AreSpaced b end ss → b ≤ x → x < end
+bare_zero : (file : List ℕ) (b end : ℕ) (ss : List Slab) (x : ℕ) → AreSpaced b end ss → b ≤ x → x < end
     → ((s : Slab) → In ss s → (x < s.to) ⊎ (s.to + s.len ≤ x)) → at (all_cleared file (gaps b end ss)) x ≡ 0
-gaps_zero file b end [] x h l m bare = cleared_inside file b (end - b) x l (omega arith)
-gaps_zero file b end (s ∷ ss) x h l m bare = elim (bare s (inl refl)) [
+bare_zero file b end [] x h l m bare = cleared_inside file b (end - b) x l (omega arith)
+bare_zero file b end (s ∷ ss) x h l m bare = elim (bare s (inl refl)) [
   | inl k ↦
       (let low : b ≤ s.to = h.0 in
-      gaps_before (cleared file (b, s.to - b)) (s.to + s.len) end ss x h.1 (omega arith) ∙ cleared_inside file b (s.to - b) x l (omega arith))
-  | inr k ↦ gaps_zero (cleared file (b, s.to - b)) (s.to + s.len) end ss x h.1 k m (λ t i. bare t (inr i))
+      bare_before (cleared file (b, s.to - b)) (s.to + s.len) end ss x h.1 (omega arith) ∙ cleared_inside file b (s.to - b) x l (omega arith))
+  | inr k ↦ bare_zero (cleared file (b, s.to - b)) (s.to + s.len) end ss x h.1 k m (λ t i. bare t (inr i))
 ]
 
 -- ---- the whole
@@ -157,8 +157,17 @@ longer_long file n = grind (arith, common_steps)
 abbrev bodied : Header → Header → List ℕ → List ℕ
 bodied old new file = all_cleared (all_moved (longer file (new_end old new)) (reverse (rising old new))) (gaps (header_len new) (new_end old new) (rising old new))
 
-pub head_first : (old new : Header) → header_len new ≤ new_end old new
+head_first : (old new : Header) → header_len new ≤ new_end old new
 head_first old new = omega arith
+
+-- the slabs of the code's lists
+pub carriable_spaced : (old new : Header) (ss : List Slab) (b end : ℕ) → IsCarriable old new → ss ≡ rising old new → b ≡ header_len new → end ≡ new_end old new
+    → AreSpaced b end ss
+carriable_spaced old new ss b end h e f g =
+    subst (λ (x : ℕ). AreSpaced x end ss) (sym f)
+    (subst (λ (x : ℕ). AreSpaced (header_len new) x ss) (sym g)
+    (subst (λ (xs : List Slab). AreSpaced (header_len new) (new_end old new) xs) (sym e)
+    (risen_spaced (header_len old) (header_len new) (new_end old new) (rising old new) h.risen (head_first old new) h.inside)))
 
 pub carried_is : (old new : Header) (file : List ℕ) → IsCarriable old new → ((s : Slab) → In (slabs old new) s → In (rising old new) s)
     → ((s : Slab) → In (rising old new) s → In (slabs old new) s) → IsMoved old new file (carried old new file)
@@ -182,7 +191,7 @@ carried_is old new file h back forth =
 
     body_long : length (bodied old new file) ≡ max (length file) (new_end old new)
     body_long =
-        gaps_long (all_moved (longer file (new_end old new)) (reverse (rising old new))) (header_len new) (new_end old new) (rising old new) spaced
+        bare_long (all_moved (longer file (new_end old new)) (reverse (rising old new))) (header_len new) (new_end old new) (rising old new) spaced
         (let whole = moved_room in omega arith)
         ∙ moved_room
 
@@ -204,7 +213,7 @@ carried_is old new file h back forth =
         let there = back s i in
         let low = spaced_from (header_len new) (new_end old new) (rising old new) s spaced there in
         body (s.to + d) (omega arith)
-        ∙ gaps_inside (all_moved (longer file (new_end old new)) (reverse (rising old new))) (header_len new) (new_end old new) (rising old new) s (s.to + d) spaced there (omega arith) (omega arith)
+        ∙ bare_inside (all_moved (longer file (new_end old new)) (reverse (rising old new))) (header_len new) (new_end old new) (rising old new) s (s.to + d) spaced there (omega arith) (omega arith)
         ∙ ap (λ (f : List ℕ). at f (s.to + d)) ups
         ∙ up_inside (longer file (new_end old new)) (header_len old) (header_len new) (new_end old new) (rising old new) s d h.risen spaced there l
         ∙ at-longer file (new_end old new) (s.from + d)
@@ -212,13 +221,13 @@ carried_is old new file h back forth =
     bare : (x : ℕ) → header_len new ≤ x → x < new_end old new → ((s : Slab) → In (slabs old new) s → (x < s.to) ⊎ (s.to + s.len ≤ x)) → at (carried old new file) x ≡ 0
     bare x l m none =
         body x l
-        ∙ gaps_zero (all_moved (longer file (new_end old new)) (reverse (rising old new))) (header_len new) (new_end old new) (rising old new) x spaced l m (λ s i. none s (forth s i))
+        ∙ bare_zero (all_moved (longer file (new_end old new)) (reverse (rising old new))) (header_len new) (new_end old new) (rising old new) x spaced l m (λ s i. none s (forth s i))
 
     past : (x : ℕ) → new_end old new ≤ x → at (carried old new file) x ≡ at file x
     past x l =
         let first = head_first old new in
         body x (omega arith)
-        ∙ gaps_after (all_moved (longer file (new_end old new)) (reverse (rising old new))) (header_len new) (new_end old new) (rising old new) x spaced l
+        ∙ bare_after (all_moved (longer file (new_end old new)) (reverse (rising old new))) (header_len new) (new_end old new) (rising old new) x spaced l
         ∙ ap (λ (f : List ℕ). at f x) ups
         ∙ up_after (longer file (new_end old new)) (header_len new) (new_end old new) (rising old new) x spaced l
         ∙ at-longer file (new_end old new) x

@@ -1,6 +1,6 @@
 -- The bytes of a file with zeros in a gap, and the windows of a gap.
-use Rattle.std.proofs.Common.{◌≡◌, ℕ, zero, suc, ◌+◌, ◌-◌, ◌*◌, ◌<◌, ◌≤◌, min, ◌⊎◌, inl, inr, refl, sym, ◌∙◌, ap, subst, List, [], ◌∷◌, ◌++◌, length, map, take, drop, get_or, Option, Some, None, arith}
-use Rattle.std.specs.Prelude.{flat_map, fold, replicate}
+use Rattle.std.proofs.Common.{◌≡◌, ℕ, zero, suc, ◌+◌, ◌-◌, ◌*◌, ◌<◌, ◌≤◌, min, inl, inr, refl, sym, ◌∙◌, ap, subst, List, [], ◌∷◌, ◌++◌, length, map, take, drop, get_or, Option, Some, None, arith}
+use Rattle.std.specs.Prelude.{flat_map, replicate}
 use Rattle.std.proofs.lemmas.Grind.{flat_map-append, fold-append}
 use Rattle.std.specs.List.{range_with_len}
 use Rattle.std.proofs.Math.ListN.{drop_of_length-le}
@@ -126,6 +126,9 @@ pub none_unstored : (whole now : Option (List DiskCall)) (z : ℕ) (rest : List 
 none_unstored whole now z rest e w = sym (with_end-nil now) ∙ ap (λ gaps. with_end now (gap_calls z gaps)) (sym e) ∙ w
 
 -- ---- slabs that are left, from the first one on
+
+pub none_behind : (at whole : ℕ) (ss : List Slab) → ss ≡ [] → behind at ss ≡ whole → at ≡ whole
+none_behind at whole ss e h = ap (λ xs. behind at xs) (sym e) ∙ h
 
 pub slabs_left : (a b : ℕ) (ss : List Shift) (k : ℕ) (d : Shift) → k < length ss
     → map (further a b) (map slab_of (drop k ss)) ≡ further a b (slab_of (get_or ss k d)) ∷ map (further a b) (map slab_of (drop (k + 1) ss))

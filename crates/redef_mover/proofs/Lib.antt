@@ -14,3 +14,4 @@ pub mod ListedLaws
 pub mod CarryLaws
 pub mod CallsLaws
 pub mod AppliedLaws
+pub mod SmallHeaders

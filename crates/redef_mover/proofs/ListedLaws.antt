@@ -1,5 +1,5 @@
 -- The lists of the code stand for all slabs of the old variables.
-use Rattle.std.proofs.Common.{◌≡◌, ℕ, zero, suc, ◌+◌, ◌*◌, ◌^◌, ◌<◌, ◌≤◌, ◌⊎◌, inl, inr, refl, sym, ◌∙◌, ap, subst, List, [], ◌∷◌, ◌++◌, length, map, get_or, true, false, arith}
+use Rattle.std.proofs.Common.{◌≡◌, ℕ, ◌+◌, ◌*◌, ◌^◌, ◌<◌, ◌≤◌, inl, inr, refl, sym, ◌∙◌, ap, subst, List, [], ◌∷◌, ◌++◌, length, map, get_or, arith}
 use Rattle.std.specs.Prelude.{flat_map}
 use Rattle.std.specs.List.{range_with_len}
 use Rattle.nc_base.specs.declared.header.Header.{Header}
@@ -9,7 +9,7 @@ use Rattle.overlay_laws.specs.Entries.{In}
 use Rattle.redef_laws.specs.Rising.{fixed_slabs, record_slabs, rising, slabs_of_record, IsRisen}
 use Rattle.redef_mover.specs.declared.slabs.Shift.{Shift}
 use Rattle.redef_mover.specs.declared.slabs.Slabs.{Slabs}
-use Rattle.redef_mover.specs.Moves.{further, listed, slab_of, slabs_at, AreSteps}
+use Rattle.redef_mover.specs.Moves.{further, listed, slab_of, AreSteps}
 use Rattle.redef_mover.proofs.MovesLaws.{in_record, record_listed}
 
 no_slabs : {A B : Type 0} (f : A → List B) (xs : List A) → ((x : A) → f x ≡ []) → flat_map f xs ≡ []

@@ -1,5 +1,5 @@
 -- Slabs moved one after another: what is left to be moved gives the whole.
-use Rattle.std.proofs.Common.{◌≡◌, ℕ, zero, suc, ◌+◌, ◌-◌, ◌*◌, ◌<◌, ◌≤◌, refl, sym, ◌∙◌, ap, subst, List, [], ◌∷◌, ◌++◌, length, map, take, get_or, Option, Some, None, append_assoc, ◌⊎◌, inl, inr, arith}
+use Rattle.std.proofs.Common.{◌≡◌, ℕ, zero, suc, ◌+◌, ◌*◌, ◌<◌, refl, sym, ◌∙◌, ap, subst, List, [], ◌∷◌, ◌++◌, length, map, take, get_or, Option, Some, None, append_assoc, inl, inr, arith}
 use Rattle.std.specs.Prelude.{fold, filter, flat_map, reverse}
 use Rattle.std.specs.List.{range_with_len}
 use Rattle.std.proofs.lemmas.Grind.{fold-append, flat_map-append}
@@ -50,6 +50,15 @@ none_left whole (Some file) rest e w = ap (λ ss. Some (all_moved file ss)) (sym
 
 pub none_uncalled : (whole now : Option (List DiskCall)) (z : ℕ) (rest : List Slab) → rest ≡ [] → with_end now (all_calls z rest) ≡ whole → now ≡ whole
 none_uncalled whole now z rest e w = sym (with_end-nil now) ∙ ap (λ ss. with_end now (all_calls z ss)) (sym e) ∙ w
+
+-- the last part
+pub last_moved : (whole mid now : Option (List ℕ)) (part all : List Slab) → all ≡ part → after (λ file. all_moved file all) mid ≡ whole
+    → now ≡ after (λ file. all_moved file part) mid → now ≡ whole
+last_moved whole mid now part all e w k = k ∙ ap (λ ss. after (λ file. all_moved file ss) mid) (sym e) ∙ w
+
+pub last_called : (whole mid now : Option (List DiskCall)) (z : ℕ) (part all : List Slab) → all ≡ part → with_end mid (all_calls z all) ≡ whole
+    → now ≡ with_end mid (all_calls z part) → now ≡ whole
+last_called whole mid now z part all e w k = k ∙ ap (λ ss. with_end mid (all_calls z ss)) (sym e) ∙ w
 
 -- ---- a list from its end
 

@@ -1,5 +1,5 @@
 -- The windows of a slab from its top.
-use Rattle.std.proofs.Common.{◌≡◌, ℕ, zero, suc, ◌+◌, ◌-◌, ◌*◌, ◌/◌, ◌%◌, ◌<◌, ◌≤◌, min, refl, sym, ◌∙◌, ap, List, [], ◌∷◌, ◌++◌, length, take, drop, Option, Some, None, arith}
+use Rattle.std.proofs.Common.{◌≡◌, ℕ, zero, suc, ◌+◌, ◌-◌, ◌*◌, ◌/◌, ◌%◌, ◌<◌, ◌≤◌, min, refl, sym, ◌∙◌, ap, List, ◌∷◌, ◌++◌, length, take, drop, Option, Some, None, arith}
 use Rattle.std.specs.Prelude.{flat_map, IfSome}
 use Rattle.std.specs.List.{range_with_len}
 use Rattle.std.proofs.Math.Nat.{mul-le-mul_right}
@@ -9,7 +9,7 @@ use Rattle.std.proofs.lemmas.Nat.{div-add-mod', div-mul-add, mod_below}
 use Rattle.nc_base.specs.declared.step.DiskCall.{DiskCall}
 use Rattle.serial_spec.specs.DeviceCalls.{Slab, move_window, window_count}
 use Rattle.serial_spec.specs.File.{at, read, written}
-use Rattle.nc_outside.specs.Told.{after, with_end}
+use Rattle.nc_outside.specs.Told.{after}
 use Rattle.redef_mover.specs.Moves.{slab_calls, slab_moved, window, window_calls}
 use Rattle.redef_mover.proofs.SlabLaws.{both_moved, moved_none}
 

@@ -15,7 +15,7 @@
 --     AreMovable, AreListed        the same of all slabs, and of those of the lists, whose steps to each record are numbers of the code
 --     AreSpaced at end ss          slabs lie one behind another from `at` to the end at the latest
 --     AreClearable long z room at ss      the same to an end in a file so long, and a buffer so long holds a window of each gap
-use Rattle.std.specs.Prelude.{◌≡◌, ℕ, ◌+◌, ◌-◌, ◌*◌, ◌^◌, ◌<◌, ◌≤◌, min, List, [], ◌∷◌, ◌++◌, filter, flat_map, fold, map, replicate, zip, Bool, true, false, not}
+use Rattle.std.specs.Prelude.{ℕ, ◌+◌, ◌-◌, ◌*◌, ◌^◌, ◌<◌, ◌≤◌, min, List, [], ◌∷◌, ◌++◌, filter, flat_map, fold, map, replicate, zip, Bool, true, false, not}
 use Rattle.std.specs.List.{range_with_len}
 use Rattle.nc_base.specs.declared.header.Header.{Header}
 use Rattle.nc_base.specs.declared.step.DiskCall.{DiskCall}

@@ -18,7 +18,8 @@ use var_layout::end_of;
 
 /// Makes the file longer where it is too short, moves the slabs, writes zeros between them, and the new header last.
 ///
-/// All memory is taken before the file is changed.
+/// Its memory is taken before the file is changed: the written header, two lists of slabs, and one window of at most `size` bytes.
+/// Refused, it may leave some of the bytes moved.
 pub(crate) fn carry<D: Disk>(
     alloc: Global,
     disk: &mut D,

@@ -1,10 +1,11 @@
 // The values of small datasets at their new places.
-ghost use Rattle.std.specs.Prelude.{◌≡◌, ◌≤◌, ◌^◌, [], ◌∷◌, IfOk};
+ghost use Rattle.std.specs.Prelude.{◌≡◌, ◌≤◌, ◌^◌, [], ◌∷◌, List, IfOk};
 ghost use Rattle.nc_base.specs.declared.header.NcType.TheVariants.{Int, Short};
-ghost use Rattle.redef_mover.specs.Carried.{IsCarriable};
+ghost use Rattle.nc_base.specs.declared.script.Extra.{Extra};
+ghost use Rattle.redef_laws.specs.Applied.{IsApplied};
 ghost use Rattle.serial_spec.specs.Examples.{defined, dim, var};
 
-use crate::carrying::carry;
+use crate::relocate;
 use nc_base::{
     AttrList, Blob, Dim, DimList, DiskCall, Header, IdList, Memory, Name, NcType, Var, VarList,
 };
@@ -75,7 +76,9 @@ fn padded_records(alloc: Global) -> Result<Header, Memory>
 }
 
 // A file of these bytes behind 80 of an old header.
-fn file(alloc: Global, values: &[u8]) -> Result<MemDisk, Fail> {
+fn file(alloc: Global, values: &[u8]) -> Result<MemDisk, Fail>
+    ensures { IfOk result (λ disk. disk.from ≡ 0) }
+{
     let mut bytes = vec![in alloc; 255; 80]?;
     bytes.extend_from_slice(values)?;
     Ok(MemDisk::logged(alloc, Blob::from_vec(bytes))?)
@@ -91,13 +94,13 @@ fn relocates<R: Abort>(
     calls: &[DiskCall],
     values: &[u8],
 ) -> Result<(), Fail>
-    requires carriable { IsCarriable headers.0.now headers.1.now }
+    requires applied { (extras : List Extra) × IsApplied headers.0.now extras headers.1.now }
     requires from { disk.old.from ≡ 0 }
     requires some { 1 ≤ size }
     requires most { size ≤ 2 ^ 25 }
 {
     let (old, new) = headers;
-    assert!(rt; carry(alloc, disk, old, new, size).is_ok());
+    assert!(rt; relocate(alloc, disk, old, new, size).is_ok());
     let told = disk.calls(alloc)?.ok_or("calls")?;
     assert_eq!(rt; told.as_slice(), calls);
     let bytes = disk.bytes(alloc)?;

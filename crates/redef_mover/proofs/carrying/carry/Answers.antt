@@ -1,14 +1,13 @@
 -- The lists stand for all slabs, which rise below the new end.
-use Rattle.std.proofs.Common.{◌≡◌, ◌∙◌, ◌+◌, ◌<◌, ◌≤◌, sym, refl, subst, ap, length, List, [], ◌∷◌, ℕ, arith}
-use Rattle.std.specs.Prelude.{reverse}
+use Rattle.std.proofs.Common.{◌≡◌, ◌∙◌, subst, ap, length, List, ℕ, arith}
 use Rattle.serial_spec.specs.DeviceCalls.{Slab}
-use Rattle.serial_spec.specs.HeaderGrammar.{canon, header_len}
+use Rattle.serial_spec.specs.HeaderGrammar.{header_len}
 use Rattle.overlay_laws.specs.Entries.{In}
-use Rattle.redef_laws.specs.Rising.{gaps, rising}
+use Rattle.redef_laws.specs.Rising.{rising}
 use Rattle.redef_laws.specs.Shifted.{new_end}
-use Rattle.redef_mover.specs.Moves.{all_calls, gap_calls, listed, AreSpaced}
+use Rattle.redef_mover.specs.Moves.{listed}
 use Rattle.redef_mover.proofs.CallsLaws.{carry_called}
-use Rattle.redef_mover.proofs.CarryLaws.{head_first, risen_spaced}
+use Rattle.redef_mover.proofs.CarryLaws.{carriable_spaced}
 use Rattle.redef_mover.proofs.ListedLaws.{risen_up}
 use Rattle.redef_mover.proofs.ToldSteps.{on_ok, when_ok}
 use Rattle.redef_mover.proofs.carrying.carry.Goals as goal
@@ -31,13 +30,8 @@ move_all-requires-clause-slabs g c κs within =
 
 pub clear_gaps-requires-clause-spaced : goal.clear_gaps-requires-clause-spaced
 clear_gaps-requires-clause-spaced g c κs within =
-    let first : header_len c.args.new.now ≡ c.len.result = sym (c.len.ensures ∙ ap (λ (b : List ℕ). length b) c.in_ok-head.ensures) in
-    let end : new_end c.args.old.now c.args.new.now ≡ c.end_of-end.result = sym c.end_of-end.ensures in
-    subst (λ (b : ℕ). AreSpaced b c.end_of-end.result (listed c.in_ok-slabs.slabs)) first
-    (subst (λ (e : ℕ). AreSpaced (header_len c.args.new.now) e (listed c.in_ok-slabs.slabs)) end
-    (subst (λ (ss : List Slab). AreSpaced (header_len c.args.new.now) (new_end c.args.old.now c.args.new.now) ss) (sym c.in_ok-slabs.ensures.all)
-    (risen_spaced (header_len c.args.old.now) (header_len c.args.new.now) (new_end c.args.old.now c.args.new.now) (rising c.args.old.now c.args.new.now)
-    c.requires.carriable.risen (head_first c.args.old.now c.args.new.now) c.requires.carriable.inside)))
+    carriable_spaced c.args.old.now c.args.new.now (listed c.in_ok-slabs.slabs) c.len.result c.end_of-end.result c.requires.carriable c.in_ok-slabs.ensures.all
+    (c.len.ensures ∙ ap (λ (b : List ℕ). length b) c.in_ok-head.ensures) c.end_of-end.ensures
 
 pub returns-clause-calls : goal.returns-clause-calls
 returns-clause-calls g c =

@@ -1,10 +1,10 @@
 -- Each window goes on where the one before it ended.
-use Rattle.std.proofs.Common.{◌≡◌, ◌∙◌, ◌+◌, ◌-◌, ◌*◌, ◌<◌, ◌≤◌, min, refl, ap, length, List, [], ◌∷◌, ℕ, arith}
+use Rattle.std.proofs.Common.{◌∙◌, ◌+◌, ◌-◌, ◌*◌, ◌<◌, ◌≤◌, min, refl, ap, length, [], ◌∷◌, arith}
 use Rattle.nc_base.specs.declared.step.DiskCall.TheVariants.{Store}
-use Rattle.nc_outside.specs.Told.{after, with_end}
+use Rattle.nc_outside.specs.Told.{with_end}
 use Rattle.serial_spec.specs.File.{written}
 use Rattle.redef_mover.specs.Moves.{cleared}
-use Rattle.redef_mover.proofs.ClearLaws.{all_stored, none_cleared, stores_before, stores_more, window_cleared, window_zeros, zeros_count}
+use Rattle.redef_mover.proofs.ClearLaws.{all_stored, stores_before, stores_more, window_cleared, window_zeros, zeros_count}
 use Rattle.redef_mover.proofs.ToldSteps.{calls_more, told_more}
 use Rattle.redef_mover.proofs.WindowLaws.{window_inside}
 use Rattle.redef_mover.proofs.clearing.clear.Goals as goal

@@ -1,10 +1,10 @@
 -- The first of the slabs that are left ends where the next gap begins.
-use Rattle.std.proofs.Common.{◌≡◌, ◌∙◌, ◌+◌, ◌-◌, ◌<◌, ◌≤◌, sym, refl, subst, ap, length, List, [], ◌∷◌, get_or, drop, ℕ, arith}
+use Rattle.std.proofs.Common.{◌∙◌, ◌+◌, ◌-◌, ◌≤◌, sym, ap, length, List, get_or, drop, ℕ, arith}
 use Rattle.nc_outside.specs.Told.{after, with_end}
 use Rattle.serial_spec.specs.DeviceCalls.{Slab}
 use Rattle.redef_mover.specs.declared.slabs.Shift.{Shift}
 use Rattle.redef_mover.specs.Moves.{all_cleared, behind, further, gap_calls, gaps_before, slab_of}
-use Rattle.redef_mover.proofs.ClearLaws.{first_clearable, left_cleared, left_stored, none_after, none_uncleared, none_unstored, slabs_left}
+use Rattle.redef_mover.proofs.ClearLaws.{first_clearable, left_cleared, left_stored, none_after, none_behind, none_uncleared, none_unstored, slabs_left}
 use Rattle.redef_mover.proofs.clearing.clear_before.Invariants.{left}
 use Rattle.redef_mover.proofs.clearing.clear_before.Goals as goal
 
@@ -89,7 +89,9 @@ loop-slab-preserved g c =
 pub returns-clause-place : goal.returns-clause-place
 returns-clause-place g c =
     let all : length c.args.slabs.now ≤ c.loop-slab.slab-index = omega arith in
-    ap (λ xs. behind c.loop-slab.at xs) (sym (none_after c.args.offset.old c.args.offset.new c.args.slabs.now c.loop-slab.slab-index all)) ∙ c.loop-slab.invariant.place
+    none_behind c.loop-slab.at (behind c.args.at (left c.args.offset.old c.args.offset.new c.args.slabs.now))
+    (left c.args.offset.old c.args.offset.new (drop c.loop-slab.slab-index c.args.slabs.now))
+    (none_after c.args.offset.old c.args.offset.new c.args.slabs.now c.loop-slab.slab-index all) c.loop-slab.invariant.place
 
 pub returns-clause-bytes : goal.returns-clause-bytes
 returns-clause-bytes g c =

@@ -1,5 +1,5 @@
 -- The gaps before the slabs that are left, cleared as they are, give the whole.
-use Rattle.std.proofs.Common.{◌≡◌, ◌≤◌, ◌+◌, drop, length, map, min, List, ℕ}
+use Rattle.std.proofs.Common.{◌≡◌, ◌≤◌, drop, length, map, List, ℕ}
 use Rattle.nc_outside.specs.Told.{after, with_end}
 use Rattle.serial_spec.specs.DeviceCalls.{Slab}
 use Rattle.redef_mover.specs.declared.slabs.Shift.{Shift}

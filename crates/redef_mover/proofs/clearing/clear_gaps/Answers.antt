@@ -1,12 +1,11 @@
 -- The gaps of the fixed variables come first, then those of record after record, then the last one.
-use Rattle.std.proofs.Common.{◌≡◌, ◌∙◌, ◌+◌, ◌-◌, ◌*◌, ◌<◌, ◌≤◌, sym, refl, subst, ap, length, List, [], ◌∷◌, ◌++◌, map, ℕ, arith}
+use Rattle.std.proofs.Common.{◌∙◌, ◌+◌, sym, refl, ap, length, List, ◌++◌, map, ℕ, arith}
 use Rattle.nc_outside.specs.Told.{after, with_end}
 use Rattle.redef_laws.specs.Rising.{gaps}
 use Rattle.serial_spec.specs.DeviceCalls.{Slab}
 use Rattle.redef_mover.specs.declared.slabs.Shift.{Shift}
-use Rattle.redef_mover.specs.Moves.{all_cleared, further, gap_calls, gaps_before, listed, slab_of, AreSpaced}
-use Rattle.redef_mover.proofs.ClearLaws.{above, all_left_cleared, all_left_stored, fixed_first, front_clearable, gaps_on, left_cleared, left_stored, next_record, no_record, none_uncleared, none_unstored, spaced_low, spaced_on}
-use Rattle.redef_mover.proofs.ToldSteps.{on_ok}
+use Rattle.redef_mover.specs.Moves.{all_cleared, further, gap_calls, gaps_before, listed, slab_of}
+use Rattle.redef_mover.proofs.ClearLaws.{above, all_left_cleared, all_left_stored, fixed_first, front_clearable, gaps_on, next_record, spaced_on}
 use Rattle.redef_mover.proofs.clearing.clear_gaps.Goals as goal
 
 abbrev front : List Shift → ℕ → ℕ → List Slab

@@ -1,5 +1,5 @@
 -- The gaps between the slabs of the records that are left, cleared as they are, give the whole.
-use Rattle.std.proofs.Common.{◌≡◌, ◌≤◌, length, min}
+use Rattle.std.proofs.Common.{◌≡◌, ◌≤◌}
 use Rattle.nc_outside.specs.Told.{after, with_end}
 use Rattle.redef_laws.specs.Rising.{gaps}
 use Rattle.redef_mover.specs.Moves.{all_cleared, gap_calls, listed, AreSpaced}

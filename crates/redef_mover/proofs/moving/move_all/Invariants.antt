@@ -1,5 +1,5 @@
 -- The slabs of the records that are left and of the fixed variables give the whole.
-use Rattle.std.proofs.Common.{◌≡◌, ◌≤◌, length}
+use Rattle.std.proofs.Common.{◌≡◌, ◌≤◌}
 use Rattle.std.specs.Prelude.{reverse}
 use Rattle.nc_outside.specs.Told.{after, with_end}
 use Rattle.redef_mover.specs.Moves.{all_calls, all_moved, listed}

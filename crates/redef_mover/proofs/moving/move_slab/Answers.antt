@@ -1,7 +1,7 @@
 -- Each window goes on where the one above it ended.
-use Rattle.std.proofs.Common.{◌≡◌, ◌∙◌, ◌+◌, ◌*◌, ◌<◌, ◌≤◌, ap, length, List, ◌++◌, ℕ, arith}
-use Rattle.nc_outside.specs.Told.{after, with_end}
-use Rattle.redef_mover.specs.Moves.{slab_calls, slab_moved, slab_of, window, window_calls}
+use Rattle.std.proofs.Common.{◌≡◌, ◌∙◌, ◌+◌, ◌*◌, ◌<◌, ◌≤◌, ap, ◌++◌, ℕ, arith}
+use Rattle.nc_outside.specs.Told.{with_end}
+use Rattle.redef_mover.specs.Moves.{slab_moved, slab_of, window_calls}
 use Rattle.redef_mover.proofs.ToldSteps.{calls_more, told_end, told_more}
 use Rattle.redef_mover.proofs.WindowLaws.{all_called, calls_before, upper, whole_moved, window_called, window_inside, window_moved, windows_reach}
 use Rattle.redef_mover.proofs.moving.move_slab.Goals as goal

@@ -1,5 +1,5 @@
 -- The last of the slabs that are left is moved.
-use Rattle.std.proofs.Common.{◌≡◌, ◌∙◌, ◌+◌, ◌-◌, ◌<◌, ◌≤◌, sym, refl, subst, ap, length, List, [], ◌∷◌, ◌++◌, get_or, map, take, ℕ, arith}
+use Rattle.std.proofs.Common.{◌≡◌, ◌∙◌, ◌+◌, ◌-◌, ◌<◌, sym, refl, subst, ap, length, List, [], ◌∷◌, get_or, map, take, ℕ, arith}
 use Rattle.std.specs.Prelude.{reverse}
 use Rattle.std.proofs.Math.Seq.{take_all}
 use Rattle.nc_outside.specs.Told.{after, with_end}
@@ -80,11 +80,13 @@ loop-k-preserved g c =
 pub returns-clause-bytes : goal.returns-clause-bytes
 returns-clause-bytes g c =
     let end : c.loop-k.k ≡ 0 = omega arith in
-    none_left _ (g.D.Disk.held c.loop-k.disk) (reverse (map (further c.args.offset.old c.args.offset.new) (map slab_of (take c.loop-k.k c.args.slabs.now))))
+    none_left (after (λ file. all_moved file (reverse (map (further c.args.offset.old c.args.offset.new) (map slab_of c.args.slabs.now)))) (g.D.Disk.held c.args.disk.now))
+    (g.D.Disk.held c.loop-k.disk) (reverse (map (further c.args.offset.old c.args.offset.new) (map slab_of (take c.loop-k.k c.args.slabs.now))))
     (ap (λ (n : ℕ). reverse (map (further c.args.offset.old c.args.offset.new) (map slab_of (take n c.args.slabs.now)))) end) c.loop-k.invariant.bytes
 
 pub returns-clause-calls : goal.returns-clause-calls
 returns-clause-calls g c =
     let end : c.loop-k.k ≡ 0 = omega arith in
-    none_uncalled _ (g.D.Disk.calls c.loop-k.disk) c.args.size (reverse (map (further c.args.offset.old c.args.offset.new) (map slab_of (take c.loop-k.k c.args.slabs.now))))
+    none_uncalled (with_end (g.D.Disk.calls c.args.disk.now) (all_calls c.args.size (reverse (map (further c.args.offset.old c.args.offset.new) (map slab_of c.args.slabs.now)))))
+    (g.D.Disk.calls c.loop-k.disk) c.args.size (reverse (map (further c.args.offset.old c.args.offset.new) (map slab_of (take c.loop-k.k c.args.slabs.now))))
     (ap (λ (n : ℕ). reverse (map (further c.args.offset.old c.args.offset.new) (map slab_of (take n c.args.slabs.now)))) end) c.loop-k.invariant.calls

@@ -1,5 +1,5 @@
 -- The slabs that are left, moved as they are, give the whole.
-use Rattle.std.proofs.Common.{◌≡◌, ◌≤◌, length, map, take}
+use Rattle.std.proofs.Common.{◌≡◌, ◌≤◌, map, take}
 use Rattle.std.specs.Prelude.{reverse}
 use Rattle.nc_outside.specs.Told.{after, with_end}
 use Rattle.redef_mover.specs.Moves.{all_calls, all_moved, further, slab_of}

@@ -1,5 +1,5 @@
 -- The bytes that are written are those that were read.
-use Rattle.std.proofs.Common.{◌≡◌, ◌∙◌, ◌-◌, length, List, ℕ, Some, None, arith}
+use Rattle.std.proofs.Common.{◌∙◌, arith}
 use Rattle.std.proofs.lemmas.List.{length-take}
 use Rattle.redef_mover.specs.Moves.{slab_of}
 use Rattle.redef_mover.proofs.ToldSteps.{on_ok}

@@ -1,21 +1,32 @@
 -- The laws of a redefinition, of the two headers.
-use Rattle.std.proofs.Common.{◌≡◌, ◌∙◌, ◌<◌, ap, arith}
+use Rattle.std.proofs.Common.{◌∙◌, ◌<◌, ap, List, arith}
+use Rattle.nc_base.specs.declared.header.Header.{Header}
+use Rattle.nc_base.specs.declared.script.Extra.{Extra}
 use Rattle.nc_outside.specs.Told.{with_end}
 use Rattle.nc_outside.proofs.ToldLaws.{after-same}
 use Rattle.serial_spec.specs.Redefinition.{redefined}
+use Rattle.redef_laws.specs.Applied.{IsApplied}
+use Rattle.redef_laws.proofs.AppliedLaws.{applied_shifted, applied_risen, applied_falls, applied_zeros, applied_moved}
+use Rattle.redef_laws.proofs.RisingLaws.{rising_all}
+use Rattle.redef_laws.proofs.WrittenLaws.{written}
 use Rattle.redef_mover.specs.Carried.{carried}
-use Rattle.redef_mover.proofs.AppliedLaws.{laws_of, relocated, relocation_called}
+use Rattle.redef_mover.proofs.AppliedLaws.{has_laws, HasLaws, relocated, relocation_called}
 use Rattle.redef_mover.proofs.ToldSteps.{for_told, on_ok}
 use Rattle.redef_mover.proofs.relocating.relocate.Goals as goal
 
+laws : (old new : Header) (extras : List Extra) → IsApplied old extras new → HasLaws old new
+laws old new extras h =
+    has_laws old new extras h (written old new extras h) (applied_shifted old new extras h) (rising_all old new) (applied_risen old new extras h)
+    (applied_falls old new extras h) (λ z some. applied_zeros old new extras h z some) (λ file moved m. applied_moved old new extras h file moved m)
+
 pub carry-requires-clause-carriable : goal.carry-requires-clause-carriable
-carry-requires-clause-carriable g c κs within = (laws_of c.args.old.now c.args.new.now c.requires.applied).carriable
+carry-requires-clause-carriable g c κs within = (laws c.args.old.now c.args.new.now c.requires.applied.0 c.requires.applied.1).carriable
 
 pub returns-clause-bytes : goal.returns-clause-bytes
 returns-clause-bytes g c =
     on_ok c.carry.result
     (λ told. told ∙ after-same (carried c.args.old.now c.args.new.now) (λ file. redefined file c.args.old.now c.args.new.now) (g.D.Disk.held c.args.disk.now)
-    (relocated c.args.old.now c.args.new.now (laws_of c.args.old.now c.args.new.now c.requires.applied)))
+    (relocated c.args.old.now c.args.new.now (laws c.args.old.now c.args.new.now c.requires.applied.0 c.requires.applied.1)))
     c.carry.ensures.bytes
 
 pub returns-clause-calls : goal.returns-clause-calls
@@ -23,5 +34,6 @@ returns-clause-calls g c =
     let some : 0 < c.args.size = omega arith in
     on_ok c.carry.result
     (λ calls. for_told (g.D.Disk.held c.args.disk.now)
-    (λ file told. told ∙ ap (λ more. with_end (g.D.Disk.calls c.args.disk.now) more) (relocation_called c.args.size c.args.old.now c.args.new.now file (laws_of c.args.old.now c.args.new.now c.requires.applied) some)) calls)
+    (λ file told. told ∙ ap (λ more. with_end (g.D.Disk.calls c.args.disk.now) more)
+    (relocation_called c.args.size c.args.old.now c.args.new.now file (laws c.args.old.now c.args.new.now c.requires.applied.0 c.requires.applied.1) some)) calls)
     c.carry.ensures.calls

@@ -1,7 +1,7 @@
 -- One variable more is listed, if it is of the kind.
-use Rattle.std.proofs.Common.{◌≡◌, ◌∙◌, ap, sym, refl, length, map, take, ℕ, List, [], ◌∷◌, ◌++◌, Bool, true, false}
+use Rattle.std.proofs.Common.{◌∙◌, ap, length, ℕ, [], ◌∷◌, ◌++◌}
 use Rattle.std.specs.Borrow.{Bor}
-use Rattle.std.specs.List.{enumerate_from, zip}
+use Rattle.std.specs.List.{zip}
 use Rattle.std.proofs.lemmas.List.{length_push}
 use Rattle.std.proofs.lemmas.Iterator.{YieldsList-from_slice, YieldsList-from_zip}
 use Rattle.std.proofs.lemmas.Iterator.Consumers.{YieldsList-from_enumerate, YieldsList-turn, YieldsList-end}
@@ -9,7 +9,7 @@ use mathlib.Core.Bool.{beq}
 use Rattle.nc_base.specs.declared.header.Var.{Var}
 use Rattle.serial_spec.specs.Layout.{is_record}
 use Rattle.redef_laws.specs.Rising.{first_slab}
-use Rattle.redef_mover.specs.Moves.{is_kind, slab_of}
+use Rattle.redef_mover.specs.Moves.{is_kind}
 use Rattle.redef_mover.proofs.SortLaws.{all_listed, kind_listed, pair_at, pairs_end, same_kind}
 use Rattle.redef_mover.proofs.slabs.first_slabs.Goals as goal
 

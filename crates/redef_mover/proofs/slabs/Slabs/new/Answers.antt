@@ -1,5 +1,5 @@
 -- The lists stand for all slabs.
-use Rattle.std.proofs.Common.{◌≡◌, ◌∙◌, ◌<◌, ap, sym, [], length, map, List, arith}
+use Rattle.std.proofs.Common.{◌≡◌, ◌∙◌, ap, length, List, arith}
 use Rattle.redef_laws.specs.Rising.{rising}
 use Rattle.redef_mover.specs.declared.slabs.Shift.{Shift}
 use Rattle.redef_mover.specs.declared.slabs.Slabs.{Slabs}
