@@ -18,11 +18,8 @@ impl<'a> Rank<'a> {
         match &self.offered {
             None => false,
             Some(offer) => {
-                are_as_long(
-                    self.header,
-                    reply.got.as_slice(),
-                    offer.gets.as_slice(),
-                ) && reply.records < record_limit(self.header.version)
+                are_as_long(self.header, reply.got.as_slice(), offer.gets.as_slice())
+                    && reply.records < record_limit(self.header.version)
             }
         }
     }

@@ -13,12 +13,11 @@ mod parts;
 mod region;
 mod target;
 
-pub(crate) use filling::record_limit;
-pub(crate) use parts::element_count;
-
 use crate::Names;
 use filling::look_record;
+pub(crate) use filling::record_limit;
 use nc_base::{CallErr, Code, Form, Given, Header, Memory, PostList, Values};
+pub(crate) use parts::element_count;
 use parts::look_parts;
 use region::look_region;
 use std::alloc::Global;
