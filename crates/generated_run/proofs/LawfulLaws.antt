@@ -1,0 +1,55 @@
+-- The made script is lawful.
+use Rattle.std.proofs.Common.{◌≡◌, ℕ, ◌≤◌, List, [], length, map, sum, true, refl, sym, subst, ◌∙◌, le-leb, bytes_eq, arith}
+use Rattle.std.specs.List.{enumerate_from, list_all, range_with_len}
+use Rattle.std.proofs.lemmas.Slice.Eq.{bytes_eq-Decides}
+use Rattle.nc_base.specs.declared.request.Call.{Call}
+use Rattle.nc_base.specs.declared.script.Script as script_type
+use Rattle.serial_spec.specs.Lawful.{agree, are_different, is_lawful, is_lawful_call, kind_numbers, most_calls, most_values, posted_ids, values_in_call, values_in_script}
+use Rattle.script_spec.specs.Generator.{made_header, made_script}
+use Rattle.script_laws.proofs.ListLaws.{both_true}
+use Rattle.generated_run.specs.Made.{calls_of_rank}
+use Rattle.generated_run.proofs.MadeLaws.{scripted, script_is}
+use Rattle.generated_run.proofs.Ranges.{numbered_pass, range_passes, sum_within}
+use Rattle.generated_run.proofs.RankLaws.{rank_ids, rank_kinds, rank_lawful, rank_long, rank_values}
+
+-- the calls of n ranks
+abbrev calls_of : ℕ → ℕ → ℕ → ℕ → List (List Call)
+calls_of seed size a n = map (λ r. calls_of_rank seed size r) (range_with_len a n)
+
+same_kinds : (seed size a b : ℕ) → bytes_eq (kind_numbers (calls_of_rank seed size a)) (kind_numbers (calls_of_rank seed size b)) ≡ true
+same_kinds seed size a b =
+    (bytes_eq-Decides (kind_numbers (calls_of_rank seed size a)) (kind_numbers (calls_of_rank seed size b))).1 (rank_kinds seed size a ∙ sym (rank_kinds seed size b))
+
+agreed : (seed size : ℕ) → agree (calls_of seed size 0 8) ≡ true
+agreed seed size =
+    range_passes (λ (own : List Call). bytes_eq (kind_numbers own) (kind_numbers (calls_of_rank seed size 0))) (λ r. calls_of_rank seed size r) 1 7 (λ r b. same_kinds seed size r 0)
+
+lawful_calls : (seed size : ℕ) → size ≤ 64 → list_all (λ own. list_all (λ c. is_lawful_call 8 own.0 c) own.1) (enumerate_from 0 (calls_of seed size 0 8)) ≡ true
+lawful_calls seed size s =
+    numbered_pass (λ (own : ℕ × List Call). list_all (λ c. is_lawful_call 8 own.0 c) own.1) (λ r. calls_of_rank seed size r) 0 8 (λ r b. rank_lawful seed size r s (omega arith))
+
+different_ids : (seed size : ℕ) → list_all (λ own. are_different (posted_ids own)) (calls_of seed size 0 8) ≡ true
+different_ids seed size = range_passes (λ (own : List Call). are_different (posted_ids own)) (λ r. calls_of_rank seed size r) 0 8 (λ r b. rank_ids seed size r)
+
+few_calls : (seed size : ℕ) → size ≤ 64 → sum (map (λ own. length own) (calls_of seed size 0 8)) ≤ most_calls
+few_calls seed size s =
+    let few = sum_within (λ (own : List Call). length own) (λ r. calls_of_rank seed size r) 196 0 8 (λ r b. omega (arith, rank_long seed size r)) in
+    omega (arith, few)
+
+few_values : (seed size : ℕ) → size ≤ 64 → values_in_script (scripted made_header [] (calls_of seed size 0 8)) ≤ most_values
+unfolding scripted
+few_values seed size s =
+    let few = sum_within (λ (own : List Call). sum (map values_in_call own)) (λ r. calls_of_rank seed size r) 1059840 0 8 (λ r b. rank_values seed size r s (omega arith)) in
+    omega (arith, few)
+
+lawful : (seed size : ℕ) → size ≤ 64 → is_lawful (scripted made_header [] (calls_of seed size 0 8)) ≡ true
+unfolding scripted
+lawful seed size s =
+    let calls = both_true _ _ (lawful_calls seed size s) (different_ids seed size) in
+    let few = both_true _ _ calls (le-leb (sum (map (λ own. length own) (calls_of seed size 0 8))) most_calls (few_calls seed size s)) in
+    let values = both_true _ _ few (le-leb (values_in_script (scripted made_header [] (calls_of seed size 0 8))) most_values (few_values seed size s)) in
+    both_true _ _ values (agreed seed size)
+
+pub made_lawful : (seed size : ℕ) → size ≤ 64 → is_lawful (made_script seed size) ≡ true
+unfolding scripted
+made_lawful seed size s = subst (λ (script : script_type.Script). is_lawful script ≡ true) (script_is seed size made_header [] (calls_of seed size 0 8) refl refl refl) (lawful seed size s)

@@ -1,0 +1,37 @@
+-- The made script.
+use Rattle.std.proofs.Common.{◌≡◌, ℕ, List, [], map, None, true, false, refl, ap, ◌∙◌}
+use Rattle.std.specs.List.{range_with_len}
+use Rattle.nc_base.specs.declared.header.Header as head
+use Rattle.nc_base.specs.declared.request.Call.{Call}
+use Rattle.nc_base.specs.declared.script.Extra.{Extra}
+use Rattle.nc_base.specs.declared.script.Script as script_type
+use Rattle.serial_spec.specs.HeaderGrammar.{canon}
+use Rattle.serial_spec.specs.Redefinition.{layout_fault}
+use Rattle.script_spec.specs.Generator.{default_hints, made_calls, made_header, made_script}
+use Rattle.generated_run.specs.Made.{calls_of_rank}
+
+unfoldable pub scripted : head.Header → List Extra → List (List Call) → script_type.Script
+scripted header extra calls = record { fresh = true; header = header; ranks = 8; hints = default_hints; filled = false; extra = extra; calls = calls }
+
+-- its ranks' calls
+pub calls_are : (seed size r : ℕ) → calls_of_rank seed size r ≡ made_calls seed size r
+unfolding calls_of_rank
+calls_are seed size r = refl
+
+pub all_calls_are : (seed size n : ℕ) → map (λ r. calls_of_rank seed size r) (range_with_len 0 n) ≡ map (made_calls seed size) (range_with_len 0 n)
+unfolding calls_of_rank
+all_calls_are seed size n = refl
+
+pub script_is : (seed size : ℕ) (header : head.Header) (extra : List Extra) (calls : List (List Call)) → header ≡ made_header → extra ≡ []
+    → calls ≡ map (λ r. calls_of_rank seed size r) (range_with_len 0 8)
+    → ◌≡◌ {A = script_type.Script} (record { fresh = true; header = header; ranks = 8; hints = default_hints; filled = false; extra = extra; calls = calls }) (made_script seed size)
+unfolding scripted
+script_is seed size header extra calls h x c =
+    ap (λ (y : head.Header). scripted y extra calls) h
+    ∙ ap (λ (y : List Extra). scripted made_header y calls) x
+    ∙ ap (λ (y : List (List Call)). scripted made_header [] y) (c ∙ all_calls_are seed size 8)
+
+-- its variables get places
+pub made_laid : layout_fault made_header (record { header = 4; var = 4 }) ≡ None
+unfolding canon
+made_laid = refl

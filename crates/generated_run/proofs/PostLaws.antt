@@ -1,0 +1,30 @@
+-- The regions that a rank posts.
+use Rattle.std.proofs.Common.{◌≡◌, ℕ, List, [], ◌∷◌, Bool, true, false, cond, Option, Some, None, ◌==◌, refl, ap, ◌∙◌, sym}
+use Rattle.std.specs.Prelude.{option_map}
+use Rattle.std.specs.Option.{option_copied}
+use Rattle.std.specs.Borrow.{Bor}
+use Rattle.nc_base.specs.declared.request.Call.{Call}
+use Rattle.nc_base.specs.declared.request.Call.TheVariants as call
+use Rattle.nc_base.specs.declared.request.Given.{Given}
+use Rattle.script_spec.specs.Generator.{elements_given, posted_elements}
+use Rattle.generated_run.specs.Counting.{posted_given}
+
+-- of the region that was found, if any
+abbrev pub elements_of : Option Given → ℕ
+elements_of None = 0
+elements_of (Some g) = elements_given g
+
+by_test : (b : Bool) (g : Given) (calls : List Call) (id : ℕ) → posted_elements calls id ≡ elements_of (posted_given calls id)
+    → cond b (elements_given g) (posted_elements calls id) ≡ elements_of (cond b (Some g) (posted_given calls id))
+by_test true g calls id e = refl
+by_test false g calls id e = e
+
+posted_are : (calls : List Call) (id : ℕ) → posted_elements calls id ≡ elements_of (posted_given calls id)
+posted_are [] id = refl
+posted_are (call.Post own kind name given values ∷ calls) id = by_test (own == id) given calls id (posted_are calls id)
+posted_are (_ ∷ calls) id = posted_are calls id
+
+pub found_are : (calls : List Call) (id : ℕ) (found : Option (Bor (Bor Given))) (kept : Option (Bor Given)) → option_copied found ≡ kept → option_map (λ (g : Bor Given). g.now) kept ≡ posted_given calls id
+    → elements_of (option_map (λ (g : Bor Given). g.now) (option_copied found)) ≡ posted_elements calls id
+found_are calls id found kept e f =
+    ap (λ (o : Option (Bor Given)). elements_of (option_map (λ (g : Bor Given). g.now) o)) e ∙ ap (λ (o : Option Given). elements_of o) f ∙ sym (posted_are calls id)

@@ -1,0 +1,89 @@
+-- Lists made number by number.
+use Rattle.std.proofs.Common.{◌≡◌, ℕ, zero, suc, ◌+◌, ◌*◌, ◌<◌, ◌≤◌, List, [], ◌∷◌, ◌++◌, length, map, sum, Bool, true, false, ◌==◌, refl, sym, ap, ◌∙◌, append_assoc, arith}
+use Rattle.std.specs.List.{enumerate_from, flat_map, list_all, list_any, range_with_len}
+use Rattle.std.proofs.lemmas.Bool.{ne_eqb}
+use Rattle.std.proofs.lemmas.List.{append-nil, length-append}
+use Rattle.std.proofs.lemmas.List.Concat.{flat_map-append}
+use Rattle.std.proofs.lemmas.List.Folds.{list_all-append}
+use Rattle.std.proofs.lemmas.List.FromFn.{map-range_with_len_more}
+use Rattle.serial_spec.specs.Lawful.{are_different}
+use Rattle.script_laws.proofs.ListLaws.{both_false, both_true, not_false, sum_cons}
+
+-- one item more
+pub next_item : {A : Type 0} (f : ℕ → A) (front now next : List A) (n : ℕ) (x : A)
+    → now ≡ front ++ map f (range_with_len 0 n) → x ≡ f n → next ≡ now ++ x ∷ [] → next ≡ front ++ map f (range_with_len 0 (n + 1))
+next_item {A} f front now next n x so_far here pushed =
+    pushed
+    ∙ ap (λ (t : List A). t ++ x ∷ []) so_far
+    ∙ append_assoc front (map f (range_with_len 0 n)) (x ∷ [])
+    ∙ ap (λ (y : A). front ++ (map f (range_with_len 0 n) ++ y ∷ [])) here
+    ∙ ap (λ (t : List A). front ++ t) (sym (map-range_with_len_more f 0 n n (omega arith)))
+
+range_more : (a n : ℕ) → range_with_len a (n + 1) ≡ range_with_len a n ++ (a + n) ∷ []
+range_more a n = grow n a
+  where
+    grow : (n a : ℕ) → range_with_len a (n + 1) ≡ range_with_len a n ++ (a + n) ∷ []
+    grow zero a = ap (λ (k : ℕ). k ∷ []) (omega arith)
+    grow (suc n) a =
+        let same : suc n + 1 ≡ suc (n + 1) = omega arith in
+        let last : a + 1 + n ≡ a + suc n = omega arith in
+        ap (λ (k : ℕ). range_with_len a k) same
+        ∙ ap (λ (t : List ℕ). a ∷ t) (grow n (a + 1))
+        ∙ ap (λ (k : ℕ). a ∷ (range_with_len (a + 1) n ++ k ∷ [])) last
+
+-- one piece more
+pub next_piece : {A : Type 0} (f : ℕ → List A) (front now next : List A) (a n m j : ℕ) → a + n ≡ j → m ≡ n + 1
+    → now ≡ front ++ flat_map f (range_with_len a n) → next ≡ now ++ f j → next ≡ front ++ flat_map f (range_with_len a m)
+next_piece {A} f front now next a n m j here one so_far pushed =
+    pushed
+    ∙ ap (λ (t : List A). t ++ f j) so_far
+    ∙ append_assoc front (flat_map f (range_with_len a n)) (f j)
+    ∙ ap (λ (k : ℕ). front ++ (flat_map f (range_with_len a n) ++ f k)) (sym here)
+    ∙ ap (λ (t : List A). front ++ (flat_map f (range_with_len a n) ++ t)) (sym (append-nil (f (a + n))))
+    ∙ ap (λ (t : List A). front ++ t) (sym (flat_map-append f (range_with_len a n) ((a + n) ∷ [])))
+    ∙ ap (λ (t : List ℕ). front ++ flat_map f t) (sym (range_more a n))
+    ∙ ap (λ (k : ℕ). front ++ flat_map f (range_with_len a k)) (sym one)
+
+-- all pieces
+pub all_pieces : {A : Type 0} (f : ℕ → List A) (front now : List A) (a b n m : ℕ) → a ≡ b → n ≡ m
+    → now ≡ front ++ flat_map f (range_with_len a n) → now ≡ front ++ flat_map f (range_with_len b m)
+all_pieces {A} f front now a b n m from many so_far =
+    so_far
+    ∙ ap (λ (k : ℕ). front ++ flat_map f (range_with_len k n)) from
+    ∙ ap (λ (k : ℕ). front ++ flat_map f (range_with_len b k)) many
+
+-- ---- what is so of each number
+
+pub range_passes : {A : Type 0} (p : A → Bool) (f : ℕ → A) (a n : ℕ) → ((k : ℕ) → k < a + n → p (f k) ≡ true) → list_all p (map f (range_with_len a n)) ≡ true
+range_passes p f a zero h = refl
+range_passes p f a (suc n) h = both_true _ _ (h a (omega arith)) (range_passes p f (a + 1) n (λ k b. h k (omega arith)))
+
+pub pieces_pass : {A : Type 0} (p : A → Bool) (f : ℕ → List A) (a n : ℕ) → ((k : ℕ) → k < a + n → list_all p (f k) ≡ true) → list_all p (flat_map f (range_with_len a n)) ≡ true
+pieces_pass p f a zero h = refl
+pieces_pass p f a (suc n) h = list_all-append p (f a) (flat_map f (range_with_len (a + 1) n)) ∙ both_true _ _ (h a (omega arith)) (pieces_pass p f (a + 1) n (λ k b. h k (omega arith)))
+
+pub numbered_pass : {A : Type 0} (p : ℕ × A → Bool) (f : ℕ → A) (a n : ℕ) → ((k : ℕ) → k < a + n → p (k, f k) ≡ true)
+    → list_all p (enumerate_from a (map f (range_with_len a n))) ≡ true
+numbered_pass p f a zero h = refl
+numbered_pass p f a (suc n) h = both_true _ _ (h a (omega arith)) (numbered_pass p f (a + 1) n (λ k b. h k (omega arith)))
+
+pub pieces_long : {A : Type 0} (f : ℕ → List A) (m : ℕ) → ((k : ℕ) → length (f k) ≡ m) → (a n : ℕ) → length (flat_map f (range_with_len a n)) ≡ n * m
+pieces_long f m h a zero = omega arith
+pieces_long f m h a (suc n) = omega (arith, length-append (f a) (flat_map f (range_with_len (a + 1) n)), h a, pieces_long f m h (a + 1) n)
+
+pub sum_within : {A : Type 0} (g : A → ℕ) (f : ℕ → A) (m a n : ℕ) → ((k : ℕ) → k < a + n → g (f k) ≤ m) → sum (map g (map f (range_with_len a n))) ≤ n * m
+sum_within g f m a zero h = omega arith
+sum_within g f m a (suc n) h =
+    let first = h a (omega arith) in
+    let rest = sum_within g f m (a + 1) n (λ k b. h k (omega arith)) in
+    omega (arith, sum_cons g (f a) (map f (range_with_len (a + 1) n)))
+
+-- ---- the numbers differ
+
+later_differ : (m a n : ℕ) → m < a → list_any (λ k. k == m) (range_with_len a n) ≡ false
+later_differ m a zero h = refl
+later_differ m a (suc n) h = both_false _ _ (ne_eqb a m (λ e. omega arith)) (later_differ m (a + 1) n (omega arith))
+
+pub range_differs : (a n : ℕ) → are_different (range_with_len a n) ≡ true
+range_differs a zero = refl
+range_differs a (suc n) = both_true _ _ (not_false _ (later_differ a (a + 1) n (omega arith))) (range_differs (a + 1) n)

@@ -1,0 +1,152 @@
+-- What the calls of a rank keep.
+use Rattle.std.proofs.Common.{◌≡◌, ℕ, zero, suc, ◌+◌, ◌-◌, ◌*◌, ◌^◌, ◌<◌, ◌≤◌, List, [], ◌∷◌, ◌++◌, length, map, sum, replicate, Bool, true, refl, sym, ap, subst, ◌∙◌, le-leb, lt-ltb, arith}
+use Rattle.std.specs.Prelude.{ℤ, pos, negsuc, neg_ℤ, ◌<ℤ◌, unsigned_abs, codes}
+use Rattle.std.specs.List.{flat_map, list_all, range_with_len}
+use Rattle.std.proofs.lemmas.Int.{ints}
+use Rattle.std.proofs.lemmas.List.{append-nil, length-append}
+use Rattle.std.proofs.lemmas.List.Folds.{list_all-append}
+use Rattle.std.proofs.lemmas.List.FromFn.{length-map-range_with_len}
+use Rattle.nc_base.specs.declared.request.Call.{Call}
+use Rattle.nc_base.specs.declared.request.Call.TheVariants as call
+use Rattle.nc_base.specs.declared.request.Choice.TheVariants.{Every}
+use Rattle.nc_base.specs.declared.request.PostKind.TheVariants.{Bput}
+use Rattle.nc_base.specs.declared.request.Values.TheVariants.{Bits, Numbers}
+use Rattle.serial_spec.specs.Limits.{most_elements}
+use Rattle.serial_spec.specs.Lawful.{are_different, are_sizes, is_given, is_lawful_call, is_number, kind_numbers, posted_ids, values_in_call}
+use Rattle.script_spec.specs.Generator.{block, first_row, precip_at, temp_at}
+use Rattle.script_laws.proofs.ListLaws.{both_true, sum_cons}
+use Rattle.generated_run.specs.Made.{calls_of_rank, columns_of, precip_band, region_of_band, temp_band}
+use Rattle.generated_run.proofs.Ranges.{pieces_long, pieces_pass, range_differs, range_passes}
+
+-- ---- the values of its rows
+
+long : {A : Type 0} (f : ℕ → ℕ → A) (m a n : ℕ) → length (flat_map (λ y. map (λ x. f y x) (range_with_len 0 m)) (range_with_len a n)) ≡ n * m
+long f m a n = pieces_long (λ y. map (λ x. f y x) (range_with_len 0 m)) m (λ y. length-map-range_with_len (λ x. f y x) 0 m) a n
+
+pass : {A : Type 0} (p : A → Bool) (f : ℕ → ℕ → A) (m a n : ℕ) → ((y x : ℕ) → p (f y x) ≡ true)
+    → list_all p (flat_map (λ y. map (λ x. f y x) (range_with_len 0 m)) (range_with_len a n)) ≡ true
+pass p f m a n h = pieces_pass p (λ y. map (λ x. f y x) (range_with_len 0 m)) a n (λ y b. range_passes p (λ x. f y x) 0 m (λ x b. h y x))
+
+few_temps : (seed r t : ℕ) → r < 8 → length (temp_band seed r t) ≤ 8280
+unfolding temp_band
+few_temps seed r t h = let many = long (temp_at seed t) 360 (first_row r) (first_row (r + 1) - first_row r) in omega (arith, many)
+
+few_precips : (seed r t : ℕ) → r < 8 → length (precip_band seed r t) ≤ 8280
+unfolding precip_band
+few_precips seed r t h = let many = long (precip_at seed t) 360 (first_row r) (first_row (r + 1) - first_row r) in omega (arith, many)
+
+small : (z : ℤ) → neg_ℤ (pos 10001) <ℤ z → z <ℤ pos 10001 → unsigned_abs z < 10 ^ 20
+small (pos n) low high = let below : n < 10001 = omega (arith, ints) in omega arith
+small (negsuc n) low high = let below : suc n < 10001 = omega (arith, ints) in omega arith
+
+small_precip : (seed t y x : ℕ) → is_number (precip_at seed t y x) ≡ true
+small_precip seed t y x = lt-ltb _ (10 ^ 20) (small (precip_at seed t y x) (omega (arith, ints)) (omega (arith, ints)))
+
+small_precips : (seed r t : ℕ) → list_all is_number (precip_band seed r t) ≡ true
+unfolding precip_band
+small_precips seed r t = pass is_number (precip_at seed t) 360 (first_row r) (first_row (r + 1) - first_row r) (small_precip seed t)
+
+-- ---- its regions
+
+given_block : (start count : List ℕ) → are_sizes start ≡ true → are_sizes count ≡ true → is_given (block start count) ≡ true
+given_block start count s c = both_true _ _ (both_true _ _ (both_true _ _ (both_true _ _ (both_true _ _ s c) refl) refl) refl) refl
+
+sizes : (a b c : ℕ) → a < 2 ^ 63 → b < 2 ^ 63 → c < 2 ^ 63 → are_sizes (a ∷ b ∷ c ∷ []) ≡ true
+sizes a b c e f g = both_true _ _ (lt-ltb a (2 ^ 63) e) (both_true _ _ (lt-ltb b (2 ^ 63) f) (both_true _ _ (lt-ltb c (2 ^ 63) g) refl))
+
+given_band : (r t : ℕ) → r < 8 → t < 64 → is_given (region_of_band r t) ≡ true
+unfolding region_of_band
+given_band r t h l =
+    given_block (t ∷ first_row r ∷ 0 ∷ []) (1 ∷ (first_row (r + 1) - first_row r) ∷ 360 ∷ []) (sizes t (first_row r) 0 (omega arith) (omega arith) (omega arith))
+    (sizes 1 (first_row (r + 1) - first_row r) 360 (omega arith) (omega arith) (omega arith))
+
+given_columns : (size r : ℕ) → size ≤ 64 → r < 8 → is_given (columns_of size r) ≡ true
+unfolding columns_of
+given_columns size r s h =
+    given_block (0 ∷ 0 ∷ 45 * r ∷ []) (size ∷ 180 ∷ 1 ∷ []) (sizes 0 0 (45 * r) (omega arith) (omega arith) (omega arith)) (sizes size 180 1 (omega arith) (omega arith) (omega arith))
+
+-- ---- its calls
+
+abbrev record_of : ℕ → ℕ → ℕ → List Call
+record_of seed r t =
+    call.Post (2 * t) Bput (codes "temp") (region_of_band r t) (Bits (temp_band seed r t))
+    ∷ call.Post (2 * t + 1) Bput (codes "precip") (region_of_band r t) (Numbers (precip_band seed r t)) ∷ call.Wait true Every ∷ []
+
+-- the calls of n records from t on
+abbrev records_of : ℕ → ℕ → ℕ → ℕ → List Call
+records_of seed r t n = flat_map (λ k. record_of seed r k) (range_with_len t n)
+
+-- the calls after the records
+abbrev reads_of : ℕ → ℕ → List Call
+reads_of size r = call.Get true (codes "temp") (columns_of size r) ∷ call.Get true (codes "precip") (columns_of size r) ∷ call.Detach ∷ []
+
+abbrev whole : ℕ → ℕ → ℕ → List Call
+whole seed size r = call.Attach 65536 ∷ records_of seed r 0 size ++ reads_of size r
+
+whole_is : (seed size r : ℕ) → whole seed size r ≡ calls_of_rank seed size r
+unfolding calls_of_rank region_of_band temp_band precip_band columns_of
+whole_is seed size r = refl
+
+-- ---- what they keep
+
+lawful_record : (seed r t : ℕ) → r < 8 → t < 64 → list_all (λ c. is_lawful_call 8 r c) (record_of seed r t) ≡ true
+lawful_record seed r t h l =
+    let given = given_band r t h l in
+    let temps = le-leb (length (temp_band seed r t)) most_elements (omega (arith, few_temps seed r t h)) in
+    let precips = le-leb (length (precip_band seed r t)) most_elements (omega (arith, few_precips seed r t h)) in
+    both_true _ _ (both_true _ _ given temps) (both_true _ _ (both_true _ _ given (both_true _ _ precips (small_precips seed r t))) refl)
+
+lawful_reads : (size r : ℕ) → size ≤ 64 → r < 8 → list_all (λ c. is_lawful_call 8 r c) (reads_of size r) ≡ true
+lawful_reads size r s h = let given = given_columns size r s h in both_true _ _ given (both_true _ _ given refl)
+
+pub rank_lawful : (seed size r : ℕ) → size ≤ 64 → r < 8 → list_all (λ c. is_lawful_call 8 r c) (calls_of_rank seed size r) ≡ true
+rank_lawful seed size r s h =
+    sym (ap (λ (calls : List Call). list_all (λ c. is_lawful_call 8 r c) calls) (whole_is seed size r))
+    ∙ list_all-append (λ c. is_lawful_call 8 r c) (records_of seed r 0 size) (reads_of size r)
+    ∙ both_true _ _ (pieces_pass (λ c. is_lawful_call 8 r c) (λ k. record_of seed r k) 0 size (λ k b. lawful_record seed r k h (omega arith))) (lawful_reads size r s h)
+
+ids_of : (seed r : ℕ) (others : List Call) (t n : ℕ) → posted_ids (records_of seed r t n ++ others) ≡ range_with_len (2 * t) (2 * n) ++ posted_ids others
+ids_of seed r others t zero = refl
+ids_of seed r others t (suc n) =
+    let next : 2 * (t + 1) ≡ 2 * t + 1 + 1 = omega arith in
+    let two : suc (suc (2 * n)) ≡ 2 * suc n = omega arith in
+    ap (λ (ids : List ℕ). (2 * t) ∷ (2 * t + 1) ∷ ids) (ids_of seed r others (t + 1) n ∙ ap (λ (k : ℕ). range_with_len k (2 * n) ++ posted_ids others) next)
+    ∙ ap (λ (k : ℕ). range_with_len (2 * t) k ++ posted_ids others) two
+
+pub rank_ids : (seed size r : ℕ) → are_different (posted_ids (calls_of_rank seed size r)) ≡ true
+rank_ids seed size r =
+    sym (ap (λ (calls : List Call). are_different (posted_ids calls)) (whole_is seed size r))
+    ∙ ap (λ (ids : List ℕ). are_different ids) (ids_of seed r (reads_of size r) 0 size ∙ append-nil (range_with_len 0 (2 * size)))
+    ∙ range_differs 0 (2 * size)
+
+kinds_of : (seed r : ℕ) (others : List Call) (t n : ℕ) → kind_numbers (records_of seed r t n ++ others) ≡ replicate n 3 ++ kind_numbers others
+kinds_of seed r others t zero = refl
+kinds_of seed r others t (suc n) = ap (λ (ks : List ℕ). 3 ∷ ks) (kinds_of seed r others (t + 1) n)
+
+pub rank_kinds : (seed size r : ℕ) → kind_numbers (calls_of_rank seed size r) ≡ replicate size 3 ++ 2 ∷ 2 ∷ []
+rank_kinds seed size r = sym (ap (λ (calls : List Call). kind_numbers calls) (whole_is seed size r)) ∙ kinds_of seed r (reads_of size r) 0 size
+
+pub rank_long : (seed size r : ℕ) → length (calls_of_rank seed size r) ≡ 3 * size + 4
+rank_long seed size r =
+    sym (ap (λ (calls : List Call). length calls) (whole_is seed size r))
+    ∙ omega (arith, length-append (records_of seed r 0 size) (reads_of size r), pieces_long (λ k. record_of seed r k) 3 (λ k. refl) 0 size)
+
+values_of : (seed r : ℕ) (others : List Call) (t n : ℕ) → r < 8 → sum (map values_in_call (records_of seed r t n ++ others)) ≤ n * 16560 + sum (map values_in_call others)
+values_of seed r others t zero h = omega arith
+values_of seed r others t (suc n) h =
+    let later : List Call = records_of seed r (t + 1) n ++ others in
+    let wait : Call = call.Wait true Every in
+    let temp : Call = call.Post (2 * t) Bput (codes "temp") (region_of_band r t) (Bits (temp_band seed r t)) in
+    let precip : Call = call.Post (2 * t + 1) Bput (codes "precip") (region_of_band r t) (Numbers (precip_band seed r t)) in
+    let a = sum_cons values_in_call temp (precip ∷ wait ∷ later) in
+    let b = sum_cons values_in_call precip (wait ∷ later) in
+    let d = sum_cons values_in_call wait later in
+    omega (arith, a, b, d, few_temps seed r t h, few_precips seed r t h, values_of seed r others (t + 1) n h)
+
+pub rank_values : (seed size r : ℕ) → size ≤ 64 → r < 8 → sum (map values_in_call (calls_of_rank seed size r)) ≤ 1059840
+rank_values seed size r s h =
+    subst (λ (calls : List Call). sum (map values_in_call calls) ≤ 1059840) (whole_is seed size r) (
+    let first = sum_cons values_in_call (call.Attach 65536) (records_of seed r 0 size ++ reads_of size r) in
+    let last : sum (map values_in_call (reads_of size r)) ≡ 0 = refl in
+    omega (arith, first, last, values_of seed r (reads_of size r) 0 size h)
+    )

@@ -1,0 +1,7 @@
+use Rattle.std.proofs.Common.{◌≡◌, ◌-◌, [], ◌++◌}
+use Rattle.std.specs.List.{flat_map, range_with_len}
+use Rattle.generated_run.specs.Made.{precip_row}
+use Rattle.generated_run.proofs.bands.precip_band.Given as goal
+
+abbrev pub invariant-loop-row : goal.invariant-loop-row
+invariant-loop-row l = l.values.items ≡ [] ++ flat_map (λ y. precip_row l.seed l.time y) (range_with_len l.initial.row (l.row - l.initial.row))

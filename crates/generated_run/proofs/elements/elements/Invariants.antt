@@ -1,0 +1,6 @@
+use Rattle.std.proofs.Common.{◌≡◌, take}
+use Rattle.serial_spec.specs.Layout.{product}
+use Rattle.generated_run.proofs.elements.elements.Given as goal
+
+abbrev pub invariant-loop-count : goal.invariant-loop-count
+invariant-loop-count l = l.all ≡ product (take l.count-index l.count-items)

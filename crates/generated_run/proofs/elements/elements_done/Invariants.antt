@@ -1,0 +1,7 @@
+use Rattle.std.proofs.Common.{◌≡◌, length, map, sum, take}
+use Rattle.std.specs.List.{zip}
+use Rattle.generated_run.specs.Counting.{call_done}
+use Rattle.generated_run.proofs.elements.elements_done.Given as goal
+
+abbrev pub invariant-loop-calls : goal.invariant-loop-calls
+invariant-loop-calls l = l.total ≡ sum (map (λ p. sum (map (λ q. call_done l.direction p.0 q) (zip p.0 p.1))) (take (length l.yielded) (zip l.fn.calls l.fn.answers)))

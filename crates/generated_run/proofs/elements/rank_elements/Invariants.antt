@@ -1,0 +1,7 @@
+use Rattle.std.proofs.Common.{◌≡◌, length, map, sum, take}
+use Rattle.std.specs.List.{zip}
+use Rattle.generated_run.specs.Counting.{call_done}
+use Rattle.generated_run.proofs.elements.rank_elements.Given as goal
+
+abbrev pub invariant-loop-call : goal.invariant-loop-call
+invariant-loop-call l = l.total ≡ sum (map (λ p. call_done l.direction l.fn.calls p) (take (length l.yielded) (zip l.fn.calls l.fn.answers)))

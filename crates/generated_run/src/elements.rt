@@ -1,0 +1,195 @@
+// The elements of the puts and gets that were done.
+ghost use Rattle.std.specs.Prelude.{◌≡◌, ◌+◌, IfOk, map, sum, zip};
+ghost use Rattle.serial_spec.specs.Layout.{product};
+ghost use Rattle.serial_spec.specs.RegionCheck.{is_ok_code};
+ghost use Rattle.script_spec.specs.Generator.{call_got, call_put, elements_given, is_done, over_calls, posted_elements};
+ghost use Rattle.generated_run.specs.Counting.{FindsGiven, call_done, item_done, items_done};
+
+use nc_base::{Answer, AnswerList, Call, CallList, Code, Direction, Given, Item, Memory};
+use std::alloc::Global;
+use std::collections::HashMap;
+use std::marker::Model;
+
+/// The calls of a rank, with an index of the regions that they post.
+#[derive(Drop)]
+struct Posts<'c> {
+    calls: &'c [Call],
+    by_id: HashMap<u32, &'c Given>,
+}
+
+impl<'c> Model for Posts<'c> {
+    ghost use Rattle.std.specs.Prelude.{List};
+    ghost use Rattle.nc_base.specs.declared.request.Call.{Call};
+    ghost use Rattle.generated_run.specs.Counting.{FindsGiven};
+
+    ghost Value = { List Call };
+
+    ghost view = { λ p. p.calls.now };
+
+    ghost invariant = { λ p. FindsGiven p.calls.now p.by_id };
+}
+
+impl<'c> Posts<'c> {
+    ghost use Rattle.script_spec.specs.Generator.{posted_elements};
+
+    fn new(alloc: Global, calls: &'c [Call]) -> Result<Self, Memory>
+        ensures { IfOk result (λ posts. posts ≡ calls.now) }
+    {
+        Ok(Posts {
+            calls,
+            by_id: posts_index(alloc, calls)?,
+        })
+    }
+
+    /// The elements of the first post of this id, if any.
+    fn elements(&self, id: u32) -> Result<u64, Memory>
+        ensures { IfOk result (λ n. n ≡ posted_elements self.now id) }
+    {
+        match self.by_id.get(&id) {
+            None => Ok(0),
+            Some(given) => elements(given),
+        }
+    }
+}
+
+/// The region of each id's first post.
+fn posts_index(alloc: Global, calls: &[Call]) -> Result<HashMap<u32, &Given>, Memory>
+    ensures { IfOk result (FindsGiven calls.now) }
+{
+    let mut index = HashMap::new(alloc);
+    for k in (0..calls.len()).rev() {
+        if let Call::Post { id, given, .. } = &calls[k] {
+            index.insert(*id, given)?;
+        }
+    }
+    Ok(index)
+}
+
+/// The sum, where it is a number that can be told.
+pub(crate) fn added(a: u64, b: u64) -> Result<u64, Memory>
+    ensures { IfOk result (λ n. n ≡ a + b) }
+{
+    a.checked_add(b).ok_or(Memory)
+}
+
+/// The elements of a region.
+#[tactic(auto, using(crate::proofs::SumLaws::product_more))]
+fn elements(given: &Given) -> Result<u64, Memory>
+    ensures { IfOk result (λ n. n ≡ elements_given given.now) }
+{
+    let mut all: u64 = 1;
+    for count in given.count.as_slice() {
+        all = all.checked_mul(*count).ok_or(Memory)?;
+    }
+    Ok(all)
+}
+
+fn is_ok(code: Code) -> bool
+    ensures { result ≡ is_ok_code code }
+{
+    matches!(code, Code::Ok)
+}
+
+/// The elements of a request that an item tells to be done.
+fn item_elements(direction: Direction, posts: &Posts, item: &Item) -> Result<u64, Memory>
+    ensures { IfOk result (λ n. n ≡ item_done direction posts.now item.now) }
+{
+    let is_so = match direction {
+        Direction::Put => item.values.is_none(),
+        Direction::Get => item.values.is_some(),
+    };
+    if is_ok(item.code) && is_so {
+        posts.elements(item.id)
+    } else {
+        Ok(0)
+    }
+}
+
+#[tactic(auto, using(crate::proofs::SumLaws::mapped_more))]
+fn items_elements(direction: Direction, posts: &Posts, items: &[Item]) -> Result<u64, Memory>
+    ensures { IfOk result (λ n. n ≡ items_done direction posts.now items.now) }
+{
+    let mut total = 0;
+    for item in items {
+        total = added(total, item_elements(direction, posts, item)?)?;
+    }
+    Ok(total)
+}
+
+/// The elements that a call put into the file.
+fn put_elements(posts: &Posts, call: &Call, answer: &Answer) -> Result<u64, Memory>
+    ensures { IfOk result (λ n. n ≡ call_put posts.now (call.now, answer.now)) }
+{
+    match call {
+        Call::Put { given, .. } if is_done(answer) => elements(given),
+        Call::Wait { .. } if answer.pair.is_none() => {
+            items_elements(Direction::Put, posts, answer.items.as_slice())
+        }
+        _ => Ok(0),
+    }
+}
+
+/// Whether a put was answered ok, and shared no byte with another.
+fn is_done(answer: &Answer) -> bool
+    ensures { result ≡ is_done answer.now }
+{
+    is_ok(answer.code) && answer.pair.is_none()
+}
+
+/// The elements that a call got from the file.
+fn got_elements(posts: &Posts, call: &Call, answer: &Answer) -> Result<u64, Memory>
+    ensures { IfOk result (λ n. n ≡ call_got posts.now (call.now, answer.now)) }
+{
+    match call {
+        Call::Get { given, .. } if is_ok(answer.code) => elements(given),
+        Call::Wait { .. } => items_elements(Direction::Get, posts, answer.items.as_slice()),
+        _ => Ok(0),
+    }
+}
+
+fn call_elements(
+    direction: Direction,
+    posts: &Posts,
+    call: &Call,
+    answer: &Answer,
+) -> Result<u64, Memory>
+    ensures { IfOk result (λ n. n ≡ call_done direction posts.now (call.now, answer.now)) }
+{
+    match direction {
+        Direction::Put => put_elements(posts, call, answer),
+        Direction::Get => got_elements(posts, call, answer),
+    }
+}
+
+fn rank_elements(
+    alloc: Global,
+    direction: Direction,
+    calls: &[Call],
+    answers: &[Answer],
+) -> Result<u64, Memory>
+    ensures { IfOk result (λ n. n ≡ sum (map (call_done direction calls.now) (zip calls.now answers.now))) }
+{
+    let posts = Posts::new(alloc, calls)?;
+    let mut total = 0;
+    for (call, answer) in calls.iter().zip(answers) {
+        total = added(total, call_elements(direction, &posts, call, answer)?)?;
+    }
+    Ok(total)
+}
+
+/// The elements of all ranks' puts, or of their gets, that were done.
+pub(crate) fn elements_done(
+    alloc: Global,
+    direction: Direction,
+    calls: &[CallList],
+    answers: &[AnswerList],
+) -> Result<u64, Memory>
+    ensures { IfOk result (λ n. n ≡ over_calls (call_done direction) calls.now answers.now) }
+{
+    let mut total = 0;
+    for (calls, answers) in calls.iter().zip(answers) {
+        let own = rank_elements(alloc, direction, calls.as_slice(), answers.as_slice())?;
+        total = added(total, own)?;
+    }
+    Ok(total)
+}
