@@ -1,5 +1,5 @@
--- What a script that is read keeps.
-use Rattle.std.proofs.Common.{◌≡◌, ℕ, ◌^◌, ◌≤◌, Bool, true, false, List, [], ◌∷◌, length, refl, ◌==◌}
+-- What a script keeps that was read or made.
+use Rattle.std.proofs.Common.{◌≡◌, ℕ, ◌^◌, ◌≤◌, Bool, true, false, List, [], ◌∷◌, length, refl, ◌==◌, eqb-true}
 use Rattle.std.specs.Prelude.{if◌then◌else◌}
 use Rattle.std.specs.List.{list_all}
 use Rattle.std.proofs.lemmas.Bool.{leb-true}
@@ -8,28 +8,54 @@ use Rattle.nc_base.specs.declared.script.Script.{Script}
 use Rattle.serial_spec.specs.Lawful.{are_lawful_hints, is_empty, is_lawful_extra, is_lawful_header, is_whole_extra, is_within}
 use Rattle.serial_spec.proofs.SpellingLaws.{left, right}
 use Rattle.script_spec.specs.ScriptGrammar.{Reads}
+use Rattle.script_laws.proofs.HeaderLaws.{read_unplaced, read_writable}
 use Rattle.script_laws.proofs.LawfulLaws.{read_lawful, read_whole}
+use Rattle.ncmpi_cli.specs.Headline.{IsKept}
 
-pub read_hints : (text : List ℕ) (script : Script) → Reads text script → are_lawful_hints script.hints ≡ true
-read_hints text script r =
-    right _ _ (left _ _ (left _ _ (left _ _ (left _ _ (left _ _ (left _ _ (left _ _ (left _ _ (left _ _ (read_lawful text script r))))))))))
+pub read_kept : (text : List ℕ) (script : Script) → Reads text script → IsKept script
+read_kept text script r = record {
+  lawful = read_lawful text script r;
+  whole = read_whole text script r;
+  unplaced = read_unplaced text script r;
+  writable = read_writable text script r;
+}
+
+pub kept_hints : (script : Script) → IsKept script → are_lawful_hints script.hints ≡ true
+kept_hints script k =
+    right _ _ (left _ _ (left _ _ (left _ _ (left _ _ (left _ _ (left _ _ (left _ _ (left _ _ (left _ _ k.lawful)))))))))
 
 -- ---- the size of a window
 
 within : (low high n : ℕ) → is_within low high n ≡ true → (low ≤ n) × (n ≤ high)
 within low high n h = (leb-true low n (left _ _ h), leb-true n high (right _ _ h))
 
-pub read_wr_buffer : (text : List ℕ) (script : Script) → Reads text script → (1 ≤ script.hints.wr_buffer) × (script.hints.wr_buffer ≤ 2 ^ 25)
-read_wr_buffer text script r =
-    within 1 (2 ^ 25) script.hints.wr_buffer (right _ _ (left _ _ (left _ _ (left _ _ (left _ _ (read_hints text script r))))))
+pub kept_wr_buffer : (script : Script) → IsKept script → (1 ≤ script.hints.wr_buffer) × (script.hints.wr_buffer ≤ 2 ^ 25)
+kept_wr_buffer script k =
+    within 1 (2 ^ 25) script.hints.wr_buffer (right _ _ (left _ _ (left _ _ (left _ _ (left _ _ (kept_hints script k))))))
+
+-- ---- the alignments, and the record count
+
+pub kept_header_align : (script : Script) → IsKept script → (4 ≤ script.hints.header_align) × (script.hints.header_align ≤ 1048576)
+kept_header_align script k =
+    within 4 1048576 script.hints.header_align (left _ _ (right _ _ (left _ _ (left _ _ (kept_hints script k)))))
+
+pub kept_var_align : (script : Script) → IsKept script → (4 ≤ script.hints.var_align) × (script.hints.var_align ≤ 1048576)
+kept_var_align script k = within 4 1048576 script.hints.var_align (left _ _ (right _ _ (left _ _ (kept_hints script k))))
+
+kept_header : (script : Script) → IsKept script → is_lawful_header script ≡ true
+kept_header script k =
+    right _ _ (left _ _ (left _ _ (left _ _ (left _ _ (left _ _ (left _ _ (left _ _ (left _ _ k.lawful))))))))
+
+pub kept_records : (script : Script) → IsKept script → script.header.records ≡ 0
+kept_records script k = eqb-true script.header.records 0 (left _ _ (kept_header script k))
 
 -- ---- what it adds to an existing dataset
 
-pub read_extras : (text : List ℕ) (script : Script) → Reads text script → list_all is_lawful_extra script.extra ≡ true
-read_extras text script r = right _ _ (left _ _ (left _ _ (left _ _ (left _ _ (left _ _ (read_lawful text script r))))))
+pub kept_extras : (script : Script) → IsKept script → list_all is_lawful_extra script.extra ≡ true
+kept_extras script k = right _ _ (left _ _ (left _ _ (left _ _ (left _ _ (left _ _ k.lawful)))))
 
-pub read_whole_extras : (text : List ℕ) (script : Script) → Reads text script → list_all is_whole_extra script.extra ≡ true
-read_whole_extras text script r = right _ _ (read_whole text script r)
+pub kept_whole_extras : (script : Script) → IsKept script → list_all is_whole_extra script.extra ≡ true
+kept_whole_extras script k = right _ _ k.whole
 
 -- a test of which the first case holds
 chosen : (b x y : Bool) → b ≡ true → (if b then x else y) ≡ true → x ≡ true
@@ -47,8 +73,5 @@ none_there (x ∷ extras) h = absurd (clash h)
     clash t = cc
 
 -- a script that creates a dataset adds nothing
-pub read_created : (text : List ℕ) (script : Script) → Reads text script → script.fresh ≡ true → (length script.extra == 0) ≡ true
-read_created text script r f =
-    let header : is_lawful_header script ≡ true =
-    right _ _ (left _ _ (left _ _ (left _ _ (left _ _ (left _ _ (left _ _ (left _ _ (left _ _ (read_lawful text script r))))))))) in
-    none_there script.extra (right _ _ (chosen script.fresh _ _ f (right _ _ header)))
+pub kept_created : (script : Script) → IsKept script → script.fresh ≡ true → (length script.extra == 0) ≡ true
+kept_created script k f = none_there script.extra (right _ _ (chosen script.fresh _ _ f (right _ _ (kept_header script k))))

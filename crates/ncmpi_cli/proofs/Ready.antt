@@ -58,13 +58,13 @@ some_extras script h = by_test (length script.extra == 0) refl
     by_test false e = e
     by_test true e = absurd (h (nothing script.extra (eqb-true (length script.extra) 0 e)))
 
-header-kept : (script : script_type.Script) (old : head.Header) → AddsNothing script true → header_of_run script old ≡ old
+pub header-kept : (script : script_type.Script) (old : head.Header) → AddsNothing script true → header_of_run script old ≡ old
 header-kept script old x = ap (λ (b : Bool). elim b [ true ↦ old | false ↦ redefined_header old script.extra ]) x
 
 header-changed : (script : script_type.Script) (old new : head.Header) → AddsNothing script false → IsApplied old script.extra new → new ≡ header_of_run script old
 header-changed script old new x a = a.made ∙ sym (ap (λ (b : Bool). elim b [ true ↦ old | false ↦ redefined_header old script.extra ]) x)
 
-file-kept : (script : script_type.Script) (old new : head.Header) (file : List ℕ) → AddsNothing script true → brought script old new file ≡ file
+pub file-kept : (script : script_type.Script) (old new : head.Header) (file : List ℕ) → AddsNothing script true → brought script old new file ≡ file
 file-kept script old new file x = ap (λ (b : Bool). elim b [ true ↦ file | false ↦ redefined file old new ]) x
 
 file-changed : (script : script_type.Script) (old new : head.Header) (file : List ℕ) → AddsNothing script false → brought script old new file ≡ redefined file old new

@@ -22,8 +22,10 @@ use Rattle.serial_spec.specs.DeviceCalls.{all_calls}
 use Rattle.serial_spec.specs.Layout.{begins}
 use Rattle.serial_spec.specs.HeaderGrammar.{HasFault, header_len}
 use Rattle.serial_spec.specs.History.{IsLegal}
+use Rattle.serial_spec.specs.Lawful.{has_whole_attrs, is_lawful}
 use Rattle.serial_spec.specs.Redefinition.{brought, layout_fault, redefined_fault, redefined_header}
 use Rattle.serial_spec.specs.SerialEnd.{End, serial}
+use Rattle.var_layout.specs.Unplaced.{has_writable_parts, is_unplaced}
 use Rattle.cdf_header.specs.Decoding.{BeginsWith}
 use Rattle.rank_meeting.specs.Begun.{HasBegun}
 use Rattle.script_spec.specs.ScriptGrammar.{Reads, script_fault}
@@ -106,6 +108,13 @@ refusal text = option_map script_line (script_fault text)
 -- some text spells the script
 abbrev pub IsRead : Script → Type 0
 IsRead script = (text : List ℕ) × Reads text script
+
+-- what a script keeps that was read or made
+pub record IsKept (script : Script) : Type 0 where
+  pub lawful : is_lawful script ≡ true
+  pub whole : has_whole_attrs script ≡ true
+  pub unplaced : script.fresh ≡ true → is_unplaced script.header ≡ true
+  pub writable : script.fresh ≡ true → has_writable_parts script.header ≡ true
 
 -- the text is that of this script
 abbrev pub Asks : Option (List ℕ) → Script → Type 0

@@ -1,5 +1,9 @@
 pub mod Limits
 pub mod Words
+pub mod Forms
 pub mod Stops
 pub mod Headline
 pub mod Opening
+pub mod Listing
+pub mod Generated
+pub mod Ends

@@ -1,17 +1,16 @@
-// What comes before the ranks: the words, the script and the dataset.
-ghost use Rattle.std.specs.Prelude.{◌≡◌, ◌↔◌, ◌≤◌, ◌∷◌, ℕ, List, [], true, false, is_some, IfOk, IfErr, OnOk, OnErr, IfSome, IsErrOf, Err, Some, None};
+// What comes before the ranks: the script and the dataset.
+ghost use Rattle.std.specs.Prelude.{◌≡◌, ◌≤◌, ℕ, [], true, IfOk, IfErr, OnOk, OnErr, IfSome, IsErrOf, Err, Some, None};
 ghost use Rattle.nc_outside.specs.Told.{after};
 ghost use Rattle.nc_outside.specs.Cause.{Rose};
 ghost use Rattle.serial_spec.specs.HeaderGrammar.{header_len, is_sound, is_writable};
 ghost use Rattle.serial_spec.specs.Layout.{end_of};
-ghost use Rattle.ncmpi_cli.specs.Headline.{align_of, Asks, created_header, IsBeforeStart, IsRead, refusal, TellsDataset};
+ghost use Rattle.ncmpi_cli.specs.Headline.{align_of, Asks, created_header, IsBeforeStart, IsKept, IsRead, refusal, TellsDataset};
 ghost use Rattle.ncmpi_cli.specs.Opening.{IsReady};
 ghost use Rattle.ncmpi_cli.specs.Stops.{IsOfDataset, IsOfLayout, line_of, status_of};
 ghost use Rattle.nc_base.specs.declared.errors.LayoutErr.{LayoutErr};
 ghost use Rattle.nc_base.specs.declared.script.Script.{Script};
 ghost use Rattle.script_spec.specs.ScriptGrammar.{Reads};
 ghost use Rattle.serial_spec.specs.Redefinition.{layout_fault};
-ghost use Rattle.ncmpi_cli.specs.Words.{texts, is_form};
 
 use crate::creating::{create, fill};
 use crate::opening::open;
@@ -32,7 +31,7 @@ pub(crate) struct Begun {
 /// Reads the script, and makes its dataset ready.
 pub(crate) fn begin<S: Source, D: Disk>(
     alloc: Global,
-    words: &[&str],
+    dataset: &str,
     source: &mut S,
     disk: &mut D,
 ) -> Result<Begun, Stop>
@@ -42,7 +41,7 @@ pub(crate) fn begin<S: Source, D: Disk>(
     ensures ready { IfOk result (λ b. IsReady b.script b.header (D.held disk.old) (D.held disk.new) (D.calls disk.old) (D.calls disk.new)) }
     ensures from { OnOk result (D.from disk.new ≡ 0) }
     ensures len { IfOk result (λ b. end_of b.header (header_len b.header) b.header.records ≤ D.len disk.new) }
-    ensures usage { IsErrOf result Stop.Usage ↔ (is_form (texts words.now) ≡ false) }
+    ensures formed { ¬ (IsErrOf result Stop.Usage) }
     ensures refused { IfErr result (λ stop. status_of stop ≡ 3 → IfSome (S.left source.old) (λ text. refusal text ≡ line_of stop)) }
     ensures bad { IfErr result (λ stop. status_of stop ≡ 4 → (script : Script) × (Asks (S.left source.old) script × IfSome (line_of stop) (TellsDataset script (D.held disk.old)))) }
     ensures asked { IfErr result (λ stop. status_of stop ≡ 7 → (script : Script) × Asks (S.left source.old) script) }
@@ -51,25 +50,21 @@ pub(crate) fn begin<S: Source, D: Disk>(
     ensures source { IsErrOf result Stop.Source → Rose (S.faults source.old) (S.faults source.new) }
     ensures disk { IsErrOf result Stop.Disk → Rose (D.faults disk.old) (D.faults disk.new) }
     ensures later { D.faults disk.old ≤ D.faults disk.new }
-    ensures not_taken { IsErrOf result Stop.Usage → source.new ≡ source.old }
     ensures not_started { IfErr result (λ stop. IsBeforeStart (status_of stop) → disk.new ≡ disk.old) }
 {
-    let Some(name) = dataset_of(words) else {
-        return Err(Stop::Usage);
-    };
     let script = take_script(alloc, source)?;
-    let header = make_ready(alloc, disk, name, &script)?;
+    let header = make_ready(alloc, disk, dataset, &script)?;
     Ok(Begun { script, header })
 }
 
-// Makes the dataset of the script ready for the ranks.
-fn make_ready<D: Disk>(
+/// Makes the dataset of the script ready for the ranks.
+pub(crate) fn make_ready<D: Disk>(
     alloc: Global,
     disk: &mut D,
     name: &str,
     script: &Script,
 ) -> Result<Header, Stop>
-    requires read { IsRead script.now }
+    requires kept { IsKept script.now }
     ensures ready { IfOk result (λ header. IsReady script.now header (D.held disk.old) (D.held disk.new) (D.calls disk.old) (D.calls disk.new)) }
     ensures from { OnOk result (D.from disk.new ≡ 0) }
     ensures len { IfOk result (λ header. end_of header (header_len header) header.records ≤ D.len disk.new) }
@@ -92,7 +87,7 @@ fn make_ready<D: Disk>(
 
 // The header of the dataset that the script creates.
 fn laid_out(alloc: Global, script: &Script) -> Result<Header, Stop>
-    requires read { IsRead script.now }
+    requires kept { IsKept script.now }
     requires fresh { script.now.fresh ≡ true }
     ensures header { IfOk result (λ header. header ≡ created_header script.now) }
     ensures writable { IfOk result (λ header. is_writable header ≡ true) }
@@ -107,14 +102,4 @@ fn laid_out(alloc: Global, script: &Script) -> Result<Header, Stop>
     };
     lay_out(&mut header, &align)?;
     Ok(header)
-}
-
-// The dataset's word, where the words are of the form.
-fn dataset_of<'a>(words: &[&'a str]) -> Option<&'a str>
-    ensures { is_some result ≡ is_form (texts words.now) }
-{
-    match words {
-        [word] if !word.as_bytes().starts_with(b"-") => Some(*word),
-        _ => None,
-    }
 }

@@ -35,11 +35,23 @@ pub(crate) fn finish<K: Sink>(
     let Ok(text) = run_text(alloc, script, header, &end) else {
         return ended(alloc, 8, end.order);
     };
-    let status = match give_all(out, text.as_slice()) {
+    give(alloc, out, text.as_slice(), end.order)
+}
+
+/// Gives the whole text with which something ends well.
+pub(crate) fn give<K: Sink>(alloc: Global, out: &mut K, text: &[u8], order: MarkList) -> Outcome
+    ensures whole { result.status ≡ 0 → K.given out.new ≡ with_end (K.given out.old) text.now }
+    ensures front { result.status ≡ 6 → (n : ℕ) × (K.given out.new ≡ with_end (K.given out.old) (take n text.now)) }
+    ensures sink { result.status ≡ 6 → Rose (K.faults out.old) (K.faults out.new) }
+    ensures statuses { (result.status ≡ 0) ⊎ (result.status ≡ 6) }
+    ensures order { result.order ≡ order }
+    ensures readings { result.readings ≡ [] }
+{
+    let status = match give_all(out, text) {
         Ok(()) => 0,
         Err(_) => 6,
     };
-    ended(alloc, status, end.order)
+    ended(alloc, status, order)
 }
 
 /// Gives the line that tells why a run ended early, where one does. A sink that fails on it leaves the status.

@@ -2,11 +2,15 @@
 #![tactic(auto)]
 
 mod beginning;
+mod command;
 mod creating;
 mod ending;
 mod file_disk;
+mod generating;
+mod offsets;
 mod opening;
 mod redefining;
+mod running;
 mod std_sink;
 mod std_source;
 mod stop;

@@ -8,7 +8,7 @@ ghost use Rattle.serial_spec.specs.File.{longer};
 ghost use Rattle.serial_spec.specs.HeaderGrammar.{HasFault, header_len, is_sound};
 ghost use Rattle.serial_spec.specs.Layout.{end_of};
 ghost use Rattle.serial_spec.specs.Redefinition.{is_redefinable};
-ghost use Rattle.ncmpi_cli.specs.Headline.{front, IsRead, TellsDataset};
+ghost use Rattle.ncmpi_cli.specs.Headline.{front, IsKept, TellsDataset};
 ghost use Rattle.ncmpi_cli.specs.Opening.{IsOpened, IsReady};
 ghost use Rattle.ncmpi_cli.specs.Stops.{line_of, status_of, IsOfHeader, IsOfOpening};
 
@@ -28,7 +28,7 @@ pub(crate) fn open<D: Disk>(
     name: &str,
     script: &Script,
 ) -> Result<Header, Stop>
-    requires read { IsRead script.now }
+    requires kept { IsKept script.now }
     requires opened { script.now.fresh ≡ false }
     ensures ready { IfOk result (λ header. IsReady script.now header (D.held disk.old) (D.held disk.new) (D.calls disk.old) (D.calls disk.new)) }
     ensures from { OnOk result (D.from disk.new ≡ 0) }
@@ -48,8 +48,8 @@ pub(crate) fn open<D: Disk>(
     }
 }
 
-// Starts the disk, and reads the header of the dataset.
-fn read_header<D: Disk>(alloc: Global, disk: &mut D, name: &str) -> Result<Header, Stop>
+/// Starts the disk, and reads the header of the dataset.
+pub(crate) fn read_header<D: Disk>(alloc: Global, disk: &mut D, name: &str) -> Result<Header, Stop>
     ensures opened { IfOk result (λ header. IsOpened (D.held disk.old) header) }
     ensures sound { IfOk result (λ header. is_sound header ≡ true) }
     ensures redefinable { IfOk result (λ header. is_redefinable header ≡ true) }
@@ -57,6 +57,7 @@ fn read_header<D: Disk>(alloc: Global, disk: &mut D, name: &str) -> Result<Heade
     ensures calls { OnOk result (IfSome (D.held disk.old) (λ file. D.calls disk.new ≡ after (λ _. head_load file) (D.calls disk.old))) }
     ensures from { OnOk result (D.from disk.new ≡ 0) }
     ensures held { D.held disk.new ≡ D.held disk.old }
+    ensures refused { (e : HeaderErr) → result ≡ Err (Stop.Header e) → IfSome (D.held disk.old) (λ file. D.calls disk.new ≡ after (λ _. head_load file) (D.calls disk.old)) }
     ensures header { (e : HeaderErr) → result ≡ Err (Stop.Header e) → IfSome (D.held disk.old) (λ file. HasFault (front file) e) }
     ensures disk { IsErrOf result Stop.Disk → Rose (D.faults disk.old) (D.faults disk.new) }
     ensures later { D.faults disk.old ≤ D.faults disk.new }

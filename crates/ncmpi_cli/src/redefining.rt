@@ -7,7 +7,7 @@ ghost use Rattle.serial_spec.specs.Redefinition.{is_redefinable, redefined, rede
 ghost use Rattle.redef_laws.specs.Applied.{IsApplied};
 ghost use Rattle.redef_laws.specs.Shifted.{new_end};
 ghost use Rattle.redef_mover.specs.Relocation.{relocation_calls};
-ghost use Rattle.ncmpi_cli.specs.Headline.{IsRead};
+ghost use Rattle.ncmpi_cli.specs.Headline.{IsKept};
 ghost use Rattle.ncmpi_cli.specs.Stops.{IsOfRedefinition};
 
 use crate::stop::Stop;
@@ -23,7 +23,7 @@ pub(crate) fn redefine<D: Disk>(
     old: &Header,
     script: &Script,
 ) -> Result<Header, Stop>
-    requires read { IsRead script.now }
+    requires kept { IsKept script.now }
     requires redefinable { is_redefinable old.now ≡ true }
     requires from { D.from disk.old ≡ 0 }
     ensures applied { IfOk result (λ header. IsApplied old.now script.now.extra header) }

@@ -1,18 +1,21 @@
 // The top call.
-ghost use Rattle.std.specs.Prelude.{◌≡◌, ◌↔◌, ◌⊎◌, ◌∷◌, ℕ, List, [], None, true, false, is_some, IfSome, IsSomeAnd};
+ghost use Rattle.std.specs.Prelude.{◌≡◌, ℕ, List, [], None, true, IfSome};
 ghost use Rattle.nc_outside.specs.Cause.{Rose};
 ghost use Rattle.nc_base.specs.declared.script.Script.{Script};
 ghost use Rattle.script_spec.specs.ScriptGrammar.{Reads};
-ghost use Rattle.ncmpi_cli.specs.Headline.{AsksFor, BeginsFor, GivesLine, IsBadDataset, IsBeforeRanks, IsBeforeStart, IsRight, IsSilent, IsStatus, IsWrong, RanToSink, RanWell, refusal};
+ghost use Rattle.ncmpi_cli.specs.Ends.{EndsAs, TakesScript};
+ghost use Rattle.ncmpi_cli.specs.Headline.{GivesLine, IsBeforeRanks, IsBeforeStart, IsSilent, IsStatus};
 ghost use Rattle.ncmpi_cli.specs.Stops.{line_of_status};
-ghost use Rattle.ncmpi_cli.specs.Words.{texts, is_form};
+ghost use Rattle.ncmpi_cli.specs.Words.{form_of, texts};
 
-use crate::beginning::{Begun, begin};
-use crate::ending::{finish, tell};
+use crate::command::{Form, form_of};
+use crate::ending::tell;
+use crate::generating::run_made;
+use crate::offsets::list_offsets;
+use crate::running::run_script;
 use crate::stop::Stop;
-use nc_base::{MarkList, ReadingTable, StepErr};
+use nc_base::{MarkList, ReadingTable};
 use nc_outside::{Disk, Gate, Sink, Source};
-use rank_meeting::run_in_turn;
 use std::alloc::Global;
 use std::sync::Wait;
 
@@ -29,10 +32,13 @@ pub struct Outcome {
     pub readings: ReadingTable,
 }
 
-/// Runs the script that the source has on the dataset that the words name, and gives its text to the sink.
+/// Does what the words ask for, and gives its text to the sink.
 ///
-/// The words are those after the program's name: one, which does not begin with `-`. The ranks run in turn on one thread. Where the
-/// script adds to an existing dataset, that is redefined before the ranks begin.
+/// The words are those after the program's name. `DATASET` runs the script that the source has on that dataset. `--offsets DATASET`
+/// lists where its variables lie. `--generate SEED [--size N] DATASET` runs a script that is made by the seed, of N records, 12 where N
+/// is not given, and sums it up. A run is not watched yet: `--watch` is of no form.
+///
+/// The ranks run in turn on one thread. Where the script adds to an existing dataset, that is redefined before the ranks begin.
 pub fn ncrun<R: Wait, S: Source, K: Sink, D: Disk, G: Gate>(
     rt: &R,
     alloc: Global,
@@ -42,60 +48,41 @@ pub fn ncrun<R: Wait, S: Source, K: Sink, D: Disk, G: Gate>(
     out: &mut K,
     gate: &G,
 ) -> Outcome
-    // File, text and device calls are those of the calls done one after another in the order that is answered.
-    ensures ok { result.status ≡ 0 → RanWell (S.left script.old) (S.left script.new) (D.held disk.old) (D.held disk.new) (D.calls disk.old) (D.calls disk.new) (K.given out.old) (K.given out.new) result.order }
+    // What is done is what the words ask for.
+    ensures ends { EndsAs (form_of (texts words.now))
+        (record { left = S.left script.old; held = D.held disk.old; calls = D.calls disk.old; given = K.given out.old; source_faults = S.faults script.old; disk_faults = D.faults disk.old; sink_faults = K.faults out.old })
+        (record { left = S.left script.new; held = D.held disk.new; calls = D.calls disk.new; given = K.given out.new; source_faults = S.faults script.new; disk_faults = D.faults disk.new; sink_faults = K.faults out.new })
+        result.status result.order }
 
     // Each status has its cause.
     ensures statuses { IsStatus result.status }
-    ensures usage { (result.status ≡ 2) ↔ (is_form (texts words.now) ≡ false) }
-    ensures script { result.status ≡ 3 → IfSome (S.left script.old) (λ text. IsSomeAnd (refusal text) (λ line. GivesLine (K.faults out.old) (K.faults out.new) (K.given out.old) (K.given out.new) line)) }
-    ensures dataset { result.status ≡ 4 → (line : List ℕ) × (IsBadDataset (S.left script.old) (D.held disk.old) line × GivesLine (K.faults out.old) (K.faults out.new) (K.given out.old) (K.given out.new) line) }
+    ensures usage { result.status ≡ 2 → form_of (texts words.now) ≡ None }
     ensures source { result.status ≡ 5 → Rose (S.faults script.old) (S.faults script.new) }
     ensures sink { result.status ≡ 6 → Rose (K.faults out.old) (K.faults out.new) }
     ensures disk { result.status ≡ 7 → Rose (D.faults disk.old) (D.faults disk.new) }
 
-    // Where the source is not at fault, a text with a fault is refused.
-    ensures refused { is_form (texts words.now) ≡ true → IsSomeAnd (S.left script.old) (λ text. is_some (refusal text) ≡ true)
-        → ¬ (Rose (S.faults script.old) (S.faults script.new)) → (result.status ≡ 3) ⊎ (result.status ≡ 8) }
-
-    // Where the disk is not at fault either, a dataset with a fault is refused.
-    ensures faulty { is_form (texts words.now) ≡ true → IsSomeAnd (S.left script.old) (λ text. AsksFor IsWrong text (D.held disk.old))
-        → ¬ (Rose (S.faults script.old) (S.faults script.new)) → ¬ (Rose (D.faults disk.old) (D.faults disk.new))
-        → (result.status ≡ 4) ⊎ (result.status ≡ 8) }
-
-    // Where nothing is at fault, the run ends well or wants memory.
-    ensures complete { is_form (texts words.now) ≡ true → IsSomeAnd (S.left script.old) (λ text. AsksFor IsRight text (D.held disk.old))
-        → ¬ (Rose (S.faults script.old) (S.faults script.new)) → ¬ (Rose (K.faults out.old) (K.faults out.new))
-        → ¬ (Rose (D.faults disk.old) (D.faults disk.new)) → (result.status ≡ 0) ⊎ (result.status ≡ 8) }
-
-    // Where the sink fails, the file is that of the run, and a front of the text was given.
-    ensures front { result.status ≡ 6 → RanToSink (S.left script.old) (S.left script.new) (D.held disk.old) (D.held disk.new) (D.calls disk.old) (D.calls disk.new) (K.given out.old) (K.given out.new) result.order }
-
     // What is untouched.
-    ensures not_taken { result.status ≡ 2 → script.new ≡ script.old }
+    ensures not_taken { ¬ (TakesScript (form_of (texts words.now))) → script.new ≡ script.old }
     ensures not_started { IsBeforeStart result.status → disk.new ≡ disk.old }
-    ensures not_laid { result.status ≡ 4 → IfSome (S.left script.old) (λ text. (s : Script) → Reads text s → s.fresh ≡ true → disk.new ≡ disk.old) }
+    ensures not_laid { TakesScript (form_of (texts words.now)) → result.status ≡ 4
+        → IfSome (S.left script.old) (λ text. (s : Script) → Reads text s → s.fresh ≡ true → disk.new ≡ disk.old) }
     ensures unchanged { result.status ≡ 4 → D.held disk.new ≡ D.held disk.old }
     ensures silent { IsSilent result.status → out.new ≡ out.old }
-    ensures steps { IfSome (S.left script.old) (λ text. BeginsFor text result.order) }
     ensures no_step { IsBeforeRanks result.status → result.order ≡ [] }
     ensures no_reading { result.readings ≡ [] }
 
     // The line that tells a fault, or a front of it where the sink failed.
     ensures told { IfSome (line_of_status result.status) (λ line. GivesLine (K.faults out.old) (K.faults out.new) (K.given out.old) (K.given out.new) line) }
 {
-    let Begun { script, mut header } = match begin(alloc, words, script, disk) {
-        Ok(begun) => begun,
-        Err(stop) => return tell(alloc, out, stop, MarkList::new(alloc)),
-    };
-    let mut records = header.records;
-    let end = run_in_turn(rt, alloc, disk, &header, &mut records, &script, gate);
-    match end.fault {
-        None => {
-            header.records = records;
-            finish(alloc, out, &script, &header, end)
-        }
-        Some(StepErr::Disk) => tell(alloc, out, Stop::Disk, end.order),
-        Some(StepErr::Memory) => tell(alloc, out, Stop::Memory, end.order),
+    match form_of(alloc, words) {
+        Ok(Some(Form::Run(dataset))) => run_script(rt, alloc, dataset, script, disk, out, gate),
+        Ok(Some(Form::Offsets(dataset))) => list_offsets(alloc, disk, out, dataset),
+        Ok(Some(Form::Generate {
+            seed,
+            size,
+            dataset,
+        })) => run_made(rt, alloc, seed, size, dataset, disk, out, gate),
+        Ok(None) => tell(alloc, out, Stop::Usage, MarkList::new(alloc)),
+        Err(_) => tell(alloc, out, Stop::Memory, MarkList::new(alloc)),
     }
 }

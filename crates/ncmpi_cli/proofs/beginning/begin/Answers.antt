@@ -1,3 +1,4 @@
+use Rattle.ncmpi_cli.proofs.Keeping.{read_kept}
 use Rattle.ncmpi_cli.proofs.Ready.{unlaid}
 use Rattle.ncmpi_cli.proofs.beginning.begin.Goals as goal
 
@@ -5,3 +6,6 @@ pub returns-in_err-header-clause-unlaid : goal.returns-in_err-header-clause-unla
 returns-in_err-header-clause-unlaid g c =
     unlaid (g.S.Source.left c.args.source.now) c.in_ok-script.script c.from_residual-in_err-header.result c.in_err-header.field-0.0 c.in_ok-script.ensures.asks
     c.from_residual-in_err-header.ensures.1 c.in_err-header.ensures.unlaid
+
+pub make_ready-requires-clause-kept : goal.make_ready-requires-clause-kept
+make_ready-requires-clause-kept g c = λ _ _. read_kept c.in_ok-script.ensures.read.0 c.in_ok-script.script c.in_ok-script.ensures.read.1

@@ -1,14 +1,13 @@
 use Rattle.std.proofs.Common.{◌∙◌}
 use Rattle.ncmpi_cli.proofs.Created.{sound_written}
-use Rattle.ncmpi_cli.proofs.Keeping.{read_created, read_hints}
+use Rattle.ncmpi_cli.proofs.Keeping.{kept_created, kept_hints, kept_records}
 use Rattle.ncmpi_cli.proofs.Ready.{created_long, ready-created}
-use Rattle.script_laws.proofs.RunLaws.{read_records}
 use Rattle.ncmpi_cli.proofs.beginning.make_ready.Goals as goal
 
 pub returns-in_ok-fill-clause-ready : goal.returns-in_ok-fill-clause-ready
 returns-in_ok-fill-clause-ready g c =
     ready-created c.args.script.now c.in_ok-header.header _ (g.D.Disk.held c.create.new.disk) _ _ (g.D.Disk.calls c.create.new.disk) _ c.if-script.true
-    (read_created c.requires.read.0 c.args.script.now c.requires.read.1 c.if-script.true) c.in_ok-header.ensures.header
+    (kept_created c.args.script.now c.requires.kept c.if-script.true) c.in_ok-header.ensures.header
     (sound_written c.in_ok-header.header c.in_ok-header.ensures.writable) c.in_ok-header.ensures.faultless c.in_ok-create.ensures.bytes c.in_ok-fill.ensures.bytes
     c.in_ok-create.ensures.calls c.in_ok-fill.ensures.calls
 
@@ -16,9 +15,9 @@ pub fill-requires-clause-sound : goal.fill-requires-clause-sound
 fill-requires-clause-sound g c = λ _ _. sound_written c.in_ok-header.header c.in_ok-header.ensures.writable
 
 pub fill-requires-clause-hints : goal.fill-requires-clause-hints
-fill-requires-clause-hints g c = λ _ _. read_hints c.requires.read.0 c.args.script.now c.requires.read.1
+fill-requires-clause-hints g c = λ _ _. kept_hints c.args.script.now c.requires.kept
 
 pub returns-in_ok-fill-clause-len : goal.returns-in_ok-fill-clause-len
 returns-in_ok-fill-clause-len g c =
-    created_long c.args.script.now c.in_ok-header.header (g.D.Disk.len c.fill.new.disk) (read_records c.requires.read.0 c.args.script.now c.requires.read.1) c.in_ok-header.ensures.header
+    created_long c.args.script.now c.in_ok-header.header (g.D.Disk.len c.fill.new.disk) (kept_records c.args.script.now c.requires.kept) c.in_ok-header.ensures.header
     (c.fill.ensures.len ∙ c.in_ok-create.ensures.len)

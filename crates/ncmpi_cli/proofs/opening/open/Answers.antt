@@ -1,4 +1,9 @@
+use Rattle.std.proofs.Common.{ap, ◌∙◌}
+use Rattle.std.specs.Prelude.{IfSome}
+use Rattle.ncmpi_cli.specs.Headline.{TellsDataset}
+use Rattle.ncmpi_cli.specs.Stops.{line_of}
 use Rattle.ncmpi_cli.proofs.Ready.{bad-header, bad-redefinition, false-true, no_extras, ready-kept, redefined-ready, redefined_long, some_extras}
+use Rattle.ncmpi_cli.proofs.Untold.{disk-untold, redefinition-leaves}
 use Rattle.ncmpi_cli.proofs.opening.open.Goals as goal
 
 pub returns-in_err-old-clause-bad : goal.returns-in_err-old-clause-bad
@@ -27,3 +32,11 @@ pub returns-else-is_empty-clause-bad : goal.returns-else-is_empty-clause-bad
 returns-else-is_empty-clause-bad g c =
     bad-redefinition c.args.script.now c.in_ok-old.old (g.D.Disk.held c.args.disk.now) c.redefine.result c.requires.opened
     (some_extras c.args.script.now (λ none. false-true _ c.if-is_empty.false (c.is_empty.ensures.1 none))) c.in_ok-old.ensures.opened c.redefine.ensures.refused c.redefine.ensures.only
+
+pub returns-in_err-lengthen-clause-bad : goal.returns-in_err-lengthen-clause-bad
+returns-in_err-lengthen-clause-bad g c =
+    disk-untold (λ stop. IfSome (line_of stop) (TellsDataset c.args.script.now (g.D.Disk.held c.args.disk.now))) c.from_residual-in_err-lengthen.result c.in_err-lengthen.field-0.0 c.from_residual-in_err-lengthen.ensures.1
+
+pub returns-else-is_empty-clause-unchanged : goal.returns-else-is_empty-clause-unchanged
+returns-else-is_empty-clause-unchanged g c =
+    redefinition-leaves c.redefine.result (λ e x. ap g.D.Disk.held (c.redefine.ensures.unchanged e x) ∙ c.in_ok-old.ensures.held) c.redefine.ensures.only

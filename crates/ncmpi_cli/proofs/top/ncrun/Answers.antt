@@ -1,96 +1,42 @@
-use Rattle.std.proofs.Common.{◌≡◌, ◌∙◌, ap, refl, List, ℕ, Some, rules}
-use Rattle.std.specs.Prelude.{Err}
-use Rattle.nc_base.specs.declared.run.RunEnd.{RunEnd}
-use Rattle.nc_base.specs.declared.script.Script.{Script}
-use Rattle.nc_base.specs.declared.step.StepErr.TheVariants as fault
-use Rattle.ncmpi_cli.specs.declared.stop.Stop.{Stop}
-use Rattle.script_spec.specs.Texts.{run_text}
-use Rattle.script_laws.proofs.LawfulLaws.{read_lawful}
-use Rattle.ncmpi_cli.proofs.Ran.{begins, begins_none, ran}
-use Rattle.ncmpi_cli.proofs.Ready.{false-true}
-use Rattle.ncmpi_cli.proofs.Telling.{dataset, not_wrong, refused, rose_later, wants_memory}
+use Rattle.std.proofs.Common.{◌≡◌, ap, option_map, refl, rules, Some, sym, ◌∙◌}
+use Rattle.ncmpi_cli.specs.declared.command.Form.TheVariants as form
+use Rattle.ncmpi_cli.specs.Forms.{asked_of}
+use Rattle.ncmpi_cli.specs.Words.{form_of, offsets, run, texts}
+use Rattle.ncmpi_cli.proofs.Asking.{ends, wanting}
 use Rattle.ncmpi_cli.proofs.top.ncrun.Goals as goal
 
-pub returns-in-Err-clause-dataset : goal.returns-in-Err-clause-dataset
-returns-in-Err-clause-dataset g c =
-    dataset (g.S.Source.left c.args.script.now) (g.D.Disk.held c.args.disk.now) c.in-Err.stop c.tell.result.status c.tell.ensures.status c.in-Err.ensures.bad c.tell.ensures.line
+pub returns-in-Ok-Some-Run-clause-ends : goal.returns-in-Ok-Some-Run-clause-ends
+returns-in-Ok-Some-Run-clause-ends g c =
+    let run_is = c.run_script.ensures in
+    let is : c.in-Ok-Some-Run.field-0 ≡ Some (form.Run c.in-Ok-Some-Run.dataset) = search rules in
+    ends (form_of (texts c.args.words.now)) (Some (run c.in-Ok-Some-Run.dataset.now)) _ _ _ _ (sym (ap (option_map asked_of) is) ∙ c.in-Ok-Some-Run.ensures.asked)
+    (record {
+      well = run_is.ok;
+      cut = run_is.front;
+      script = run_is.script;
+      dataset = run_is.dataset;
+      refused = run_is.refused;
+      faulty = run_is.faulty;
+      complete = run_is.complete;
+      steps = run_is.steps;
+    })
 
-pub returns-in-Err-clause-refused : goal.returns-in-Err-clause-refused
-returns-in-Err-clause-refused g c = λ form asks still.
-    refused (g.S.Source.left c.args.script.now) (g.D.Disk.held c.args.disk.now) c.in-Err.stop c.tell.result.status c.tell.ensures.status
-    (λ x. false-true _ (c.in-Err.ensures.usage.0 (ap (λ (s : Stop). Err s) x)) form) (λ x. still (c.in-Err.ensures.source (ap (λ (s : Stop). Err s) x))) c.in-Err.ensures.bad c.in-Err.ensures.asked asks
+pub returns-in-Ok-Some-Offsets-clause-ends : goal.returns-in-Ok-Some-Offsets-clause-ends
+returns-in-Ok-Some-Offsets-clause-ends g c =
+    let list = c.list_offsets.ensures in
+    let is : c.in-Ok-Some-Offsets.field-0 ≡ Some (form.Offsets c.in-Ok-Some-Offsets.dataset) = search rules in
+    ends (form_of (texts c.args.words.now)) (Some (offsets c.in-Ok-Some-Offsets.dataset.now)) _ _ _ _ (sym (ap (option_map asked_of) is) ∙ c.in-Ok-Some-Offsets.ensures.asked)
+    (record {
+      whole = list.ok;
+      cut = list.cut;
+      dataset = list.dataset;
+      faulty = list.faulty;
+      complete = list.complete;
+      unchanged = list.unchanged;
+      calls = list.calls;
+    })
 
-pub returns-in-Err-clause-complete : goal.returns-in-Err-clause-complete
-returns-in-Err-clause-complete g c = λ form asks source sink disk.
-    wants_memory (g.S.Source.left c.args.script.now) (g.D.Disk.held c.args.disk.now) c.in-Err.stop c.tell.result.status c.tell.ensures.status
-    (λ x. false-true _ (c.in-Err.ensures.usage.0 (ap (λ (s : Stop). Err s) x)) form) (λ x. source (c.in-Err.ensures.source (ap (λ (s : Stop). Err s) x)))
-    (λ x. disk (c.in-Err.ensures.disk (ap (λ (s : Stop). Err s) x)))
-    c.in-Err.ensures.refused c.in-Err.ensures.bad asks
-
-pub run_in_turn-end-requires-clause-lawful : goal.run_in_turn-end-requires-clause-lawful
-run_in_turn-end-requires-clause-lawful g c = λ _ _. read_lawful c.in-Ok.ensures.read.0 c.in-Ok.begun.script c.in-Ok.ensures.read.1
-
-pub returns-in-None-clause-ok : goal.returns-in-None-clause-ok
-returns-in-None-clause-ok g c = λ ended.
-    let script : Script = c.in-Ok.begun.script in
-    let end : RunEnd = c.run_in_turn-end.result in
-    let run = c.run_in_turn-end.ensures in
-    let text : List ℕ = run_text script (record c.in-Ok.begun.header { records = c.run_in_turn-end.new.records }) end.order end.answers end.pending in
-    record {
-      text = text;
-      ran = ran script c.in-Ok.begun.header _ _ _ (g.D.Disk.held c.begin.new.disk) _ _ (g.D.Disk.calls c.begin.new.disk) _ c.finish.result.order end.order
-          c.run_in_turn-end.new.records end.answers end.pending text c.in-Ok.ensures.asks c.in-Ok.ensures.ready c.in-Ok.ensures.taken c.finish.ensures.order
-          (run.legal c.in-None.is) (run.bytes c.in-None.is) (run.records c.in-None.is) (run.answers c.in-None.is) (run.pending c.in-None.is) (run.calls c.in-None.is) refl;
-      given = c.finish.ensures.whole ended;
-    }
-
-pub returns-in-None-clause-faulty : goal.returns-in-None-clause-faulty
-returns-in-None-clause-faulty g c = λ form asks source disk.
-    not_wrong (g.S.Source.left c.args.script.now) (g.D.Disk.held c.args.disk.now) c.in-Ok.begun.script c.in-Ok.ensures.asks c.in-Ok.ensures.ready.faultless asks
-
-pub returns-in-None-clause-front : goal.returns-in-None-clause-front
-returns-in-None-clause-front g c = λ ended.
-    let script : Script = c.in-Ok.begun.script in
-    let end : RunEnd = c.run_in_turn-end.result in
-    let run = c.run_in_turn-end.ensures in
-    let text : List ℕ = run_text script (record c.in-Ok.begun.header { records = c.run_in_turn-end.new.records }) end.order end.answers end.pending in
-    let given = c.finish.ensures.front ended in
-    record {
-      text = text;
-      count = given.0;
-      ran = ran script c.in-Ok.begun.header _ _ _ (g.D.Disk.held c.begin.new.disk) _ _ (g.D.Disk.calls c.begin.new.disk) _ c.finish.result.order end.order
-          c.run_in_turn-end.new.records end.answers end.pending text c.in-Ok.ensures.asks c.in-Ok.ensures.ready c.in-Ok.ensures.taken c.finish.ensures.order
-          (run.legal c.in-None.is) (run.bytes c.in-None.is) (run.records c.in-None.is) (run.answers c.in-None.is) (run.pending c.in-None.is) (run.calls c.in-None.is) refl;
-      given = given.1;
-    }
-
-pub returns-in-Some-Disk-clause-disk : goal.returns-in-Some-Disk-clause-disk
-returns-in-Some-Disk-clause-disk g c = λ _.
-    let failed : c.run_in_turn-end.result.fault ≡ Some fault.Disk = search rules in
-    rose_later _ (g.D.Disk.faults c.begin.new.disk) _ c.in-Ok.ensures.later (c.run_in_turn-end.ensures.fault failed)
-
-pub returns-in-Some-Disk-clause-faulty : goal.returns-in-Some-Disk-clause-faulty
-returns-in-Some-Disk-clause-faulty g c = λ form asks source disk.
-    not_wrong (g.S.Source.left c.args.script.now) (g.D.Disk.held c.args.disk.now) c.in-Ok.begun.script c.in-Ok.ensures.asks c.in-Ok.ensures.ready.faultless asks
-
-pub returns-in-Some-Disk-clause-complete : goal.returns-in-Some-Disk-clause-complete
-returns-in-Some-Disk-clause-complete g c = λ form asks source sink disk.
-    let failed : c.run_in_turn-end.result.fault ≡ Some fault.Disk = search rules in
-    absurd (disk (rose_later _ (g.D.Disk.faults c.begin.new.disk) _ c.in-Ok.ensures.later (c.run_in_turn-end.ensures.fault failed)))
-
--- ---- the steps so far
-
-pub returns-in-Err-clause-steps : goal.returns-in-Err-clause-steps
-returns-in-Err-clause-steps g c = begins_none (g.S.Source.left c.args.script.now) c.tell.result.order (c.tell.ensures.order ∙ c.new.ensures)
-
-pub returns-in-None-clause-steps : goal.returns-in-None-clause-steps
-returns-in-None-clause-steps g c =
-    begins (g.S.Source.left c.args.script.now) c.in-Ok.begun.script _ c.run_in_turn-end.result.order c.in-Ok.ensures.asks c.finish.ensures.order c.run_in_turn-end.ensures.begun
-
-pub returns-in-Some-Disk-clause-steps : goal.returns-in-Some-Disk-clause-steps
-returns-in-Some-Disk-clause-steps g c =
-    begins (g.S.Source.left c.args.script.now) c.in-Ok.begun.script _ c.run_in_turn-end.result.order c.in-Ok.ensures.asks c.tell-in-Some-Disk.ensures.order c.run_in_turn-end.ensures.begun
-
-pub returns-clause-steps : goal.returns-clause-steps
-returns-clause-steps g c =
-    begins (g.S.Source.left c.args.script.now) c.in-Ok.begun.script _ c.run_in_turn-end.result.order c.in-Ok.ensures.asks c.tell-in-Some-Memory.ensures.order c.run_in_turn-end.ensures.begun
+-- want of memory
+pub returns-in-Err-clause-ends : goal.returns-in-Err-clause-ends
+returns-in-Err-clause-ends g c =
+    wanting (form_of (texts c.args.words.now)) _ _ _ _ refl (c.tell-in-Err.ensures.unlined refl).0 (c.tell-in-Err.ensures.order ∙ c.new-in-Err.ensures)

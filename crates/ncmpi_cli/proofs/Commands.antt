@@ -1,0 +1,65 @@
+-- What clap finds in the words.
+use Rattle.std.proofs.Common.{◌≡◌, ℕ, Bool, true, false, List, [], ◌∷◌, length, Option, Some, None, refl, sym, ap, ◌∙◌, codes, inl, inr, arith}
+use Rattle.std.specs.Prelude.{◌==◌, option_map}
+use Rattle.std.specs.Borrow.{Bor}
+use Rattle.std.proofs.lemmas.Bool.{ne_eqb}
+use Rattle.clap.specs.Faults.{fault_of, is_simple_and_free}
+use Rattle.clap.specs.Kinds.{HasKind, IsAmong, Kinds}
+use Rattle.clap.specs.Matches.{first_value, found_of}
+use Rattle.clap.specs.Simple.{App, HasMatchesOf, is_simple, matches_of}
+use Rattle.clap.specs.Values.{kind_of}
+use Rattle.clap.specs.Walk.{first_of, rows_of}
+use Rattle.clap.specs.declared.error.Error.{Error}
+use Rattle.clap.specs.declared.error.kind.ErrorKind.TheVariants as kind
+use Rattle.clap.specs.declared.parser.matches.ArgMatches.{ArgMatches}
+use Rattle.clap.specs.declared.parser.matches.Found.{Found}
+use Rattle.clap.proofs.OnLiterals.{clap_on_literals}
+use Rattle.clap.proofs.WalkLemmas.{first_value-rows}
+use Rattle.ncmpi_cli.specs.Words.{command, is_parsed, is_set, options, options_by}
+use Rattle.ncmpi_cli.specs.Words as words
+use Rattle.ncmpi_cli.specs.Forms.{options_of}
+use Rattle.ncmpi_cli.specs.declared.command.Options.{Options}
+
+-- what the getters read is what the rows give
+pub read : (f : Found) (o : Options) → o.offsets ≡ is_set (first_value f (codes "offsets"))
+    → option_map (λ s. s.now) o.generate ≡ first_value f (codes "generate") → option_map (λ s. s.now) o.size ≡ first_value f (codes "size")
+    → option_map (λ s. s.now) o.watch ≡ first_value f (codes "watch") → option_map (λ s. s.now) o.dataset ≡ first_value f (codes "dataset")
+    → options_of o ≡ options_by (rows_of f)
+read f o offsets generate size watch dataset =
+    let offsets_is = offsets ∙ ap is_set (first_value-rows f (codes "offsets")) in
+    let generate_is = generate ∙ first_value-rows f (codes "generate") in
+    let size_is = size ∙ first_value-rows f (codes "size") in
+    let watch_is = watch ∙ first_value-rows f (codes "watch") in
+    let dataset_is = dataset ∙ first_value-rows f (codes "dataset") in
+    λ i. record { offsets = offsets_is i; generate = generate_is i; size = size_is i; watch = watch_is i; dataset = dataset_is i }
+
+simple : is_simple command ≡ true
+simple = refl
+
+simple_and_free : is_simple_and_free command ≡ true
+simple_and_free = refl
+
+abbrev found_if : List (List ℕ) → Bool → Option words.Options
+found_if ws b = elim b [ true ↦ Some (options_by (matches_of command ws)) | false ↦ None ]
+
+-- a parse that succeeds finds what the words give
+pub parsed : (app : App) (ws : List (List ℕ)) (m : ArgMatches) (o : Options) → app ≡ command → (is_simple_and_free app ≡ true → fault_of app ws ≡ [])
+    → HasMatchesOf app ws m → options_of o ≡ options_by (rows_of (found_of m)) → Some (options_of o) ≡ options ws
+parsed app ws m o same none gives reads =
+    let rows : rows_of (found_of m) ≡ matches_of command ws = (gives (ap is_simple same ∙ simple)).0 ∙ ap (λ (a : App). matches_of a ws) same in
+    let faultless : fault_of command ws ≡ [] = sym (ap (λ (a : App). fault_of a ws) same) ∙ none (ap is_simple_and_free same ∙ simple_and_free) in
+    let takes : is_parsed ws ≡ true = ap (λ (k : Kinds). length k == 0) faultless in
+    ap (λ (x : words.Options). Some x) (reads ∙ ap options_by rows) ∙ sym (ap (found_if ws) takes)
+
+not_empty : (k : Kinds) (e : Error) → (kind_of e ≡ kind.OutOfMemory → ⊥) → HasKind k e → (length k == 0) ≡ false
+not_empty [] e out (inl m) = absurd (out m)
+not_empty [] e out (inr a) = absurd a
+not_empty (x ∷ xs) e out h = ne_eqb (length (x ∷ xs)) 0 (λ n. absurd (omega (arith, n)))
+
+-- a parse that fails otherwise than for memory does not take the words
+pub not_parsed : (app : App) (ws : List (List ℕ)) (e : Error) → app ≡ command → (is_simple_and_free app ≡ true → HasKind (fault_of app ws) e)
+    → (kind_of e ≡ kind.OutOfMemory → ⊥) → None ≡ options ws
+not_parsed app ws e same has out =
+    let fault : HasKind (fault_of app ws) e = has (ap is_simple_and_free same ∙ simple_and_free) in
+    let takes : is_parsed ws ≡ false = sym (ap (λ (a : App). length (fault_of a ws) == 0) same) ∙ not_empty (fault_of app ws) e out fault in
+    sym (ap (found_if ws) takes)

@@ -1,0 +1,17 @@
+use Rattle.std.proofs.Common.{◌∙◌, subst, sym}
+use Rattle.ncmpi_cli.specs.Headline.{IsKept}
+use Rattle.ncmpi_cli.proofs.Made.{made_is, made_kept, never_four, never_told}
+use Rattle.ncmpi_cli.proofs.generating.begin_made.Goals as goal
+
+pub make_ready-requires-clause-kept : goal.make_ready-requires-clause-kept
+make_ready-requires-clause-kept g c =
+    λ _ _. subst IsKept (sym (c.in_ok-script.ensures ∙ made_is c.args.seed c.args.size)) (made_kept c.args.seed c.args.size c.requires.few)
+
+pub returns-in_err-header-clause-laid : goal.returns-in_err-header-clause-laid
+returns-in_err-header-clause-laid g c =
+    never_four c.from_residual-in_err-header.result c.in_err-header.field-0.0 c.from_residual-in_err-header.ensures.1
+    (never_told c.args.seed c.args.size c.in_ok-script.script (g.D.Disk.held c.args.disk.now) c.in_err-header.field-0.0
+    (c.in_ok-script.ensures ∙ made_is c.args.seed c.args.size) c.in_err-header.ensures.bad)
+
+pub returns-clause-script : goal.returns-clause-script
+returns-clause-script g c = c.in_ok-script.ensures ∙ made_is c.args.seed c.args.size

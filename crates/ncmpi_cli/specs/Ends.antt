@@ -1,0 +1,95 @@
+-- What each form does, by the status with which it ends.
+--     Seen                             what source, disk and sink tell at one time, and how often each failed
+--     HasRun, HasListed, HasGenerated  the ends of a run of the source's script, of a list of offsets, and of a run of a made script
+--     EndsAs form                      the end that the words ask for
+use Rattle.std.specs.Prelude.{ℕ, ◌≡◌, ◌⊎◌, List, Option, Some, None, IfSome, IsSomeAnd, is_some, true}
+use Rattle.nc_base.specs.declared.step.DiskCall.{DiskCall}
+use Rattle.nc_base.specs.declared.step.Mark.{Mark}
+use Rattle.nc_outside.specs.Cause.{Rose}
+use Rattle.nc_outside.specs.Told.{after}
+use Rattle.serial_spec.specs.DeviceCalls.{head_load}
+use Rattle.rank_meeting.specs.Begun.{HasBegun}
+use Rattle.ncmpi_cli.specs.Generated.{MadeFront, MadeWhole, script_made}
+use Rattle.ncmpi_cli.specs.Headline.{AsksFor, BeginsFor, GivesLine, IsBadDataset, IsRight, IsWrong, RanToSink, RanWell, refusal, TellsHeader}
+use Rattle.ncmpi_cli.specs.Listing.{IsFaultyFront, IsOfReadHeader, IsSoundFront, ListsFront, ListsWhole}
+use Rattle.ncmpi_cli.specs.Words.{Asked, run, offsets, generate}
+
+pub record Seen : Type 0 where
+  pub left : Option (List ℕ)
+  pub held : Option (List ℕ)
+  pub calls : Option (List DiskCall)
+  pub given : Option (List ℕ)
+  pub source_faults : ℕ
+  pub disk_faults : ℕ
+  pub sink_faults : ℕ
+
+module _ (before now : Seen) where
+  abbrev pub SourceFailed : Type 0
+  SourceFailed = Rose before.source_faults now.source_faults
+
+  abbrev pub DiskFailed : Type 0
+  DiskFailed = Rose before.disk_faults now.disk_faults
+
+  abbrev pub SinkFailed : Type 0
+  SinkFailed = Rose before.sink_faults now.sink_faults
+
+  -- a line was given whole, or a front of it where the sink failed
+  abbrev pub Gives : List ℕ → Type 0
+  Gives line = GivesLine before.sink_faults now.sink_faults before.given now.given line
+
+-- ---- a run of the script that the source has
+
+pub record HasRun (before now : Seen) (status : ℕ) (order : List Mark) : Type 0 where
+  -- file, text and device calls are those of the calls done one after another in the order
+  pub well : status ≡ 0 → RanWell before.left now.left before.held now.held before.calls now.calls before.given now.given order
+  -- where the sink fails, the file is the same, and a front of the text was given
+  pub cut : status ≡ 6 → RanToSink before.left now.left before.held now.held before.calls now.calls before.given now.given order
+  -- the fault of the script, or of its dataset, is told
+  pub script : status ≡ 3 → IfSome before.left (λ text. IsSomeAnd (refusal text) (Gives before now))
+  pub dataset : status ≡ 4 → (line : List ℕ) × (IsBadDataset before.left before.held line × Gives before now line)
+  -- where the source is not at fault, a text with a fault is refused
+  pub refused : IsSomeAnd before.left (λ text. is_some (refusal text) ≡ true) → ¬ (SourceFailed before now) → (status ≡ 3) ⊎ (status ≡ 8)
+  -- where the disk is not at fault either, a dataset with a fault is refused
+  pub faulty : IsSomeAnd before.left (λ text. AsksFor IsWrong text before.held) → ¬ (SourceFailed before now) → ¬ (DiskFailed before now)
+      → (status ≡ 4) ⊎ (status ≡ 8)
+  -- where nothing is at fault, the run ends well or wants memory
+  pub complete : IsSomeAnd before.left (λ text. AsksFor IsRight text before.held) → ¬ (SourceFailed before now) → ¬ (SinkFailed before now)
+      → ¬ (DiskFailed before now) → (status ≡ 0) ⊎ (status ≡ 8)
+  -- the steps that were finished begin an order of the script
+  pub steps : IfSome before.left (λ text. BeginsFor text order)
+
+-- ---- a list of offsets
+
+pub record HasListed (before now : Seen) (status : ℕ) : Type 0 where
+  pub whole : status ≡ 0 → ListsWhole before.held before.given now.given
+  pub cut : status ≡ 6 → ListsFront before.held before.given now.given
+  pub dataset : status ≡ 4 → (line : List ℕ) × (TellsHeader before.held line × Gives before now line)
+  pub faulty : IsFaultyFront before.held → ¬ (DiskFailed before now) → (status ≡ 4) ⊎ (status ≡ 8)
+  pub complete : IsSoundFront before.held → ¬ (SinkFailed before now) → ¬ (DiskFailed before now) → (status ≡ 0) ⊎ (status ≡ 8)
+  -- whatever the status, the file stays; it was read once where it has a byte
+  pub unchanged : now.held ≡ before.held
+  pub calls : IsOfReadHeader status → IfSome before.held (λ file. now.calls ≡ after (λ _. head_load file) before.calls)
+
+-- ---- a run of a made script
+
+pub record HasGenerated (seed size : ℕ) (before now : Seen) (status : ℕ) (order : List Mark) : Type 0 where
+  pub well : status ≡ 0 → MadeWhole seed size before.held now.held before.calls now.calls before.given now.given order
+  pub cut : status ≡ 6 → MadeFront seed size before.held now.held before.calls now.calls before.given now.given order
+  -- nothing is wrong with the layout of its dataset
+  pub laid : ¬ (status ≡ 4)
+  pub complete : ¬ (SinkFailed before now) → ¬ (DiskFailed before now) → (status ≡ 0) ⊎ (status ≡ 8)
+  -- the steps that were finished begin an order of the script
+  pub steps : HasBegun (script_made seed size) order
+
+-- ---- every form
+
+abbrev pub EndsAs : Option Asked → Seen → Seen → ℕ → List Mark → Type 0
+EndsAs None before now status order = (status ≡ 2) ⊎ (status ≡ 8)
+EndsAs (Some (run name)) before now status order = HasRun before now status order
+EndsAs (Some (offsets name)) before now status order = HasListed before now status
+EndsAs (Some (generate seed size name)) before now status order = HasGenerated seed size before now status order
+
+-- the form reads the script that the source has
+abbrev pub TakesScript : Option Asked → Type 0
+TakesScript (Some (run name)) = Unit {0}
+TakesScript _ = ⊥

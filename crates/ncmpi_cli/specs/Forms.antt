@@ -1,0 +1,25 @@
+-- What the program's own forms of the words mean.
+use Rattle.std.specs.Prelude.{◌≤◌, option_map}
+use Rattle.ncmpi_cli.specs.Words as words
+use Rattle.ncmpi_cli.specs.declared.command.Form.{Form}
+use Rattle.ncmpi_cli.specs.declared.command.Form.TheVariants.{Run, Offsets, Generate}
+use Rattle.ncmpi_cli.specs.declared.command.Options.{Options}
+
+abbrev pub asked_of : Form → words.Asked
+asked_of (Run name) = words.run name.now
+asked_of (Offsets name) = words.offsets name.now
+asked_of (Generate seed size dataset) = words.generate seed size dataset.now
+
+abbrev pub options_of : Options → words.Options
+options_of o = record {
+  offsets = o.offsets;
+  generate = option_map (λ w. w.now) o.generate;
+  size = option_map (λ w. w.now) o.size;
+  watch = option_map (λ w. w.now) o.watch;
+  dataset = option_map (λ w. w.now) o.dataset;
+}
+
+-- a script is made with 1 to 64 records
+abbrev pub HasSize : Form → Type 0
+HasSize (Generate seed size dataset) = (1 ≤ size) × (size ≤ 64)
+HasSize _ = Unit {0}

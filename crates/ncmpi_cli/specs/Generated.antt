@@ -1,0 +1,53 @@
+-- What a run of a made script did.
+--     script_made seed size      the script
+--     new_end, summed            what its calls lead to in an order, and the text that sums that up
+--     RanMade                    the order is legal, and file, device calls and text are those of the calls done one after another in it
+--     MadeWhole, MadeFront       the text was given whole, or a front of it
+use Rattle.std.specs.Prelude.{ℕ, ◌≡◌, ◌⊎◌, List, take, Option, Some, IfSome}
+use Rattle.nc_base.specs.declared.script.Script.{Script}
+use Rattle.nc_base.specs.declared.step.DiskCall.{DiskCall}
+use Rattle.nc_base.specs.declared.step.Mark.{Mark}
+use Rattle.nc_outside.specs.Told.{after, with_end}
+use Rattle.serial_spec.specs.DeviceCalls.{all_calls}
+use Rattle.serial_spec.specs.History.{IsLegal}
+use Rattle.serial_spec.specs.SerialEnd.{End, serial}
+use Rattle.script_spec.specs.Generator.{made_script, summary_text}
+use Rattle.ncmpi_cli.specs.Headline.{created_header}
+
+-- the script that the seed makes, with so many records
+unfoldable pub script_made : ℕ → ℕ → Script
+script_made seed size = made_script seed size
+
+-- what the calls of a script lead to, done one after another in the order, on a new dataset
+abbrev pub new_end : Script → List ℕ → List Mark → End
+new_end script file order = serial script (created_header script) file order
+
+abbrev pub summed : ℕ → ℕ → Script → List Mark → End → List ℕ
+summed seed size script order end = summary_text seed size script (record (created_header script) { records = end.records }) order end.answers
+
+-- what was done to a file that is told
+pub record IsSummed (seed size : ℕ) (script : Script) (file : List ℕ) (held_after : Option (List ℕ)) (calls_before calls_after : Option (List DiskCall)) (order : List Mark) (text : List ℕ) : Type 0 where
+  pub bytes : held_after ≡ Some (new_end script file order).bytes
+  pub calls : calls_after ≡ after (λ _. all_calls script (created_header script) (created_header script) file order) calls_before
+  pub lines : text ≡ summed seed size script order (new_end script file order)
+
+pub record RanMade (seed size : ℕ) (held_before held_after : Option (List ℕ)) (calls_before calls_after : Option (List DiskCall)) (order : List Mark) (text : List ℕ) : Type 0 where
+  pub legal : IsLegal (script_made seed size) order
+  pub done : IfSome held_before (λ file. IsSummed seed size (script_made seed size) file held_after calls_before calls_after order text)
+
+-- the same, with the text given whole
+pub record MadeWhole (seed size : ℕ) (held_before held_after : Option (List ℕ)) (calls_before calls_after : Option (List DiskCall)) (given_before given_after : Option (List ℕ)) (order : List Mark) : Type 0 where
+  pub text : List ℕ
+  pub ran : RanMade seed size held_before held_after calls_before calls_after order text
+  pub given : given_after ≡ with_end given_before text
+
+-- the same, with a front of the text given
+pub record MadeFront (seed size : ℕ) (held_before held_after : Option (List ℕ)) (calls_before calls_after : Option (List DiskCall)) (given_before given_after : Option (List ℕ)) (order : List Mark) : Type 0 where
+  pub text : List ℕ
+  pub count : ℕ
+  pub ran : RanMade seed size held_before held_after calls_before calls_after order text
+  pub given : given_after ≡ with_end given_before (take count text)
+
+-- the statuses with which such a run may end
+abbrev pub IsMadeStatus : ℕ → Type 0
+IsMadeStatus status = (status ≡ 0) ⊎ ((status ≡ 6) ⊎ ((status ≡ 7) ⊎ (status ≡ 8)))

@@ -1,0 +1,112 @@
+// A run of a script that is made by a seed.
+ghost use Rattle.std.specs.Prelude.{◌≡◌, ◌≤◌, ◌⊎◌, ℕ, [], true, take, IfErr, IfOk, IfSome, IsErrOf, OnOk};
+ghost use Rattle.nc_outside.specs.Told.{with_end};
+ghost use Rattle.script_spec.specs.Generator as spec;
+ghost use Rattle.nc_outside.specs.Cause.{Rose};
+ghost use Rattle.rank_meeting.specs.Begun.{HasBegun};
+ghost use Rattle.serial_spec.specs.HeaderGrammar.{header_len, is_sound};
+ghost use Rattle.serial_spec.specs.Layout.{end_of};
+ghost use Rattle.ncmpi_cli.specs.Generated.{IsMadeStatus, MadeFront, MadeWhole, script_made};
+ghost use Rattle.ncmpi_cli.specs.Headline.{GivesLine};
+ghost use Rattle.ncmpi_cli.specs.Opening.{IsReady};
+ghost use Rattle.ncmpi_cli.specs.Stops.{IsOfDataset, line_of_status, status_of};
+
+use crate::beginning::{Begun, make_ready};
+use crate::ending::{give, tell};
+use crate::stop::Stop;
+use crate::top::Outcome;
+use generated_run::{make_script, summary_text};
+use nc_base::{Header, MarkList, RunEnd, Script, StepErr};
+use nc_outside::{Disk, Gate, Sink};
+use rank_meeting::run_in_turn;
+use std::alloc::Global;
+use std::sync::Wait;
+
+/// Runs the script that the seed makes on the dataset, which is created, and gives the text that sums it up.
+pub(crate) fn run_made<R: Wait, K: Sink, D: Disk, G: Gate>(
+    rt: &R,
+    alloc: Global,
+    seed: u64,
+    size: u32,
+    dataset: &str,
+    disk: &mut D,
+    out: &mut K,
+    gate: &G,
+) -> Outcome
+    requires some { 1 ≤ size }
+    requires few { size ≤ 64 }
+    ensures well { result.status ≡ 0 → MadeWhole seed size (D.held disk.old) (D.held disk.new) (D.calls disk.old) (D.calls disk.new) (K.given out.old) (K.given out.new) result.order }
+    ensures cut { result.status ≡ 6 → MadeFront seed size (D.held disk.old) (D.held disk.new) (D.calls disk.old) (D.calls disk.new) (K.given out.old) (K.given out.new) result.order }
+    ensures statuses { IsMadeStatus result.status }
+    ensures sink { result.status ≡ 6 → Rose (K.faults out.old) (K.faults out.new) }
+    ensures disk { result.status ≡ 7 → Rose (D.faults disk.old) (D.faults disk.new) }
+    ensures complete { ¬ (Rose (K.faults out.old) (K.faults out.new)) → ¬ (Rose (D.faults disk.old) (D.faults disk.new)) → (result.status ≡ 0) ⊎ (result.status ≡ 8) }
+    ensures silent { result.status ≡ 8 → out.new ≡ out.old }
+    ensures steps { HasBegun (script_made seed size) result.order }
+    ensures readings { result.readings ≡ [] }
+    ensures told { IfSome (line_of_status result.status) (λ line. GivesLine (K.faults out.old) (K.faults out.new) (K.given out.old) (K.given out.new) line) }
+{
+    let Begun { script, mut header } = match begin_made(alloc, seed, size, dataset, disk) {
+        Ok(begun) => begun,
+        Err(stop) => return tell(alloc, out, stop, MarkList::new(alloc)),
+    };
+    let mut records = header.records;
+    let end = run_in_turn(rt, alloc, disk, &header, &mut records, &script, gate);
+    match end.fault {
+        None => {
+            header.records = records;
+            sum_up(alloc, out, seed, size, &script, &header, end)
+        }
+        Some(StepErr::Disk) => tell(alloc, out, Stop::Disk, end.order),
+        Some(StepErr::Memory) => tell(alloc, out, Stop::Memory, end.order),
+    }
+}
+
+// Makes the script, and its dataset ready.
+fn begin_made<D: Disk>(
+    alloc: Global,
+    seed: u64,
+    size: u32,
+    dataset: &str,
+    disk: &mut D,
+) -> Result<Begun, Stop>
+    requires some { 1 ≤ size }
+    requires few { size ≤ 64 }
+    ensures script { IfOk result (λ b. b.script ≡ script_made seed size) }
+    ensures ready { IfOk result (λ b. IsReady b.script b.header (D.held disk.old) (D.held disk.new) (D.calls disk.old) (D.calls disk.new)) }
+    ensures from { OnOk result (D.from disk.new ≡ 0) }
+    ensures len { IfOk result (λ b. end_of b.header (header_len b.header) b.header.records ≤ D.len disk.new) }
+    ensures laid { IfErr result (λ stop. ¬ (status_of stop ≡ 4)) }
+    ensures disk { IsErrOf result Stop.Disk → Rose (D.faults disk.old) (D.faults disk.new) }
+    ensures later { D.faults disk.old ≤ D.faults disk.new }
+    ensures only { IfErr result IsOfDataset }
+{
+    let script = make_script(alloc, seed, size)?;
+    let header = make_ready(alloc, disk, dataset, &script)?;
+    Ok(Begun { script, header })
+}
+
+// Gives the text that sums up a run that ended without a fault.
+fn sum_up<K: Sink>(
+    alloc: Global,
+    out: &mut K,
+    seed: u64,
+    size: u32,
+    script: &Script,
+    header: &Header,
+    end: RunEnd,
+) -> Outcome
+    requires sound { is_sound header.now ≡ true }
+    ensures whole { result.status ≡ 0 → K.given out.new ≡ with_end (K.given out.old) (spec.summary_text seed size script.now header.now end.order end.answers) }
+    ensures front { result.status ≡ 6 → (n : ℕ) × (K.given out.new ≡ with_end (K.given out.old) (take n (spec.summary_text seed size script.now header.now end.order end.answers))) }
+    ensures sink { result.status ≡ 6 → Rose (K.faults out.old) (K.faults out.new) }
+    ensures silent { result.status ≡ 8 → out.new ≡ out.old }
+    ensures statuses { (result.status ≡ 0) ⊎ ((result.status ≡ 6) ⊎ (result.status ≡ 8)) }
+    ensures order { result.order ≡ end.order }
+    ensures readings { result.readings ≡ [] }
+{
+    match summary_text(alloc, seed, size, script, header, &end.order, &end.answers) {
+        Ok(text) => give(alloc, out, text.as_slice(), end.order),
+        Err(_) => tell(alloc, out, Stop::Memory, end.order),
+    }
+}

@@ -1,0 +1,84 @@
+// A run of the script that the source has.
+ghost use Rattle.std.specs.Prelude.{◌≡◌, ◌⊎◌, ℕ, List, [], true, is_some, IfSome, IsSomeAnd};
+ghost use Rattle.nc_outside.specs.Cause.{Rose};
+ghost use Rattle.nc_base.specs.declared.script.Script.{Script};
+ghost use Rattle.script_spec.specs.ScriptGrammar.{Reads};
+ghost use Rattle.ncmpi_cli.specs.Headline.{AsksFor, BeginsFor, GivesLine, IsBadDataset, IsBeforeRanks, IsBeforeStart, IsRight, IsSilent, IsStatus, IsWrong, RanToSink, RanWell, refusal};
+ghost use Rattle.ncmpi_cli.specs.Stops.{line_of_status};
+
+use crate::beginning::{Begun, begin};
+use crate::ending::{finish, tell};
+use crate::stop::Stop;
+use crate::top::Outcome;
+use nc_base::{MarkList, StepErr};
+use nc_outside::{Disk, Gate, Sink, Source};
+use rank_meeting::run_in_turn;
+use std::alloc::Global;
+use std::sync::Wait;
+
+/// Runs the script that the source has on the dataset, and gives its text to the sink.
+pub(crate) fn run_script<R: Wait, S: Source, K: Sink, D: Disk, G: Gate>(
+    rt: &R,
+    alloc: Global,
+    dataset: &str,
+    script: &mut S,
+    disk: &mut D,
+    out: &mut K,
+    gate: &G,
+) -> Outcome
+    // File, text and device calls are those of the calls done one after another in the order that is answered.
+    ensures ok { result.status ≡ 0 → RanWell (S.left script.old) (S.left script.new) (D.held disk.old) (D.held disk.new) (D.calls disk.old) (D.calls disk.new) (K.given out.old) (K.given out.new) result.order }
+
+    // Each status has its cause.
+    ensures statuses { IsStatus result.status }
+    ensures formed { ¬ (result.status ≡ 2) }
+    ensures script { result.status ≡ 3 → IfSome (S.left script.old) (λ text. IsSomeAnd (refusal text) (λ line. GivesLine (K.faults out.old) (K.faults out.new) (K.given out.old) (K.given out.new) line)) }
+    ensures dataset { result.status ≡ 4 → (line : List ℕ) × (IsBadDataset (S.left script.old) (D.held disk.old) line × GivesLine (K.faults out.old) (K.faults out.new) (K.given out.old) (K.given out.new) line) }
+    ensures source { result.status ≡ 5 → Rose (S.faults script.old) (S.faults script.new) }
+    ensures sink { result.status ≡ 6 → Rose (K.faults out.old) (K.faults out.new) }
+    ensures disk { result.status ≡ 7 → Rose (D.faults disk.old) (D.faults disk.new) }
+
+    // Where the source is not at fault, a text with a fault is refused.
+    ensures refused { IsSomeAnd (S.left script.old) (λ text. is_some (refusal text) ≡ true)
+        → ¬ (Rose (S.faults script.old) (S.faults script.new)) → (result.status ≡ 3) ⊎ (result.status ≡ 8) }
+
+    // Where the disk is not at fault either, a dataset with a fault is refused.
+    ensures faulty { IsSomeAnd (S.left script.old) (λ text. AsksFor IsWrong text (D.held disk.old))
+        → ¬ (Rose (S.faults script.old) (S.faults script.new)) → ¬ (Rose (D.faults disk.old) (D.faults disk.new))
+        → (result.status ≡ 4) ⊎ (result.status ≡ 8) }
+
+    // Where nothing is at fault, the run ends well or wants memory.
+    ensures complete { IsSomeAnd (S.left script.old) (λ text. AsksFor IsRight text (D.held disk.old))
+        → ¬ (Rose (S.faults script.old) (S.faults script.new)) → ¬ (Rose (K.faults out.old) (K.faults out.new))
+        → ¬ (Rose (D.faults disk.old) (D.faults disk.new)) → (result.status ≡ 0) ⊎ (result.status ≡ 8) }
+
+    // Where the sink fails, the file is that of the run, and a front of the text was given.
+    ensures front { result.status ≡ 6 → RanToSink (S.left script.old) (S.left script.new) (D.held disk.old) (D.held disk.new) (D.calls disk.old) (D.calls disk.new) (K.given out.old) (K.given out.new) result.order }
+
+    // What is untouched.
+    ensures not_started { IsBeforeStart result.status → disk.new ≡ disk.old }
+    ensures not_laid { result.status ≡ 4 → IfSome (S.left script.old) (λ text. (s : Script) → Reads text s → s.fresh ≡ true → disk.new ≡ disk.old) }
+    ensures unchanged { result.status ≡ 4 → D.held disk.new ≡ D.held disk.old }
+    ensures silent { IsSilent result.status → out.new ≡ out.old }
+    ensures steps { IfSome (S.left script.old) (λ text. BeginsFor text result.order) }
+    ensures no_step { IsBeforeRanks result.status → result.order ≡ [] }
+    ensures no_reading { result.readings ≡ [] }
+
+    // The line that tells a fault, or a front of it where the sink failed.
+    ensures told { IfSome (line_of_status result.status) (λ line. GivesLine (K.faults out.old) (K.faults out.new) (K.given out.old) (K.given out.new) line) }
+{
+    let Begun { script, mut header } = match begin(alloc, dataset, script, disk) {
+        Ok(begun) => begun,
+        Err(stop) => return tell(alloc, out, stop, MarkList::new(alloc)),
+    };
+    let mut records = header.records;
+    let end = run_in_turn(rt, alloc, disk, &header, &mut records, &script, gate);
+    match end.fault {
+        None => {
+            header.records = records;
+            finish(alloc, out, &script, &header, end)
+        }
+        Some(StepErr::Disk) => tell(alloc, out, Stop::Disk, end.order),
+        Some(StepErr::Memory) => tell(alloc, out, Stop::Memory, end.order),
+    }
+}
