@@ -429,3 +429,51 @@ given=$(printf 'open\nranks 1\ndim x 9\ndata\nend\n' | "$program" taken.nc)
 same 'a name that is taken: status' 4 $?
 same 'a name that is taken: its line' 'ncrun: redefinition 0: name taken' "$given"
 same 'a name that is taken: the file' 00000001000000020000000300000004 "$(data_of taken.nc 80)"
+
+given=$("$program" --offsets taken.nc < /dev/null)
+same 'a list of offsets: status' 0 $?
+same 'a list of offsets' '// file format: CDF-1
+file header:
+  size = 80 bytes
+  extent = 80 bytes
+dimensions:
+  x = 4
+fixed-size variables:
+  int v(x):
+    start file offset = 80
+    end file offset = 96
+    size in bytes = 16
+record variables:' "$given"
+
+# Eight ranks write bands of two fields, record after record, and read columns back.
+given=$("$program" --generate 0 --size 1 made.nc < /dev/null)
+same 'a made run of one record: status' 0 $?
+same 'a made run of one record' 'generated 0 1
+ranks 8
+calls 56
+collectives 3
+put 129600
+got 2880
+refused 0
+sum 1534141468080
+records 1
+file 388960' "$given"
+same 'its file' 388960 "$(wc -c < made.nc | tr -d ' ')"
+
+given=$("$program" --generate 0 made.nc < /dev/null)
+same 'a made run of twelve records' 'generated 0 12
+ranks 8
+calls 320
+collectives 14
+put 1555200
+got 34560
+refused 0
+sum 18415865808000
+records 12
+file 4665760' "$given"
+
+for words in '--size 3 made.nc' '--offsets --generate 0 made.nc' '--generate 0 --size 65 made.nc' '--generate 0'; do
+    # shellcheck disable=SC2086
+    given=$("$program" $words < /dev/null)
+    same "words of no form ($words): status" 2 $?
+done

@@ -1,3 +1,18 @@
+pub mod EndLaws
+pub mod HaltLaws
+pub mod StopLaws
+pub mod ArriveSteps
+pub mod PutLaws
+pub mod AloneSteps
+pub mod GotLengths
+pub mod HeldLaws
+pub mod TogetherSteps
+pub mod WrittenTwice
+pub mod StrangeLaws
+pub mod AlikeLaws
+pub mod DeskRuns
+pub mod OwedLaws
+pub mod RunLaws
 pub mod ListLaws
 pub mod StageLaws
 pub mod CountLaws
@@ -19,3 +34,6 @@ pub mod TurnEnds
 pub mod TurnRuns
 pub mod TurnCauses
 pub mod TurnKnown
+pub mod AttendLaws
+pub mod AttendWay
+pub mod TestScripts

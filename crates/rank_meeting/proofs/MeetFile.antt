@@ -1,5 +1,5 @@
 -- The file, its record count and its device calls in a meeting.
-use Rattle.std.proofs.Common.{◌≡◌, ℕ, ◌≤◌, refl, sym, ◌∙◌, ap, subst, List, [], ◌++◌, length, max, Bool, true, false, cond, Option, Some, None, inl, inr, append_assoc, arith}
+use Rattle.std.proofs.Common.{◌≡◌, ℕ, ◌<◌, ◌≤◌, refl, sym, ◌∙◌, ap, subst, List, [], ◌++◌, length, max, Bool, true, false, cond, Option, Some, None, inl, inr, append_assoc, arith}
 use Rattle.std.proofs.lemmas.Bool.Decides.{nat_tests}
 use Rattle.std.proofs.lemmas.List.{append-nil}
 use Rattle.std.specs.Prelude.{◌⊎◌, flat_map, nat_lt, if◌then◌else◌, IfSome}
@@ -21,6 +21,7 @@ use Rattle.rank_meeting.specs.Steps.{met, met_calls}
 use Rattle.rank_meeting.proofs.CountLaws.{count_longer, count_max, rise_longer}
 use Rattle.rank_meeting.proofs.MeetPosts.{needed_rise}
 use Rattle.rank_meeting.proofs.StageLaws.{ended_twice}
+use Rattle.rank_meeting.proofs.WrittenTwice.{counted_twice}
 
 -- ---- what puts need
 
@@ -72,20 +73,27 @@ raised_records s c n = by_order (nat_lt c.records n) refl
     by_order true e = grind (arith, nat_tests)
     by_order false e = grind (arith, nat_tests)
 
-twice_raised : (s : Setting) (c : Counted) (r n known : ℕ) → (known ≡ 0) ⊎ (n ≡ 0) → r ≡ max c.records n
+twice_raised : (s : Setting) (c : Counted) (r n known : ℕ) → r ≡ max c.records n
     → (if nat_lt r known then with_records s.header.version (raised s c n).file known else (raised s c n).file) ≡ (raised s c (max n known)).file
-twice_raised s c r n known (inl e) f =
-    let same : n ≡ max n known = omega arith in
-    ap (λ (t : Bool). cond t (with_records s.header.version (raised s c n).file known) (raised s c n).file) (not_below r known (omega arith))
-    ∙ ap (λ (m : ℕ). (raised s c m).file) same
-twice_raised s c r n known (inr e) f =
-    let same : known ≡ max n known = omega arith in
-    let kept : raised s c n ≡ c = raised_none s c n (omega arith) in
-    let count : r ≡ c.records = omega arith in
-    ap (λ (m : ℕ). cond (nat_lt m known) (with_records s.header.version (raised s c n).file known) (raised s c n).file) count
-    ∙ ap (λ (d : Counted). cond (nat_lt c.records known) (with_records s.header.version d.file known) d.file) kept
-    ∙ sym (file_of (nat_lt c.records known) (record { file = with_records s.header.version c.file known; records = known }) c)
-    ∙ ap (λ (m : ℕ). (raised s c m).file) same
+twice_raised s c r n known f = by_order (nat_lt c.records n) refl (nat_lt r known) refl
+  where
+    above : (m : ℕ) → c.records < m → nat_lt c.records m ≡ true
+    above m h = grind (arith, nat_tests)
+
+    by_order : (t : Bool) → nat_lt c.records n ≡ t → (u : Bool) → nat_lt r known ≡ u
+        → cond u (with_records s.header.version (cond t (record { file = with_records s.header.version c.file n; records = n }) c).file known)
+        (cond t (record { file = with_records s.header.version c.file n; records = n }) c).file ≡ (raised s c (max n known)).file
+    by_order true e true g =
+        counted_twice s.header.version c.file n known
+        ∙ ap (λ (t : Bool). (cond t (record { file = with_records s.header.version c.file known; records = known }) c).file) (sym (above known (grind (arith, nat_tests))))
+        ∙ ap (λ (m : ℕ). (raised s c m).file) (grind (arith, nat_tests))
+    by_order true e false g =
+        ap (λ (t : Bool). (cond t (record { file = with_records s.header.version c.file n; records = n }) c).file) (sym e)
+        ∙ ap (λ (m : ℕ). (raised s c m).file) (grind (arith, nat_tests))
+    by_order false e true g =
+        ap (λ (t : Bool). (cond t (record { file = with_records s.header.version c.file known; records = known }) c).file) (sym (above known (grind (arith, nat_tests))))
+        ∙ ap (λ (m : ℕ). (raised s c m).file) (grind (arith, nat_tests))
+    by_order false e false g = ap (λ (d : Counted). d.file) (sym (raised_none s c (max n known) (grind (arith, nat_tests))))
 
 stored_once : (s : Setting) (c : Counted) (r n known : ℕ) → (known ≡ 0) ⊎ (n ≡ 0) → r ≡ max c.records n
     → store_records s (nat_lt c.records r) ++ store_records s (nat_lt r known) ≡ store_records s (nat_lt c.records (raised s c (max n known)).records)
@@ -108,16 +116,16 @@ stored_once s c r n known (inr e) f =
 
 -- ---- the meeting
 
-pub met_bytes : (s : Setting) (batches : List Batch) (r n known : ℕ) (held mid late last : Option (List ℕ)) → (known ≡ 0) ⊎ (puts_in batches ≡ [])
+pub met_bytes : (s : Setting) (batches : List Batch) (r n known : ℕ) (held mid late last : Option (List ℕ))
     → mid ≡ after (λ file. (after_round s (puts_in batches) (counted file r)).file) held → n ≡ max r (needed_now s (puts_in batches))
     → late ≡ after (λ file. if nat_lt n known then with_records s.header.version file known else file) mid → last ≡ late
     → last ≡ after (λ file. (met s batches known (counted file r)).file) held
-met_bytes s batches r n known None mid late last one p e k g =
+met_bytes s batches r n known None mid late last p e k g =
     g ∙ k ∙ ap (after (λ file. if nat_lt n known then with_records s.header.version file known else file)) p
-met_bytes s batches r n known (Some file) mid late last one p e k g =
+met_bytes s batches r n known (Some file) mid late last p e k g =
     let puts = puts_in batches in
     g ∙ k ∙ ap (after (λ file. if nat_lt n known then with_records s.header.version file known else file)) p
-    ∙ ap (λ (bytes : List ℕ). Some bytes) (twice_raised s (counted (after_puts s puts (told s puts) file) r) n (needed_now s puts) known (one_raises s puts known one) e)
+    ∙ ap (λ (bytes : List ℕ). Some bytes) (twice_raised s (counted (after_puts s puts (told s puts) file) r) n (needed_now s puts) known e)
 
 pub met_called : (hints : Hints) (s : Setting) (batches : List Batch) (r n known len : ℕ) (held : Option (List ℕ)) (calls mid late last : Option (List DiskCall)) → (known ≡ 0) ⊎ (puts_in batches ≡ [])
     → IfSome held (λ file. length file ≡ len)

@@ -34,7 +34,7 @@ use Rattle.rank_meeting.proofs.SeatLaws.{heard_seat}
 
 -- ---- the puts and gets of the offers are those of their batches
 
-puts_same : (first : ℕ) (offers : List Offer) → flat_map puts_of (enumerate_from first offers) ≡ flat_map puts_of_batch (enumerate_from first (batches_of offers))
+pub puts_same : (first : ℕ) (offers : List Offer) → flat_map puts_of (enumerate_from first offers) ≡ flat_map puts_of_batch (enumerate_from first (batches_of offers))
 puts_same first [] = refl
 puts_same first (o ∷ offers) = ap (λ (puts : Puts). map (λ post. (first, post)) o.batch.puts ++ puts) (puts_same (first + 1) offers)
 
@@ -42,13 +42,13 @@ gets_same : (offers : List Offer) → flat_map gets_of offers ≡ gets_in (batch
 gets_same [] = refl
 gets_same (o ∷ offers) = ap (λ (gets : List Post). o.batch.gets ++ gets) (gets_same offers)
 
-met_is : (s : Setting) (offers : List Offer) (batches : List Batch) (known : ℕ) (c : Counted) → batches ≡ batches_of offers → known ≡ known_of offers
+pub met_is : (s : Setting) (offers : List Offer) (batches : List Batch) (known : ℕ) (c : Counted) → batches ≡ batches_of offers → known ≡ known_of offers
     → (meeting s offers c).0 ≡ met s batches known c
 met_is s offers batches known c e f =
     ap (λ (puts : Puts). raised s (counted (after_puts s puts (told s puts) c.file) c.records) (max (needed_now s puts) (known_of offers))) (puts_same 0 offers)
     ∙ (λ i. met s (sym e i) (sym f i) c)
 
-met_calls_are : (hints : Hints) (s : Setting) (offers : List Offer) (batches : List Batch) (known : ℕ) (c : Counted) → batches ≡ batches_of offers → known ≡ known_of offers
+pub met_calls_are : (hints : Hints) (s : Setting) (offers : List Offer) (batches : List Batch) (known : ℕ) (c : Counted) → batches ≡ batches_of offers → known ≡ known_of offers
     → meeting_calls hints s offers c ≡ met_calls hints s batches known c
 met_calls_are hints s offers batches known c e f =
     let puts = puts_same 0 offers ∙ ap puts_in (sym e) in
@@ -59,7 +59,7 @@ met_calls_are hints s offers batches known c e f =
 
 -- ---- the replies
 
-replies_are : (s : Setting) (offers : List Offer) (batches : List Batch) (known n : ℕ) (c : Counted) (pair : Option Pair) (table : List (List (List ℕ)))
+pub replies_are : (s : Setting) (offers : List Offer) (batches : List Batch) (known n : ℕ) (c : Counted) (pair : Option Pair) (table : List (List (List ℕ)))
     → batches ≡ batches_of offers → known ≡ known_of offers → pair ≡ told s (puts_in batches) → n ≡ (met s batches known c).records
     → table ≡ map (λ b. map (get_post s (met s batches known c).file) b.gets) batches → (meeting s offers c).1 ≡ map (reply_of pair n) table
 replies_are s offers batches known n c pair table e f p r t =

@@ -1,5 +1,11 @@
+pub mod Attending
 pub mod Begun
 pub mod Counts
+pub mod Halted
+pub mod Owned
 pub mod Seated
+pub mod Serving
 pub mod Stages
 pub mod Steps
+pub mod Stopping
+pub mod Strange

@@ -16,7 +16,7 @@ ghost use Rattle.rank_meeting.specs.Begun.{HasBegun};
 ghost use Rattle.rank_meeting.specs.Counts.{IsCount, IsRise};
 ghost use Rattle.rank_meeting.specs.Seated.{AreFree, AreFreed, IsFreed, AreHeard, AreSeats, AreToHear, HaveArrived, HaveMet};
 ghost use Rattle.rank_meeting.specs.Stages.{arrived_all, stage, HasLed};
-ghost use Rattle.rank_meeting.specs.Steps.{batches_of, held_offers, known_of, met, met_calls, IsJob};
+ghost use Rattle.rank_meeting.specs.Steps.{batches_of, held_offers, known_of, met, met_calls, IsJob, IsOneRise};
 
 use crate::seats::Seat;
 use crate::solo::told_pair;
@@ -104,7 +104,15 @@ fn take_offer(seat: &mut Seat, batches: &mut Vec<Batch>) -> Result<u64, Memory>
     ensures batches { OnOk result (batches.new.items ≡ batches.old.items ++ batches_of (option_to_list seat.old.held)) }
     ensures known { IfOk result (λ known. known ≡ known_of (option_to_list seat.old.held)) }
 {
-    match seat.held.take() {
+    add_offer(seat.held.take(), batches)
+}
+
+/// Adds the batch of an offer to the batches: the count to which it raises that of the file.
+pub(crate) fn add_offer(held: Option<Offer>, batches: &mut Vec<Batch>) -> Result<u64, Memory>
+    ensures batches { OnOk result (batches.new.items ≡ batches.old.items ++ batches_of (option_to_list held)) }
+    ensures known { IfOk result (λ known. known ≡ known_of (option_to_list held)) }
+{
+    match held {
         None => Ok(0),
         Some(offer) => {
             let known = known_by(&offer);
@@ -126,7 +134,7 @@ fn known_by(offer: &Offer) -> u64
 }
 
 /// The puts of a meeting, its record count, and its gets: the pair that all ranks are told, and the bytes for each rank.
-fn meet_on_file<R: Wait, D: Disk, G: Gate>(
+pub(crate) fn meet_on_file<R: Wait, D: Disk, G: Gate>(
     rt: &R,
     alloc: Global,
     disk: &mut D,
@@ -139,7 +147,7 @@ fn meet_on_file<R: Wait, D: Disk, G: Gate>(
 ) -> Result<(Option<Pair>, GotTable), StepErr>
     requires sound { is_sound header.now ≡ true }
     requires hints { are_lawful_hints hints.now ≡ true }
-    requires job { IsJob header.now (D.len disk.old) known job.now.batches }
+    requires job { IsJob header.now (D.len disk.old) job.now.batches }
     requires known { IsRise header.now (D.len disk.old) known }
     requires records { IsCount header.now (D.len disk.old) records.old }
     requires from { D.from disk.old ≡ 0 }
@@ -148,8 +156,8 @@ fn meet_on_file<R: Wait, D: Disk, G: Gate>(
     ensures records { OnOk result (records.new ≡ max records.old (max (needed_now (setting header.now hints.now) (puts_in job.now.batches)) known)) }
     ensures got { IfOk result (λ end. IfSome (D.held disk.new) (λ file. end.1 ≡ map (λ b. map (get_post (setting header.now hints.now) file) b.gets) job.now.batches)) }
     ensures fits { IfOk result (λ end. map (λ blobs. map (λ blob. length blob) blobs) end.1 ≡ map (λ b. map (wanted header.now) b.gets) job.now.batches) }
-    ensures calls { OnOk result (IfSome (D.held disk.old) (λ file. D.calls disk.new ≡ with_end (D.calls disk.old) (met_calls hints.now (setting header.now hints.now) job.now.batches known (counted file records.old)))) }
-    ensures count { OnOk result (IsCount header.now (D.len disk.new) records.new) }
+    ensures calls { OnOk result (IsOneRise known job.now.batches → IfSome (D.held disk.old) (λ file. D.calls disk.new ≡ with_end (D.calls disk.old) (met_calls hints.now (setting header.now hints.now) job.now.batches known (counted file records.old)))) }
+    ensures count { IsCount header.now (D.len disk.new) records.new }
     ensures from { D.from disk.new ≡ 0 }
     ensures longer { D.len disk.old ≤ D.len disk.new }
     ensures cause { HasStepCause (D.faults disk.old) (D.faults disk.new) result }

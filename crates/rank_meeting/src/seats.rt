@@ -90,7 +90,7 @@ impl<'a> Seat<'a> {
     }
 
     /// Goes through its calls up to its next offer, which it then holds, or to its end.
-    fn go_on<R: Wait, G: Gate>(
+    pub(crate) fn go_on<R: Wait, G: Gate>(
         &mut self,
         rt: &R,
         gate: &G,
@@ -194,7 +194,7 @@ impl<'a> Seat<'a> {
 }
 
 /// The calls of a rank.
-fn own_calls(script: &Script, number: u32) -> &[Call]
+pub(crate) fn own_calls(script: &Script, number: u32) -> &[Call]
     requires { number < length script.now.calls }
     ensures { result.now ≡ calls_of script.now number }
 {

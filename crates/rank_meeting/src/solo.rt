@@ -1,14 +1,16 @@
 // The step of one rank alone.
 ghost use Rattle.std.specs.Prelude.{◌≡◌, ◌≤◌, ◌<◌, map, max, length, true, IfOk, IfSome, OnOk};
 ghost use Rattle.nc_outside.specs.Told.{after, with_end};
+ghost use Rattle.serial_spec.specs.Desk.{needed_now};
 ghost use Rattle.serial_spec.specs.DeviceCalls.{solo_calls};
-ghost use Rattle.serial_spec.specs.FileStep.{needs, puts_of, solo};
+ghost use Rattle.serial_spec.specs.FileStep.{needs, puts_of, solo, told};
 ghost use Rattle.serial_spec.specs.HeaderGrammar.{is_sound};
 ghost use Rattle.serial_spec.specs.Lawful.{are_lawful_hints};
 ghost use Rattle.serial_spec.specs.RankSide.{wanted};
+ghost use Rattle.rank_core.specs.Offered.{IsSoundOffer};
 ghost use Rattle.collective_round.specs.Ended.{pair_of};
 ghost use Rattle.collective_round.specs.Rounds.{counted, setting, HasStepCause};
-ghost use Rattle.rank_meeting.specs.Counts.{IsAsked, IsCount};
+ghost use Rattle.rank_meeting.specs.Counts.{IsCount, IsFit};
 ghost use Rattle.rank_meeting.specs.Steps.{needed_after};
 
 use collective_round::{PutEnd, get_solo, put_solo, records_needed_by};
@@ -28,10 +30,11 @@ pub(crate) fn solo_reply<D: Disk>(
 ) -> Result<Reply, StepErr>
     requires sound { is_sound header.now ≡ true }
     requires hints { are_lawful_hints hints.now ≡ true }
-    requires asked { IsAsked header.now offer.now.known offer.now }
-    requires known { IsCount header.now (D.len disk.old) offer.now.known }
+    requires fit { IsFit header.now (D.len disk.old) offer.now }
     requires from { D.from disk.old ≡ 0 }
     ensures reply { IfOk result (λ reply. IfSome (D.held disk.old) (λ file. reply ≡ (solo (setting header.now hints.now) number offer.now (counted file 0)).1)) }
+    ensures told { IfOk result (λ reply. reply.pair ≡ told (setting header.now hints.now) (puts_of (number, offer.now))) }
+    ensures records { IfOk result (λ reply. reply.records ≡ max offer.now.known (needed_now (setting header.now hints.now) (puts_of (number, offer.now)))) }
     ensures bytes { OnOk result (D.held disk.new ≡ after (λ file. (solo (setting header.now hints.now) number offer.now (counted file 0)).0.file) (D.held disk.old)) }
     ensures calls { OnOk result (IfSome (D.held disk.old) (λ file. D.calls disk.new ≡ with_end (D.calls disk.old) (solo_calls hints.now (setting header.now hints.now) number offer.now (counted file 0)))) }
     ensures fits { IfOk result (λ reply. map (λ blob. length blob) reply.got ≡ map (wanted header.now) offer.now.batch.gets) }
@@ -62,7 +65,7 @@ pub(crate) fn told_pair(end: PutEnd) -> Option<Pair>
 
 /// The record count that a rank knows after its own puts.
 fn records_known(header: &Header, offer: &Offer, end: PutEnd) -> u64
-    requires { IsAsked header.now offer.now.known offer.now }
+    requires { IsSoundOffer header.now offer.now }
     ensures { result ≡ max offer.now.known (needed_after header.now offer.now.batch.puts end) }
 {
     match end {

@@ -4,7 +4,7 @@ use Rattle.collective_round.specs.Rounds.{setting}
 use Rattle.run_laws.proofs.LawfulLaws.{ranks_lawful}
 use Rattle.rank_meeting.proofs.HintLaws.{lawful_hints}
 use Rattle.rank_meeting.proofs.MeetDone.{are_done, begun_after, begun_before, begun_still, free_after, order_at, seats_after, table_long, to_hear}
-use Rattle.rank_meeting.proofs.MeetOffers.{meets_job, meets_rise}
+use Rattle.rank_meeting.proofs.MeetOffers.{meets_job, meets_once, meets_rise}
 use Rattle.rank_meeting.proofs.MeetStep.{meeting_led}
 use Rattle.rank_meeting.proofs.meeting.meet.Goals as goal
 
@@ -16,8 +16,8 @@ meet_on_file-requires-clause-hints g c κs within = lawful_hints c.args.script.n
 
 pub meet_on_file-requires-clause-job : goal.meet_on_file-requires-clause-job
 meet_on_file-requires-clause-job g c κs within =
-    meets_job c.args.script.now c.args.header.now _ c.args.order.now c.args.seats.now c.in_ok-job.known c.in_ok-job.job.batches c.requires.lawful c.requires.seats c.requires.met c.requires.arrived
-    c.in_ok-job.ensures.known c.in_ok-job.ensures.batches
+    meets_job c.args.script.now c.args.header.now _ c.args.order.now c.args.seats.now c.in_ok-job.job.batches c.requires.lawful c.requires.seats c.requires.met c.requires.arrived
+    c.in_ok-job.ensures.batches
 
 pub meet_on_file-requires-clause-known : goal.meet_on_file-requires-clause-known
 meet_on_file-requires-clause-known g c κs within =
@@ -65,7 +65,8 @@ returns-clause-led g c =
     c.args.records.now c.meet_on_file.new.records c.args.number _ _ _ _ c.in_ok-pair.pair c.in_ok-pair.table long (c.in_ok-hear_all.ensures.long ∙ c.in_ok-job.ensures.freed.long) wide c.requires.met
     (are_done c.args.script.now c.args.header.now _ c.args.order.now c.args.seats.now c.take_job.new.seats c.hear_all.new.seats c.in_ok-pair.pair c.meet_on_file.new.records c.in_ok-pair.table
     c.requires.seats c.requires.met c.requires.arrived c.in_ok-job.ensures.freed c.in_ok-hear_all.ensures)
-    c.in_ok-job.ensures.batches c.in_ok-job.ensures.known c.in_ok-pair.ensures.told c.in_ok-pair.ensures.records c.in_ok-pair.ensures.bytes c.in_ok-pair.ensures.got c.in_ok-pair.ensures.calls
+    c.in_ok-job.ensures.batches c.in_ok-job.ensures.known c.in_ok-pair.ensures.told c.in_ok-pair.ensures.records c.in_ok-pair.ensures.bytes c.in_ok-pair.ensures.got
+    (c.in_ok-pair.ensures.calls (meets_once c.args.script.now c.args.header.now _ c.args.order.now c.args.seats.now c.in_ok-job.known c.in_ok-job.job.batches c.requires.seats c.requires.met c.requires.arrived c.in_ok-job.ensures.known c.in_ok-job.ensures.batches))
     c.in_ok-push.ensures.ok
 
 pub returns-clause-begun : goal.returns-clause-begun

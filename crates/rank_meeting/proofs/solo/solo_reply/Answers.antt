@@ -1,23 +1,24 @@
 -- The step of one rank, by its puts and its gets.
+use Rattle.std.proofs.Common.{◌∙◌, ap, max}
 use Rattle.collective_round.specs.Rounds.{setting}
 use Rattle.rank_meeting.proofs.CountLaws.{count_begins, count_longer}
-use Rattle.rank_meeting.proofs.MeetPosts.{get_of, put_of, ranked_puts, solo_count}
+use Rattle.rank_meeting.proofs.MeetPosts.{get_of, needed_solo, put_of, ranked_puts, solo_count}
 use Rattle.rank_meeting.proofs.MeetSolo.{solo_replied}
 use Rattle.rank_meeting.proofs.solo.solo_reply.Goals as goal
 
 pub put_solo-requires-clause-puts : goal.put_solo-requires-clause-puts
 put_solo-requires-clause-puts g c κs within =
-    ranked_puts c.args.header.now c.args.number c.args.offer.now.batch.puts (put_of c.args.header.now c.args.offer.now c.requires.asked.sound)
+    ranked_puts c.args.header.now c.args.number c.args.offer.now.batch.puts (put_of c.args.header.now c.args.offer.now c.requires.fit.sound)
 
 pub put_solo-requires-clause-own : goal.put_solo-requires-clause-own
-put_solo-requires-clause-own g c κs within = c.requires.asked.sound.own c.args.number
+put_solo-requires-clause-own g c κs within = c.requires.fit.sound.own c.args.number
 
 pub put_solo-requires-clause-long : goal.put_solo-requires-clause-long
-put_solo-requires-clause-long g c κs within = count_begins c.args.header.now _ c.args.offer.now.known c.requires.known
+put_solo-requires-clause-long g c κs within = count_begins c.args.header.now _ c.args.offer.now.known c.requires.fit.known
 
 pub get_solo-requires-clause-gets : goal.get_solo-requires-clause-gets
 get_solo-requires-clause-gets g c κs within =
-    get_of c.args.header.now _ c.args.offer.now c.requires.asked.sound (count_longer c.args.header.now _ _ c.args.offer.now.known c.in_ok-end.ensures.grown c.requires.known)
+    get_of c.args.header.now _ c.args.offer.now c.requires.fit.sound (count_longer c.args.header.now _ _ c.args.offer.now.known c.in_ok-end.ensures.grown c.requires.fit.known)
 
 pub returns-clause-reply : goal.returns-clause-reply
 returns-clause-reply g c =
@@ -26,5 +27,13 @@ returns-clause-reply g c =
 
 pub returns-clause-count : goal.returns-clause-count
 returns-clause-count g c =
-    solo_count (setting c.args.header.now c.args.hints.now) c.args.number _ _ _ c.records_known.result c.args.offer.now c.in_ok-end.end c.requires.sound c.requires.asked.sound
-    c.requires.known c.in_ok-end.ensures.grown c.in_ok-got.ensures.len c.in_ok-end.ensures.told c.in_ok-end.ensures.long c.records_known.ensures
+    solo_count (setting c.args.header.now c.args.hints.now) c.args.number _ _ _ c.records_known.result c.args.offer.now c.in_ok-end.end c.requires.sound c.requires.fit.sound
+    c.requires.fit.known c.in_ok-end.ensures.grown c.in_ok-got.ensures.len c.in_ok-end.ensures.told c.in_ok-end.ensures.long c.records_known.ensures
+
+pub returns-clause-told : goal.returns-clause-told
+returns-clause-told g c = c.told_pair.ensures ∙ c.in_ok-end.ensures.told
+
+pub returns-clause-records : goal.returns-clause-records
+returns-clause-records g c =
+    c.records_known.ensures
+    ∙ ap (max c.args.offer.now.known) (needed_solo (setting c.args.header.now c.args.hints.now) c.args.number c.args.offer.now.batch.puts c.in_ok-end.end c.in_ok-end.ensures.told)

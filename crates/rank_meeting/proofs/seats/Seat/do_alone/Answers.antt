@@ -4,6 +4,7 @@ use Rattle.nc_base.specs.declared.step.Mark.{Mark}
 use Rattle.serial_spec.specs.SerialEnd.{advance, setting_of}
 use Rattle.run_laws.specs.Ways.{IsOnWay}
 use Rattle.rank_meeting.proofs.CountLaws.{count_longer, count_max}
+use Rattle.rank_meeting.proofs.MeetOffers.{asked_fit}
 use Rattle.rank_meeting.proofs.SeatLaws.{alone_done, alone_heard, alone_rest, heard_seat, HasRest}
 use Rattle.rank_meeting.proofs.HintLaws.{lawful_hints, on_err}
 use Rattle.rank_meeting.proofs.AloneLaws.{alone_led, alone_waits, arrived_free, fits_open, gone_alone, grown_one, heard_known, order_is}
@@ -15,6 +16,9 @@ use Rattle.std.proofs.Common.{None, ℕ}
 
 pub solo_reply-requires-clause-hints : goal.solo_reply-requires-clause-hints
 solo_reply-requires-clause-hints g c κs within = lawful_hints c.args.script.now c.requires.lawful
+
+pub solo_reply-requires-clause-fit : goal.solo_reply-requires-clause-fit
+solo_reply-requires-clause-fit g c κs within = asked_fit c.args.header.now _ c.args.self.now.rank.state.known c.args.offer c.requires.asked c.requires.known
 
 pub returns-in_err-reply-clause-begun : goal.returns-in_err-reply-clause-begun
 returns-in_err-reply-clause-begun g c =

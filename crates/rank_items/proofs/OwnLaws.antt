@@ -1,0 +1,73 @@
+-- An element that stood twice would hold its first byte twice.
+use Rattle.std.proofs.Common.{◌≡◌, ℕ, zero, suc, ◌+◌, ◌*◌, ◌<◌, ◌≤◌, ◌⊎◌, inl, inr, refl, sym, ap, ◌∙◌, List, [], ◌∷◌, length, map, true, Option, Some, None, arith}
+use Rattle.std.specs.Prelude.{slice_get, flat_map, is_some}
+use Rattle.std.specs.List.{range_with_len}
+use Rattle.std.proofs.lemmas.Bool.{cases_lt}
+use Rattle.std.proofs.Math.Nat.{mul-lt-mul_of_pos_right}
+use Rattle.nc_base.specs.declared.header.Header.{Header}
+use Rattle.nc_base.specs.declared.header.Var.{Var}
+use Rattle.nc_base.specs.declared.plan.Post.{Post}
+use Rattle.serial_spec.specs.ExternalForm.{size_of}
+use Rattle.serial_spec.specs.Place.{place}
+use Rattle.serial_spec.specs.Request.{elements, places}
+use Rattle.serial_spec.specs.SharedByte.{bytes_of, bytes_of_some, holdings, Holding, IsOwnOnce}
+use Rattle.serial_spec.proofs.ElementLaws.{get_left, get_map, get_right}
+use Rattle.var_layout.proofs.ElementPlaces.{size_pos}
+use Rattle.rank_items.specs.Own.{HasOwnElements}
+
+-- ---- blocks of one length
+
+range_long : (a n : ℕ) → length (range_with_len a n) ≡ n
+range_long a zero = refl
+range_long a (suc n) = ap suc (range_long (a + 1) n)
+
+range_first : (a n : ℕ) → 1 ≤ n → slice_get (range_with_len a n) 0 ≡ Some a
+range_first a zero h = absurd (omega arith)
+range_first a (suc n) h = refl
+
+-- the first byte of block k
+block_first : (n : ℕ) → 1 ≤ n → (xs : List ℕ) (k m x : ℕ) → m ≡ k * n → slice_get xs k ≡ Some x → slice_get (flat_map (λ y. range_with_len y n) xs) m ≡ Some x
+block_first n h [] k m x f e = absurd cc
+block_first n h (y ∷ xs) zero m x f e =
+    let here : y ≡ x = cc in
+    let none : m ≡ 0 = omega arith in
+    ap (λ (j : ℕ). slice_get (flat_map (λ z. range_with_len z n) (y ∷ xs)) j) none
+    ∙ get_left (range_with_len y n) (flat_map (λ z. range_with_len z n) xs) 0 (omega (arith, range_long y n)) ∙ range_first y n h ∙ ap (λ (z : ℕ). Some z) here
+block_first n h (y ∷ xs) (suc k) m x f e =
+    get_right (range_with_len y n) (flat_map (λ z. range_with_len z n) xs) (k * n) m (omega (arith, range_long y n)) ∙ block_first n h xs k (k * n) x refl e
+
+same_factor : (i j t : ℕ) → 1 ≤ t → i * t ≡ j * t → i ≡ j
+same_factor i j t h e = by_order (cases_lt i j) (cases_lt j i)
+  where
+    by_order : (i < j) ⊎ (j ≤ i) → (j < i) ⊎ (i ≤ j) → i ≡ j
+    by_order (inl l) m = let less = mul-lt-mul_of_pos_right {m = i} {n = j} {k = t} l (omega arith) in absurd (omega arith)
+    by_order (inr l) (inl m) = let less = mul-lt-mul_of_pos_right {m = j} {n = i} {k = t} m (omega arith) in absurd (omega arith)
+    by_order (inr l) (inr m) = omega arith
+
+-- ---- the first byte of an element
+
+var_there : (m : Option Var) → is_some m ≡ true → (v : Var) × (m ≡ Some v)
+var_there None e = absurd cc
+var_there (Some v) e = (v, refl)
+
+byte_there : (header : Header) (p : Post) (v : Var) (k : ℕ) (index : List ℕ) → slice_get header.vars p.var ≡ Some v → slice_get (elements p.region) k ≡ Some index
+    → slice_get (bytes_of header p) (k * size_of v.kind) ≡ Some (place header v index)
+byte_there header p v k index e f =
+    ap (λ (m : Option Var). slice_get (bytes_of_some header m p) (k * size_of v.kind)) e
+    ∙ block_first (size_of v.kind) (size_pos v.kind) (places header v p.region) k (k * size_of v.kind) (place header v index) refl (get_map (λ i. place header v i) (elements p.region) k index f)
+
+held_at : (header : Header) (rank : ℕ) (puts : List Post) (i : ℕ) (p : Post) → slice_get puts i ≡ Some p
+    → slice_get (holdings header (map (λ p. (rank, p)) puts)) i ≡ Some ((rank, p.id), bytes_of header p)
+held_at header rank puts i p e =
+    get_map (λ (r : ℕ × Post). let held : Holding = ((r.0, r.1.id), bytes_of header r.1) in held) (map (λ q. (rank, q)) puts) i (rank, p) (get_map (λ q. (rank, q)) puts i p e)
+
+pub own_elements : (header : Header) (puts : List Post) (rank : ℕ) → ((i : ℕ) (p : Post) → slice_get puts i ≡ Some p → is_some (slice_get header.vars p.var) ≡ true)
+    → IsOwnOnce (holdings header (map (λ p. (rank, p)) puts)) → HasOwnElements puts
+own_elements header puts rank vars own = λ i j k l p q index here there id var a b.
+    let found = var_there (slice_get header.vars p.var) (vars i p here) in
+    let v = found.0 in
+    let same = ap (λ (n : ℕ). slice_get header.vars n) (sym var) ∙ found.1 in
+    let key = ap (λ (n : ℕ). let pair : ℕ × ℕ = (rank, n) in pair) id in
+    let both = own i j ((rank, p.id), bytes_of header p) ((rank, q.id), bytes_of header q) (k * size_of v.kind) (l * size_of v.kind) (place header v index)
+    (held_at header rank puts i p here) (held_at header rank puts j q there) key (byte_there header p v k index found.1 a) (byte_there header q v l index same b) in
+    (both.0, same_factor k l (size_of v.kind) (size_pos v.kind) both.1)
