@@ -1,8 +1,7 @@
 -- Every form ends as the words ask for.
-use Rattle.std.proofs.Common.{◌≡◌, ℕ, List, [], Option, Some, None, inl, inr, ◌⊎◌, sym, subst, arith}
+use Rattle.std.proofs.Common.{◌≡◌, ℕ, List, [], Option, Some, None, inl, inr, subst, arith}
 use Rattle.nc_base.specs.declared.step.Mark.{Mark}
-use Rattle.ncmpi_cli.specs.Ends.{EndsAs, Seen, TakesScript}
-use Rattle.ncmpi_cli.specs.Generated.{IsMadeStatus}
+use Rattle.ncmpi_cli.specs.Ends.{EndsAs, Seen}
 use Rattle.ncmpi_cli.specs.Listing.{IsOfReadHeader}
 use Rattle.ncmpi_cli.specs.Words.{Asked, run, offsets, generate}
 use Rattle.ncmpi_cli.proofs.Made.{made_begins_none}
@@ -13,12 +12,6 @@ pub ends : (form asked : Option Asked) (before now : Seen) (status : ℕ) (order
     → EndsAs form before now status order
 ends form asked before now status order e h = subst (λ (f : Option Asked). EndsAs f before now status order) e h
 
-pub not_made : (status : ℕ) → IsMadeStatus status → status ≡ 4 → ⊥
-not_made status (inl e) s = absurd (omega (arith, e, s))
-not_made status (inr (inl e)) s = absurd (omega (arith, e, s))
-not_made status (inr (inr (inl e))) s = absurd (omega (arith, e, s))
-not_made status (inr (inr (inr e))) s = absurd (omega (arith, e, s))
-
 not_read : (status : ℕ) → status ≡ 8 → IsOfReadHeader status → ⊥
 not_read status e (inl s) = absurd (omega (arith, e, s))
 not_read status e (inr (inl s)) = absurd (omega (arith, e, s))
@@ -27,7 +20,7 @@ not_read status e (inr (inr s)) = absurd (omega (arith, e, s))
 -- want of memory before anything was done is an end of every form
 pub wanting : (form : Option Asked) (before now : Seen) (status : ℕ) (order : List Mark) → now.held ≡ before.held → status ≡ 8 → order ≡ []
     → EndsAs form before now status order
-wanting None before now status order h e o = inr e
+wanting None before now status order h e o = (inr e, o)
 wanting (Some (run name)) before now status order h e o = record {
   well = λ s. absurd (omega (arith, e, s));
   cut = λ s. absurd (omega (arith, e, s));
@@ -45,6 +38,7 @@ wanting (Some (offsets name)) before now status order h e o = record {
   faulty = λ _ _. inr e;
   complete = λ _ _ _. inr e;
   unchanged = h;
+  steps = o;
   calls = λ s. absurd (not_read status e s);
 }
 wanting (Some (generate seed size name)) before now status order h e o = record {

@@ -2,7 +2,7 @@
 --     Seen                             what source, disk and sink tell at one time, and how often each failed
 --     HasRun, HasListed, HasGenerated  the ends of a run of the source's script, of a list of offsets, and of a run of a made script
 --     EndsAs form                      the end that the words ask for
-use Rattle.std.specs.Prelude.{ℕ, ◌≡◌, ◌⊎◌, List, Option, Some, None, IfSome, IsSomeAnd, is_some, true}
+use Rattle.std.specs.Prelude.{ℕ, ◌≡◌, ◌⊎◌, List, [], Option, Some, None, IfSome, IsSomeAnd, is_some, true}
 use Rattle.nc_base.specs.declared.step.DiskCall.{DiskCall}
 use Rattle.nc_base.specs.declared.step.Mark.{Mark}
 use Rattle.nc_outside.specs.Cause.{Rose}
@@ -60,14 +60,16 @@ pub record HasRun (before now : Seen) (status : ℕ) (order : List Mark) : Type 
 
 -- ---- a list of offsets
 
-pub record HasListed (before now : Seen) (status : ℕ) : Type 0 where
+pub record HasListed (before now : Seen) (status : ℕ) (order : List Mark) : Type 0 where
   pub whole : status ≡ 0 → ListsWhole before.held before.given now.given
   pub cut : status ≡ 6 → ListsFront before.held before.given now.given
   pub dataset : status ≡ 4 → (line : List ℕ) × (TellsHeader before.held line × Gives before now line)
   pub faulty : IsFaultyFront before.held → ¬ (DiskFailed before now) → (status ≡ 4) ⊎ (status ≡ 8)
   pub complete : IsSoundFront before.held → ¬ (SinkFailed before now) → ¬ (DiskFailed before now) → (status ≡ 0) ⊎ (status ≡ 8)
-  -- whatever the status, the file stays; it was read once where it has a byte
+  -- whatever the status, the file stays, and no rank began
   pub unchanged : now.held ≡ before.held
+  pub steps : order ≡ []
+  -- a file that has a byte was read once
   pub calls : IsOfReadHeader status → IfSome before.held (λ file. now.calls ≡ after (λ _. head_load file) before.calls)
 
 -- ---- a run of a made script
@@ -84,9 +86,9 @@ pub record HasGenerated (seed size : ℕ) (before now : Seen) (status : ℕ) (or
 -- ---- every form
 
 abbrev pub EndsAs : Option Asked → Seen → Seen → ℕ → List Mark → Type 0
-EndsAs None before now status order = (status ≡ 2) ⊎ (status ≡ 8)
+EndsAs None before now status order = ((status ≡ 2) ⊎ (status ≡ 8)) × (order ≡ [])
 EndsAs (Some (run name)) before now status order = HasRun before now status order
-EndsAs (Some (offsets name)) before now status order = HasListed before now status
+EndsAs (Some (offsets name)) before now status order = HasListed before now status order
 EndsAs (Some (generate seed size name)) before now status order = HasGenerated seed size before now status order
 
 -- the form reads the script that the source has

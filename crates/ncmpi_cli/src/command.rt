@@ -41,6 +41,7 @@ struct Options<'a> {
 
 // The most records that a script is made with, and how many where the words don't say.
 const MOST: u64 = 64;
+
 const USUAL: u32 = 12;
 
 /// The form of the words. Watching a run is not built: words that ask for it are of no form.
@@ -75,7 +76,11 @@ fn command<'a>(alloc: Global) -> Result<Command<'a>, AllocError>
         .arg(option(alloc, "generate"))?
         .arg(option(alloc, "size"))?
         .arg(option(alloc, "watch"))?
-        .arg(Arg::new(alloc, "dataset").action(ArgAction::Set).required(true))
+        .arg(
+            Arg::new(alloc, "dataset")
+                .action(ArgAction::Set)
+                .required(true),
+        )
 }
 
 fn flag<'a>(alloc: Global, name: &'a str) -> Arg<'a>
@@ -116,7 +121,12 @@ fn form_by<'a>(options: &Options<'a>) -> Option<Form<'a>>
     ensures sized { IfSome result HasSize }
 {
     let name = options.dataset.filter(|name| !name.is_empty())?;
-    match (options.offsets, options.generate, options.size, options.watch) {
+    match (
+        options.offsets,
+        options.generate,
+        options.size,
+        options.watch,
+    ) {
         (false, None, None, None) => Some(Form::Run(name)),
         (true, None, None, None) => Some(Form::Offsets(name)),
         (false, Some(seed), size, None) => Some(Form::Generate {

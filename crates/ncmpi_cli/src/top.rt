@@ -77,11 +77,15 @@ pub fn ncrun<R: Wait, S: Source, K: Sink, D: Disk, G: Gate>(
     match form_of(alloc, words) {
         Ok(Some(Form::Run(dataset))) => run_script(rt, alloc, dataset, script, disk, out, gate),
         Ok(Some(Form::Offsets(dataset))) => list_offsets(alloc, disk, out, dataset),
-        Ok(Some(Form::Generate {
-            seed,
-            size,
-            dataset,
-        })) => run_made(rt, alloc, seed, size, dataset, disk, out, gate),
+        Ok(
+            Some(
+                Form::Generate {
+                    seed,
+                    size,
+                    dataset,
+                },
+            ),
+        ) => run_made(rt, alloc, seed, size, dataset, disk, out, gate),
         Ok(None) => tell(alloc, out, Stop::Usage, MarkList::new(alloc)),
         Err(_) => tell(alloc, out, Stop::Memory, MarkList::new(alloc)),
     }

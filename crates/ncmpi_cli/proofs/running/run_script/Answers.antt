@@ -1,12 +1,9 @@
-use Rattle.std.proofs.Common.{◌≡◌, ◌∙◌, ap, refl, sym, List, ℕ, Some, rules}
+use Rattle.std.proofs.Common.{◌≡◌, ◌∙◌, ap, refl, List, ℕ, Some, rules}
 use Rattle.std.specs.Prelude.{Err}
-use Rattle.nc_base.specs.declared.header.Header.{Header}
 use Rattle.nc_base.specs.declared.run.RunEnd.{RunEnd}
 use Rattle.nc_base.specs.declared.script.Script.{Script}
-use Rattle.nc_base.specs.declared.step.Mark.{Mark}
 use Rattle.nc_base.specs.declared.step.StepErr.TheVariants as fault
 use Rattle.ncmpi_cli.specs.declared.stop.Stop.{Stop}
-use Rattle.serial_spec.specs.History.{IsLegal}
 use Rattle.script_spec.specs.Texts.{run_text}
 use Rattle.script_laws.proofs.LawfulLaws.{read_lawful}
 use Rattle.ncmpi_cli.proofs.Ran.{begins, begins_none, ran}

@@ -1,4 +1,4 @@
-use Rattle.std.proofs.Common.{◌≡◌, ap, option_map, refl, rules, Some, sym, ◌∙◌}
+use Rattle.std.proofs.Common.{◌≡◌, ap, option_map, None, refl, rules, Some, sym, ◌∙◌}
 use Rattle.ncmpi_cli.specs.declared.command.Form.TheVariants as form
 use Rattle.ncmpi_cli.specs.Forms.{asked_of}
 use Rattle.ncmpi_cli.specs.Words.{form_of, offsets, run, texts}
@@ -33,8 +33,16 @@ returns-in-Ok-Some-Offsets-clause-ends g c =
       faulty = list.faulty;
       complete = list.complete;
       unchanged = list.unchanged;
+      steps = list.order;
       calls = list.calls;
     })
+
+-- words of no form
+pub returns-in-Ok-None-clause-ends : goal.returns-in-Ok-None-clause-ends
+returns-in-Ok-None-clause-ends g c =
+    let is : c.in-Ok-None.field-0 ≡ None = search rules in
+    ends (form_of (texts c.args.words.now)) None _ _ _ _ (sym (ap (option_map asked_of) is) ∙ c.in-Ok-None.ensures.asked)
+    (c.tell.ensures.status, c.tell.ensures.order ∙ c.new.ensures)
 
 -- want of memory
 pub returns-in-Err-clause-ends : goal.returns-in-Err-clause-ends
