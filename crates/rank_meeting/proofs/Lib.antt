@@ -37,3 +37,14 @@ pub mod TurnKnown
 pub mod AttendLaws
 pub mod AttendWay
 pub mod TestScripts
+mod ThreadCalls
+mod ThreadEnds
+mod ThreadKnown
+mod ThreadWhole
+mod ThreadRuns
+mod ThreadStarts
+mod ThreadJoins
+mod ThreadAll
+mod ThreadSettles
+mod ThreadLists
+mod ThreadTies

@@ -9,3 +9,5 @@ pub mod Stages
 pub mod Steps
 pub mod Stopping
 pub mod Strange
+pub mod Resident
+pub mod Threads

@@ -249,7 +249,7 @@ fn cut_off(alloc: Global, order: MarkList, seats: Vec<Seat>, fault: StepErr) -> 
 }
 
 /// The end of a run that was cut off, without answers.
-fn stopped(alloc: Global, order: MarkList, fault: StepErr) -> RunEnd
+pub(crate) fn stopped(alloc: Global, order: MarkList, fault: StepErr) -> RunEnd
     ensures order { result.order ≡ order }
     ensures fault { result.fault ≡ Some fault }
 {
