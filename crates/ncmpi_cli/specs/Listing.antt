@@ -2,7 +2,7 @@
 --     Lists held text                  the text has the offsets of the header that the front of the file spells
 --     ListsWhole, ListsFront           it was given whole, or a front of it
 --     IsSoundFront, IsFaultyFront      nothing, or something, is wrong with that header, which is told
-use Rattle.std.specs.Prelude.{ℕ, ◌≡◌, ◌⊎◌, List, take, Option, IfSome, IsSomeAnd}
+use Rattle.std.specs.Prelude.{ℕ, ◌≡◌, ◌⊎◌, List, take, Option, IsSomeAnd}
 use Rattle.nc_base.specs.declared.errors.HeaderErr.{HeaderErr}
 use Rattle.nc_base.specs.declared.header.Header.{Header}
 use Rattle.nc_outside.specs.Told.{with_end}

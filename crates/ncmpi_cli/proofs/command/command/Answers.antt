@@ -2,7 +2,7 @@ use Rattle.std.proofs.Common.{◌≡◌, ◌∙◌, ap, ap₂, codes, false, rul
 use Rattle.std.proofs.lemmas.Result.{IfOk-weaker}
 use Rattle.clap.specs.Simple.{app_of, app_of_fields, new_app, with_rule}
 use Rattle.clap.specs.Walk.{rule_of}
-use Rattle.ncmpi_cli.specs.Words.{flag, nameless, option, required}
+use Rattle.ncmpi_cli.specs.Words.{nameless, required}
 use Rattle.ncmpi_cli.proofs.command.command.Goals as goal
 
 pub returns : goal.returns

@@ -1,4 +1,4 @@
-use Rattle.std.proofs.Common.{◌≡◌, ◌∙◌, rules}
+use Rattle.std.proofs.Common.{◌∙◌, rules}
 use Rattle.ncmpi_cli.proofs.Digits.{natural}
 use Rattle.ncmpi_cli.proofs.command.natural.Goals as goal
 
