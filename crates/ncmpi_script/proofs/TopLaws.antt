@@ -6,17 +6,17 @@ use Rattle.nc_base.specs.declared.errors.LimitName.TheVariants as limit
 use Rattle.nc_base.specs.declared.script.Script.{Script}
 use Rattle.nc_base.specs.declared.errors.ScriptKind.TheVariants as kind
 use Rattle.script_spec.specs.ScriptWords.{Line}
-use Rattle.script_spec.specs.ScriptGrammar.{script_of_lines, script_of_text, most_bytes, newlines}
+use Rattle.script_spec.specs.ScriptGrammar.{script_of_lines, script_of_text, without_head, most_bytes, newlines}
 use Rattle.ncmpi_script.specs.TopWords.{head_by, definitions_by, data_part_by, finish_by, made_by, end_by, calls_by, rest_by, headed_by, lines_by, utf8_by, text_by}
 
-no_line : (past : ℕ) → script_of_lines past [] ≡ Err (record { line = 1; kind = kind.NoHead })
+no_line : (past : ℕ) → script_of_lines past [] ≡ Err (without_head past)
 no_line past = refl
 
 a_line : (past : ℕ) (l : Line) (lines : List Line) → script_of_lines past (l ∷ lines) ≡ headed_by past l lines
 unfolding head_by definitions_by data_part_by finish_by made_by end_by calls_by rest_by headed_by
 a_line past l lines = refl
 
-pub lines_none : (past : ℕ) (lines : List Line) → lines ≡ [] → lines_by past lines ≡ Err (record { line = 1; kind = kind.NoHead })
+pub lines_none : (past : ℕ) (lines : List Line) → lines ≡ [] → lines_by past lines ≡ Err (without_head past)
 unfolding lines_by
 lines_none past lines e = ap (script_of_lines past) e ∙ no_line past
 

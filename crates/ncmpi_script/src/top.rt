@@ -1,7 +1,7 @@
 // A whole text.
 ghost use Rattle.std.specs.Prelude.{◌≡◌, ◌≢◌, ◌≤◌, ◌<◌, ◌^◌, ◌+◌, IfOk, IfErr, length, filter, Ok};
 ghost use Rattle.script_spec.specs.ScriptWords.{text_lines, significant_of, is_newline};
-ghost use Rattle.script_spec.specs.ScriptGrammar.{finish, is_mismatch, newlines, Reads, script_fault};
+ghost use Rattle.script_spec.specs.ScriptGrammar.{finish, is_mismatch, newlines, without_head, Reads, script_fault};
 ghost use Rattle.ncmpi_script.specs.TopWords.{head_by, definitions_by, data_part_by, finish_by, made_by, end_by, calls_by, rest_by, headed_by, lines_by, utf8_by, text_by};
 ghost use Rattle.ncmpi_script.specs.Seen.{line_seen};
 ghost use Rattle.nc_base.specs.declared.errors.ScriptKind.TheVariants as kind;
@@ -238,6 +238,23 @@ fn read_from_head<'a>(
     }
 }
 
+/// The fault of a text without a significant line, which is seen at its end; `past` is the number past its last line.
+fn without_head(past: u32) -> ScriptErr
+    ensures { result ≡ without_head past }
+{
+    if past <= MAX_SCRIPT_LINES + 1 {
+        ScriptErr {
+            line: 1,
+            kind: ScriptKind::NoHead,
+        }
+    } else {
+        ScriptErr {
+            line: MAX_SCRIPT_LINES + 1,
+            kind: ScriptKind::Limit(LimitName::Lines),
+        }
+    }
+}
+
 /// Reads the script of the lines of a text; `past` is the number past the last.
 #[tactic(auto, using(crate::proofs::TopLaws::lines_none, crate::proofs::TopLaws::lines_some))]
 fn script_of_lines<'a>(
@@ -249,10 +266,7 @@ fn script_of_lines<'a>(
 {
     match significant_line(alloc, lines) {
         Ok(Some(line)) => read_from_head(alloc, past, line, lines),
-        Ok(None) => Err(LineErr::Fault(ScriptErr {
-            line: 1,
-            kind: ScriptKind::NoHead,
-        })),
+        Ok(None) => Err(LineErr::Fault(without_head(past))),
         Err(_) => Err(LineErr::Memory),
     }
 }

@@ -16,6 +16,7 @@ use Rattle.serial_spec.specs.ExternalForm.{size_of}
 use Rattle.serial_spec.specs.Request.{cells, places}
 use Rattle.serial_spec.specs.SharedByte.{Puts, bytes_of}
 use Rattle.serial_spec.specs.Said.{Cell}
+pub use Rattle.serial_spec.specs.Lists.{In, HaveSame}
 
 -- ---- puts
 
@@ -65,15 +66,6 @@ got_cell file o = (o.from, read file o.extent.at o.extent.len)
 abbrev pub IsRunFrom : ℕ → List Owned → Type 0
 IsRunFrom from [] = Unit {0}
 IsRunFrom from (o ∷ os) = (o.from ≡ from) × IsRunFrom (from + o.extent.len) os
-
--- ---- members, in whatever order
-
-abbrev pub In : {X : Type 0} → List X → X → Type 0
-In [] x = ⊥
-In (y ∷ ys) x = (y ≡ x) ⊎ In ys x
-
-abbrev pub HaveSame : {X : Type 0} → List X → List X → Type 0
-HaveSame {X} xs ys = ((o : X) → In xs o → In ys o) × ((o : X) → In ys o → In xs o)
 
 -- ---- no byte twice within one request
 

@@ -17,10 +17,10 @@ use Rattle.nc_base.specs.declared.errors.RedefErr.TheVariants as redef
 use Rattle.serial_spec.specs.Limits.{most_dims, most_vars, file_limit}
 use Rattle.serial_spec.specs.ExternalForm.{size_of}
 use Rattle.serial_spec.specs.Layout.{length_of}
-use Rattle.serial_spec.specs.HeaderGrammar.{fits_count, is_type}
+use Rattle.serial_spec.specs.HeaderGrammar.{fits_count, is_record_id, is_type}
 use Rattle.serial_spec.specs.RankMachine.{find_dim}
 use Rattle.serial_spec.specs.Lawful.{is_lawful_extra, is_whole_extra}
-use Rattle.serial_spec.specs.Redefinition.{with_attr, with_extra, added, dim_id, is_taken, is_unknown, is_record_name, has_bad_shape, is_one_too_many, has_bad_kind, extra_fault, extras_from}
+use Rattle.serial_spec.specs.Redefinition.{with_attr, with_extra, added, dim_id, is_taken, is_unknown, has_bad_shape, is_one_too_many, has_bad_kind, extra_fault, extras_from}
 use Rattle.serial_spec.proofs.ElementLaws.{get_left}
 use Rattle.var_layout.proofs.Soundness.{and_left, and_right}
 use Rattle.redef_laws.proofs.FieldLaws.{not_both, lt_told, le_told, not_lt_told, not_le_told, le_test, eq_told, each_then, each_both, fails_each, count_fits}
@@ -197,7 +197,6 @@ with_dim h d fit none lawful =
 record IsKnownDim (dims : List Dim) (name : List ℕ) (id : ℕ) : Type 0 where
   dim : Dim
   there : slice_get dims id ≡ Some dim
-  named : bytes_eq dim.name name ≡ true
 
 known_dim : (h : Header) (name : List ℕ) → is_none (find_dim h name) ≡ false → IsKnownDim h.dims name (dim_id h name)
 known_dim h name e = by_found (find_dim h name) refl e
@@ -208,14 +207,7 @@ known_dim h name e = by_found (find_dim h name) refl e
         let found = first_at (λ (d : Dim). bytes_eq d.name name) 0 k h.dims (sym (position_from-zero (λ (d : Dim). bytes_eq d.name name) h.dims) ∙ g) in
         let place = found.place in
         let same : found.at ≡ unwrap_or (find_dim h name) 0 = (let e' : found.at ≡ k = omega arith in e') ∙ sym (ap (λ (o : Option ℕ). unwrap_or o 0) g) in
-        subst (λ (n : ℕ). IsKnownDim h.dims name n) same (record { dim = found.item; there = found.there; named = found.passes })
-
-not_record : (dims : List Dim) (name : List ℕ) (k : ℕ) (d : Dim) → list_any (λ (d : Dim). bytes_eq d.name name && d.len == 0) dims ≡ false → slice_get dims k ≡ Some d
-    → bytes_eq d.name name ≡ true → is_record_at dims k ≡ false
-not_record dims name k d h g e =
-    ap (λ (o : Option Dim). length_of o == 0) g
-    ∙ not_both (bytes_eq d.name name) (d.len == 0)
-    (each_at (λ (d : Dim). (bytes_eq d.name name && d.len == 0) ≡ false) dims k d (fails_each (λ (d : Dim). bytes_eq d.name name && d.len == 0) dims h) g) e
+        subst (λ (n : ℕ). IsKnownDim h.dims name n) same (record { dim = found.item; there = found.there })
 
 ids_known : (h : Header) (names : List (List ℕ)) → AllByRecursion (λ n. is_none (find_dim h n) ≡ false) names → AllByRecursion (λ n. dim_id h n < length h.dims) names
 ids_known h names all =
@@ -238,9 +230,7 @@ fit_new_var h kind name names none lawful =
       later =
           later_mapped (λ id. is_record_at h.dims id ≡ false) (dim_id h) names
           (each_mapped (λ id. is_record_at h.dims id ≡ false) (dim_id h) (drop 1 names)
-          (each_both (λ n. is_none (find_dim h n) ≡ false) (λ n. is_record_name h n ≡ false) (λ n. is_record_at h.dims (dim_id h n) ≡ false)
-          (λ n e f. let found = known_dim h n e in not_record h.dims n (dim_id h n) found.dim f found.there found.named) (drop 1 names)
-          (each_later (λ n. is_none (find_dim h n) ≡ false) names there) (fails_each (is_record_name h) (drop 1 names) none.shape)));
+          (fails_each (λ n. is_record_id h (dim_id h n)) (drop 1 names) none.shape));
       known_type = le_test _ _ (not_lt_told _ _ none.kind);
       typed = tt;
     }

@@ -37,6 +37,10 @@ fixed_end header n = front_after header (header_len header) (fixed_order header 
 abbrev pub old_first : Header → ℕ → ℕ
 old_first header n = unwrap_or (least (map (λ v. v.1.begin) (old_records header n))) 0
 
+-- in the order in which they are placed
+abbrev pub placed_records : Header → ℕ → List Numbered
+placed_records header n = by_begin (old_records header n)
+
 -- where the record variables begin
 abbrev pub first_place : Header → ℕ → ℕ
 first_place header n = first_record (fixed_end header n) (least (map (λ v. v.1.begin) (old_records header n)))
@@ -49,7 +53,7 @@ new_from header n = first_place header n + vsizes header (old_records header n)
 
 parts : (header : Header) (n : ℕ)
     → begins_by_number header n
-    ≡ fixed_begins header (header_len header) (fixed_order header n) ++ mapped_begins (old_place_of header n) (old_records header n)
+    ≡ fixed_begins header (header_len header) (fixed_order header n) ++ mapped_begins (old_place_of header n) (placed_records header n)
     ++ record_begins header (new_from header n) (new_records header n)
 parts header n = refl
 
@@ -165,7 +169,7 @@ fixed_place header n k v g e =
       found.0,
       record {
         at =
-            first_of (fixed_begins header (header_len header) (fixed_order header n)) (mapped_begins (old_place_of header n) (old_records header n))
+            first_of (fixed_begins header (header_len header) (fixed_order header n)) (mapped_begins (old_place_of header n) (placed_records header n))
             (record_begins header (new_from header n) (new_records header n)) k (k, found.0) found.1.at;
         inner = found.1.at;
         low = found.1.low;
@@ -183,10 +187,11 @@ fixed_places_apart header n k m v w b c g f d e other p q =
 pub old_place : (header : Header) (n k : ℕ) (v : Var) → slice_get header.vars k ≡ Some v → is_record header v ≡ true → k < n
     → at_number (begins_by_number header n) k ≡ Some (k, old_place_of header n v)
 old_place header n k v g e l =
-    second_of (fixed_begins header (header_len header) (fixed_order header n)) (mapped_begins (old_place_of header n) (old_records header n))
+    second_of (fixed_begins header (header_len header) (fixed_order header n)) (mapped_begins (old_place_of header n) (placed_records header n))
     (record_begins header (new_from header n) (new_records header n)) k (k, old_place_of header n v)
     (fixed_none header (header_len header) (fixed_order header n) k (not_fixed header n k v g e))
-    (map_begin (old_place_of header n) header.vars (old_records header n) k v (old_numbers header n) g (in_old header n k v g e l))
+    (map_begin (old_place_of header n) header.vars (placed_records header n) k v (each_by_begin (λ p. slice_get header.vars p.0 ≡ Some p.1) (old_records header n) (old_numbers header n)) g
+    (in_by_begin (old_records header n) (k, v) (in_old header n k v g e l)))
 
 pub record IsNewPlace (header : Header) (n k : ℕ) (v : Var) (b : ℕ) : Type 0 where
   pub at : at_number (begins_by_number header n) k ≡ Some (k, b)
@@ -200,10 +205,10 @@ new_place header n k v g e l =
       found.0,
       record {
         at =
-            third_of (fixed_begins header (header_len header) (fixed_order header n)) (mapped_begins (old_place_of header n) (old_records header n))
+            third_of (fixed_begins header (header_len header) (fixed_order header n)) (mapped_begins (old_place_of header n) (placed_records header n))
             (record_begins header (new_from header n) (new_records header n)) k (k, found.0)
             (fixed_none header (header_len header) (fixed_order header n) k (not_fixed header n k v g e))
-            (map_none (old_place_of header n) (old_records header n) k (not_old header n k l)) found.1.at;
+            (map_none (old_place_of header n) (placed_records header n) k (each_by_begin (λ p. p.0 ≡ k → ⊥) (old_records header n) (not_old header n k l))) found.1.at;
         inner = found.1.at;
         low = found.1.low;
         high = found.1.high;

@@ -258,7 +258,7 @@ abbrev fixed_part : Header → ℕ → List (ℕ × ℕ)
 fixed_part header n = fixed_begins header (header_len header) (fixed_order header n)
 
 abbrev record_part : Header → ℕ → List (ℕ × ℕ)
-record_part header n = map (λ (v : Numbered). (v.0, record_begin header n v)) (old_records header n)
+record_part header n = map (λ (v : Numbered). (v.0, record_begin header n v)) (by_begin (old_records header n))
 
 abbrev new_part : Header → ℕ → List (ℕ × ℕ)
 new_part header n =
@@ -301,7 +301,9 @@ record_begin_is header n k v h l e =
     begin_found (begins_by_number header n) k (record_begin header n (k, v))
     (with_more (λ q. q.0 == k) (fixed_part header n ++ record_part header n) (new_part header n) (k, record_begin header n (k, v))
     (with_none (λ q. q.0 == k) (fixed_part header n) (record_part header n) (k, record_begin header n (k, v)) none
-    (map_placed header (record_begin header n) (old_records header n) k v (records_of_header header n) (record_is_old header n k v h l e))))
+    (map_placed header (record_begin header n) (by_begin (old_records header n)) k v
+    (λ p g. records_of_header header n p ((by_begin_same (old_records header n)).0 p g))
+    ((by_begin_same (old_records header n)).1 (k, v) (record_is_old header n k v h l e)))))
   where
     contrary : (t : Bool) → t ≡ true → not t ≡ true → ⊥
     contrary true p q = cc

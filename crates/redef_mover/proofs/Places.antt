@@ -15,12 +15,11 @@ use Rattle.serial_spec.specs.SharedByte.{least}
 use Rattle.serial_spec.specs.Redefinition.{Numbered, fixed_begins, front_after, begin_at, first_record, record_begins, inserted, by_begin, fixed_order, begins_by_number}
 use Rattle.var_layout.specs.Capped.{capped}
 use Rattle.var_layout.proofs.Capping.{capped_sum, capped_both}
-use Rattle.redef_mover.specs.declared.placing.FixedVar.{FixedVar}
+use Rattle.redef_mover.specs.declared.placing.NumberedVar.{NumberedVar}
 use Rattle.redef_mover.specs.declared.placing.Place.{Place}
 use Rattle.redef_mover.specs.declared.placing.Side.{Side}
 use Rattle.redef_mover.specs.declared.placing.Side.TheVariants.{Old, New}
-use Rattle.redef_mover.specs.Placing.{on_side, records_at, fixed_var, pairs, capped_pairs}
-use Rattle.redef_mover.proofs.Sorting.{put_by, sorted_by}
+use Rattle.redef_mover.specs.Placing.{on_side, records_at, fixed_var, record_var, pairs, capped_pairs}
 
 -- ---- the variables that two tests choose, among the first k
 
@@ -75,7 +74,7 @@ records_before header n side k = chosen (λ v. is_record header v.1) (on_side n 
 pub one_more : {A B : Type 0} (f : A → B) (front : List B) (xs : List A) (x : A) → (front ++ map f xs) ++ f x ∷ [] ≡ front ++ map f (xs ++ x ∷ [])
 one_more f front xs x = append_assoc front (map f xs) (f x ∷ []) ∙ ap (λ ys. front ++ ys) (sym (map-append f xs (x ∷ [])))
 
-pub fixed_pushed : (header : Header) (n k : ℕ) (side : Side) (v : Var) (len : ℕ) (old now after : List FixedVar) → k < length header.vars → v ≡ get_or header.vars k v
+pub fixed_pushed : (header : Header) (n k : ℕ) (side : Side) (v : Var) (len : ℕ) (old now after : List NumberedVar) → k < length header.vars → v ≡ get_or header.vars k v
     → (not (is_record header v) && on_side n side (k, v)) ≡ true → len ≡ capped (slab header v)
     → after ≡ now ++ record { number = k; begin = v.begin; len = len } ∷ []
     → now ≡ old ++ map (fixed_var header) (fixed_before header n side k)
@@ -83,24 +82,35 @@ pub fixed_pushed : (header : Header) (n k : ℕ) (side : Side) (v : Var) (len : 
 fixed_pushed header n k side v len old now after within there test long pushed so_far =
     pushed
     ∙ ap (λ (m : ℕ). now ++ record { number = k; begin = v.begin; len = m } ∷ []) long
-    ∙ ap (λ (xs : List FixedVar). xs ++ fixed_var header (k, v) ∷ []) so_far
+    ∙ ap (λ (xs : List NumberedVar). xs ++ fixed_var header (k, v) ∷ []) so_far
     ∙ one_more (fixed_var header) old (fixed_before header n side k) (k, v)
     ∙ ap (λ xs. old ++ map (fixed_var header) xs) (sym (chosen_more (λ w. not (is_record header w.1)) (on_side n side) header.vars k v within there test))
 
-pub fixed_passed : (header : Header) (n k : ℕ) (side : Side) (v : Var) (old now : List FixedVar) → k < length header.vars → v ≡ get_or header.vars k v
+pub fixed_passed : (header : Header) (n k : ℕ) (side : Side) (v : Var) (old now : List NumberedVar) → k < length header.vars → v ≡ get_or header.vars k v
     → (not (is_record header v) && on_side n side (k, v)) ≡ false
     → now ≡ old ++ map (fixed_var header) (fixed_before header n side k)
     → now ≡ old ++ map (fixed_var header) (fixed_before header n side (k + 1))
 fixed_passed header n k side v old now within there test so_far =
     so_far ∙ ap (λ xs. old ++ map (fixed_var header) xs) (sym (chosen_same (λ w. not (is_record header w.1)) (on_side n side) header.vars k v within there test))
 
-inserted_is : (v : Numbered) (vars : List Numbered) → put_by (λ (w : Numbered). w.1.begin) v vars ≡ inserted v vars
-inserted_is v [] = refl
-inserted_is v (w ∷ vars) = ap (λ ws. cond (nat_le v.1.begin w.1.begin) (v ∷ w ∷ vars) (w ∷ ws)) (inserted_is v vars)
+pub records_pushed : (header : Header) (n k : ℕ) (v : Var) (len : ℕ) (old now after : List NumberedVar) → k < length header.vars → v ≡ get_or header.vars k v
+    → (is_record header v && on_side n Old (k, v)) ≡ true → len ≡ capped (vsize header v)
+    → after ≡ now ++ record { number = k; begin = v.begin; len = len } ∷ []
+    → now ≡ old ++ map (record_var header) (records_before header n Old k)
+    → after ≡ old ++ map (record_var header) (records_before header n Old (k + 1))
+records_pushed header n k v len old now after within there test long pushed so_far =
+    pushed
+    ∙ ap (λ (m : ℕ). now ++ record { number = k; begin = v.begin; len = m } ∷ []) long
+    ∙ ap (λ (xs : List NumberedVar). xs ++ record_var header (k, v) ∷ []) so_far
+    ∙ one_more (record_var header) old (records_before header n Old k) (k, v)
+    ∙ ap (λ xs. old ++ map (record_var header) xs) (sym (chosen_more (λ w. is_record header w.1) (on_side n Old) header.vars k v within there test))
 
-pub sorted_is : (vars : List Numbered) → sorted_by (λ (w : Numbered). w.1.begin) vars ≡ by_begin vars
-sorted_is [] = refl
-sorted_is (v ∷ vars) = ap (λ ws. put_by (λ (w : Numbered). w.1.begin) v ws) (sorted_is vars) ∙ inserted_is v (by_begin vars)
+pub records_passed : (header : Header) (n k : ℕ) (v : Var) (old now : List NumberedVar) → k < length header.vars → v ≡ get_or header.vars k v
+    → (is_record header v && on_side n Old (k, v)) ≡ false
+    → now ≡ old ++ map (record_var header) (records_before header n Old k)
+    → now ≡ old ++ map (record_var header) (records_before header n Old (k + 1))
+records_passed header n k v old now within there test so_far =
+    so_far ∙ ap (λ xs. old ++ map (record_var header) xs) (sym (chosen_same (λ w. is_record header w.1) (on_side n Old) header.vars k v within there test))
 
 -- ---- placing the fixed variables
 
@@ -131,15 +141,15 @@ front_push header front [] v = refl
 front_push header front (w ∷ vars) v = front_push header (begin_at front w.1 + slab header w.1) vars v
 
 -- after the first k of the order
-pub record PlacedSoFar (order : List FixedVar) (first k : ℕ) (old now : List Place) (front : ℕ) : Type 0 where
+pub record PlacedSoFar (order : List NumberedVar) (first k : ℕ) (old now : List Place) (front : ℕ) : Type 0 where
   pub small : front ≤ 2 ^ 62
   pub placed : (header : Header) (vars : List Numbered) (n : ℕ) → order ≡ map (fixed_var header) vars → first ≡ capped n
       → (pairs now ≡ pairs old ++ capped_pairs (fixed_begins header n (take k vars))) × (front ≡ capped (front_after header n (take k vars)))
 
-pub placed_none : (order : List FixedVar) (first : ℕ) (old : List Place) → first ≤ 2 ^ 62 → PlacedSoFar order first 0 old old first
+pub placed_none : (order : List NumberedVar) (first : ℕ) (old : List Place) → first ≤ 2 ^ 62 → PlacedSoFar order first 0 old old first
 placed_none order first old h = record { small = h; placed = λ header vars n e f. (sym (append-nil (pairs old)), f) }
 
-pub placed_next : (order : List FixedVar) (first k : ℕ) (old now after : List Place) (front begin next : ℕ) (item : FixedVar) → k < length order → item ≡ get_or order k item
+pub placed_next : (order : List NumberedVar) (first k : ℕ) (old now after : List Place) (front begin next : ℕ) (item : NumberedVar) → k < length order → item ≡ get_or order k item
     → ((m : ℕ) → front ≡ capped m → begin ≡ capped (first_record m (Some item.begin))) → next ≡ capped (begin + item.len)
     → after ≡ now ++ record { number = item.number; begin = begin } ∷ []
     → PlacedSoFar order first k old now front → PlacedSoFar order first (k + 1) old after next
@@ -149,15 +159,15 @@ placed_next order first k old now after front begin next item within there at to
         → (pairs after ≡ pairs old ++ capped_pairs (fixed_begins header n (take (k + 1) vars))) × (next ≡ capped (front_after header n (take (k + 1) vars)))
     one_further header vars n e f =
         let v = get_or vars k nobody in
-        let long = ap (λ (vs : List FixedVar). length vs) e ∙ length-map vars (fixed_var header) in
+        let long = ap (λ (vs : List NumberedVar). length vs) e ∙ length-map vars (fixed_var header) in
         let inside : k < length vars = omega arith in
-        let is = there ∙ ap (λ (vs : List FixedVar). get_or vs k item) e ∙ get_or-map (fixed_var header) vars k nobody item inside in
+        let is = there ∙ ap (λ (vs : List NumberedVar). get_or vs k item) e ∙ get_or-map (fixed_var header) vars k nobody item inside in
         let more = take_more vars k nobody inside in
         let before = so_far.placed header vars n e f in
         let begun : begin ≡ capped (begin_at (front_after header n (take k vars)) v.1) =
-        at (front_after header n (take k vars)) before.1 ∙ ap (λ (i : FixedVar). capped (first_record (front_after header n (take k vars)) (Some i.begin))) is in
-        let numbered = ap (λ (i : FixedVar). i.number) is in
-        let sized = ap (λ (i : FixedVar). i.len) is in (
+        at (front_after header n (take k vars)) before.1 ∙ ap (λ (i : NumberedVar). capped (first_record (front_after header n (take k vars)) (Some i.begin))) is in
+        let numbered = ap (λ (i : NumberedVar). i.number) is in
+        let sized = ap (λ (i : NumberedVar). i.len) is in (
           pairs_more old now after (record { number = item.number; begin = begin }) (fixed_begins header n (take k vars)) (begin_at (front_after header n (take k vars)) v.1) pushed begun before.0
               ∙ ap (λ (i : ℕ). pairs old ++ capped_pairs (fixed_begins header n (take k vars) ++ (i, begin_at (front_after header n (take k vars)) v.1) ∷ [])) numbered
               ∙ ap (λ bs. pairs old ++ capped_pairs bs) (sym (begins_push header n (take k vars) v) ∙ ap (λ vs. fixed_begins header n vs) (sym more)),
@@ -167,11 +177,11 @@ placed_next order first k old now after front begin next item within there at to
               ∙ ap (λ (i : ℕ). capped i) (sym (front_push header n (take k vars) v) ∙ ap (λ vs. front_after header n vs) (sym more)),
         )
 
-pub placed_whole : (order : List FixedVar) (first k : ℕ) (old now : List Place) (front : ℕ) → length order ≤ k → PlacedSoFar order first k old now front
+pub placed_whole : (order : List NumberedVar) (first k : ℕ) (old now : List Place) (front : ℕ) → length order ≤ k → PlacedSoFar order first k old now front
     → (header : Header) (vars : List Numbered) (n : ℕ) → order ≡ map (fixed_var header) vars → first ≡ capped n
     → (pairs now ≡ pairs old ++ capped_pairs (fixed_begins header n vars)) × (front ≡ capped (front_after header n vars))
 placed_whole order first k old now front past so_far header vars n e f =
-    let long = ap (λ (vs : List FixedVar). length vs) e ∙ length-map vars (fixed_var header) in
+    let long = ap (λ (vs : List NumberedVar). length vs) e ∙ length-map vars (fixed_var header) in
     let all = take_all k vars (omega arith) in
     let before = so_far.placed header vars n e f in
     (before.0 ∙ ap (λ vs. pairs old ++ capped_pairs (fixed_begins header n vs)) all, before.1 ∙ ap (λ vs. capped (front_after header n vs)) all)
@@ -211,47 +221,69 @@ end_more header m vars v end next bytes e f g =
     ∙ capped_both (m + shares header vars) (vsize header v.1)
     ∙ ap (λ (i : ℕ). capped i) (omega (arith, more))
 
-pub record OldSoFar (header : Header) (n first least k : ℕ) (old now : List Place) (end : ℕ) : Type 0 where
-  pub placed : (m : ℕ) → first ≡ capped m
-      → (pairs now ≡ pairs old ++ capped_pairs (kept_apart m least (records_before header n Old k))) × (end ≡ capped (m + shares header (records_before header n Old k)))
+-- after the first k of the order
+pub record OldSoFar (order : List NumberedVar) (first least k : ℕ) (old now : List Place) (end : ℕ) : Type 0 where
+  pub placed : (header : Header) (vars : List Numbered) (m : ℕ) → order ≡ map (record_var header) vars → first ≡ capped m
+      → (pairs now ≡ pairs old ++ capped_pairs (kept_apart m least (take k vars))) × (end ≡ capped (m + shares header (take k vars)))
 
-pub old_none : (header : Header) (n first least : ℕ) (old : List Place) → OldSoFar header n first least 0 old old first
-old_none header n first least old = record { placed = λ m e. (sym (append-nil (pairs old)), e ∙ ap (λ (i : ℕ). capped i) (let z : m ≡ m + 0 = omega arith in z)) }
+pub old_none : (order : List NumberedVar) (first least : ℕ) (old : List Place) → OldSoFar order first least 0 old old first
+old_none order first least old =
+    record { placed = λ header vars m e f. (sym (append-nil (pairs old)), f ∙ ap (λ (i : ℕ). capped i) (let z : m ≡ m + 0 = omega arith in z)) }
 
-pub old_next : (header : Header) (n first least k : ℕ) (v : Var) (old now after : List Place) (end next begin bytes : ℕ) → k < length header.vars → v ≡ get_or header.vars k v
-    → (is_record header v && on_side n Old (k, v)) ≡ true → begin ≡ capped (first + (v.begin - least)) → bytes ≡ capped (vsize header v) → next ≡ capped (end + bytes)
-    → after ≡ now ++ record { number = k; begin = begin } ∷ []
-    → OldSoFar header n first least k old now end → OldSoFar header n first least (k + 1) old after next
-old_next header n first least k v old now after end next begin bytes within there test at sized to pushed so_far = record {
-  placed = λ m e.
-      let more = sym (chosen_more (λ w. is_record header w.1) (on_side n Old) header.vars k v within there test) in
-      let before = so_far.placed m e in
-      let vars = records_before header n Old k in (
-        pairs_more old now after (record { number = k; begin = begin }) (kept_apart m least vars) (m + (v.begin - least)) pushed
-            (at ∙ ap (λ (i : ℕ). capped (i + (v.begin - least))) e ∙ capped_sum m (v.begin - least)) before.0
-            ∙ ap (λ bs. pairs old ++ capped_pairs bs) (sym (map-append (λ (w : Numbered). (w.0, m + (w.1.begin - least))) vars ((k, v) ∷ [])))
-            ∙ ap (λ vs. pairs old ++ capped_pairs (kept_apart m least vs)) more,
-        end_more header m vars (k, v) end next bytes sized to before.1 ∙ ap (λ vs. capped (m + shares header vs)) more,
-      );
-}
+pub old_next : (order : List NumberedVar) (first least k : ℕ) (old now after : List Place) (end begin next : ℕ) (item : NumberedVar) → k < length order → item ≡ get_or order k item
+    → begin ≡ capped (first + (item.begin - least)) → next ≡ capped (end + item.len)
+    → after ≡ now ++ record { number = item.number; begin = begin } ∷ []
+    → OldSoFar order first least k old now end → OldSoFar order first least (k + 1) old after next
+old_next order first least k old now after end begin next item within there at to pushed so_far = record { placed = one_further }
+  where
+    one_further : (header : Header) (vars : List Numbered) (m : ℕ) → order ≡ map (record_var header) vars → first ≡ capped m
+        → (pairs after ≡ pairs old ++ capped_pairs (kept_apart m least (take (k + 1) vars))) × (next ≡ capped (m + shares header (take (k + 1) vars)))
+    one_further header vars m e f =
+        let v = get_or vars k nobody in
+        let before_k = take k vars in
+        let long = ap (λ (vs : List NumberedVar). length vs) e ∙ length-map vars (record_var header) in
+        let inside : k < length vars = omega arith in
+        let is = there ∙ ap (λ (vs : List NumberedVar). get_or vs k item) e ∙ get_or-map (record_var header) vars k nobody item inside in
+        let more = take_more vars k nobody inside in
+        let before = so_far.placed header vars m e f in
+        let begun : begin ≡ capped (m + (v.1.begin - least)) =
+        at ∙ ap (λ (i : NumberedVar). capped (first + (i.begin - least))) is ∙ ap (λ (i : ℕ). capped (i + (v.1.begin - least))) f ∙ capped_sum m (v.1.begin - least) in
+        let numbered = ap (λ (i : NumberedVar). i.number) is in
+        let sized = ap (λ (i : NumberedVar). i.len) is in (
+          pairs_more old now after (record { number = item.number; begin = begin }) (kept_apart m least before_k) (m + (v.1.begin - least)) pushed begun before.0
+              ∙ ap (λ (i : ℕ). pairs old ++ capped_pairs (kept_apart m least before_k ++ (i, m + (v.1.begin - least)) ∷ [])) numbered
+              ∙ ap (λ bs. pairs old ++ capped_pairs bs)
+              (sym (map-append (λ (w : Numbered). (w.0, m + (w.1.begin - least))) before_k (v ∷ [])) ∙ ap (λ vs. kept_apart m least vs) (sym more)),
+          end_more header m before_k v end next item.len sized to before.1 ∙ ap (λ vs. capped (m + shares header vs)) (sym more),
+        )
 
-pub old_passed : (header : Header) (n first least k : ℕ) (v : Var) (old now : List Place) (end : ℕ) → k < length header.vars → v ≡ get_or header.vars k v
-    → (is_record header v && on_side n Old (k, v)) ≡ false
-    → OldSoFar header n first least k old now end → OldSoFar header n first least (k + 1) old now end
-old_passed header n first least k v old now end within there test so_far = record {
-  placed = λ m e.
-      let same = sym (chosen_same (λ w. is_record header w.1) (on_side n Old) header.vars k v within there test) in
-      let before = so_far.placed m e in
-      (before.0 ∙ ap (λ vs. pairs old ++ capped_pairs (kept_apart m least vs)) same, before.1 ∙ ap (λ vs. capped (m + shares header vs)) same);
-}
-
-pub old_whole : (header : Header) (n first least k : ℕ) (old now : List Place) (end : ℕ) → length header.vars ≤ k → OldSoFar header n first least k old now end
-    → (m : ℕ) → first ≡ capped m
-    → (pairs now ≡ pairs old ++ capped_pairs (kept_apart m least (records_at header n Old))) × (end ≡ capped (m + shares header (records_at header n Old)))
-old_whole header n first least k old now end past so_far m e =
-    let all = chosen_all (λ w. is_record header w.1) (on_side n Old) header.vars k past in
-    let before = so_far.placed m e in
+pub old_whole : (order : List NumberedVar) (first least k : ℕ) (old now : List Place) (end : ℕ) → length order ≤ k → OldSoFar order first least k old now end
+    → (header : Header) (vars : List Numbered) (m : ℕ) → order ≡ map (record_var header) vars → first ≡ capped m
+    → (pairs now ≡ pairs old ++ capped_pairs (kept_apart m least vars)) × (end ≡ capped (m + shares header vars))
+old_whole order first least k old now end past so_far header vars m e f =
+    let long = ap (λ (vs : List NumberedVar). length vs) e ∙ length-map vars (record_var header) in
+    let all = take_all k vars (omega arith) in
+    let before = so_far.placed header vars m e f in
     (before.0 ∙ ap (λ vs. pairs old ++ capped_pairs (kept_apart m least vs)) all, before.1 ∙ ap (λ vs. capped (m + shares header vs)) all)
+
+shares_inserted : (header : Header) (v : Numbered) (vars : List Numbered) → shares header (inserted v vars) ≡ shares header (v ∷ vars)
+shares_inserted header v [] = refl
+shares_inserted header v (w ∷ vars) = by_test (shares_inserted header v vars) (nat_le v.1.begin w.1.begin)
+  where
+    by_test : shares header (inserted v vars) ≡ shares header (v ∷ vars) → (t : Bool)
+        → shares header (cond t (v ∷ w ∷ vars) (w ∷ inserted v vars)) ≡ shares header (v ∷ w ∷ vars)
+    by_test rest true = refl
+    by_test rest false =
+        let size = λ (x : Numbered). vsize header x.1 in
+        omega (arith, rest, sum_by-cons size w (inserted v vars), sum_by-cons size v vars, sum_by-cons size v (w ∷ vars), sum_by-cons size w vars)
+
+-- the order in which variables stand takes nothing from their sum
+pub shares_sorted : (header : Header) (vars : List Numbered) → shares header (by_begin vars) ≡ shares header vars
+shares_sorted header [] = refl
+shares_sorted header (v ∷ vars) =
+    let size = λ (x : Numbered). vsize header x.1 in
+    let one = shares_inserted header v (by_begin vars) in
+    omega (arith, one, shares_sorted header vars, sum_by-cons size v (by_begin vars), sum_by-cons size v vars)
 
 record_push : (header : Header) (at : ℕ) (vars : List Numbered) (v : Numbered)
     → record_begins header at (vars ++ v ∷ []) ≡ record_begins header at vars ++ (v.0, at + shares header vars) ∷ []
@@ -304,7 +336,7 @@ new_whole header n first k old now begin past so_far m e =
 
 pub placed_all : (header : Header) (n : ℕ) (p q r s : List Place) (low : Option ℕ) (base : ℕ) → p ≡ [] → low ≡ least (map (λ (v : Numbered). v.1.begin) (records_at header n Old)) → base ≡ unwrap_or low 0
     → pairs q ≡ pairs p ++ capped_pairs (fixed_begins header (header_len header) (fixed_order header n))
-    → pairs r ≡ pairs q ++ capped_pairs (kept_apart (first_record (front_after header (header_len header) (fixed_order header n)) low) base (records_at header n Old))
+    → pairs r ≡ pairs q ++ capped_pairs (kept_apart (first_record (front_after header (header_len header) (fixed_order header n)) low) base (by_begin (records_at header n Old)))
     → pairs s ≡ pairs r ++ capped_pairs (record_begins header (first_record (front_after header (header_len header) (fixed_order header n)) low + shares header (records_at header n Old)) (records_at header n New))
     → pairs s ≡ capped_pairs (begins_by_number header n)
 placed_all header n p q r s low base none is unwrapped fixed old new = subst Whole is (by_low low base unwrapped old new)
@@ -313,23 +345,23 @@ placed_all header n p q r s low base none is unwrapped fixed old new = subst Who
     Whole o =
         pairs s
         ≡ capped_pairs (fixed_begins header (header_len header) (fixed_order header n)
-        ++ kept_apart (first_record (front_after header (header_len header) (fixed_order header n)) o) (unwrap_or o 0) (records_at header n Old)
+        ++ kept_apart (first_record (front_after header (header_len header) (fixed_order header n)) o) (unwrap_or o 0) (by_begin (records_at header n Old))
         ++ record_begins header (first_record (front_after header (header_len header) (fixed_order header n)) o + shares header (records_at header n Old)) (records_at header n New))
 
     by_low : (o : Option ℕ) (b : ℕ) → b ≡ unwrap_or o 0
-        → pairs r ≡ pairs q ++ capped_pairs (kept_apart (first_record (front_after header (header_len header) (fixed_order header n)) o) b (records_at header n Old))
+        → pairs r ≡ pairs q ++ capped_pairs (kept_apart (first_record (front_after header (header_len header) (fixed_order header n)) o) b (by_begin (records_at header n Old)))
         → pairs s ≡ pairs r ++ capped_pairs (record_begins header (first_record (front_after header (header_len header) (fixed_order header n)) o + shares header (records_at header n Old)) (records_at header n New))
         → pairs s
         ≡ capped_pairs (fixed_begins header (header_len header) (fixed_order header n)
-        ++ kept_apart (first_record (front_after header (header_len header) (fixed_order header n)) o) (unwrap_or o 0) (records_at header n Old)
+        ++ kept_apart (first_record (front_after header (header_len header) (fixed_order header n)) o) (unwrap_or o 0) (by_begin (records_at header n Old))
         ++ record_begins header (first_record (front_after header (header_len header) (fixed_order header n)) o + shares header (records_at header n Old)) (records_at header n New))
     by_low o b e f g =
         let a = fixed_begins header (header_len header) (fixed_order header n) in
         let m = first_record (front_after header (header_len header) (fixed_order header n)) o in
-        let x = kept_apart m (unwrap_or o 0) (records_at header n Old) in
+        let x = kept_apart m (unwrap_or o 0) (by_begin (records_at header n Old)) in
         let y = record_begins header (m + shares header (records_at header n Old)) (records_at header n New) in
         let cap : ℕ × ℕ → ℕ × ℕ = λ z. (z.0, capped z.1) in
         let start : pairs q ≡ capped_pairs a = fixed ∙ ap (λ ps. pairs ps ++ capped_pairs a) none in
         let middle : pairs r ≡ capped_pairs a ++ capped_pairs x =
-        f ∙ ap (λ (i : ℕ). pairs q ++ capped_pairs (kept_apart m i (records_at header n Old))) e ∙ ap (λ ps. ps ++ capped_pairs x) start in
+        f ∙ ap (λ (i : ℕ). pairs q ++ capped_pairs (kept_apart m i (by_begin (records_at header n Old)))) e ∙ ap (λ ps. ps ++ capped_pairs x) start in
         g ∙ ap (λ ps. ps ++ capped_pairs y) (middle ∙ sym (map-append cap a x)) ∙ sym (map-append cap (a ++ x) y)

@@ -7,14 +7,13 @@ use Rattle.std.specs.Ordering.{nat_cmp, is_lt}
 use Rattle.std.specs.declared.cmp.Ordering.TheVariants.{Less, Equal, Greater}
 use Rattle.std.proofs.lemmas.Bool.Decides.{nat_tests}
 use Rattle.std.proofs.lemmas.Bool.{cases_lt}
+use Rattle.serial_spec.specs.Lists.{inserted_by, sorted_by as in_order_by}
 
 abbrev pub put_by : {A : Type 0} → (A → ℕ) → A → List A → List A
-put_by key x [] = x ∷ []
-put_by key x (y ∷ ys) = cond (nat_le (key x) (key y)) (x ∷ y ∷ ys) (y ∷ put_by key x ys)
+put_by key x xs = inserted_by (λ a b. nat_le (key a) (key b)) x xs
 
 abbrev pub sorted_by : {A : Type 0} → (A → ℕ) → List A → List A
-sorted_by key [] = []
-sorted_by key (x ∷ xs) = put_by key x (sorted_by key xs)
+sorted_by key xs = in_order_by (λ a b. nat_le (key a) (key b)) xs
 
 -- the items of this number
 abbrev pub of_key : {A : Type 0} → (A → ℕ) → ℕ → List A → List A

@@ -236,7 +236,7 @@ sides k n vars = numbered_parts k (λ (v : Numbered). nat_lt v.0 n) (λ (v : Num
 -- whatever the records' first begin and the least old one
 times_all : (k : ℕ) (header : Header) (n m low at : ℕ)
     → times k (fixed_begins header (header_len header) (fixed_order header n)
-    ++ map (λ (v : Numbered). (v.0, m + (v.1.begin - low))) (old_of n (records_in header (enumerate_from 0 header.vars)))
+    ++ map (λ (v : Numbered). (v.0, m + (v.1.begin - low))) (by_begin (old_of n (records_in header (enumerate_from 0 header.vars))))
     ++ record_begins header at (new_of n (records_in header (enumerate_from 0 header.vars))))
     ≡ numbered k (enumerate_from 0 header.vars)
 times_all k header n m low at =
@@ -244,7 +244,7 @@ times_all k header n m low at =
     let fixed = fixed_of header all in
     let records = records_in header all in
     let a = fixed_begins header (header_len header) (fixed_order header n) in
-    let b = map (λ (v : Numbered). (v.0, m + (v.1.begin - low))) (old_of n records) in
+    let b = map (λ (v : Numbered). (v.0, m + (v.1.begin - low))) (by_begin (old_of n records)) in
     let c = record_begins header at (new_of n records) in
     let in_a : times k a ≡ numbered k (old_of n fixed) + numbered k (new_of n fixed) =
     times_fixed k header (header_len header) (fixed_order header n) ∙ numbered_append k (by_begin (old_of n fixed)) (new_of n fixed)
@@ -253,7 +253,7 @@ times_all k header n m low at =
     numbered_parts k (λ (v : Numbered). is_record header v.1) (λ (v : Numbered). not (is_record header v.1)) (λ v. refl) all in
     times_append k (a ++ b) c
     ∙ ap (λ (i : ℕ). i + times k c) (times_append k a b ∙ ap (λ (i : ℕ). i + times k b) (in_a ∙ sides k n fixed))
-    ∙ ap (λ (i : ℕ). numbered k fixed + i + times k c) (times_kept k m low (old_of n records))
+    ∙ ap (λ (i : ℕ). numbered k fixed + i + times k c) (times_kept k m low (by_begin (old_of n records)) ∙ numbered_sorted k (old_of n records))
     ∙ ap (λ (i : ℕ). numbered k fixed + numbered k (old_of n records) + i) (times_records k header at (new_of n records))
     ∙ omega (arith, sides k n records, kinds)
 

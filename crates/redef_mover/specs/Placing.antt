@@ -7,10 +7,11 @@
 use Rattle.std.specs.Prelude.{◌≡◌, ℕ, List, map, filter, count_by, Bool, nat_lt, nat_le, ◌==◌, if◌then◌else◌}
 use Rattle.std.specs.List.{enumerate_from}
 use Rattle.nc_base.specs.declared.header.Header.{Header}
-use Rattle.serial_spec.specs.Layout.{slab}
+use Rattle.serial_spec.specs.Layout.{slab, vsize}
+use Rattle.serial_spec.specs.Lists.{sorted_by}
 use Rattle.serial_spec.specs.Redefinition.{Numbered, fixed_of, records_in}
 use Rattle.var_layout.specs.Capped.{capped}
-use Rattle.redef_mover.specs.declared.placing.FixedVar.{FixedVar}
+use Rattle.redef_mover.specs.declared.placing.NumberedVar.{NumberedVar}
 use Rattle.redef_mover.specs.declared.placing.Place.{Place}
 use Rattle.redef_mover.specs.declared.placing.Side.{Side}
 use Rattle.redef_mover.specs.declared.placing.Side.TheVariants.{Old, New}
@@ -25,8 +26,15 @@ fixed_at header n side = filter (on_side n side) (fixed_of header (enumerate_fro
 abbrev pub records_at : Header → ℕ → Side → List Numbered
 records_at header n side = filter (on_side n side) (records_in header (enumerate_from 0 header.vars))
 
-abbrev pub fixed_var : Header → Numbered → FixedVar
+abbrev pub fixed_var : Header → Numbered → NumberedVar
 fixed_var header v = record { number = v.0; begin = v.1.begin; len = capped (slab header v.1) }
+
+abbrev pub record_var : Header → Numbered → NumberedVar
+record_var header v = record { number = v.0; begin = v.1.begin; len = capped (vsize header v.1) }
+
+-- the variables by their begins
+abbrev pub in_order : List NumberedVar → List NumberedVar
+in_order vars = sorted_by (λ (v : NumberedVar) w. nat_le v.begin w.begin) vars
 
 abbrev pub pairs : List Place → List (ℕ × ℕ)
 pairs places = map (λ (p : Place). (p.number, p.begin)) places

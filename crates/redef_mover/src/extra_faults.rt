@@ -3,6 +3,7 @@ ghost use Rattle.std.specs.Prelude.{◌≡◌, ◌==◌, is_none};
 ghost use Rattle.std.specs.List.{list_any};
 ghost use Rattle.std.specs.Result.{result_err};
 ghost use Rattle.nc_base.specs.declared.header.Dim.{Dim};
+ghost use Rattle.serial_spec.specs.HeaderGrammar.{is_record_id};
 ghost use Rattle.serial_spec.specs.RankMachine.{find_dim};
 ghost use Rattle.serial_spec.specs.Redefinition as spec;
 
@@ -68,25 +69,26 @@ fn is_unknown(header: &Header, extra: &Extra) -> bool
     }
 }
 
-fn is_record_name(header: &Header, name: &[u8]) -> bool
-    ensures { result ≡ spec.is_record_name header.now name.now }
-{
-    header
-        .dims
-        .as_slice()
-        .iter()
-        .any(|dim| dim.name.as_slice() == name && dim.len == 0)
-}
-
 fn has_record_dim(header: &Header) -> bool
     ensures { result ≡ list_any (λ (d : Dim). d.len == 0) header.now.dims }
 {
     header.dims.as_slice().iter().any(|dim| dim.len == 0)
 }
 
+/// Whether the first dimension of this name is the record dimension; of a name that is not there, whether the very first one is.
+fn is_record_name(header: &Header, name: &[u8]) -> bool
+    ensures { result ≡ is_record_id header.now (spec.dim_id header.now name.now) }
+{
+    let id = find_dim(header, name).unwrap_or(0);
+    match header.dims.as_slice().get(id) {
+        Some(dim) => dim.len == 0,
+        None => false,
+    }
+}
+
 /// Whether one of the names is that of the record dimension.
 fn has_record_name(header: &Header, names: &[Name]) -> bool
-    ensures { result ≡ list_any (spec.is_record_name header.now) names.now }
+    ensures { result ≡ list_any (λ n. is_record_id header.now (spec.dim_id header.now n)) names.now }
 {
     names
         .iter()

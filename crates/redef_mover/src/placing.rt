@@ -9,16 +9,16 @@ ghost use Rattle.serial_spec.specs.Redefinition as spec;
 ghost use Rattle.serial_spec.specs.SharedByte.{least};
 ghost use Rattle.var_layout.specs.Capped.{capped};
 ghost use Rattle.redef_mover.specs.declared.placing.Side.TheVariants.{Old, New};
-ghost use Rattle.redef_mover.specs.Placing.{pairs, capped_pairs, fixed_var, on_side, fixed_at, records_at};
+ghost use Rattle.redef_mover.specs.Placing.{pairs, capped_pairs, fixed_var, record_var, in_order, on_side, fixed_at, records_at};
 
 use crate::capped;
 use nc_base::{FILE_LIMIT, Header, Items, Memory, Var};
 use std::alloc::Global;
 use var_layout::{is_record, slab_of, vsize_of};
 
-/// A fixed variable: its place in the header's list, its begin so far, and its bytes.
+/// A variable: its place in the header's list, its begin so far, and its bytes, of a record variable those of one record.
 #[derive(Drop)]
-pub(crate) struct FixedVar {
+pub(crate) struct NumberedVar {
     pub(crate) number: usize,
     pub(crate) begin: u64,
     pub(crate) len: u64,
@@ -64,7 +64,7 @@ fn is_record_at(header: &Header, number: usize, var: &Var, n: usize, side: Side)
 
 /// Adds the fixed variables of one side.
 fn push_fixed(
-    order: &mut Items<FixedVar>,
+    order: &mut Items<NumberedVar>,
     header: &Header,
     n: usize,
     side: Side,
@@ -73,7 +73,7 @@ fn push_fixed(
 {
     for (number, var) in header.vars.as_slice().iter().enumerate() {
         if is_fixed_at(header, number, var, n, side) {
-            order.push(FixedVar {
+            order.push(NumberedVar {
                 number,
                 begin: var.begin,
                 len: slab_of(header, var),
@@ -83,17 +83,53 @@ fn push_fixed(
     Ok(())
 }
 
+/// Adds the old record variables.
+fn push_records(
+    order: &mut Items<NumberedVar>,
+    header: &Header,
+    n: usize,
+) -> Result<(), Memory>
+    ensures { OnOk result (order.new ≡ order.old ++ map (record_var header.now) (records_at header.now n Old)) }
+{
+    for (number, var) in header.vars.as_slice().iter().enumerate() {
+        if is_record_at(header, number, var, n, Side::Old) {
+            order.push(NumberedVar {
+                number,
+                begin: var.begin,
+                len: vsize_of(header, var),
+            })?;
+        }
+    }
+    Ok(())
+}
+
+/// The variables by their begins, the lowest first; those of one begin stay as they stood.
+fn by_begin(vars: Items<NumberedVar>) -> Result<Items<NumberedVar>, Memory>
+    ensures { IfOk result (λ order. order ≡ in_order vars) }
+{
+    let mut sorted = vars.into_vec();
+    sorted.sort_by_key(|var: &NumberedVar| var.begin)?;
+    Ok(Items::from_vec(sorted))
+}
+
 /// The fixed variables as they are placed: the old ones by their begins, then the new ones, where the first `n` variables are old.
-fn fixed_order(alloc: Global, header: &Header, n: usize) -> Result<Items<FixedVar>, Memory>
+fn fixed_order(alloc: Global, header: &Header, n: usize) -> Result<Items<NumberedVar>, Memory>
     ensures { IfOk result (λ order. order ≡ map (fixed_var header.now) (spec.fixed_order header.now n)) }
 {
     let mut old = Items::new(alloc);
     push_fixed(&mut old, header, n, Side::Old)?;
-    let mut sorted = old.into_vec();
-    sorted.sort_by_key(|var: &FixedVar| var.begin)?;
-    let mut order = Items::from_vec(sorted);
+    let mut order = by_begin(old)?;
     push_fixed(&mut order, header, n, Side::New)?;
     Ok(order)
+}
+
+/// The old record variables as they are placed: by their begins.
+fn record_order(alloc: Global, header: &Header, n: usize) -> Result<Items<NumberedVar>, Memory>
+    ensures { IfOk result (λ order. order ≡ map (record_var header.now) (spec.by_begin (records_at header.now n Old))) }
+{
+    let mut old = Items::new(alloc);
+    push_records(&mut old, header, n)?;
+    by_begin(old)
 }
 
 /// Where a variable begins that began at `begin`: there, if the front has not passed it.
@@ -109,7 +145,7 @@ fn begin_at(front: u64, begin: u64) -> u64
 }
 
 /// Places the fixed variables in this order, from `first` on, and tells where they end.
-fn place_fixed(places: &mut Items<Place>, order: &[FixedVar], first: u64) -> Result<u64, Memory>
+fn place_fixed(places: &mut Items<Place>, order: &[NumberedVar], first: u64) -> Result<u64, Memory>
     requires { first ≤ 2 ^ 62 }
     ensures small { IfOk result (λ end. end ≤ 2 ^ 62) }
     ensures placed { IfOk result (λ end. (header : Header) (vars : List Numbered) (n : ℕ) → order.now ≡ map (fixed_var header) vars → first ≡ capped n
@@ -161,25 +197,25 @@ fn first_record(front: u64, least: Option<u64>) -> u64
     }
 }
 
-/// Places the old record variables as far behind `first` as they began behind `least`, and tells where the new ones begin.
+/// Places old record variables in this order, as far behind `first` as they began behind `least`, and tells where the new ones begin.
 fn place_old_records(
     places: &mut Items<Place>,
-    header: &Header,
-    n: usize,
+    order: &[NumberedVar],
     first: u64,
     least: u64,
 ) -> Result<u64, Memory>
-    ensures { IfOk result (λ end. (m : ℕ) → first ≡ capped m
-        → (pairs places.new ≡ pairs places.old ++ capped_pairs (map (λ v. (v.0, m + (v.1.begin - least))) (records_at header.now n Old)))
-        × (end ≡ capped (m + sum_by (λ v. layout.vsize header.now v.1) (records_at header.now n Old)))) }
+    ensures { IfOk result (λ end. (header : Header) (vars : List Numbered) (m : ℕ) → order.now ≡ map (record_var header) vars → first ≡ capped m
+        → (pairs places.new ≡ pairs places.old ++ capped_pairs (map (λ v. (v.0, m + (v.1.begin - least))) vars))
+        × (end ≡ capped (m + sum_by (λ v. layout.vsize header v.1) vars))) }
 {
     let mut end = first;
-    for (number, var) in header.vars.as_slice().iter().enumerate() {
-        if is_record_at(header, number, var, n, Side::Old) {
-            let begin = capped::sum(first, var.begin.saturating_sub(least));
-            places.push(Place { number, begin })?;
-            end = capped::sum(end, vsize_of(header, var));
-        }
+    for var in order {
+        let begin = capped::sum(first, var.begin.saturating_sub(least));
+        places.push(Place {
+            number: var.number,
+            begin,
+        })?;
+        end = capped::sum(end, var.len);
     }
     Ok(end)
 }
@@ -213,12 +249,13 @@ pub(crate) fn place_all(
     requires { len ≡ capped (header_len header.now) }
     ensures { IfOk result (λ places. pairs places ≡ capped_pairs (spec.begins_by_number header.now n)) }
 {
-    let order = fixed_order(alloc, header, n)?;
+    let fixed = fixed_order(alloc, header, n)?;
+    let records = record_order(alloc, header, n)?;
     let mut places = Items::new(alloc);
-    let front = place_fixed(&mut places, order.as_slice(), len)?;
+    let front = place_fixed(&mut places, fixed.as_slice(), len)?;
     let least = least_begin(header, n);
     let first = first_record(front, least);
-    let end = place_old_records(&mut places, header, n, first, least.unwrap_or(0))?;
+    let end = place_old_records(&mut places, records.as_slice(), first, least.unwrap_or(0))?;
     place_new_records(&mut places, header, n, end)?;
     Ok(places)
 }

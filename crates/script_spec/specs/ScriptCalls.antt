@@ -1,7 +1,7 @@
 -- The calls of a script, and that the ranks agree on their collective kinds. (own)
 --     call_line                 what the words of a call say, or the first fault among them from the left
 --     mismatch                  the first collective call at which a rank differs from rank 0
-use Rattle.std.specs.Prelude.{bytes_eq, ℕ, zero, suc, ◌+◌, ◌-◌, ◌^◌, List, [], ◌∷◌, ◌++◌, filter_map, find, position, take, drop, length, Bool, true, false, not, nat_lt, ◌==◌, if◌then◌else◌, Option, Some, None, Result, Ok, Err, is_some, option_map, unwrap_or, slice_get, slice_set, codes}
+use Rattle.std.specs.Prelude.{bytes_eq, ℕ, zero, suc, ◌+◌, ◌-◌, ◌^◌, List, [], ◌∷◌, ◌++◌, find, position, take, drop, length, Bool, true, false, not, nat_lt, ◌==◌, if◌then◌else◌, Option, Some, None, Result, Ok, Err, is_some, option_map, unwrap_or, slice_get, slice_set, codes}
 use Rattle.std.specs.List.{list_any, range_with_len}
 use Rattle.nc_base.specs.declared.errors.ScriptKind.{ScriptKind}
 use Rattle.nc_base.specs.declared.errors.ScriptKind.TheVariants as kind
@@ -20,6 +20,7 @@ use Rattle.nc_base.specs.declared.request.Call.{Call}
 use Rattle.nc_base.specs.declared.request.Call.TheVariants as call
 use Rattle.nc_base.specs.declared.step.MeetKind.{MeetKind}
 use Rattle.serial_spec.specs.History.{kind_number}
+pub use Rattle.serial_spec.specs.Lawful.{id_posted as id_of_post, posted_ids as posted}
 use Rattle.serial_spec.specs.Lawful.{values_in_call, most_parts}
 use Rattle.script_spec.specs.Texts.{form_word}
 use Rattle.script_spec.specs.ScriptWords.{Word, is_word, begins_rank, digits_value, below, size_of_text, parts}
@@ -115,14 +116,6 @@ abbrev pub choice : List Word → Result Choice ScriptKind
 choice [] = Ok (Listed [])
 choice (w ∷ ws) =
     elim (is_word (codes "all") w) [ true ↦ whole (Every, ws) | false ↦ (ids [] (w ∷ ws) >>= λ found. Ok (Listed found)) ]
-
--- the id of a post
-abbrev pub id_of_post : Call → Option ℕ
-id_of_post (call.Post id k name given vs) = Some id
-id_of_post _ = None
-
-abbrev pub posted : List Call → List ℕ
-posted own = filter_map id_of_post own
 
 abbrev pub put_call : Bool → Form → ℕ → List Word → Result Call ScriptKind
 put_call all f before ws = do

@@ -18,7 +18,7 @@ use Rattle.nc_base.specs.declared.request.Values.TheVariants.{Numbers, Text, Bit
 use Rattle.nc_base.specs.declared.script.Extra.{Extra}
 use Rattle.nc_base.specs.declared.script.Extra.TheVariants as extra
 use Rattle.serial_spec.specs.ExternalForm.{ext}
-use Rattle.serial_spec.specs.Limits.{most_dims, most_dims_of_var, most_vars}
+use Rattle.serial_spec.specs.Limits.{most_dims, most_dims_of_var, most_vars, record_limit}
 use Rattle.serial_spec.specs.HeaderGrammar.{number_of, last_type}
 use Rattle.serial_spec.specs.Request.{count_of}
 use Rattle.script_spec.specs.Texts.{type_word}
@@ -93,7 +93,7 @@ abbrev pub is_among : List ℕ → List (List ℕ) → Bool
 is_among n names = list_any (bytes_eq n) names
 
 abbrev pub length_limit : ℕ → ℕ
-length_limit version = if version == 5 then 2 ^ 62 else 2 ^ 31
+length_limit version = record_limit version
 
 -- a length from 1, or 0 for unlimited
 abbrev pub length_of_text : ℕ → List ℕ → Option ℕ

@@ -1,6 +1,7 @@
 -- The owner of the file, as arrivals come one by one: what it holds of each number, and what it does at an arrival. (own)
 --     event s desk a                 the desk after an arrival, its mark if it brings one, and what each number is given
 --     is_strange s desk a            no rank of a script makes this arrival
+--     AreSingle arrivals             none of them both raises the count by its kind and brings puts
 --     served s desk arrivals         the end of a run of the owner
 --     owed s desk arrivals q         what number q is given in that run: replies, then stops
 --     IsGivenInPart ..               what a number is given in a run that a fault cuts off
@@ -26,7 +27,8 @@ use Rattle.serial_spec.specs.ExternalForm.{size_of}
 use Rattle.serial_spec.specs.Layout.{product}
 use Rattle.serial_spec.specs.RegionCheck.{check, is_ok_code}
 use Rattle.serial_spec.specs.SharedByte.{Puts}
-use Rattle.serial_spec.specs.FileStep.{Setting, Counted, puts_of, told, needs, meeting, solo}
+use Rattle.serial_spec.specs.FileStep.{Setting, Counted, puts_of, told, needs, raises, meeting, solo}
+use Rattle.serial_spec.specs.Lists.{In}
 use Rattle.serial_spec.specs.History.{Arrival, offer_of, kind_of_meeting, option_then, meeting_kind, is_from, is_offer}
 
 -- ---- the desk
@@ -210,6 +212,18 @@ is_strange s d a =
     ∷ left_behind (event s d a).desk.seats
     ∷ strange_offer s.header d.reached (offer_of a.1)
     ∷ [])
+
+-- ---- arrivals that don't both raise the count by their kind and bring puts, as no rank's do
+
+abbrev pub IsSingleOffer : Offer → Type 0
+IsSingleOffer o = raises o.kind ≡ true → o.batch.puts ≡ []
+
+abbrev pub IsSingle : RankItem → Type 0
+IsSingle (item.Offer c o) = IsSingleOffer o
+IsSingle (item.Ended memory) = Unit {0}
+
+abbrev pub AreSingle : List Arrival → Type 0
+AreSingle arrivals = (a : Arrival) → In arrivals a → IsSingle a.1
 
 -- ---- a run
 

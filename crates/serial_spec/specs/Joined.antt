@@ -4,7 +4,7 @@
 --     back_of .. r                  what number r is given along them
 --     IsJoined script ..            each number's arrivals are what its rank puts for what the owner gives it
 --     IsTied script ..              what the two sides and the ends of the lines tell, each by itself
---     rank_ends, close_by           the ranks at their ends, and the close by what they know
+--     rank_ends                     the ranks at their ends
 use Rattle.std.specs.Prelude.{◌≡◌, ℕ, ◌^◌, ◌<◌, List, [], ◌∷◌, ◌++◌, map, replicate, length, Some, slice_get, IsTrue, nat_lt}
 use Rattle.std.specs.List.{list_all, enumerate_from}
 use Rattle.nc_base.specs.declared.header.Header.{Header}
@@ -14,11 +14,9 @@ use Rattle.nc_base.specs.declared.step.MeetKind.{MeetKind}
 use Rattle.nc_base.specs.declared.step.OwnerItem.{OwnerItem}
 use Rattle.nc_base.specs.declared.step.RankItem.{RankItem}
 use Rattle.nc_base.specs.declared.step.RankItem.TheVariants as item
-use Rattle.serial_spec.specs.Layout.{greatest}
-use Rattle.serial_spec.specs.FileStep.{Setting, Counted, raised}
 use Rattle.serial_spec.specs.History.{Arrival, kinds}
-use Rattle.serial_spec.specs.RankMachine.{pending}
-use Rattle.serial_spec.specs.SerialEnd.{Going, End, setting_of, first_going}
+pub use Rattle.serial_spec.specs.SerialEnd.{close_by}
+use Rattle.serial_spec.specs.SerialEnd.{Going, setting_of, first_going}
 use Rattle.serial_spec.specs.Desk.{Desk, Ending, free_seat, first_desk, owed, own_items, offers_in, served}
 use Rattle.serial_spec.specs.RankSide.{offered, rank_end}
 
@@ -68,8 +66,3 @@ abbrev pub rank_ends : Script → Header → List ℕ → List Arrival → List 
 rank_ends script header file arrivals =
     map (λ p. rank_end header (first_going header p.1) (back_of script header file arrivals p.0))
     (enumerate_from 0 script.calls)
-
-abbrev pub close_by : Setting → Counted → List Going → End
-close_by s c ends =
-    let last = raised s c (greatest (map (λ g. g.rank.known) ends)) in
-    record { bytes = last.file; records = last.records; answers = map (λ g. g.answers) ends; pending = map (λ g. pending g.rank) ends }

@@ -1,8 +1,8 @@
 //! Fill values, added variables and readings.
 
-ghost use Rattle.std.specs.Prelude.{◌≡◌, ◌+◌, [], ◌∷◌, ◌++◌, Some, None, replicate, drop, codes};
+ghost use Rattle.std.specs.Prelude.{◌≡◌, ◌+◌, ◌-◌, ◌^◌, [], ◌∷◌, ◌++◌, Some, None, replicate, drop, codes};
 ghost use Rattle.serial_spec.specs.HeaderGrammar.{canon, header_len};
-ghost use Rattle.serial_spec.specs.Examples.{dataset_a, dataset_b, var, int_bytes, one_record, begin_list, file_halves, dim, more_var, dataset_aq, dataset_b_4, dataset_b_q, file_records, hints};
+ghost use Rattle.serial_spec.specs.Examples.{dataset_a, dataset_b, var, int_bytes, one_record, begin_list, file_halves, dim, more_var, dataset_aq, dataset_b_4, dataset_b_q, file_records, hints, title, twice_named, twice_named_q, inner_x, second_first, long_var};
 ghost use Rattle.nc_base.specs.declared.header.NcType.TheVariants.{Int, Short, UInt64};
 ghost use Rattle.nc_base.specs.declared.step.Mark.TheVariants.{Meet, Solo};
 ghost use Rattle.nc_base.specs.declared.step.DiskCall.TheVariants.{Grow, Load, Store};
@@ -11,8 +11,9 @@ ghost use Rattle.serial_spec.specs.Fill.{boxes, AreBoxes, fill_bytes};
 ghost use Rattle.serial_spec.specs.Redefinition.{redefined, redefined_fault};
 ghost use Rattle.serial_spec.specs.Reading.{summary_of, told_of};
 ghost use Rattle.serial_spec.specs.DeviceCalls.{redefining_calls};
-ghost use Rattle.nc_base.specs.declared.errors.RedefErr.TheVariants.{Taken, Unknown, Shape, Kind};
-ghost use Rattle.nc_base.specs.declared.script.Extra.TheVariants.{Dim};
+ghost use Rattle.nc_base.specs.declared.errors.RedefErr.TheVariants.{Taken, Unknown, Shape, TooMany, Kind, Layout};
+ghost use Rattle.nc_base.specs.declared.errors.LayoutErr.TheVariants.{VarSize, BeginRange};
+ghost use Rattle.nc_base.specs.declared.script.Extra.TheVariants.{Dim, Var, Att};
 
 /// Boxes of a range of row-major numbers, and fill values.
 pub fn worked_boxes()
@@ -44,6 +45,22 @@ pub fn worked_redefinition()
     ensures shape { redefined_fault dataset_b (Dim (dim 117 0) ∷ []) ≡ Some (Shape 0) }
     ensures later_type { redefined_fault dataset_a (more_var 113 UInt64 120 ∷ []) ≡ Some (Kind 0) }
     ensures none { redefined_fault dataset_a (more_var 113 Short 120 ∷ []) ≡ None }
+{}
+
+/// Two dimensions of one name, of which the first counts, and the other faults of a redefinition.
+#[tactic(auto, unfolding(crate::specs::HeaderGrammar::canon))]
+pub fn worked_refusals()
+    ensures same_name { redefined_fault twice_named inner_x ≡ None }
+    ensures same_name_begins { begin_list twice_named_q ≡ 144 ∷ 160 ∷ [] }
+    ensures same_name_file { redefined (canon twice_named ++ int_bytes (1 ∷ 2 ∷ 3 ∷ 4 ∷ [])) twice_named twice_named_q
+        ≡ canon twice_named_q ++ int_bytes (1 ∷ 2 ∷ 3 ∷ 4 ∷ []) ++ replicate 48 0 }
+    ensures attribute { redefined_fault dataset_a (Att None title ∷ Att None title ∷ []) ≡ Some (Taken 1) }
+    ensures owner { redefined_fault dataset_a (Att (Some (113 ∷ [])) title ∷ []) ≡ Some (Unknown 0) }
+    ensures inner { redefined_fault dataset_b (Dim (dim 120 4) ∷ Var Int (113 ∷ []) ((120 ∷ []) ∷ (116 ∷ []) ∷ []) ∷ []) ≡ Some (Shape 1) }
+    ensures many { redefined_fault (record dataset_a { dims = replicate 1024 (dim 120 4) }) (Dim (dim 121 4) ∷ []) ≡ Some (TooMany 0) }
+    ensures long { redefined_fault dataset_a (Dim (dim 121 (2 ^ 31)) ∷ []) ≡ Some (Kind 0) }
+    ensures large { redefined_fault dataset_a (long_var (2 ^ 31 - 3)) ≡ Some (Layout (VarSize 1)) }
+    ensures far { redefined_fault second_first (long_var (2 ^ 31 - 4)) ≡ Some (Layout (BeginRange 1)) }
 {}
 
 /// What a watcher reads.

@@ -1,11 +1,11 @@
 //! Headers and layouts of small datasets.
 
-ghost use Rattle.std.specs.Prelude.{◌≡◌, ◌+◌, [], ◌∷◌, ◌++◌, Some, None, take, true, drop, ◌/◌, ◌*◌, map};
-ghost use Rattle.serial_spec.specs.HeaderGrammar.{canon, header_len, field_fault, first_check, is_writable};
-ghost use Rattle.serial_spec.specs.Examples.{dataset_2, dataset_a, dataset_b, dataset_bq, header_a, var, int_bytes, device_calls, halves, word, header_a_with, dataset_5, two_bytes, begin_list, end_of_file, aligned, striped, striped_part, file_halves, reopened, moved, one_record};
+ghost use Rattle.std.specs.Prelude.{◌≡◌, ◌+◌, ◌^◌, [], ◌∷◌, ◌++◌, Some, None, take, true, drop, ◌/◌, ◌*◌, map};
+ghost use Rattle.serial_spec.specs.HeaderGrammar.{canon, header_len, field_fault, first_check, is_writable, Spells};
+ghost use Rattle.serial_spec.specs.Examples.{dataset_2, dataset_a, dataset_b, dataset_bq, header_a, var, int_bytes, device_calls, halves, word, header_a_with, dataset_5, two_bytes, begin_list, end_of_file, aligned, striped, striped_part, file_halves, reopened, moved, one_record, dim, unsound, past_limit, sharing_bytes, odd_header_a};
 ghost use Rattle.serial_spec.specs.Layout.{recsize, end_of, vsize};
 ghost use Rattle.nc_base.specs.declared.header.NcType.TheVariants.{Int};
-ghost use Rattle.nc_base.specs.declared.errors.HeaderErr.TheVariants.{NotCdf, BadVersion, Truncated, BadTag, BadType, BadNumber, BadDimId, Streaming, TooLarge, Shared};
+ghost use Rattle.nc_base.specs.declared.errors.HeaderErr.TheVariants.{NotCdf, BadVersion, Truncated, BadTag, BadType, BadNumber, BadDimId, Streaming, TooLarge, Shared, TwoRecordDims, RecordDimNotFirst};
 ghost use Rattle.nc_base.specs.declared.step.Mark.TheVariants.{Meet};
 ghost use Rattle.nc_base.specs.declared.step.DiskCall.TheVariants.{Grow, Load, Store};
 ghost use Rattle.serial_spec.specs.DeviceCalls.{opening_calls, all_calls};
@@ -60,6 +60,27 @@ pub fn worked_header_faults()
     ensures streaming_fields { field_fault (header_a_with 4 (word 255 255 255 255)) ≡ None }
     ensures streaming_bytes { canon (record dataset_a { records = 4294967295 }) ≡ header_a_with 4 (word 255 255 255 255) }
     ensures streaming { first_check (record dataset_a { records = 4294967295 }) ≡ Some Streaming }
+{}
+
+/// Headers whose fields are right each, and which are refused as a whole.
+#[tactic(auto, unfolding(crate::specs::HeaderGrammar::canon))]
+pub fn worked_checks()
+    ensures none { first_check dataset_a ≡ None }
+    ensures two_record_dims { first_check (unsound (dim 116 0 ∷ dim 117 0 ∷ []) []) ≡ Some TwoRecordDims }
+    ensures record_later { first_check (unsound (dim 116 0 ∷ dim 120 4 ∷ []) (var 118 Int (1 ∷ 0 ∷ []) ∷ [])) ≡ Some (RecordDimNotFirst 0) }
+    ensures far_id { first_check (unsound (dim 120 4 ∷ []) (var 118 Int (0 ∷ []) ∷ var 119 Int (1 ∷ []) ∷ [])) ≡ Some (BadDimId 1) }
+    ensures past_limit { first_check past_limit ≡ Some TooLarge }
+    ensures many_records { first_check (record dataset_b { records = 2 ^ 31 }) ≡ Some TooLarge }
+    ensures shared { first_check sharing_bytes ≡ Some (Shared 0 1) }
+    ensures side_by_side { first_check (aligned 4 4 two_bytes) ≡ None }
+{}
+
+/// A spelling of a header that no program writes, and bytes that are none.
+#[tactic(auto, unfolding(crate::specs::HeaderGrammar::canon))]
+pub fn worked_spellings()
+    ensures odd { Spells dataset_a odd_header_a }
+    ensures odd_fault { field_fault odd_header_a ≡ None }
+    ensures short { Spells dataset_a (take 79 odd_header_a) → ⊥ }
 {}
 
 /// Version 5, alignment, and existing files.

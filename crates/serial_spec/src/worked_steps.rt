@@ -3,14 +3,14 @@
 ghost use Rattle.std.specs.Prelude.{◌≡◌, ◌+◌, [], ◌∷◌, ◌++◌, length, Some, None, pos, replicate, true, map, false, ℕ};
 ghost use Rattle.serial_spec.specs.File.{at};
 ghost use Rattle.serial_spec.specs.HeaderGrammar.{canon};
-ghost use Rattle.serial_spec.specs.Examples.{dataset_a, first_of_halves, offer_of_halves, reply_with, three_holders, header_a, region, setting_a, created, overlapping, side_by_side, int_bytes, ended, device_calls, halves, interleaved, whole, with_hole, one_record, arrived, empty_offer, two_seats, after_five, with_strange, independent_calls, many_bytes, dataset_b, packed_region, given, var};
+ghost use Rattle.serial_spec.specs.Examples.{dataset_a, first_of_halves, offer_of_halves, reply_with, three_holders, header_a, region, setting_a, created, overlapping, side_by_side, int_bytes, ended, device_calls, halves, interleaved, whole, with_hole, one_record, arrived, empty_offer, two_seats, after_five, with_strange, independent_calls, many_bytes, dataset_b, packed_region, given, var, two_alone};
 ghost use Rattle.serial_spec.specs.Request.{packed_bytes, spread};
 ghost use Rattle.nc_base.specs.declared.header.NcType.TheVariants.{Int, Short};
 ghost use Rattle.nc_base.specs.declared.request.Values.TheVariants.{Numbers};
 ghost use Rattle.serial_spec.specs.FileStep.{meeting};
 ghost use Rattle.nc_base.specs.declared.step.Mark.TheVariants.{Meet, Solo};
 ghost use Rattle.nc_base.specs.declared.step.DiskCall.TheVariants.{Grow, Load, Store};
-ghost use Rattle.serial_spec.specs.History.{marks, done};
+ghost use Rattle.serial_spec.specs.History.{marks, done, IsLegal};
 ghost use Rattle.serial_spec.specs.Desk.{is_strange, served, owed, OnlyReplies};
 ghost use Rattle.nc_base.specs.declared.step.OwnerItem.TheVariants.{Reply, Stop};
 ghost use Rattle.nc_base.specs.declared.step.MeetKind.TheVariants.{Begin, End as EndKind};
@@ -87,6 +87,14 @@ pub fn worked_arrivals()
     ensures stopped { owed setting_a two_seats with_strange 0 ≡ Stop ∷ [] }
     ensures nothing { owed setting_a two_seats with_strange 1 ≡ [] }
     ensures memory { is_strange setting_a after_five (1, item.Ended true) ≡ false }
+{}
+
+/// An order of two ranks' marks that is legal; one with a rank's marks exchanged, one with a mark of no rank, and one with a mark left out.
+pub fn worked_legal()
+    ensures legal { IsLegal two_alone (Meet 0 ∷ Solo 1 1 ∷ Solo 0 1 ∷ Meet 1 ∷ []) }
+    ensures exchanged { IsLegal two_alone (Solo 0 1 ∷ Meet 0 ∷ Solo 1 1 ∷ Meet 1 ∷ []) → ⊥ }
+    ensures of_no_rank { IsLegal two_alone (Meet 0 ∷ Solo 1 1 ∷ Solo 0 1 ∷ Solo 2 1 ∷ Meet 1 ∷ []) → ⊥ }
+    ensures left_out { IsLegal two_alone (Meet 0 ∷ Solo 0 1 ∷ Meet 1 ∷ []) → ⊥ }
 {}
 
 /// What one rank puts and answers for what comes back to it.

@@ -237,7 +237,7 @@ fn a_name_has_up_to_256_characters(rt: HostRuntime) -> Result<(), Fail> {
 const LINES: ScriptKind = ScriptKind::Limit(LimitName::Lines);
 
 // The lines before and behind 2^20 empty lines, and the fault with its line.
-const PAST_LINES: [(&str, &str, u32, ScriptKind); 6] = [
+const PAST_LINES: [(&str, &str, u32, ScriptKind); 7] = [
     ("create 1\nranks 1\nx\n", "", 3, ScriptKind::UnknownWord),
     (
         "create 1\nranks 1\ndata\nend\nx\n",
@@ -246,6 +246,7 @@ const PAST_LINES: [(&str, &str, u32, ScriptKind); 6] = [
         ScriptKind::AfterEnd,
     ),
     ("", "create 1\n", 1_048_577, LINES),
+    ("", "\n", 1_048_577, LINES),
     ("create 1\nranks 1\ndata\n", "", 1_048_577, LINES),
     ("create 1\nranks 1\ndata\nend\n", "x", 1_048_577, LINES),
     (

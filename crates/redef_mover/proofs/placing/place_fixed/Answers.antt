@@ -1,6 +1,6 @@
 use Rattle.std.proofs.Common.{◌<◌, length, get_or, arith}
 use Rattle.std.proofs.lemmas.List.{get_or_default}
-use Rattle.redef_mover.specs.declared.placing.FixedVar.{FixedVar}
+use Rattle.redef_mover.specs.declared.placing.NumberedVar.{NumberedVar}
 use Rattle.redef_mover.proofs.Places.{placed_none, placed_next, placed_whole}
 use Rattle.redef_mover.proofs.placing.place_fixed.Goals as goal
 
@@ -11,7 +11,7 @@ pub loop-var-preserved : goal.loop-var-preserved
 loop-var-preserved c =
     let order = c.args.order.now in
     let k = c.loop-var.var-index in
-    let empty : FixedVar = record { number = 0; begin = 0; len = 0 } in
+    let empty : NumberedVar = record { number = 0; begin = 0; len = 0 } in
     let item = get_or order k empty in
     let within : k < length order = omega arith in
     placed_next order c.args.first k c.args.places.now c.loop-var.places c.push.new.self c.loop-var.front c.begin_at-begin.result c.sum-front.result
