@@ -3,14 +3,13 @@ use Rattle.std.proofs.Common.{◌≡◌, ℕ, zero, suc, ◌+◌, ◌-◌, ◌*�
 use Rattle.std.specs.Prelude.{nat_lt, ◌==◌, OnOk}
 use Rattle.std.proofs.Math.Nat.{mul-div_cancel, mul-mod_left, zero-mod}
 use Rattle.std.proofs.lemmas.Bool.{eqb-false}
-use Rattle.std.proofs.lemmas.List.{map-append, append-nil}
+use Rattle.std.proofs.lemmas.List.{map-append, append-nil, length-map}
 use Rattle.std.proofs.Math.Seq.{take_all}
 use Rattle.std.proofs.lemmas.Nat.{div-add-mod', mod_below, div_below}
 use borrow.Author.Tests.{eqb-true, ltb-true, ltb-false}
 use Rattle.nc_base.specs.declared.request.Part.{Part}
 use Rattle.serial_spec.specs.Layout.{product}
 use Rattle.serial_spec.specs.Fill.{boxes, in_row, whole_rows}
-use Rattle.serial_spec.proofs.ElementLaws.{map_long}
 use Rattle.fill_records.specs.Filling.{at_row, boxes_before}
 
 -- ---- boxes in a row
@@ -142,7 +141,7 @@ found_first row lengths counts from to none found result e n s f g =
 -- ---- how many there are
 
 in_row_long : (i : ℕ) (parts : List Part) → length (in_row i parts) ≡ length parts
-in_row_long i parts = map_long (λ (p : Part). let q : Part = record { start = i ∷ p.start; count = 1 ∷ p.count } in q) parts
+in_row_long i parts = length-map parts (λ (p : Part). let q : Part = record { start = i ∷ p.start; count = 1 ∷ p.count } in q)
 
 whole_few : (lengths : List ℕ) (first last : ℕ) → length (whole_rows lengths first last) ≤ 1
 whole_few lengths first last = by_test (nat_lt first last)

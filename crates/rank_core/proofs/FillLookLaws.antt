@@ -5,6 +5,7 @@ use Rattle.std.specs.Int.{Width, byte_len, to_be_bytes, w8, w16, w32, w64, w128}
 use Rattle.std.specs.List.{list_all, list_any, range_with_len}
 use Rattle.std.proofs.lemmas.Bool.{and_from, and_left, and_parts, and_right, cases_lt, eq-eqb, eqb-true, le-ltb, leb-false, leb-true, lt-leb, ne_eqb, not_from_true, or_from, or_parts}
 use Rattle.std.proofs.lemmas.List.{length-map, length-replicate}
+use Rattle.list_laws.proofs.Ranges.{pieces_long}
 use Rattle.nc_base.specs.declared.answer.Code.{Code}
 use Rattle.nc_base.specs.declared.answer.Code.TheVariants as code
 use Rattle.nc_base.specs.declared.header.Attr.{Attr}
@@ -26,7 +27,6 @@ use Rattle.serial_spec.specs.RankMachine as machine
 use Rattle.serial_spec.specs.RankMachine.{box_post, box_region, fills, find_var, is_record_past, look_fill}
 use Rattle.serial_spec.specs.Records.{records_of}
 use Rattle.serial_spec.specs.RegionCheck.{bad_edge, bad_start, bound, bounds, check_var, first_code, is_past, is_too_large, last_position, other_shape, some_edge, some_start}
-use Rattle.serial_spec.proofs.ElementLaws.{block_long}
 use Rattle.serial_spec.proofs.RoomLaws.{end_grows}
 use Rattle.rank_core.specs.declared.looking.Look.{Look}
 use Rattle.rank_core.specs.Looked.{as_look, posts_of, posts_looked, ArePutsLooked}
@@ -163,7 +163,7 @@ found_long kind (a ∷ attrs) = by_test (is_fill_value kind a) refl (found_long 
 
 box_bytes_long : (v : Var) (p : Part) → length (flat_map (λ m. fill_bytes v) (range_with_len 0 (product p.count))) ≡ product (1 ∷ p.count) * size_of v.kind
 box_bytes_long v p =
-    let all = block_long (λ m. fill_bytes v) (size_of v.kind) (λ m. found_long v.kind v.attrs) 0 (product p.count) in
+    let all = pieces_long (λ m. fill_bytes v) (size_of v.kind) (λ m. found_long v.kind v.attrs) 0 (product p.count) in
     let one : product (1 ∷ p.count) ≡ product p.count = omega arith in
     all ∙ ap (λ (n : ℕ). n * size_of v.kind) (sym one)
 

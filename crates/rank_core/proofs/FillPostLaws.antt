@@ -7,6 +7,7 @@ use Rattle.std.proofs.lemmas.Bool.{cases_lt, eqb-true, ltb-false, ltb-true, or_p
 use Rattle.std.proofs.lemmas.List.{length-append, length-take, length-map}
 use Rattle.std.proofs.lemmas.Nat.{div-add-mod', div_below, mod_below}
 use Rattle.std.proofs.lemmas.Option.{slice_get_within}
+use Rattle.list_laws.proofs.Each.{each_append}
 use Rattle.nc_base.specs.declared.header.Header.{Header}
 use Rattle.nc_base.specs.declared.request.Part.{Part}
 use Rattle.nc_base.specs.declared.request.Region.{Region}
@@ -20,7 +21,7 @@ use Rattle.serial_spec.specs.Limits.{most_elements}
 use Rattle.serial_spec.specs.Place.{row, IsIndex}
 use Rattle.serial_spec.specs.RankMachine.{box_region, is_record_past}
 use Rattle.serial_spec.specs.Request.{coordinates, elements, index_at}
-use Rattle.serial_spec.proofs.AcceptLaws.{all_joined, coordinates_all}
+use Rattle.serial_spec.proofs.AcceptLaws.{coordinates_all}
 use Rattle.serial_spec.proofs.BoxLaws.{boxes_right}
 use Rattle.serial_spec.proofs.ElementLaws.{get_left, get_right, length-coordinates}
 use Rattle.rank_core.specs.Targets.{IsSmall}
@@ -117,10 +118,10 @@ rows_of n lengths from to ih l k =
     (λ e. let same = ap (λ (q : ℕ). q * product lengths) (eqb-true (from / product lengths) (to / product lengths) e) in
     row_fits n lengths (from / size) (boxes lengths (from % size) (to % size)) first
     (ih (from % size) (to % size) (omega (arith, front, back, same, l)) (omega (arith, high))))
-    (all_joined (FitsPart (n ∷ lengths)) (whole_rows lengths (from / size) (to / size)) (in_row (to / size) (boxes lengths 0 (to % size)))
+    (each_append (FitsPart (n ∷ lengths)) (whole_rows lengths (from / size) (to / size)) (in_row (to / size) (boxes lengths 0 (to % size)))
     (rows_fit n lengths (from / size) (to / size) whole) last)
-    (all_joined (FitsPart (n ∷ lengths)) (in_row (from / size) (boxes lengths (from % size) size) ++ whole_rows lengths (from / size + 1) (to / size)) (in_row (to / size) (boxes lengths 0 (to % size)))
-    (all_joined (FitsPart (n ∷ lengths)) (in_row (from / size) (boxes lengths (from % size) size)) (whole_rows lengths (from / size + 1) (to / size))
+    (each_append (FitsPart (n ∷ lengths)) (in_row (from / size) (boxes lengths (from % size) size) ++ whole_rows lengths (from / size + 1) (to / size)) (in_row (to / size) (boxes lengths 0 (to % size)))
+    (each_append (FitsPart (n ∷ lengths)) (in_row (from / size) (boxes lengths (from % size) size)) (whole_rows lengths (from / size + 1) (to / size))
     (row_fits n lengths (from / size) (boxes lengths (from % size) size) first (ih (from % size) size (omega (arith, low)) (omega arith)))
     (rows_fit n lengths (from / size + 1) (to / size) whole)) last)
 

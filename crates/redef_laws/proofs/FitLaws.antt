@@ -5,6 +5,7 @@ use Rattle.std.specs.List.{list_all, position_from, AllByRecursion}
 use Rattle.std.specs.Option.{option_or}
 use Rattle.std.proofs.lemmas.Iterator.Adapters.{position_from-zero}
 use Rattle.std.proofs.lemmas.List.Sums.{length-filter}
+use Rattle.list_laws.proofs.Optional.{both_none, none_of_test, none_before_map}
 use Rattle.nc_base.specs.declared.header.Header.{Header}
 use Rattle.nc_base.specs.declared.header.Dim.{Dim}
 use Rattle.nc_base.specs.declared.header.Attr.{Attr}
@@ -15,8 +16,6 @@ use Rattle.serial_spec.specs.ExternalForm.{size_of}
 use Rattle.serial_spec.specs.Layout.{sharing}
 use Rattle.serial_spec.specs.HeaderGrammar.{is_sound, first_check, first_with, fault_if, two_record_dims, record_later, is_record_id, bad_id, is_too_large, all_ones, measure, counts_are_small, is_version, header_len, fits_count, is_writable_dim, is_writable_attr, is_writable_list}
 use Rattle.serial_spec.specs.Redefinition.{is_redefinable, is_redefinable_var}
-use Rattle.serial_spec.proofs.ApartLaws.{neither, no_some}
-use Rattle.serial_spec.proofs.RoomLaws.{unmapped}
 use Rattle.cdf_header.proofs.Pieces.{no_fault}
 use Rattle.var_layout.proofs.Soundness.{and_left, and_right}
 use Rattle.redef_laws.proofs.FieldLaws.{or_none, not_false, le_told, not_lt_told, not_le_told, eq_told, passes_each, fails_each, each_then}
@@ -36,21 +35,21 @@ pub record IsChecked (header : Header) : Type 0 where
 
 pub checked : (header : Header) → is_sound header ≡ true → IsChecked header
 checked header h =
-    let checks : first_check header ≡ None = no_some _ (and_right _ _ h) in
-    let a = neither (fault_if (two_record_dims header) fault.TwoRecordDims) _ checks in
-    let b = neither (first_with (record_later header) (λ k. fault.RecordDimNotFirst k) header.vars) _ a.1 in
-    let c = neither (first_with (bad_id header) (λ k. fault.BadDimId k) header.vars) _ b.1 in
-    let d = neither (fault_if (header.records == all_ones header.version) fault.Streaming) _ c.1 in
-    let e = neither (fault_if (is_too_large header) fault.TooLarge) _ d.1 in
+    let checks : first_check header ≡ None = none_of_test _ (and_right _ _ h) in
+    let a = both_none (fault_if (two_record_dims header) fault.TwoRecordDims) _ checks in
+    let b = both_none (first_with (record_later header) (λ k. fault.RecordDimNotFirst k) header.vars) _ a.1 in
+    let c = both_none (first_with (bad_id header) (λ k. fault.BadDimId k) header.vars) _ b.1 in
+    let d = both_none (fault_if (header.records == all_ones header.version) fault.Streaming) _ c.1 in
+    let e = both_none (fault_if (is_too_large header) fault.TooLarge) _ d.1 in
     let large = or_none (not (is_none (measure header))) (nat_le (record_limit header.version) header.records) (no_fault (is_too_large header) fault.TooLarge e.0) in
     record {
       one_record = no_fault (two_record_dims header) fault.TwoRecordDims a.0;
-      first = unmapped (λ k. fault.RecordDimNotFirst k) _ b.0;
-      ids = unmapped (λ k. fault.BadDimId k) _ c.0;
+      first = none_before_map (λ k. fault.RecordDimNotFirst k) _ b.0;
+      ids = none_before_map (λ k. fault.BadDimId k) _ c.0;
       counted = no_fault (header.records == all_ones header.version) fault.Streaming d.0;
-      measured = no_some (measure header) (not_false _ large.0);
+      measured = none_of_test (measure header) (not_false _ large.0);
       few = large.1;
-      apart = unmapped (λ p. fault.Shared p.0 p.1) _ e.1;
+      apart = none_before_map (λ p. fault.Shared p.0 p.1) _ e.1;
     }
 
 none_both : {A : Type 0} (a b : Option A) → a ≡ None → b ≡ None → option_or a b ≡ None

@@ -2,10 +2,10 @@
 use Rattle.std.proofs.Common.{◌≡◌, ℕ, suc, ◌+◌, ◌<◌, ◌≤◌, refl, sym, ◌∙◌, ap, inl, inr, ◌⊎◌, List, [], ◌∷◌, Bool, true, false, true≢false, cond, ◌&&◌, ◌||◌, None, max, arith}
 use Rattle.std.specs.Prelude.{filter, zip, nat_lt, nat_le}
 use borrow.Author.Tests.{ltb-false}
+use Rattle.list_laws.proofs.Optional.{told_else, both_none}
 use Rattle.nc_base.specs.declared.header.Header.{Header}
 use Rattle.nc_base.specs.declared.header.Var.{Var}
 use Rattle.serial_spec.specs.Layout.{is_record, recsize, slab, meet, share, records_meet, sharing_with, sharing_from}
-use Rattle.serial_spec.proofs.ApartLaws.{not_shared, neither}
 use Rattle.overlay_laws.specs.Entries.{In}
 use Rattle.overlay_laws.proofs.HullLaws.{filter_in}
 use Rattle.overlay_laws.proofs.WalkLaws.{lt_true}
@@ -18,14 +18,14 @@ ShareNone old (p ∷ ps) = ((q : Var × Var) → In ps q → share old p.0 q.0 �
 
 none_with : (old : Header) (v : Var) (k m : ℕ) (ws : List Var) (w : Var) → sharing_with old v k m ws ≡ None → In ws w → share old v w ≡ false
 none_with old v k m [] w h g = absurd g
-none_with old v k m (x ∷ ws) w h (inl e) = sym (ap (share old v) e) ∙ (not_shared (share old v x) (k, m) (sharing_with old v k (suc m) ws) h).0
-none_with old v k m (x ∷ ws) w h (inr g) = none_with old v k (suc m) ws w (not_shared (share old v x) (k, m) (sharing_with old v k (suc m) ws) h).1 g
+none_with old v k m (x ∷ ws) w h (inl e) = sym (ap (share old v) e) ∙ (told_else (share old v x) (k, m) (sharing_with old v k (suc m) ws) h).0
+none_with old v k m (x ∷ ws) w h (inr g) = none_with old v k (suc m) ws w (told_else (share old v x) (k, m) (sharing_with old v k (suc m) ws) h).1 g
 
 pub zip_shares_none : (old : Header) (first k : ℕ) (vs ws : List Var) → sharing_from old first k vs ≡ None → ShareNone old (zip vs ws)
 zip_shares_none old first k [] ws h = tt
 zip_shares_none old first k (v ∷ vs) [] h = tt
 zip_shares_none old first k (v ∷ vs) (w ∷ ws) h =
-    let rest = neither (sharing_with old v k (suc k) vs) (sharing_from old first (suc k) vs) (not_shared (nat_lt v.begin first) (k, k) _ h).1 in
+    let rest = both_none (sharing_with old v k (suc k) vs) (sharing_from old first (suc k) vs) (told_else (nat_lt v.begin first) (k, k) _ h).1 in
     ((λ q m. none_with old v k (suc k) vs q.0 rest.0 (zip_left vs ws q m)), zip_shares_none old first (suc k) vs ws rest.1)
 
 pub filter_shares_none : (old : Header) (t : Var × Var → Bool) (ps : List (Var × Var)) → ShareNone old ps → ShareNone old (filter t ps)

@@ -5,6 +5,7 @@ use Rattle.std.specs.List.{AllByRecursion}
 use Rattle.std.specs.Option.{option_or}
 use Rattle.std.proofs.lemmas.Bool.Decides.{nat_tests}
 use Rattle.std.proofs.lemmas.List.Sums.{length-filter, sum_by-cons}
+use Rattle.list_laws.proofs.Optional.{both_none, none_before_map}
 use Rattle.nc_base.specs.declared.header.Header.{Header}
 use Rattle.nc_base.specs.declared.header.Dim.{Dim}
 use Rattle.nc_base.specs.declared.header.Var.{Var}
@@ -16,8 +17,6 @@ use Rattle.serial_spec.specs.Limits.{most_dims, most_vars, most_dims_of_var, mos
 use Rattle.serial_spec.specs.Layout.{vsize, record_share, sharing}
 use Rattle.serial_spec.specs.HeaderGrammar.{attribute, list_of, is_sound, is_version, counts_are_small, header_len, record_later, is_record_id, bad_id, all_ones, measure, past_bound, keeps_bound, fits_count, is_type, is_writable, is_writable_dim, is_writable_attr, is_writable_list, is_writable_var}
 use Rattle.serial_spec.specs.Redefinition.{added, extras_fault, begins_by_number, with_begins, redefined_header, redefined_fault, is_large_var, is_far_begin, is_bad_begin, size_fault}
-use Rattle.serial_spec.proofs.ApartLaws.{neither}
-use Rattle.serial_spec.proofs.RoomLaws.{unmapped}
 use Rattle.redef_laws.specs.Applied.{IsApplied}
 use Rattle.var_layout.proofs.Soundness.{and_left, and_right}
 use Rattle.var_layout.proofs.LaidOut.{all_true}
@@ -50,13 +49,13 @@ no_fault old extras h = by_extras (extras_fault old extras) refl h
         → HasNoFault old extras
     by_layout none g =
         let new = redefined_header old extras in
-        let both = neither (size_fault new) _ (unmapped (λ e. redef.Layout e) _ g) in
-        let sizes = neither (option_map (λ k. layout.VarSize k) (position (is_large_var new) new.vars)) _ both.0 in
+        let both = both_none (size_fault new) _ (none_before_map (λ e. redef.Layout e) _ g) in
+        let sizes = both_none (option_map (λ k. layout.VarSize k) (position (is_large_var new) new.vars)) _ both.0 in
         record {
           accepted = none;
-          sizes = unmapped (λ k. layout.VarSize k) (position (is_large_var new) new.vars) sizes.0;
+          sizes = none_before_map (λ k. layout.VarSize k) (position (is_large_var new) new.vars) sizes.0;
           short = not_lt_told (2 ^ 20) (header_len new) (no_choice (nat_lt most_header_bytes (header_len new)) layout.HeaderRange sizes.1);
-          begins = unmapped (λ b. layout.BeginRange b.0) (find (is_bad_begin new) (begins_by_number (added old extras) (length old.vars))) both.1;
+          begins = none_before_map (λ b. layout.BeginRange b.0) (find (is_bad_begin new) (begins_by_number (added old extras) (length old.vars))) both.1;
         }
 
     by_extras : (o : Option RedefErr) → extras_fault old extras ≡ o

@@ -6,7 +6,10 @@ use Rattle.std.proofs.lemmas.Bool.Decides.{nat_tests}
 use Rattle.std.specs.Prelude.{fold, flat_map, zip, nat_lt, ◌==◌, slice_get}
 use Rattle.std.specs.List.{enumerate_from, range_with_len}
 use Rattle.std.specs.Option.{option_or}
+use Rattle.std.proofs.lemmas.List.FromFn.{length-range_with_len}
 use borrow.Author.Tests.{ltb-true, ltb-false, eqb-true}
+use Rattle.list_laws.proofs.Truth.{equal_above, equal_below}
+use Rattle.list_laws.proofs.Optional.{neither_some, second_counts, first_counts, option_or_assoc, none_last}
 use Rattle.nc_base.specs.declared.header.Header.{Header}
 use Rattle.nc_base.specs.declared.header.Var.{Var}
 use Rattle.nc_base.specs.declared.plan.Post.{Post}
@@ -21,25 +24,6 @@ use Rattle.serial_spec.proofs.FileLaws.{at-longer, at-written_before, at-written
 
 -- ---- options
 
-no_none_some : {A B : Type 0} (a : A) → None ≡ Some a → B
-no_none_some a h = cc
-
-pub both_none : {A : Type 0} (o q : Option A) → o ≡ None → q ≡ None → option_or o q ≡ None
-both_none None q h k = k
-both_none (Some a) q h k = h
-
-pub second_counts : {A : Type 0} (o q : Option A) → o ≡ None → option_or o q ≡ q
-second_counts None q h = refl
-second_counts (Some a) q h = no_none_some a (sym h)
-
-pub first_counts : {A : Type 0} (o q : Option A) (a : A) → o ≡ Some a → option_or o q ≡ Some a
-first_counts None q a h = no_none_some a h
-first_counts (Some b) q a h = h
-
-option_or_assoc : {A : Type 0} (o q r : Option A) → option_or (option_or o q) r ≡ option_or o (option_or q r)
-option_or_assoc None q r = refl
-option_or_assoc (Some a) q r = refl
-
 byte_or_later : (o q : Option ℕ) (b : ℕ) → byte_or o (byte_or q b) ≡ byte_or (option_or o q) b
 byte_or_later None q b = refl
 byte_or_later (Some v) q b = refl
@@ -52,12 +36,6 @@ one_miss y x a e = ap (λ (t : Bool). cond t (Some a) None) e
 one_hit : {A : Type 0} (y x : ℕ) (a : A) → (y == x) ≡ true → one_says y a x ≡ Some a
 one_hit y x a e = ap (λ (t : Bool). cond t (Some a) None) e
 
-above_miss : (y x : ℕ) → x < y → (y == x) ≡ false
-above_miss y x h = grind (arith, nat_tests)
-
-below_miss : (y x : ℕ) → y < x → (y == x) ≡ false
-below_miss y x h = grind (arith, nat_tests)
-
 missed : (y x : ℕ) → y ≤ x → (y == x) ≡ false → y + 1 ≤ x
 missed y x h e = grind (arith, nat_tests)
 
@@ -65,11 +43,11 @@ missed y x h e = grind (arith, nat_tests)
 
 pub said_below : {A : Type 0} (p : ℕ) (b : List A) (x : ℕ) → x < p → said_at (enumerate_from p b) x ≡ None
 said_below p [] x h = refl
-said_below p (v ∷ b) x h = both_none (said_at (enumerate_from (p + 1) b) x) _ (said_below (p + 1) b x (omega arith)) (one_miss p x v (above_miss p x h))
+said_below p (v ∷ b) x h = neither_some (said_at (enumerate_from (p + 1) b) x) _ (said_below (p + 1) b x (omega arith)) (one_miss p x v (equal_above p x h))
 
 pub said_past : {A : Type 0} (p : ℕ) (b : List A) (x : ℕ) → p + length b ≤ x → said_at (enumerate_from p b) x ≡ None
 said_past p [] x h = refl
-said_past p (v ∷ b) x h = both_none (said_at (enumerate_from (p + 1) b) x) _ (said_past (p + 1) b x (omega arith)) (one_miss p x v (below_miss p x (omega arith)))
+said_past p (v ∷ b) x h = neither_some (said_at (enumerate_from (p + 1) b) x) _ (said_past (p + 1) b x (omega arith)) (one_miss p x v (equal_below p x (omega arith)))
 
 pub said_inside : {A : Type 0} (p : ℕ) (b : List A) (x : ℕ) (d : A) → p ≤ x → x < p + length b → said_at (enumerate_from p b) x ≡ Some (get_or b (x - p) d)
 said_inside p [] x d h k = absurd (omega arith)
@@ -123,10 +101,6 @@ written_said file b p x = by_front (nat_lt x p) refl
 
 -- ---- cells
 
-none_last : {A : Type 0} (o : Option A) → o ≡ option_or o None
-none_last None = refl
-none_last (Some a) = refl
-
 pub said_append : {A : Type 0} (ps qs : List (ℕ × A)) (x : ℕ) → said_at (ps ++ qs) x ≡ option_or (said_at qs x) (said_at ps x)
 said_append [] qs x = none_last (said_at qs x)
 said_append (p ∷ ps) qs x =
@@ -176,10 +150,6 @@ zip_append [] s b = refl
 zip_append (x ∷ r) s [] = zip_nothing s
 zip_append (x ∷ r) s (v ∷ b) = ap (λ ps. (x, v) ∷ ps) (zip_append r s b)
 
-range_long : (p n : ℕ) → length (range_with_len p n) ≡ n
-range_long p zero = refl
-range_long p (suc n) = ap suc (range_long (p + 1) n)
-
 -- bytes from a place on
 zip_range : (p n : ℕ) (b : List ℕ) → enumerate_from p (take n b) ≡ zip (range_with_len p n) (take n b)
 zip_range p zero b = refl
@@ -189,7 +159,7 @@ zip_range p (suc n) (v ∷ b) = ap (λ ps. (p, v) ∷ ps) (zip_range (p + 1) n b
 range_and_rest : (p n : ℕ) (rest b : List ℕ) → zip (range_with_len p n ++ rest) b ≡ enumerate_from p (take n b) ++ zip rest (drop n b)
 range_and_rest p n rest b =
     zip_append (range_with_len p n) rest b
-    ∙ ap (λ m. zip (range_with_len p n) (take m b) ++ zip rest (drop m b)) (range_long p n)
+    ∙ ap (λ m. zip (range_with_len p n) (take m b) ++ zip rest (drop m b)) (length-range_with_len p n)
     ∙ ap (λ ps. ps ++ zip rest (drop n b)) (sym (zip_range p n b))
 
 cells_say : (size : ℕ) (ps bytes : List ℕ) → said_by (cells size ps bytes) ≡ zip (flat_map (λ x. range_with_len x size) ps) bytes

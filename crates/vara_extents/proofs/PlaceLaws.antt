@@ -3,6 +3,7 @@ use Rattle.std.proofs.Common.{◌≡◌, ℕ, zero, suc, ◌+◌, ◌^◌, ◌<�
 use Rattle.std.specs.Prelude.{slice_get}
 use Rattle.std.proofs.lemmas.Bool.{or_parts, leb-false, ltb-false}
 use Rattle.std.proofs.lemmas.Nat.{mul-le}
+use Rattle.list_laws.proofs.Each.{each_map, each_weaker}
 use Rattle.nc_base.specs.declared.header.Header.{Header}
 use Rattle.nc_base.specs.declared.header.Var.{Var}
 use Rattle.nc_base.specs.declared.plan.Extent.{Extent}
@@ -16,7 +17,7 @@ use Rattle.serial_spec.specs.Place.{place, within_record, IsElement, IsElementBe
 use Rattle.serial_spec.specs.Records.{records_of}
 use Rattle.serial_spec.specs.RegionCheck.{check_some, check_var, is_too_large, last_position}
 use Rattle.serial_spec.specs.Request.{elements, places}
-use Rattle.serial_spec.proofs.AcceptLaws.{accepted_elements, all_map, all_same}
+use Rattle.serial_spec.proofs.AcceptLaws.{accepted_elements}
 use Rattle.serial_spec.proofs.ApartLaws.{slab_fits}
 use Rattle.serial_spec.proofs.RoomLaws.{element_inside}
 use Rattle.var_layout.proofs.ElementPlaces.{index_record, product_pos, size_pos}
@@ -83,9 +84,9 @@ pub extents_inside : (header : Header) (first k : ℕ) (v : Var) (g : Region) �
 extents_inside header first k v g sound is h =
     let n = end_of header first (records_of header v g) in
     joined_end n (element_extents header v g)
-    (all_map (λ (e : Extent). e.at + e.len ≤ n) (λ x. record { at = x; len = size_of v.kind }) (places header v g)
-    (all_map (λ x. x + size_of v.kind ≤ n) (λ i. place header v i) (elements g)
-    (all_same (IsElementBelow header v (records_of header v g)) (λ i. place header v i + size_of v.kind ≤ n)
+    (each_map (λ (e : Extent). e.at + e.len ≤ n) (λ x. record { at = x; len = size_of v.kind }) (places header v g)
+    (each_map (λ x. x + size_of v.kind ≤ n) (λ i. place header v i) (elements g)
+    (each_weaker (IsElementBelow header v (records_of header v g)) (λ i. place header v i + size_of v.kind ≤ n)
     (λ i b. element_inside header first (records_of header v g) k v i is b) (elements g)
     (accepted_elements header k v g h.0 h.1 sound is (accepted_var header k v g is h)))))
 
