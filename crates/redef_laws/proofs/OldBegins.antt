@@ -9,7 +9,7 @@ use Rattle.serial_spec.specs.Layout.{is_record, recsize, slab, meet, share, reco
 use Rattle.overlay_laws.specs.Entries.{In}
 use Rattle.overlay_laws.proofs.HullLaws.{filter_in}
 use Rattle.overlay_laws.proofs.WalkLaws.{lt_true}
-use Rattle.redef_laws.proofs.Members.{zip_left}
+use Rattle.overlay_laws.proofs.Members.{zip_left}
 
 -- any two places of the list have variables that share none
 abbrev pub ShareNone : Header → List (Var × Var) → Type 0

@@ -20,7 +20,7 @@ use Rattle.redef_laws.specs.Rising.{first_slab, lowest_first, fixed_slabs, recor
 use Rattle.redef_laws.specs.Shifted.{new_end, AreShifted}
 use Rattle.redef_laws.proofs.ChainLaws.{Ascends, AreDistinct, ascends_joined, lowest_members, lowest_ascends, shifted_risen}
 use Rattle.redef_laws.proofs.OldBegins.{ShareNone, zip_shares_none, filter_shares_none, either_way, Follows, fixed_begins_differ, fixed_below_record, records_follow, record_begins_differ}
-use Rattle.redef_laws.proofs.Members.{in_map, map_in, zip_in}
+use Rattle.overlay_laws.proofs.Members.{in_map, map_in, zip_in}
 use Rattle.redef_laws.proofs.FallingLaws.{falls_backwards}
 use Rattle.redef_laws.proofs.GapLaws.{zeros_between}
 use Rattle.redef_laws.proofs.SumLaws.{HaveSameSums, sum_mapped, sum_joined, sum_same, sum_turned, sum_lowest, sums_members, sums_back}

@@ -17,7 +17,7 @@ use Rattle.serial_spec.proofs.ElementLaws.{get_map}
 use Rattle.var_layout.proofs.Soundness.{and_left}
 use Rattle.redef_laws.specs.Applied.{IsApplied}
 use Rattle.redef_laws.specs.Shifted.{AreShifted, new_end}
-use Rattle.redef_laws.proofs.Members.{numbered_at}
+use Rattle.overlay_laws.proofs.Members.{numbered_at}
 use Rattle.redef_laws.proofs.PlacedLaws.{begin_rises, fixed_begins_rise, record_begins_rise}
 use Rattle.redef_laws.proofs.SlabLaws.{IsRaised, pair_at}
 use Rattle.redef_laws.proofs.SlabOrder.{raised_shifts}

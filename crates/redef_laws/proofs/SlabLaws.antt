@@ -14,7 +14,7 @@ use Rattle.serial_spec.proofs.RoomLaws.{end_holds}
 use Rattle.overlay_laws.specs.Entries.{In}
 use Rattle.overlay_laws.proofs.HullLaws.{flat_in, range_high}
 use Rattle.redef_laws.specs.Shifted.{IsShifted, new_end}
-use Rattle.redef_laws.proofs.Members.{map_in, zip_in}
+use Rattle.overlay_laws.proofs.Members.{map_in, zip_in}
 use Rattle.redef_laws.proofs.RecordSizes.{same_slab, same_record, record_grows}
 use Rattle.redef_laws.proofs.SoundVars.{slab_holds, past_front}
 
