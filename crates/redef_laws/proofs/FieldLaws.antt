@@ -4,8 +4,8 @@ use Rattle.std.specs.Prelude.{not, nat_lt, nat_le, ◌==◌}
 use Rattle.std.specs.List.{list_any, list_all, AllByRecursion}
 use Rattle.std.specs.Int.{Width, w32, w64, byte_len}
 use Rattle.std.proofs.lemmas.Bool.Decides.{nat_tests}
-use Rattle.var_layout.proofs.Soundness.{and_left, and_right}
-use Rattle.var_layout.proofs.LaidOut.{all_true}
+use Rattle.std.proofs.lemmas.Bool.{and_from}
+use Rattle.list_laws.proofs.Truth.{and_first, and_second}
 use Rattle.serial_spec.specs.HeaderGrammar.{begin_width, fits_field, fits_count}
 
 -- ---- tests
@@ -68,11 +68,11 @@ not_eq_test a b h = by_test (a == b) refl
 
 pub each_passes : {A : Type 0} (test : A → Bool) (xs : List A) → AllByRecursion (λ x. test x ≡ true) xs → list_all test xs ≡ true
 each_passes test [] h = refl
-each_passes test (x ∷ xs) h = all_true (test x) (list_all test xs) h.0 (each_passes test xs h.1)
+each_passes test (x ∷ xs) h = and_from (test x) (list_all test xs) h.0 (each_passes test xs h.1)
 
 pub passes_each : {A : Type 0} (test : A → Bool) (xs : List A) → list_all test xs ≡ true → AllByRecursion (λ x. test x ≡ true) xs
 passes_each test [] h = tt
-passes_each test (x ∷ xs) h = (and_left (test x) (list_all test xs) h, passes_each test xs (and_right (test x) (list_all test xs) h))
+passes_each test (x ∷ xs) h = (and_first (test x) (list_all test xs) h, passes_each test xs (and_second (test x) (list_all test xs) h))
 
 pub each_fails : {A : Type 0} (test : A → Bool) (xs : List A) → AllByRecursion (λ x. test x ≡ false) xs → list_any test xs ≡ false
 each_fails test [] h = refl

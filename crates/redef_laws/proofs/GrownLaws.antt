@@ -5,6 +5,7 @@ use Rattle.std.specs.List.{list_any, list_all, position_from, AllByRecursion}
 use Rattle.std.proofs.lemmas.Iterator.Adapters.{position_from-zero}
 use Rattle.std.proofs.lemmas.List.{length-map}
 use Rattle.std.proofs.lemmas.List.Elements.{filter-append}
+use Rattle.list_laws.proofs.Truth.{and_first, and_second}
 use Rattle.nc_base.specs.declared.header.Header.{Header}
 use Rattle.nc_base.specs.declared.header.Dim.{Dim}
 use Rattle.nc_base.specs.declared.header.Attr.{Attr}
@@ -22,7 +23,6 @@ use Rattle.serial_spec.specs.RankMachine.{find_dim}
 use Rattle.serial_spec.specs.Lawful.{is_lawful_extra, is_whole_extra}
 use Rattle.serial_spec.specs.Redefinition.{with_attr, with_extra, added, dim_id, is_taken, is_unknown, is_record_name, has_bad_shape, is_one_too_many, has_bad_kind, extra_fault, extras_from}
 use Rattle.serial_spec.proofs.ElementLaws.{get_left}
-use Rattle.var_layout.proofs.Soundness.{and_left, and_right}
 use Rattle.redef_laws.proofs.FieldLaws.{not_both, lt_told, le_told, not_lt_told, not_le_told, le_test, eq_told, each_then, each_both, fails_each, count_fits}
 
 -- ---- the facts
@@ -337,8 +337,8 @@ all_more h k [] fit none lawful whole = fit
 all_more h k (e ∷ extras) fit none lawful whole =
     let first = no_first h k e extras none in
     all_more (with_extra h e) (suc k) extras
-    (one_more h e fit (no_fault_of h k e first.0) (and_left (is_lawful_extra e) _ lawful) (and_left (is_whole_extra e) _ whole))
-    first.1 (and_right (is_lawful_extra e) _ lawful) (and_right (is_whole_extra e) _ whole)
+    (one_more h e fit (no_fault_of h k e first.0) (and_first (is_lawful_extra e) _ lawful) (and_first (is_whole_extra e) _ whole))
+    first.1 (and_second (is_lawful_extra e) _ lawful) (and_second (is_whole_extra e) _ whole)
 
 pub record HasVersionOf (old new : Header) : Type 0 where
   pub version : new.version ≡ old.version

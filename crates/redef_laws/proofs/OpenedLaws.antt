@@ -6,6 +6,8 @@ use Rattle.std.specs.Int.{Width, w32, w64, byte_len, to_be_bytes, from_be_bytes}
 use Rattle.std.proofs.Math.Seq.{drop-append_seam, take-append_seam}
 use Rattle.std.proofs.lemmas.List.{drop-drop, take-append-drop}
 use Rattle.std.proofs.lemmas.Nat.{from_be_bytes-to_be_bytes_4, from_be_bytes-to_be_bytes_8}
+use Rattle.std.proofs.lemmas.Bool.{and_from}
+use Rattle.list_laws.proofs.Truth.{and_first, and_second}
 use Rattle.nc_base.specs.declared.header.Header.{Header}
 use Rattle.nc_base.specs.declared.header.Dim.{Dim}
 use Rattle.nc_base.specs.declared.header.Attr.{Attr}
@@ -20,8 +22,6 @@ use Rattle.serial_spec.specs.Redefinition.{is_redefinable, is_redefinable_var}
 use Rattle.serial_spec.proofs.FaultLaws.{EndsWrong, ends_later, fault_only}
 use Rattle.cdf_header.specs.Decoding.{BeginsWith}
 use Rattle.cdf_header.proofs.Pieces.{right_number, no_fault, either}
-use Rattle.var_layout.proofs.Soundness.{and_left, and_right}
-use Rattle.var_layout.proofs.LaidOut.{all_true}
 use Rattle.redef_laws.proofs.FitLaws.{checked}
 use Rattle.redef_laws.proofs.FieldLaws.{lt_test, le_test, not_lt_told, eq_test, each_passes, passes_each, each_both}
 
@@ -36,24 +36,24 @@ name_fits version text bytes h = number_fits (count_width version) (length text)
 each_fits : {A : Type 0} (P : A → List ℕ → Type 0) (test : A → Bool) → ((x : A) (bytes : List ℕ) → P x bytes → test x ≡ true)
     → (xs : List A) (bytes : List ℕ) → Each P xs bytes → list_all test xs ≡ true
 each_fits P test f [] bytes h = refl
-each_fits P test f (x ∷ xs) bytes h = all_true (test x) (list_all test xs) (f x h.front h.first) (each_fits P test f xs h.rest h.second)
+each_fits P test f (x ∷ xs) bytes h = and_from (test x) (list_all test xs) (f x h.front h.first) (each_fits P test f xs h.rest h.second)
 
 list_fits : {A : Type 0} (version t : ℕ) (P : A → List ℕ → Type 0) (test : A → Bool) → ((x : A) (bytes : List ℕ) → P x bytes → test x ≡ true)
     → (xs : List A) (bytes : List ℕ) → ListOf version t P xs bytes → is_writable_list version test xs ≡ true
-list_fits {A} version t P test f xs bytes (inl (e, g)) = subst (λ (ys : List A). is_writable_list version test ys ≡ true) (sym e) (all_true (fits_count version 0) true (none (version == 5)) refl)
+list_fits {A} version t P test f xs bytes (inl (e, g)) = subst (λ (ys : List A). is_writable_list version test ys ≡ true) (sym e) (and_from (fits_count version 0) true (none (version == 5)) refl)
   where
     none : (u : Bool) → fits_field (cond u w64 w32) 0 ≡ true
     none true = refl
     none false = refl
 list_fits version t P test f xs bytes (inr h) =
-    all_true (fits_count version (length xs)) (list_all test xs) (number_fits (count_width version) (length xs) h.first.rest h.first.second) (each_fits P test f xs h.rest h.second)
+    and_from (fits_count version (length xs)) (list_all test xs) (number_fits (count_width version) (length xs) h.first.rest h.first.second) (each_fits P test f xs h.rest h.second)
 
 attr_fits : (version : ℕ) (a : Attr) (bytes : List ℕ) → AttributeOf version a bytes → is_writable_attr version a ≡ true
 attr_fits version a bytes (whole, h) =
     let named = h.first.first in
-    all_true (fits_count version (length a.name) && is_type version a.kind && fits_count version a.count) _
-    (all_true (fits_count version (length a.name) && is_type version a.kind) _
-    (all_true (fits_count version (length a.name)) (is_type version a.kind) (name_fits version a.name named.front named.first) named.second.0)
+    and_from (fits_count version (length a.name) && is_type version a.kind && fits_count version a.count) _
+    (and_from (fits_count version (length a.name) && is_type version a.kind) _
+    (and_from (fits_count version (length a.name)) (is_type version a.kind) (name_fits version a.name named.front named.first) named.second.0)
     (number_fits (count_width version) a.count h.first.rest h.first.second))
     (eq_test (length a.bytes) (a.count * size_of a.kind) whole)
 
@@ -67,11 +67,11 @@ var_fits header v bytes h =
     let names = fits_count version (length v.name) in
     let dims = is_writable_list version (λ id. fits_count version id) v.dims in
     let attrs = is_writable_list version (is_writable_attr version) v.attrs in
-    all_true (names && dims && attrs && is_type version v.kind) _
-    (all_true (names && dims && attrs) _
-    (all_true (names && dims) _
-    (all_true names _ (name_fits version v.name counted.front counted.first)
-    (all_true (fits_count version (length v.dims)) _ (number_fits (count_width version) (length v.dims) counted.rest counted.second)
+    and_from (names && dims && attrs && is_type version v.kind) _
+    (and_from (names && dims && attrs) _
+    (and_from (names && dims) _
+    (and_from names _ (name_fits version v.name counted.front counted.first)
+    (and_from (fits_count version (length v.dims)) _ (number_fits (count_width version) (length v.dims) counted.rest counted.second)
     (each_fits (λ id. Number (count_width version) id) (λ id. fits_count version id) (λ id part p. number_fits (count_width version) id part p) v.dims shaped.rest shaped.second)))
     (list_fits version 12 (AttributeOf version) (is_writable_attr version) (attr_fits version) v.attrs listed.rest listed.second))
     typed.second.0)
@@ -83,7 +83,7 @@ records_fit version n bytes (inr h) e = absurd (let is = eq_test n (all_ones ver
 
 dim_fits : (version : ℕ) (d : Dim) (bytes : List ℕ) → DimensionOf version d bytes → (fits_count version (length d.name) && fits_count version d.len) ≡ true
 dim_fits version d bytes h =
-    all_true (fits_count version (length d.name)) (fits_count version d.len) (name_fits version d.name h.front h.first) (number_fits (count_width version) d.len h.rest h.second)
+    and_from (fits_count version (length d.name)) (fits_count version d.len) (name_fits version d.name h.front h.first) (number_fits (count_width version) d.len h.rest h.second)
 
 -- ---- the fields that the reader comes to
 
@@ -273,11 +273,11 @@ dims_fit : (version : ℕ) (dims : List Dim) (bytes : List ℕ) → ListOf versi
     → is_writable_list version (is_writable_dim version) dims ≡ true
 dims_fit version dims bytes h within =
     let spelled = list_fits version 10 (DimensionOf version) (λ d. fits_count version (length d.name) && fits_count version d.len) (dim_fits version) dims bytes h in
-    all_true (fits_count version (length dims)) _ (and_left _ _ spelled)
+    and_from (fits_count version (length dims)) _ (and_first _ _ spelled)
     (each_passes (is_writable_dim version) dims
     (each_both (λ d. (fits_count version (length d.name) && fits_count version d.len) ≡ true) IsWithinLimit (λ d. is_writable_dim version d ≡ true)
-    (λ d p q. all_true (fits_count version (length d.name) && fits_count version d.len) (nat_le d.len file_limit) p q) dims
-    (passes_each (λ d. fits_count version (length d.name) && fits_count version d.len) dims (and_right _ _ spelled)) within))
+    (λ d p q. and_from (fits_count version (length d.name) && fits_count version d.len) (nat_le d.len file_limit) p q) dims
+    (passes_each (λ d. fits_count version (length d.name) && fits_count version d.len) dims (and_second _ _ spelled)) within))
 
 pub opened : (header : Header) (bytes : List ℕ) (len : ℕ) → BeginsWith bytes header len → is_sound header ≡ true → is_redefinable header ≡ true
 opened header bytes len h sound =
@@ -289,10 +289,10 @@ opened header bytes len h sound =
     let records = fits_count version header.records in
     let dims = is_writable_list version (is_writable_dim version) header.dims in
     let attrs = is_writable_list version (is_writable_attr version) header.attrs in
-    all_true (is_sound header && records && dims && attrs) _
-    (all_true (is_sound header && records && dims) _
-    (all_true (is_sound header && records) _
-    (all_true (is_sound header) _ sound (records_fit version header.records counted.rest counted.second (checked header sound).counted))
+    and_from (is_sound header && records && dims && attrs) _
+    (and_from (is_sound header && records && dims) _
+    (and_from (is_sound header && records) _
+    (and_from (is_sound header) _ sound (records_fit version header.records counted.rest counted.second (checked header sound).counted))
     (dims_fit version header.dims shaped.rest shaped.second (dims_within header bytes len h)))
     (list_fits version 12 (AttributeOf version) (is_writable_attr version) (attr_fits version) header.attrs described.rest described.second))
     (list_fits version 11 (VariableOf version) (is_redefinable_var header) (var_fits header) header.vars whole.rest whole.second)

@@ -5,6 +5,8 @@ use Rattle.std.specs.List.{AllByRecursion}
 use Rattle.std.specs.Option.{option_or}
 use Rattle.std.proofs.lemmas.Bool.Decides.{nat_tests}
 use Rattle.std.proofs.lemmas.List.Sums.{length-filter, sum_by-cons}
+use Rattle.std.proofs.lemmas.Bool.{and_from}
+use Rattle.list_laws.proofs.Truth.{and_first, and_second}
 use Rattle.list_laws.proofs.Optional.{both_none, none_before_map}
 use Rattle.nc_base.specs.declared.header.Header.{Header}
 use Rattle.nc_base.specs.declared.header.Dim.{Dim}
@@ -18,8 +20,6 @@ use Rattle.serial_spec.specs.Layout.{vsize, record_share, sharing}
 use Rattle.serial_spec.specs.HeaderGrammar.{attribute, list_of, is_sound, is_version, counts_are_small, header_len, record_later, is_record_id, bad_id, all_ones, measure, past_bound, keeps_bound, fits_count, is_type, is_writable, is_writable_dim, is_writable_attr, is_writable_list, is_writable_var}
 use Rattle.serial_spec.specs.Redefinition.{added, extras_fault, begins_by_number, with_begins, redefined_header, redefined_fault, is_large_var, is_far_begin, is_bad_begin, size_fault}
 use Rattle.redef_laws.specs.Applied.{IsApplied}
-use Rattle.var_layout.proofs.Soundness.{and_left, and_right}
-use Rattle.var_layout.proofs.LaidOut.{all_true}
 use Rattle.redef_laws.proofs.FieldLaws.{not_both, not_true, not_false, lt_told, not_lt_told, le_test, not_le_told, each_passes, each_fails, each_then, each_both, small_fits, count_fits, begin_fits}
 use Rattle.redef_laws.proofs.GrownLaws.{HasFitLength, IsFitVar, IsFit, is_record_dim, each_at, all_more, all_same, HasVersionOf}
 use Rattle.redef_laws.proofs.ShortLaws.{is_short, attrs_written}
@@ -92,7 +92,7 @@ bound_by : (header : Header) (k b : ℕ) (v : Var) → slice_get header.vars k �
 bound_by header k b v g h =
     let kept : (not (is_far_begin header v) && keeps_bound header (sum_by (λ w. record_share header w) (take k header.vars)) v) ≡ true =
     not_false _ (sym (ap (λ (o : Option Var). elim o as (λ u. Bool) [ None ↦ false | Some w ↦ not (not (is_far_begin header w) && keeps_bound header (sum_by (λ x. record_share header x) (take k header.vars)) w) ]) g) ∙ h) in
-    record { near = not_true (is_far_begin header v) (and_left _ _ kept); keeps = and_right (not (is_far_begin header v)) _ kept }
+    record { near = not_true (is_far_begin header v) (and_first _ _ kept); keeps = and_second (not (is_far_begin header v)) _ kept }
 
 pub each_bound : (old : Header) (extras : List Extra) → HasNoFault old extras → (k : ℕ) (x : Var) → slice_get (redefined_header old extras).vars k ≡ Some x
     → IsBound (redefined_header old extras) k x
@@ -196,16 +196,16 @@ checks old new k =
 
 counts : (header : Header) → IsFit header → counts_are_small header ≡ true
 counts header fit =
-    all_true (nat_le (length header.dims) most_dims && nat_le (length header.vars) most_vars) _
-    (all_true (nat_le (length header.dims) most_dims) _ (le_test (length header.dims) 1024 fit.few_dims) (le_test (length header.vars) 8192 fit.few_vars))
+    and_from (nat_le (length header.dims) most_dims && nat_le (length header.vars) most_vars) _
+    (and_from (nat_le (length header.dims) most_dims) _ (le_test (length header.dims) 1024 fit.few_dims) (le_test (length header.vars) 8192 fit.few_vars))
     (each_passes (λ (v : Var). nat_le (length v.dims) most_dims_of_var) header.vars
     (each_then (IsFitVar header.version header.dims) (λ (v : Var). nat_le (length v.dims) most_dims_of_var ≡ true) (λ v f. le_test (length v.dims) 32 f.few) header.vars fit.vars))
 
 pub sound : (old new : Header) → IsKnown old new → is_sound new ≡ true
 sound old new k =
-    all_true (is_version new.version && counts_are_small new && nat_le (header_len new) most_header_bytes) _
-    (all_true (is_version new.version && counts_are_small new) _
-    (all_true (is_version new.version) _ (ap (λ (v : ℕ). is_version v) k.same.version ∙ k.opened.version) (counts new k.fit))
+    and_from (is_version new.version && counts_are_small new && nat_le (header_len new) most_header_bytes) _
+    (and_from (is_version new.version && counts_are_small new) _
+    (and_from (is_version new.version) _ (ap (λ (v : ℕ). is_version v) k.same.version ∙ k.opened.version) (counts new k.fit))
     (le_test (header_len new) (2 ^ 20) k.short))
     (ap (λ o. is_none o) (passes_checks new (checks old new k)))
 
@@ -214,15 +214,15 @@ sound old new k =
 dims_written : (old new : Header) → IsKnown old new → is_writable_list new.version (is_writable_dim new.version) new.dims ≡ true
 dims_written old new k =
     let few = k.fit.few_dims in
-    all_true (fits_count new.version (length new.dims)) _ (small_fits new.version (length new.dims) (omega arith))
+    and_from (fits_count new.version (length new.dims)) _ (small_fits new.version (length new.dims) (omega arith))
     (each_passes (is_writable_dim new.version) new.dims
     (each_both (λ d. length d.name ≤ 2 ^ 20) (HasFitLength new.version) (λ d. is_writable_dim new.version d ≡ true) (dim_written new.version) new.dims
     (is_short new k.short).dims k.fit.lengths))
   where
     dim_written : (version : ℕ) (d : Dim) → length d.name ≤ 2 ^ 20 → HasFitLength version d → is_writable_dim version d ≡ true
     dim_written version d short fit =
-        all_true (fits_count version (length d.name) && fits_count version d.len) _
-        (all_true (fits_count version (length d.name)) _ (small_fits version (length d.name) (omega arith)) fit.fits)
+        and_from (fits_count version (length d.name) && fits_count version d.len) _
+        (and_from (fits_count version (length d.name)) _ (small_fits version (length d.name) (omega arith)) fit.fits)
         (le_test d.len file_limit fit.small)
 
 -- what is known of one variable of a new header
@@ -238,7 +238,7 @@ dims_of_var : (header : Header) (k : ℕ) (v : Var) → IsKnownVar header k v �
 dims_of_var header k v is =
     let few = is.fit.few in
     let all = is.few_dims in
-    all_true (fits_count header.version (length v.dims)) _ (small_fits header.version (length v.dims) (omega arith))
+    and_from (fits_count header.version (length v.dims)) _ (small_fits header.version (length v.dims) (omega arith))
     (each_passes (λ id. fits_count header.version id) v.dims
     (each_then (λ id. id < length header.dims) (λ id. fits_count header.version id ≡ true) (λ id l. small_fits header.version id (omega arith)) v.dims is.fit.known))
 
@@ -254,12 +254,12 @@ var_written header k v is =
     let names = fits_count version (length v.name) in
     let dims = is_writable_list version (λ id. fits_count version id) v.dims in
     let attrs = is_writable_list version (is_writable_attr version) v.attrs in
-    let end = lt_told (v.begin + vsize header v) file_limit (and_right (nat_lt (vsize header v) file_limit) _ (and_left (nat_lt (vsize header v) file_limit && nat_lt (v.begin + vsize header v) file_limit) _ is.bound.keeps)) in
-    all_true (names && dims && attrs && is_type version v.kind && fits_count version (vsize header v)) _
-    (all_true (names && dims && attrs && is_type version v.kind) _
-    (all_true (names && dims && attrs) _
-    (all_true (names && dims) _
-    (all_true names _ (small_fits version (length v.name) (omega arith)) (dims_of_var header k v is))
+    let end = lt_told (v.begin + vsize header v) file_limit (and_second (nat_lt (vsize header v) file_limit) _ (and_first (nat_lt (vsize header v) file_limit && nat_lt (v.begin + vsize header v) file_limit) _ is.bound.keeps)) in
+    and_from (names && dims && attrs && is_type version v.kind && fits_count version (vsize header v)) _
+    (and_from (names && dims && attrs && is_type version v.kind) _
+    (and_from (names && dims && attrs) _
+    (and_from (names && dims) _
+    (and_from names _ (small_fits version (length v.name) (omega arith)) (dims_of_var header k v is))
     (attrs_written version v.attrs is.fit.typed is.attrs))
     is.fit.known_type)
     (size_fits header v (omega arith) is.stored))
@@ -269,7 +269,7 @@ vars_written : (old new : Header) → IsKnown old new → is_writable_list new.v
 vars_written old new k =
     let few = k.fit.few_vars in
     let short = is_short new k.short in
-    all_true (fits_count new.version (length new.vars)) _ (small_fits new.version (length new.vars) (omega arith))
+    and_from (fits_count new.version (length new.vars)) _ (small_fits new.version (length new.vars) (omega arith))
     (each_passes (is_writable_var new) new.vars
     (each_from (λ v. is_writable_var new v ≡ true) new.vars
     (λ i v g. var_written new i v (record {
@@ -288,10 +288,10 @@ written old new extras applied =
     let records = fits_count version new.records in
     let dims = is_writable_list version (is_writable_dim version) new.dims in
     let attrs = is_writable_list version (is_writable_attr version) new.attrs in
-    all_true (is_sound new && records && dims && attrs) _
-    (all_true (is_sound new && records && dims) _
-    (all_true (is_sound new && records) _
-    (all_true (is_sound new) _ (sound old new k)
+    and_from (is_sound new && records && dims && attrs) _
+    (and_from (is_sound new && records && dims) _
+    (and_from (is_sound new && records) _
+    (and_from (is_sound new) _ (sound old new k)
     (ap (λ (v : ℕ). fits_count v new.records) k.same.version ∙ ap (λ (n : ℕ). fits_count old.version n) k.same.records ∙ k.opened.records))
     (dims_written old new k))
     (attrs_written version new.attrs k.fit.attrs (is_short new k.short).attrs))

@@ -5,6 +5,8 @@ use Rattle.std.proofs.lemmas.List.{drop_more, drop_all}
 use Rattle.std.proofs.lemmas.Nat.{row_fits, mul-le}
 use Rattle.std.proofs.Math.Nat.{mul-le-mul_left}
 use Rattle.std.proofs.lemmas.Bool.Decides.{nat_tests}
+use Rattle.serial_spec.proofs.RoomLaws.{slab_shared, end_fixed}
+use Rattle.serial_spec.proofs.ApartLaws.{index_fixed, index_record}
 use Rattle.nc_base.specs.declared.header.Header.{Header}
 use Rattle.nc_base.specs.declared.header.Var.{Var}
 use Rattle.nc_base.specs.declared.header.NcType.{NcType}
@@ -71,13 +73,6 @@ all_rows lengths index k so_far h so =
 
 -- ---- elements
 
-pub index_fixed : (header : Header) (v : Var) (index : List ℕ) → is_record header v ≡ false → IsElement header v index → IsIndex (inner_lengths header v) index
-index_fixed header v index e h = subst (λ (t : Bool). MatchBool t (HasRecord index × IsIndex (inner_lengths header v) (within_record index)) (IsIndex (inner_lengths header v) index)) e h
-
-pub index_record : (header : Header) (v : Var) (index : List ℕ) → is_record header v ≡ true → IsElement header v index
-    → HasRecord index × IsIndex (inner_lengths header v) (within_record index)
-index_record header v index e h = subst (λ (t : Bool). MatchBool t (HasRecord index × IsIndex (inner_lengths header v) (within_record index)) (IsIndex (inner_lengths header v) index)) e h
-
 pub place_fixed : (header : Header) (v : Var) (index : List ℕ) → is_record header v ≡ false
     → place header v index ≡ v.begin + row (inner_lengths header v) index * size_of v.kind
 place_fixed header v index e = ap (λ (t : Bool). cond t (v.begin + record_of index * recsize header + row (inner_lengths header v) (within_record index) * size_of v.kind) (v.begin + row (inner_lengths header v) index * size_of v.kind)) e
@@ -115,16 +110,6 @@ greatest_holds f [] k x h = cc
 greatest_holds f (y ∷ xs) zero x h = let e : f y ≡ f x = cc in omega arith
 greatest_holds f (y ∷ xs) (suc k) x h = let l = greatest_holds f xs k x h in omega arith
 
-share_holds : (header : Header) (v : Var) → slab header v ≤ last_share header v
-share_holds header v = by_test (length (record_slabs header) == 1)
-  where
-    by_test : (t : Bool) → slab header v ≤ cond t (slab header v) (vsize header v)
-    by_test true = omega arith
-    by_test false = slab_below header v
-
-end_fixed : (header : Header) (n : ℕ) (v : Var) → is_record header v ≡ false → end_of_var header n v ≡ v.begin + vsize header v
-end_fixed header n v e = ap (λ (t : Bool). cond t (cond (n == 0) 0 (v.begin + (n - 1) * recsize header + last_share header v)) (v.begin + vsize header v)) e
-
 end_record : (header : Header) (n : ℕ) (v : Var) → is_record header v ≡ true → 0 < n → end_of_var header n v ≡ v.begin + (n - 1) * recsize header + last_share header v
 end_record header n v e h =
     ap (λ (t : Bool). cond t (cond (n == 0) 0 (v.begin + (n - 1) * recsize header + last_share header v)) (v.begin + vsize header v)) e
@@ -157,7 +142,7 @@ before_end_of_var header v index n h l = by_test (is_record header v) refl
         let p = place_record header v index e in
         let q = end_record header n v e (omega arith) in
         let s = in_slab header v (within_record index) (index_record header v index e h).1 in
-        let m = share_holds header v in
+        let m = slab_shared header v in
         let last : record_of index * recsize header ≤ (n - 1) * recsize header = mul-le (record_of index) (recsize header) (n - 1) (recsize header) (omega arith) (omega arith) in
         omega arith
 

@@ -8,6 +8,9 @@ use Rattle.std.proofs.lemmas.Bool.Decides.{nat_tests}
 use Rattle.std.proofs.lemmas.List.{take_all, get_or_default, length-map}
 use Rattle.std.proofs.lemmas.List.Sums.{sum_by-cons}
 use Rattle.std.proofs.lemmas.Option.{slice_get_within, slice_get_read, get_or_from_slice_get}
+use Rattle.std.proofs.lemmas.Bool.{or_parts, not-true, and_from}
+use Rattle.list_laws.proofs.Truth.{and_first, and_second}
+use Rattle.list_laws.proofs.Optional.{neither_some}
 use Rattle.nc_base.specs.declared.header.Header.{Header}
 use Rattle.nc_base.specs.declared.header.Var.{Var}
 use Rattle.nc_base.specs.declared.script.Align.{Align}
@@ -17,7 +20,7 @@ use Rattle.serial_spec.specs.Layout.{slab, vsize, is_record, recsize, record_siz
 use Rattle.serial_spec.specs.HeaderGrammar.{is_sound, first_check, header_len, two_record_dims, record_later, bad_id, is_too_large, all_ones, measure, past_bound, keeps_bound, counts_are_small, is_version, variable}
 use Rattle.var_layout.specs.Begins.{fixed_end, first_record, HasPlace}
 use Rattle.var_layout.specs.Unplaced.{is_unplaced}
-use Rattle.var_layout.proofs.Soundness.{and_left, and_right, slab_below, shares_are, recsize_shared}
+use Rattle.var_layout.proofs.Soundness.{slab_below, shares_are, recsize_shared}
 use Rattle.var_layout.proofs.WrittenLengths.{list_len, variable_len, canon_len}
 use Rattle.var_layout.proofs.CreatedFiles.{at_begin, in_place, fixed_end_more, fixed_end_same, records_more, records_same, begin_fixed, begin_record, fixed_near, record_near}
 
@@ -73,14 +76,10 @@ laid_len header align first =
 
 -- ---- the checks of a whole header
 
-none_of : (t u : Bool) → (t || u) ≡ false → (t ≡ false) × (u ≡ false)
-none_of true u h = cc
-none_of false u h = (refl, h)
-
 none_len : {A : Type 0} (test : A → Bool) (xs : List A) → list_any test xs ≡ false → prefix_len (λ x. not (test x)) xs ≡ length xs
 none_len test [] h = refl
 none_len test (x ∷ xs) h =
-    let both = none_of (test x) (list_any test xs) h in
+    let both = or_parts (test x) (list_any test xs) h in
     let rest = none_len test xs both.1 in
     ap (λ (t : Bool). cond (not t) (1 + prefix_len (λ y. not (test y)) xs) 0) both.0 ∙ omega (arith, rest)
 
@@ -89,10 +88,6 @@ none_first {A} test xs h = by_len (prefix_len (λ x. not (test x)) xs) (none_len
   where
     by_len : (n : ℕ) → n ≡ length xs → cond (nat_lt n (length xs)) (Some n) None ≡ None
     by_len n e = ap (λ (t : Bool). cond t (Some n) None) (let f : nat_lt n (length xs) ≡ false = grind (arith, nat_tests) in f)
-
-not_true : (t : Bool) → not t ≡ true → t ≡ false
-not_true true e = cc
-not_true false e = refl
 
 pub record Unplaced (header : Header) : Type 0 where
   pub version : is_version header.version ≡ true
@@ -104,17 +99,17 @@ pub record Unplaced (header : Header) : Type 0 where
 
 pub unplaced : (header : Header) → is_unplaced header ≡ true → Unplaced header
 unplaced header h =
-    let a = and_left _ _ h in
-    let b = and_left _ _ a in
-    let c = and_left _ _ b in
-    let d = and_left _ _ c in
+    let a = and_first _ _ h in
+    let b = and_first _ _ a in
+    let c = and_first _ _ b in
+    let d = and_first _ _ c in
     record {
-      version = and_left _ _ d;
-      counts = and_right _ _ d;
-      one_record = not_true _ (and_right _ _ c);
-      record_first = not_true _ (and_right _ _ b);
-      ids = not_true _ (and_right _ _ a);
-      none = is_zero header.records (and_right _ _ h);
+      version = and_first _ _ d;
+      counts = and_second _ _ d;
+      one_record = not-true _ (and_second _ _ c);
+      record_first = not-true _ (and_second _ _ b);
+      ids = not-true _ (and_second _ _ a);
+      none = is_zero header.records (and_second _ _ h);
     }
   where
     is_zero : (n : ℕ) → (n == 0) ≡ true → n ≡ 0
@@ -273,10 +268,6 @@ past_none header (v ∷ vs) before n h =
     shifted : (b s r t : ℕ) → t ≡ s + r → b + s + r ≡ b + t
     shifted b s r t e = omega arith
 
-pub all_true : (a b : Bool) → a ≡ true → b ≡ true → (a && b) ≡ true
-all_true true b e f = f
-all_true false b e f = cc
-
 fits : (n : ℕ) → n < 2 ^ 62 → nat_lt n (2 ^ 62) ≡ true
 fits n h = grind (arith, nat_tests)
 
@@ -287,7 +278,7 @@ pub record Fits (header : Header) (before : ℕ) (v : Var) : Type 0 where
 keeps : (header : Header) (before : ℕ) (v : Var) → header.records ≡ 0 → Fits header before v → keeps_bound header before v ≡ true
 keeps header before v none h =
     let end = h.end in
-    all_true (nat_lt (vsize header v) (2 ^ 62) && nat_lt (v.begin + vsize header v) (2 ^ 62)) _ (all_true _ _ (fits (vsize header v) (omega arith)) (fits (v.begin + vsize header v) end))
+    and_from (nat_lt (vsize header v) (2 ^ 62) && nat_lt (v.begin + vsize header v) (2 ^ 62)) _ (and_from _ _ (fits (vsize header v) (omega arith)) (fits (v.begin + vsize header v) end))
     (by_test (is_record header v) refl)
   where
     past : Bool
@@ -299,7 +290,7 @@ keeps header before v none h =
         ap (λ (t : Bool). not t || (nat_lt (before + vsize header v) (2 ^ 62) && (header.records == 0 || nat_lt (v.begin + (header.records - 1) * recsize header + last_share header v) (2 ^ 62)))) e
     by_test true e =
         ap (λ (t : Bool). not t || (nat_lt (before + vsize header v) (2 ^ 62) && (header.records == 0 || nat_lt (v.begin + (header.records - 1) * recsize header + last_share header v) (2 ^ 62)))) e
-        ∙ all_true _ _ (fits (before + vsize header v) (h.records e))
+        ∙ and_from _ _ (fits (before + vsize header v) (h.records e))
         (ap (λ (n : ℕ). n == 0 || nat_lt (v.begin + (header.records - 1) * recsize header + last_share header v) (2 ^ 62)) none)
 
 pub laid_measure : (header : Header) (align : Align) (len first : ℕ) → header.records ≡ 0 → HasPlace header align len first → measure (begins header align len) ≡ None
@@ -506,19 +497,16 @@ laid_sharing header align len first pos pos' place =
 
 -- ---- the header is sound
 
-both_none : {A : Type 0} (a b : Option A) → a ≡ None → b ≡ None → option_or a b ≡ None
-both_none a b e f = ap (λ o. option_or o b) e ∙ f
-
 laid_checks : (header : Header) (align : Align) (len first : ℕ) → 0 < align.header → 0 < align.var → Unplaced header → HasPlace header align len first
     → first_check (begins header align len) ≡ None
 laid_checks header align len first pos pos' u place =
-    both_none _ _ (ap (λ (t : Bool). cond t (Some fault.TwoRecordDims) None) u.one_record)
-    (both_none _ _ (ap (λ o. option_map (λ k. fault.RecordDimNotFirst k) o) (none_first (record_later header) (placed header align len 0 header.vars)
+    neither_some _ _ (ap (λ (t : Bool). cond t (Some fault.TwoRecordDims) None) u.one_record)
+    (neither_some _ _ (ap (λ o. option_map (λ k. fault.RecordDimNotFirst k) o) (none_first (record_later header) (placed header align len 0 header.vars)
     (placed_any (record_later header) (λ v b. refl) header align len 0 header.vars ∙ u.record_first)))
-    (both_none _ _ (ap (λ o. option_map (λ k. fault.BadDimId k) o) (none_first (bad_id header) (placed header align len 0 header.vars)
+    (neither_some _ _ (ap (λ o. option_map (λ k. fault.BadDimId k) o) (none_first (bad_id header) (placed header align len 0 header.vars)
     (placed_any (bad_id header) (λ v b. refl) header align len 0 header.vars ∙ u.ids)))
-    (both_none _ _ (ap (λ (t : Bool). cond t (Some fault.Streaming) None) (ap (λ (n : ℕ). n == all_ones header.version) u.none ∙ no_stream header.version))
-    (both_none _ _ (ap (λ (t : Bool). cond t (Some fault.TooLarge) None) small)
+    (neither_some _ _ (ap (λ (t : Bool). cond t (Some fault.Streaming) None) (ap (λ (n : ℕ). n == all_ones header.version) u.none ∙ no_stream header.version))
+    (neither_some _ _ (ap (λ (t : Bool). cond t (Some fault.TooLarge) None) small)
     (ap (λ o. option_map (λ p. fault.Shared p.0 p.1) o) shared)))))
   where
     small : is_too_large (begins header align len) ≡ false
@@ -533,9 +521,9 @@ pub laid_sound : (header : Header) (align : Align) (len first : ℕ) → 0 < ali
     → is_sound (begins header align len) ≡ true
 laid_sound header align len first pos pos' h place =
     let u = unplaced header h in
-    all_true (is_version header.version && counts_are_small (begins header align len) && nat_le (header_len (begins header align len)) most_header_bytes) _
-    (all_true (is_version header.version && counts_are_small (begins header align len)) _
-    (all_true (is_version header.version) _ u.version (counts_kept header align len ∙ u.counts))
+    and_from (is_version header.version && counts_are_small (begins header align len) && nat_le (header_len (begins header align len)) most_header_bytes) _
+    (and_from (is_version header.version && counts_are_small (begins header align len)) _
+    (and_from (is_version header.version) _ u.version (counts_kept header align len ∙ u.counts))
     (let e = laid_len header align len in let l = place.length in let m = place.small in short (header_len (begins header align len)) (omega arith)))
     (ap (λ o. is_none o) (laid_checks header align len first pos pos' u place))
   where

@@ -18,9 +18,9 @@ use Rattle.serial_spec.specs.Records.{records_of}
 use Rattle.serial_spec.specs.RegionCheck.{check_some, check_var, is_too_large, last_position}
 use Rattle.serial_spec.specs.Request.{elements, places}
 use Rattle.serial_spec.proofs.AcceptLaws.{accepted_elements}
-use Rattle.serial_spec.proofs.ApartLaws.{slab_fits}
+use Rattle.serial_spec.proofs.ApartLaws.{slab_fits, index_record}
 use Rattle.serial_spec.proofs.RoomLaws.{element_inside}
-use Rattle.var_layout.proofs.ElementPlaces.{index_record, product_pos, size_pos}
+use Rattle.var_layout.proofs.ElementPlaces.{product_pos, size_pos}
 use Rattle.vara_extents.specs.Accepted.{IsAccepted}
 use Rattle.vara_extents.specs.Joined.{element_extents, extents_of}
 use Rattle.vara_extents.specs.Numbered.{index_of}
