@@ -3,6 +3,7 @@ use Rattle.std.proofs.Common.{◌≡◌, ℕ, ◌+◌, ◌-◌, ◌≤◌, ◌^�
 use Rattle.std.specs.Prelude.{is_none}
 use Rattle.std.proofs.lemmas.List.{take-append-drop, length-take, append-nil}
 use Rattle.std.proofs.Math.Seq.{take-append_seam, take-append-add}
+use Rattle.std.proofs.lemmas.Bool.{leb-true}
 use Rattle.list_laws.proofs.Truth.{and_first, and_second}
 use Rattle.nc_base.specs.declared.header.Header.{Header}
 use Rattle.nc_base.specs.declared.errors.HeaderErr.{HeaderErr}
@@ -11,7 +12,6 @@ use Rattle.serial_spec.proofs.SpellingLaws.{canon_spelled}
 use Rattle.serial_spec.proofs.FaultLaws.{fault_only}
 use Rattle.serial_spec.proofs.OnceLaws.{spells_once}
 use Rattle.cdf_header.specs.Decoding.{BeginsWith}
-use Rattle.cdf_header.proofs.Types.{le_from}
 use Rattle.cdf_header.proofs.Walks.{no_fault}
 
 no_some : {A : Type 0} (o : Option A) (x : A) → o ≡ None → o ≡ Some x → ⊥
@@ -62,7 +62,7 @@ cut_after t more n h =
 pub begins_cut : (header : Header) (more : List ℕ) → is_writable header ≡ true → BeginsWith (take (2 ^ 20) (canon header ++ more)) header (header_len header)
 begins_cut header more is =
     let sound : is_sound header ≡ true = and_first _ _ (and_first _ _ (and_first _ _ (and_first _ _ is))) in
-    let short : header_len header ≤ 2 ^ 20 = le_from (header_len header) (2 ^ 20) (and_second _ _ (and_first _ _ sound)) in
+    let short : header_len header ≤ 2 ^ 20 = leb-true (header_len header) (2 ^ 20) (and_second _ _ (and_first _ _ sound)) in
     let cut = cut_after (canon header) more (2 ^ 20) short in
     subst (λ (t : List ℕ). BeginsWith t header (header_len header)) (sym cut.1) (begins_whole header cut.0 is)
 

@@ -6,7 +6,8 @@ use Rattle.std.specs.Int.{w32, w64, byte_len, to_be_bytes, from_be_bytes}
 use Rattle.std.proofs.Math.Seq.{drop-append_seam, take-append_seam}
 use Rattle.std.proofs.lemmas.List.{length-drop, length-replicate, drop-drop}
 use Rattle.std.proofs.lemmas.Nat.{from_be_bytes-to_be_bytes_4, from_be_bytes-to_be_bytes_8}
-use Rattle.std.proofs.lemmas.Bool.{ltb-true, eqb-true, eq-eqb}
+use Rattle.std.proofs.lemmas.Bool.{ltb-true, eqb-true, eq-eqb, le-ltb, leb-true}
+use Rattle.serial_spec.proofs.LengthLaws.{width_long}
 use Rattle.list_laws.proofs.Truth.{and_first, and_second}
 use Rattle.nc_base.specs.declared.header.Header.{Header}
 use Rattle.nc_base.specs.declared.header.Dim.{Dim}
@@ -50,9 +51,6 @@ inside b text more x n e len some =
     let left_over = length-drop x b in
     omega (arith, whole, left_over, len, some)
 
-not_past : (len end : ℕ) → end ≤ len → nat_lt len end ≡ false
-not_past len end h = grind arith
-
 -- the field is right, and what is asked after it is what is asked later
 abbrev RightAt : ℕ → List Ask → List Ask → Field → List ℕ → Type 0
 RightAt v rest later f text =
@@ -62,8 +60,8 @@ RightAt v rest later f text =
 walk_field : (v : ℕ) (asks rest later : List Ask) (f : Field) (text : List ℕ) → asked asks ≡ Some (f, rest) → length text ≡ field_len v f → RightAt v rest later f text → Walk v asks later text
 walk_field v asks rest later f text a len is_right b x more e =
     let r = is_right b x (take_here b text more x (field_len v f) e len) in
-    let within = not_past (length b) (x + field_len v f) (inside b text more x (field_len v f) e len (len_pos v f)) in
-    let fine : wrong_at v f b x ≡ None = rw within r.0 in
+    let le-ltb = le-ltb (length b) (x + field_len v f) (inside b text more x (field_len v f) e len (len_pos v f)) in
+    let fine : wrong_at v f b x ≡ None = rw le-ltb r.0 in
     takes a fine (subst (λ (as' : List Ask). Run v b as' (x + field_len v f) later (x + length text)) (sym r.1)
     (subst (λ (n : ℕ). Run v b later (x + field_len v f) later (x + n)) (sym len) stands))
 
@@ -89,15 +87,8 @@ back_begin : (t : Bool) (n : ℕ) → fits_field (cond t w32 w64) n ≡ true →
 back_begin true n h = let less : 2 * n < 2 ^ 32 = ltb-true _ _ h in (back_4 n (omega (arith, less)), refl)
 back_begin false n h = let less : 2 * n < 2 ^ 64 = ltb-true _ _ h in (back_8 n (omega (arith, less)), refl)
 
-long_by : (t : Bool) (n : ℕ) → length (to_be_bytes (cond t w64 w32) n) ≡ byte_len (cond t w64 w32)
-long_by true n = refl
-long_by false n = refl
-
 not_negative : (n m : ℕ) → nat_lt n m ≡ true → nat_le m n ≡ false
 not_negative n m h = grind arith
-
-within : (n m : ℕ) → n ≤ m → nat_lt m n ≡ false
-within n m h = grind arith
 
 -- a field of the width of counts whose number counts
 number_walk : (v n : ℕ) (asks rest later : List Ask) (f : Field) → asked asks ≡ Some (f, rest) → field_len v f ≡ byte_len (count_width v)
@@ -144,12 +135,12 @@ name_walk v n asks rest a fits =
 dim_walk : (v : ℕ) (d : Dim) (asks rest : List Ask) → asked asks ≡ Some (NameLength, One DimLength ∷ rest) → is_writable_dim v d ≡ true → Walk v asks rest (dimension v d)
 dim_walk v d asks rest a h =
     let fits : fits_count v d.len ≡ true = and_second _ _ (and_first _ _ h) in
-    let few : nat_lt file_limit d.len ≡ false = at_most d.len file_limit (and_second _ _ h) in
+    let few : nat_lt file_limit d.len ≡ false = leb-true d.len file_limit (and_second _ _ h) in
     walk_then v asks (One DimLength ∷ rest) rest (name v d.name) (count v d.len) (name_walk v d.name asks (One DimLength ∷ rest) a (and_first _ _ (and_first _ _ h)))
     (number_walk v d.len (One DimLength ∷ rest) rest rest DimLength refl refl (λ b x. refl) fits (λ x. rw (not_negative _ _ fits, few) refl) refl)
   where
-    at_most : (n m : ℕ) → nat_le n m ≡ true → nat_lt m n ≡ false
-    at_most n m k = grind arith
+    leb-true : (n m : ℕ) → nat_le n m ≡ true → nat_lt m n ≡ false
+    leb-true n m k = grind arith
 
 number_known : (kind : NcType) → ((number_of kind == 0) ≡ false) × (number_of kind < 2 ^ 32) × (type_size (number_of kind) ≡ size_of kind)
 number_known Byte = (refl, omega arith, refl)
@@ -165,10 +156,10 @@ number_known Int64 = (refl, omega arith, refl)
 number_known UInt64 = (refl, omega arith, refl)
 
 type_fine : (v : ℕ) (kind : NcType) (x : ℕ) → is_type v kind ≡ true → bad_type v x (number_of kind) ≡ None
-type_fine v kind x h = rw ((number_known kind).0, at_most (number_of kind) (last_type v) h) refl
+type_fine v kind x h = rw ((number_known kind).0, leb-true (number_of kind) (last_type v) h) refl
   where
-    at_most : (n m : ℕ) → nat_le n m ≡ true → nat_lt m n ≡ false
-    at_most n m k = grind arith
+    leb-true : (n m : ℕ) → nat_le n m ≡ true → nat_lt m n ≡ false
+    leb-true n m k = grind arith
 
 attr_walk : (v : ℕ) (a : Attr) (asks rest : List Ask) → asked asks ≡ Some (NameLength, One AttrType ∷ rest) → is_writable_attr v a ≡ true → Walk v asks rest (attribute v a)
 attr_walk v a asks rest e h =
@@ -243,7 +234,7 @@ list_walk v e f test tagged one (y ∷ ys) few fits all rest =
     walk_then v (One (Tag e) ∷ rest) (many e n ++ rest) rest (tag (tag_of e) ++ count v n) (flat_map f (y ∷ ys))
     (walk_then v (One (Tag e) ∷ rest) counted (many e n ++ rest) (tag (tag_of e)) (count v n)
     (word_walk v (tag_of e) (One (Tag e) ∷ rest) rest counted (Tag e) refl refl (λ b x. refl) tagged.small (λ x. tag_fine (tag_of e) x) (ap (λ (t : Bool). One (Count e t) ∷ rest) tagged.some))
-    (number_walk v n counted rest (many e n ++ rest) (Count e false) refl refl (λ b x. refl) fits (λ x. few_fine _ _ _ _ (not_negative _ _ fits) (within n (most_of e) few)) refl))
+    (number_walk v n counted rest (many e n ++ rest) (Count e false) refl refl (λ b x. refl) fits (λ x. few_fine _ _ _ _ (not_negative _ _ fits) (le-ltb (most_of e) n few)) refl))
     (each_walk v e f test one (y ∷ ys) all rest)
 
 attributes_few : (v n : ℕ) → fits_count v n ≡ true → n ≤ 2 ^ 64
@@ -270,9 +261,6 @@ begin_walk v n rest fits =
     (λ b x here.
     let is : field_number v Begin b x ≡ n = ap (λ (t : List ℕ). big_endian t) here ∙ known.0 in
     (subst (λ (k : ℕ). wrong v Begin x k ≡ None) (sym is) (rw (not_negative _ _ fits) refl), refl))
-
-at_most : (n m : ℕ) → nat_le n m ≡ true → n ≤ m
-at_most n m h = grind arith
 
 var_walk : (h : Header) (v : Var) → is_writable_var h v ≡ true → nat_le (length v.dims) most_dims_of_var ≡ true → WalksEntry h.version Variables (λ w. variable h w) v
 var_walk h v is few asks rest a =
@@ -301,11 +289,11 @@ var_walk h v is few asks rest a =
     (walk_then version asks (many Ids n ++ after_ids) after_ids counted (flat_map (λ id. count version id) v.dims)
     (walk_then version asks after_name (many Ids n ++ after_ids) named (count version n)
     (name_walk version v.name asks after_name a (and_first _ _ t2))
-    (number_walk version n after_name after_ids (many Ids n ++ after_ids) DimCount refl refl (λ b x. refl) (and_first _ _ ids) (λ x. few_fine _ _ _ _ (not_negative _ _ (and_first _ _ ids)) (within n most_dims_of_var (at_most n most_dims_of_var few))) refl))
+    (number_walk version n after_name after_ids (many Ids n ++ after_ids) DimCount refl refl (λ b x. refl) (and_first _ _ ids) (λ x. few_fine _ _ _ _ (not_negative _ _ (and_first _ _ ids)) (le-ltb most_dims_of_var n (leb-true n most_dims_of_var few))) refl))
     (each_walk version Ids (λ id. count version id) (λ id. fits_count version id) (λ id k. id_walk version id k) v.dims (and_second _ _ ids) after_ids))
     (attrs_walk version v.attrs (and_second _ _ t3) after_attrs))
     (word_walk version (number_of v.kind) after_attrs after_type after_type VarType refl refl (λ b x. refl) (number_known v.kind).1 (λ x. type_fine version v.kind x (and_second _ _ t4)) refl))
-    (walk_field version after_type after_stored after_stored Vsize (count version (vsize h v)) refl (long_by (version == 5) (vsize h v)) (λ b x here. (refl, refl))))
+    (walk_field version after_type after_stored after_stored Vsize (count version (vsize h v)) refl (width_long (version == 5) (vsize h v)) (λ b x here. (refl, refl))))
     (begin_walk version v.begin rest (and_second _ _ is))
 
 -- ---- a header
@@ -361,10 +349,10 @@ header_walk h is =
     (magic_walk v after_magic (known_version h sound))
     (records_walk v h.records after_records (and_second _ _ h2)))
     (list_walk v Dimensions (λ d. dimension v d) (is_writable_dim v) dimensions_tagged
-    (λ d k asks more e. dim_walk v d asks more e k) h.dims (at_most (length h.dims) most_dims (and_first _ _ (and_first _ _ small))) (and_first _ _ (and_second _ _ h3)) (and_second _ _ (and_second _ _ h3)) after_dims))
+    (λ d k asks more e. dim_walk v d asks more e k) h.dims (leb-true (length h.dims) most_dims (and_first _ _ (and_first _ _ small))) (and_first _ _ (and_second _ _ h3)) (and_second _ _ (and_second _ _ h3)) after_dims))
     (attrs_walk v h.attrs (and_second _ _ h4) after_attrs))
     (list_walk v Variables (λ w. variable h w) (λ w. is_writable_var h w && nat_le (length w.dims) most_dims_of_var) variables_tagged
-    (λ w k. var_walk h w (and_first _ _ k) (and_second _ _ k)) h.vars (at_most (length h.vars) most_vars (and_second _ _ (and_first _ _ small))) (and_first _ _ (and_second _ _ is))
+    (λ w k. var_walk h w (and_first _ _ k) (and_second _ _ k)) h.vars (leb-true (length h.vars) most_vars (and_second _ _ (and_first _ _ small))) (and_first _ _ (and_second _ _ is))
     (both_tests (is_writable_var h) (λ w. nat_le (length w.dims) most_dims_of_var) h.vars (and_second _ _ (and_second _ _ is)) (and_second _ _ small)) [])
 
 version_there : (h : Header) (more : List ℕ) → version_of (canon h ++ more) ≡ h.version

@@ -6,7 +6,7 @@ use Rattle.std.specs.Int.{Width, w32, w64, byte_len, to_be_bytes, from_be_bytes}
 use Rattle.std.proofs.Math.Seq.{drop-append_seam, take-append_seam}
 use Rattle.std.proofs.lemmas.List.{drop-drop, take-append-drop}
 use Rattle.std.proofs.lemmas.Nat.{from_be_bytes-to_be_bytes_4, from_be_bytes-to_be_bytes_8}
-use Rattle.std.proofs.lemmas.Bool.{and_from}
+use Rattle.std.proofs.lemmas.Bool.{and_from, or_parts}
 use Rattle.list_laws.proofs.Truth.{and_first, and_second}
 use Rattle.nc_base.specs.declared.header.Header.{Header}
 use Rattle.nc_base.specs.declared.header.Dim.{Dim}
@@ -21,7 +21,7 @@ use Rattle.serial_spec.specs.HeaderGrammar.{Joined, ◌▹◌, Exactly, Each, Nu
 use Rattle.serial_spec.specs.Redefinition.{is_redefinable, is_redefinable_var}
 use Rattle.serial_spec.proofs.FaultLaws.{EndsWrong, ends_later, fault_only}
 use Rattle.cdf_header.specs.Decoding.{BeginsWith}
-use Rattle.cdf_header.proofs.Pieces.{right_number, no_fault, either}
+use Rattle.cdf_header.proofs.Pieces.{right_number, no_fault}
 use Rattle.redef_laws.proofs.FitLaws.{checked}
 use Rattle.redef_laws.proofs.FieldLaws.{lt_test, le_test, not_lt_told, eq_test, each_passes, passes_each, each_both}
 
@@ -190,7 +190,7 @@ abbrev IsWithinLimit : Dim → Type 0
 IsWithinLimit d = nat_le d.len file_limit ≡ true
 
 bounded : (v x n : ℕ) → wrong v DimLength x n ≡ None → nat_le n file_limit ≡ true
-bounded v x n w = le_test n file_limit (not_lt_told file_limit n (either _ _ (no_fault _ (fault.BadNumber x) w)).1)
+bounded v x n w = le_test n file_limit (not_lt_told file_limit n (or_parts _ _ (no_fault _ (fault.BadNumber x) w)).1)
 
 dim_passes : (v : ℕ) (d : Dim) (asks rest : List Ask) → asked asks ≡ Some (NameLength, One DimLength ∷ rest) → Passes v asks rest (DimensionOf v d) ((Unit {0} × Unit {0}) × IsWithinLimit d)
 dim_passes v d asks rest a =

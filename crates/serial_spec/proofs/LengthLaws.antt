@@ -60,7 +60,7 @@ attr_long : (v : ℕ) (a : Attr) → Long (AttributeOf v a) (attribute v a)
 attr_long v a s h =
     joined_long _ _ (joined_long _ _ (joined_long _ _ (name_long v a.name) (type_long v a.kind)) (number_long (count_width v) a.count)) (padded_long a.bytes) s h.1
 
-width_long : (t : Bool) (n : ℕ) → length (to_be_bytes (cond t w64 w32) n) ≡ byte_len (cond t w64 w32)
+pub width_long : (t : Bool) (n : ℕ) → length (to_be_bytes (cond t w64 w32) n) ≡ byte_len (cond t w64 w32)
 width_long true n = refl
 width_long false n = refl
 
