@@ -55,11 +55,6 @@ length-places header v g =
 pub length-element_extents : (header : Header) (v : Var) (g : Region) → length (element_extents header v g) ≡ product g.count
 length-element_extents header v g = length-map (places header v g) (λ x. record { at = x; len = size_of v.kind }) ∙ length-places header v g
 
-pub all_at : {A : Type 0} (P : A → Type 0) (xs : List A) (k : ℕ) (x : A) → AllByRecursion P xs → slice_get xs k ≡ Some x → P x
-all_at P [] k x h e = absurd cc
-all_at P (y ∷ xs) zero x h e = let same : y ≡ x = cc in subst P same h.0
-all_at P (y ∷ xs) (suc k) x h e = all_at P xs k x h.1 e
-
 -- ---- the elements of a run are one extent
 
 pub run_is : (header : Header) (v : Var) (g : Region) (run total k : ℕ) → AreRuns (λ k. place header v (index_of g k)) (size_of v.kind) run total → total ≡ product g.count

@@ -3,7 +3,7 @@ use Rattle.std.proofs.Common.{◌≡◌, ℕ, zero, suc, ◌+◌, ◌^◌, ◌<�
 use Rattle.std.specs.Prelude.{slice_get}
 use Rattle.std.proofs.lemmas.Bool.{or_parts, leb-false, ltb-false}
 use Rattle.std.proofs.lemmas.Nat.{mul-le}
-use Rattle.list_laws.proofs.Each.{each_map, each_weaker}
+use Rattle.list_laws.proofs.Each.{each_map, each_weaker, each_at}
 use Rattle.nc_base.specs.declared.header.Header.{Header}
 use Rattle.nc_base.specs.declared.header.Var.{Var}
 use Rattle.nc_base.specs.declared.plan.Extent.{Extent}
@@ -26,7 +26,7 @@ use Rattle.vara_extents.specs.Joined.{element_extents, extents_of}
 use Rattle.vara_extents.specs.Numbered.{index_of}
 use Rattle.vara_extents.proofs.AcceptedLaws.{passed}
 use Rattle.vara_extents.proofs.JoinLaws.{AreSome, EndBy, joined_some, joined_end}
-use Rattle.vara_extents.proofs.NumberLaws.{element_at, all_at}
+use Rattle.vara_extents.proofs.NumberLaws.{element_at}
 
 -- the variable of an accepted region is there
 pub accepted_there : (header : Header) (k : ℕ) (g : Region) → IsAccepted header k g → k < length header.vars
@@ -65,7 +65,7 @@ pub accepted_place : (header : Header) (k : ℕ) (v : Var) (g : Region) (n : ℕ
 accepted_place header k v g n sound is h below =
     let ok = accepted_var header k v g is h in
     let all = accepted_elements header k v g h.0 h.1 sound is ok in
-    let own : IsElementBelow header v (records_of header v g) (index_of g n) = all_at (IsElementBelow header v (records_of header v g)) (elements g) n (index_of g n) all (element_at g n below) in
+    let own : IsElementBelow header v (records_of header v g) (index_of g n) = each_at (IsElementBelow header v (records_of header v g)) (elements g) n (index_of g n) all (element_at g n below) in
     let end = element_inside header (header_len header) (records_of header v g) k v (index_of g n) is own in
     let small = accepted_small header v g (passed header v g h.0 h.1 ok).large in
     record { element = own.0; before_end = end; low = omega (arith, small.ends, end) }
