@@ -1,6 +1,7 @@
 -- What a window leaves on a disk that may tell its bytes and its calls.
 use Rattle.std.proofs.Common.{◌≡◌, ℕ, zero, suc, ◌+◌, ◌-◌, ◌<◌, ◌≤◌, ◌⊎◌, ◌++◌, inl, inr, refl, sym, ◌∙◌, ap, subst, List, [], ◌∷◌, length, take, drop, get_or, Bool, true, false, cond, Option, Some, None, Result, Ok, Err, arith}
 use Rattle.std.specs.Prelude.{IfSome, OnErr, if◌then◌else◌}
+use Rattle.list_laws.proofs.Optional.{no_none_some}
 use Rattle.nc_base.specs.declared.step.DiskCall.{DiskCall}
 use Rattle.nc_base.specs.declared.step.DiskCall.TheVariants.{Load, Store}
 use Rattle.serial_spec.specs.File.{at, read, written}
@@ -8,7 +9,7 @@ use Rattle.serial_spec.specs.Said.{Cell, said_at, said_by, write_cells, IsFrom, 
 use Rattle.serial_spec.proofs.FileLaws.{length-written_inside}
 use Rattle.overlay_laws.specs.Windows.{HasPlace}
 use Rattle.overlay_laws.specs.Changes.{IsBetween, IsBegun, load_calls, store_calls}
-use Rattle.overlay_laws.proofs.SaidLaws.{no_none_some, cells_long}
+use Rattle.overlay_laws.proofs.SaidLaws.{cells_long}
 use Rattle.overlay_laws.proofs.WindowLaws.{moved_said, within_lowered}
 use Rattle.overlay_laws.proofs.ReadLaws.{kept_read, window_answer}
 use Rattle.nc_outside.specs.Told.{after, with_end, BothTold}

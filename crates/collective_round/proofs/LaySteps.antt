@@ -4,6 +4,7 @@ use Rattle.std.proofs.lemmas.List.Folds.{flat_map-map}
 use Rattle.std.specs.Prelude.{map, flat_map, nat_lt, is_ok, IfSome, OnOk}
 use Rattle.std.specs.Option.{option_or}
 use borrow.Author.Tests.{ltb-true, ltb-false}
+use Rattle.list_laws.proofs.Optional.{second_counts}
 use Rattle.nc_base.specs.declared.plan.Owned.{Owned}
 use Rattle.nc_base.specs.declared.step.DiskCall.{DiskCall}
 use Rattle.nc_outside.specs.Told.{after, with_end}
@@ -14,7 +15,7 @@ use Rattle.overlay_laws.specs.Entries.{Source, cell_of}
 use Rattle.overlay_laws.specs.Hulls.{written_over}
 use Rattle.overlay_laws.specs.Walks.{told_of}
 use Rattle.overlay_laws.specs.Windows.{clips}
-use Rattle.overlay_laws.proofs.SaidLaws.{second_counts, same_said}
+use Rattle.overlay_laws.proofs.SaidLaws.{same_said}
 use Rattle.overlay_laws.proofs.WindowLaws.{within_more, none_below, none_past, clips_within, clips_from, clips_in}
 use Rattle.data_sieving.proofs.PutSteps.{entries_two, or_none, unsaid}
 use Rattle.collective_round.specs.Turns.{Told, written_told}

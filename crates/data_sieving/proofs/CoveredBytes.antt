@@ -2,13 +2,13 @@
 use Rattle.std.proofs.Common.{◌≡◌, ℕ, ◌+◌, ◌<◌, ◌≤◌, ◌⊎◌, inl, inr, refl, sym, ◌∙◌, ap, subst, List, [], ◌∷◌, ◌++◌, Bool, true, false, cond, append_assoc, arith}
 use Rattle.std.specs.Prelude.{filter, nat_le}
 use Rattle.std.specs.List.{range_with_len}
+use Rattle.std.proofs.lemmas.Bool.{le-leb, leb-true}
 use Rattle.nc_base.specs.declared.plan.Owned.{Owned}
 use Rattle.serial_spec.specs.DeviceCalls.{in_order}
 use Rattle.overlay_laws.specs.Entries.{In, ranges}
 use Rattle.overlay_laws.specs.Hulls.{IsAscending}
 use Rattle.overlay_laws.specs.Lines.{extents, EndBelow}
 use Rattle.overlay_laws.proofs.HullLaws.{filter_in, filter_ascends, in_left, in_right, in_either, in_flat, flat_in, in_range, range_low, range_high, in_in_order, in_order_in, in_order_ascends, first_least}
-use Rattle.overlay_laws.proofs.WalkLaws.{le_true, from_le}
 use Rattle.overlay_laws.proofs.CoverLaws.{same_ascending}
 use Rattle.data_sieving.specs.Serving.{IsCovered, IsPast, AreBegun, bytes_from}
 
@@ -64,12 +64,12 @@ in_filter t (y ∷ ys) x (inr h) e = keep_in y x (filter t ys) (t y) (in_filter 
 
 pub byte_from : (place : ℕ) (list : List Owned) (x : ℕ) → place ≤ x → IsCovered list x → In (bytes_from place list) x
 byte_from place list x h c =
-    in_filter (λ (y : ℕ). nat_le place y) (in_order (ranges list)) x (in_in_order (ranges list) x (in_ranges list x c)) (le_true place x h)
+    in_filter (λ (y : ℕ). nat_le place y) (in_order (ranges list)) x (in_in_order (ranges list) x (in_ranges list x c)) (le-leb place x h)
 
 pub from_byte : (place : ℕ) (list : List Owned) (x : ℕ) → In (bytes_from place list) x → (place ≤ x) × IsCovered list x
 from_byte place list x h =
     let r = filter_in (λ (y : ℕ). nat_le place y) (in_order (ranges list)) x h in
-    (from_le place x r.1, ranges_in list x (in_order_in (ranges list) x r.0))
+    (leb-true place x r.1, ranges_in list x (in_order_in (ranges list) x r.0))
 
 pub bytes_ascend : (place : ℕ) (list : List Owned) → IsAscending (bytes_from place list)
 bytes_ascend place list = filter_ascends (λ (y : ℕ). nat_le place y) (in_order (ranges list)) (in_order_ascends (ranges list))

@@ -1,8 +1,8 @@
 -- The next window of what is left.
 use Rattle.std.proofs.Common.{◌≡◌, ℕ, ◌+◌, ◌-◌, ◌^◌, ◌<◌, ◌≤◌, sym, ◌∙◌, subst, List, take, max, min, Some, slice_get, arith}
+use Rattle.std.proofs.lemmas.Option.{same_Some}
 use Rattle.nc_base.specs.declared.plan.Owned.{Owned}
 use Rattle.file_domains.specs.declared.walk.Window.{Window}
-use Rattle.overlay_laws.proofs.SaidLaws.{same_some}
 use Rattle.file_domains.proofs.CoverParts.{got_in}
 use Rattle.data_sieving.specs.Serving.{IsCovered, IsPast, AreLeft, AreBegun, IsHull, IsNext}
 use Rattle.data_sieving.proofs.CoveredBytes.{in_extents}
@@ -20,7 +20,7 @@ pub first_below : (left begun : List Owned) (n place size at : ℕ) (first o : O
     → at ≡ max first.extent.at place → slice_get begun 0 ≡ Some o → at < o.extent.at + o.extent.len
 first_below left begun n place size at first o l b e is g =
     subst (λ (p : Owned). at < p.extent.at + p.extent.len)
-    (same_some first o (sym e ∙ got_taken n left o (subst (λ (list : List Owned). slice_get list 0 ≡ Some o) b g)))
+    (same_Some first o (sym e ∙ got_taken n left o (subst (λ (list : List Owned). slice_get list 0 ≡ Some o) b g)))
     (at_below left place size at first l e is)
 
 pub stop_past : (left : List Owned) (place size at stop : ℕ) (first : Owned) → AreLeft left place size → slice_get left 0 ≡ Some first → at ≡ max first.extent.at place

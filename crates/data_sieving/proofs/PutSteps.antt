@@ -6,6 +6,8 @@ use Rattle.std.specs.Prelude.{map, nat_lt, IfSome}
 use Rattle.std.specs.List.{enumerate_from}
 use Rattle.std.specs.Option.{option_or}
 use borrow.Author.Tests.{ltb-true, ltb-false}
+use Rattle.serial_spec.proofs.SaidLaws.{said_below, said_past, said_inside, said_append, cells_said}
+use Rattle.list_laws.proofs.Optional.{neither_some, second_counts, first_counts}
 use Rattle.nc_base.specs.declared.plan.Owned.{Owned}
 use Rattle.file_domains.specs.declared.walk.Window.{Window}
 use Rattle.nc_outside.specs.Told.{after, BothTold}
@@ -15,7 +17,7 @@ use Rattle.overlay_laws.specs.Windows.{clip, clips, HasPlace}
 use Rattle.overlay_laws.specs.Entries.{In, Source, cell_of}
 use Rattle.overlay_laws.specs.Origins.{AreFound}
 use Rattle.overlay_laws.specs.Changes.{IsBetween}
-use Rattle.overlay_laws.proofs.SaidLaws.{both_none, first_counts, second_counts, said_below, said_past, said_inside, said_append, cells_said, cells_long, same_said}
+use Rattle.overlay_laws.proofs.SaidLaws.{cells_long, same_said}
 use Rattle.overlay_laws.proofs.WindowLaws.{moved_said, within_lowered, within_more, append_within, none_below, none_past, clips_within, clips_from, clips_in}
 use Rattle.data_sieving.specs.Serving.{IsCovered, IsPast, AreLeft, IsNext}
 use Rattle.data_sieving.proofs.CoveredBytes.{covered_left, covered_right, past_covered, begun_covered}
@@ -53,7 +55,7 @@ pub unsaid : (source : Source) (list : List Owned) (x : ℕ) → (IsCovered list
 unsaid source [] x h = refl
 unsaid source (o ∷ list) x h =
     said_append (enumerate_from o.extent.at (take o.extent.len (drop o.from (source o.rank o.slot)))) (said_by (entry_cells source list)) x
-    ∙ both_none (said_at (said_by (entry_cells source list)) x) _ (unsaid source list x (λ c. h (covered_right (o ∷ []) list x c)))
+    ∙ neither_some (said_at (said_by (entry_cells source list)) x) _ (unsaid source list x (λ c. h (covered_right (o ∷ []) list x c)))
     (outside o.extent.at o.extent.len x (take o.extent.len (drop o.from (source o.rank o.slot)))
     (omega (arith, length-take o.extent.len (drop o.from (source o.rank o.slot))))
     (λ l k. h (record { by = o; inside = inl refl; low = l; high = k })))

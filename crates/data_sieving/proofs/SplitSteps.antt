@@ -3,11 +3,12 @@ use Rattle.std.proofs.Common.{◌≡◌, ℕ, zero, suc, ◌+◌, ◌^◌, ◌<�
 use Rattle.std.specs.Prelude.{nat_lt}
 use borrow.Author.Tests.{ltb-true, ltb-false}
 use Rattle.std.proofs.lemmas.List.{take-append-drop, length-take}
+use Rattle.std.proofs.lemmas.Option.{same_Some}
+use Rattle.list_laws.proofs.Optional.{no_none_some}
 use Rattle.nc_base.specs.declared.plan.Extent.{Extent}
 use Rattle.nc_base.specs.declared.plan.Owned.{Owned}
 use Rattle.overlay_laws.specs.Entries.{In}
 use Rattle.overlay_laws.specs.Lines.{extents, IsByPlace, EndBelow}
-use Rattle.overlay_laws.proofs.SaidLaws.{no_none_some, same_some}
 use Rattle.file_domains.proofs.CoverParts.{in_dropped, in_at, got_at, get_is}
 use Rattle.data_sieving.specs.Sieving.{AreFilled}
 use Rattle.data_sieving.specs.Serving.{IsPast, AreLeft, AreBegun}
@@ -80,11 +81,11 @@ later_all (suc n) place (p ∷ list) h k o m = later_all n place list h.1 k o m
 pub first_begins : (list : List Owned) (first o : Owned) → IsByPlace (extents list) → slice_get list 0 ≡ Some first → In list o → first.extent.at ≤ o.extent.at
 first_begins [] first o h e m = absurd m
 first_begins (p ∷ list) first o h e (inl g) =
-    let begin : first.extent.at ≡ p.extent.at = ap (λ (q : Owned). q.extent.at) (sym (same_some p first e)) in
+    let begin : first.extent.at ≡ p.extent.at = ap (λ (q : Owned). q.extent.at) (sym (same_Some p first e)) in
     let same : p.extent.at ≡ o.extent.at = ap (λ (q : Owned). q.extent.at) g in
     omega arith
 first_begins (p ∷ list) first o h e (inr m) =
-    let begin : first.extent.at ≡ p.extent.at = ap (λ (q : Owned). q.extent.at) (sym (same_some p first e)) in
+    let begin : first.extent.at ≡ p.extent.at = ap (λ (q : Owned). q.extent.at) (sym (same_Some p first e)) in
     let above = h.0 o.extent (in_extents list o m) in
     omega arith
 
@@ -153,11 +154,11 @@ ended_more place i list d l e h k o m g = by_index (nat_lt k i) refl
         let past : i ≤ k = ltb-false _ _ f in
         let same : k ≡ i = omega arith in
         subst (λ (z : Owned). z.extent.at + z.extent.len ≤ place)
-        (same_some (get_or list i d) o (sym (got_at list i d l) ∙ ap (λ (n : ℕ). slice_get list n) (sym same) ∙ g)) e
+        (same_Some (get_or list i d) o (sym (got_at list i d l) ∙ ap (λ (n : ℕ). slice_get list n) (sym same) ∙ g)) e
 
 pub goes_past : (place i : ℕ) (list : List Owned) (d o : Owned) → i < length list → place < (get_or list i d).extent.at + (get_or list i d).extent.len
     → slice_get list i ≡ Some o → place < o.extent.at + o.extent.len
-goes_past place i list d o l e g = subst (λ (z : Owned). place < z.extent.at + z.extent.len) (same_some (get_or list i d) o (sym (got_at list i d l) ∙ g)) e
+goes_past place i list d o l e g = subst (λ (z : Owned). place < z.extent.at + z.extent.len) (same_Some (get_or list i d) o (sym (got_at list i d l) ∙ g)) e
 
 pub none_after : {A : Type 0} (list : List Owned) (o : Owned) → slice_get list (length list) ≡ Some o → A
 none_after list o g = let l = (get_is list (length list) o g).0 in absurd (omega arith)

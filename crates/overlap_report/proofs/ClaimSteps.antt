@@ -5,7 +5,6 @@ use Rattle.std.specs.BinaryHeap.{IsHeap, IsUpperBound, PopsGreatest}
 use Rattle.std.specs.Slice.{IsItemAt}
 use Rattle.std.specs.Option.{option_copied}
 use Rattle.std.specs.Prelude.{IfSome, IfNone, MatchOption}
-use Rattle.overlay_laws.proofs.WalkLaws.{lt_true}
 use Rattle.std.specs.List.Sorted.{IsPermutation}
 use Rattle.std.specs.Ordering.{ordering_then}
 use Rattle.std.specs.declared.cmp.Ordering.{Ordering}
@@ -22,6 +21,7 @@ use Rattle.overlap_report.proofs.SweepSteps.{swept_empty, swept_without, swept_p
 use Rattle.overlap_report.proofs.OriginSteps.{resolved_by}
 use Rattle.overlap_report.proofs.KeySteps.{IsNext, in_extents}
 use Rattle.std.proofs.lemmas.List.{take_all}
+use Rattle.std.proofs.lemmas.Bool.{lt-ltb}
 use Rattle.nc_base.specs.declared.plan.Extent.{Extent}
 use Rattle.overlay_laws.specs.Lines.{extents, IsByPlace, EndBelow}
 use Rattle.overlay_laws.specs.Origins.{origins, IsOnceEach, IsResolved}
@@ -100,7 +100,7 @@ top_told [] (Some x) heap item greatest = cc (item.0)
 top_told (c ∷ cs) None heap item greatest = absurd (no_item (length cs) item.0)
   where
     no_item : (n : ℕ) → false ≡ nat_lt 0 (suc n) → ⊥
-    no_item n e = (let yes : nat_lt 0 (suc n) ≡ true = lt_true 0 (suc n) (omega arith) in cc)
+    no_item n e = (let yes : nat_lt 0 (suc n) ≡ true = lt-ltb 0 (suc n) (omega arith) in cc)
 top_told (c ∷ cs) (Some x) heap item greatest = (ap Some (sym item.1), last_of_all x.now (c ∷ cs) (greatest heap))
 
 pub ended_fit : (cs ds : List Claim) (t : Claim) (p : ℕ) → IsPermutation cs (t ∷ ds) → AreFit p (entries_of cs) → AreFit p (entries_of ds)

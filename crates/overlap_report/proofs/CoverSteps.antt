@@ -5,14 +5,15 @@ use Rattle.std.proofs.lemmas.Grind.{flat_map-append}
 use Rattle.std.proofs.lemmas.List.{drop_more, append-nil}
 use Rattle.std.proofs.Math.ListN.{drop_of_length-le}
 use Rattle.std.specs.List.{range_with_len}
+use Rattle.std.proofs.lemmas.Bool.{lt-ltb, le-ltb}
 use borrow.Author.Tests.{ltb-true, ltb-false, eqb-true}
+use Rattle.list_laws.proofs.Truth.{equal_above, equal_true}
 use Rattle.nc_base.specs.declared.plan.Extent.{Extent}
 use Rattle.nc_base.specs.declared.plan.Owned.{Owned}
 use Rattle.overlay_laws.specs.Entries.{In, HaveSame, ranges}
 use Rattle.overlay_laws.specs.Lines.{extents, IsByPlace, EndBelow}
 use Rattle.overlay_laws.specs.Walks.{IsCover, spans}
 use Rattle.overlay_laws.proofs.HullLaws.{in_either, in_left, in_right, in_range, range_low, range_high}
-use Rattle.overlay_laws.proofs.WalkLaws.{lt_true, lt_false, eq_true, eq_false}
 use Rattle.overlap_report.specs.Sorted.{run}
 
 -- the runs of the extents, where one from a place to an end has begun
@@ -193,7 +194,7 @@ step_empty list i at end o done all h is empty e =
     let there = next_entry list i o h in
     ap (λ (es : List Extent). done ++ es)
     (sym (ap (λ (es : List Extent). joined_from at end es) (there ∙ ap (λ (z : Owned). z.extent ∷ extents (drop (i + 1) list)) (sym is))
-    ∙ by_test (o.extent.len == 0) (eq_true o.extent.len 0 empty)))
+    ∙ by_test (o.extent.len == 0) (equal_true o.extent.len 0 empty)))
     ∙ e
   where
     by_test : (t : Bool) → t ≡ true
@@ -209,7 +210,7 @@ step_touch list i at end o done all h is some touch e =
     let there = next_entry list i o h in
     ap (λ (es : List Extent). done ++ es)
     (sym (ap (λ (es : List Extent). joined_from at end es) (there ∙ ap (λ (z : Owned). z.extent ∷ extents (drop (i + 1) list)) (sym is))
-    ∙ by_test (o.extent.len == 0) (nat_lt end o.extent.at) (eq_false 0 o.extent.len some) (lt_false end o.extent.at touch)))
+    ∙ by_test (o.extent.len == 0) (nat_lt end o.extent.at) (equal_above o.extent.len 0 some) (le-ltb end o.extent.at touch)))
     ∙ e
   where
     by_test : (s t : Bool) → s ≡ false → t ≡ false
@@ -229,7 +230,7 @@ step_gap list i at end o done all more h is some gap added e =
     ∙ append_assoc done (run at end) (joined_from o.extent.at (max end (o.extent.at + o.extent.len)) (extents (drop (i + 1) list)))
     ∙ ap (λ (es : List Extent). done ++ es)
     (sym (ap (λ (es : List Extent). joined_from at end es) (there ∙ ap (λ (z : Owned). z.extent ∷ extents (drop (i + 1) list)) (sym is))
-    ∙ by_test (o.extent.len == 0) (nat_lt end o.extent.at) (eq_false 0 o.extent.len some) (lt_true end o.extent.at gap)))
+    ∙ by_test (o.extent.len == 0) (nat_lt end o.extent.at) (equal_above o.extent.len 0 some) (lt-ltb end o.extent.at gap)))
     ∙ e
   where
     by_test : (s t : Bool) → s ≡ false → t ≡ true

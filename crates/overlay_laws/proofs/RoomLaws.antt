@@ -3,6 +3,7 @@ use Rattle.std.proofs.Common.{ℕ, ◌+◌, ◌-◌, ◌<◌, ◌≤◌, List, [
 use Rattle.std.proofs.lemmas.Grind.{common_steps}
 use Rattle.std.specs.Prelude.{flat_map, slice_get}
 use Rattle.std.specs.List.{range_with_len}
+use Rattle.serial_spec.proofs.KeepLaws.{cell_short}
 use Rattle.nc_base.specs.declared.header.Header.{Header}
 use Rattle.nc_base.specs.declared.header.Var.{Var}
 use Rattle.nc_base.specs.declared.plan.Post.{Post}
@@ -34,14 +35,11 @@ size_pos kind.UInt = omega arith
 size_pos kind.Int64 = omega arith
 size_pos kind.UInt64 = omega arith
 
-take_short : (n : ℕ) (b : List ℕ) → length (take n b) ≤ n
-take_short n b = grind (arith, common_steps)
-
 cells_room : (size : ℕ) (ps bytes : List ℕ) (n : ℕ) → 1 ≤ size → ((x : ℕ) → In (flat_map (λ p. range_with_len p size) ps) x → x < n) → IsWithin (cells size ps bytes) n
 cells_room size [] bytes n h below = tt
 cells_room size (p ∷ ps) bytes n h below =
     let last = below (p + (size - 1)) (in_left (range_with_len p size) (flat_map (λ q. range_with_len q size) ps) (p + (size - 1)) (in_range p size (p + (size - 1)) (omega arith) (omega arith))) in
-    let short = take_short size bytes in
+    let short = cell_short size bytes in
     (omega arith, cells_room size ps (drop size bytes) n h (λ x k. below x (in_right (range_with_len p size) (flat_map (λ q. range_with_len q size) ps) x k)))
 
 post_room : (header : Header) (v : Option Var) (post : Post) (n : ℕ) → ((x : ℕ) → In (bytes_of_some header v post) x → x < n) → IsWithin (cells_of_some header v post) n
@@ -67,7 +65,7 @@ has_room s source puts ess list n one g same some below = (
       let p = to_put s.header source puts ess o (o.extent.at + (o.extent.len - 1)) g (same.1 o k)
       (in_range o.extent.at o.extent.len (o.extent.at + (o.extent.len - 1)) (omega arith) (omega arith)) in
       let last = below (o.extent.at + (o.extent.len - 1)) (in_flat (λ q. bytes_of s.header q.1) puts p.put (o.extent.at + (o.extent.len - 1)) p.is_one p.has) in
-      let short = take_short o.extent.len (drop o.from (source o.rank o.slot)) in
+      let short = cell_short o.extent.len (drop o.from (source o.rank o.slot)) in
       omega arith),
   below,
 )

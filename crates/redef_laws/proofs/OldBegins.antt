@@ -1,6 +1,7 @@
 -- Where old variables begin that share no byte: fixed variables apart and below the records, record variables within one record.
 use Rattle.std.proofs.Common.{◌≡◌, ℕ, suc, ◌+◌, ◌<◌, ◌≤◌, refl, sym, ◌∙◌, ap, inl, inr, ◌⊎◌, List, [], ◌∷◌, Bool, true, false, true≢false, cond, ◌&&◌, ◌||◌, None, max, arith}
 use Rattle.std.specs.Prelude.{filter, zip, nat_lt, nat_le}
+use Rattle.std.proofs.lemmas.Bool.{lt-ltb}
 use borrow.Author.Tests.{ltb-false}
 use Rattle.list_laws.proofs.Optional.{told_else, both_none}
 use Rattle.nc_base.specs.declared.header.Header.{Header}
@@ -8,7 +9,6 @@ use Rattle.nc_base.specs.declared.header.Var.{Var}
 use Rattle.serial_spec.specs.Layout.{is_record, recsize, slab, meet, share, records_meet, sharing_with, sharing_from}
 use Rattle.overlay_laws.specs.Entries.{In}
 use Rattle.overlay_laws.proofs.HullLaws.{filter_in}
-use Rattle.overlay_laws.proofs.WalkLaws.{lt_true}
 use Rattle.overlay_laws.proofs.Members.{zip_left}
 
 -- any two places of the list have variables that share none
@@ -64,7 +64,7 @@ pub fixed_begins_differ : (old : Header) (v w : Var) → is_record old v ≡ fal
 fixed_begins_differ old v w e f h k g same = true≢false (sym both_lie ∙ sym (share_known old v w false false e f) ∙ g)
   where
     both_lie : meet v.begin (slab old v) w.begin (slab old w) ≡ true
-    both_lie = λ i. lt_true (max v.begin w.begin) (v.begin + slab old v) (omega arith) i && lt_true (max v.begin w.begin) (w.begin + slab old w) (omega arith) i
+    both_lie = λ i. lt-ltb (max v.begin w.begin) (v.begin + slab old v) (omega arith) i && lt-ltb (max v.begin w.begin) (w.begin + slab old w) (omega arith) i
 
 pub fixed_below_record : (old : Header) (v w : Var) → is_record old v ≡ false → is_record old w ≡ true
     → (share old v w ≡ false) ⊎ (share old w v ≡ false) → v.begin + slab old v ≤ w.begin

@@ -3,9 +3,9 @@ use Rattle.std.proofs.Common.{◌≡◌, ℕ, ◌+◌, ◌<◌, ◌≤◌, refl,
 use Rattle.std.proofs.lemmas.List.Sums.{sum_by-cons, sum_by-append}
 use Rattle.std.specs.Prelude.{map, flat_map, sum_by, nat_le, nat_lt, ◌==◌}
 use borrow.Author.Tests.{ltb-true, ltb-false, eqb-true}
+use Rattle.list_laws.proofs.Truth.{equal_true}
 use Rattle.serial_spec.specs.DeviceCalls.{Slab}
 use Rattle.overlay_laws.specs.Entries.{In}
-use Rattle.overlay_laws.proofs.WalkLaws.{eq_true}
 use Rattle.redef_laws.specs.Rising.{put_in, lowest_first}
 use Rattle.redef_laws.proofs.ChainLaws.{AreDistinct}
 
@@ -92,7 +92,7 @@ abbrev is_slab : Slab → Slab → Bool
 is_slab s t = t.from == s.from && (t.to == s.to && t.len == s.len)
 
 itself : (s : Slab) → is_slab s s ≡ true
-itself s = λ i. eq_true s.from s.from refl i && (eq_true s.to s.to refl i && eq_true s.len s.len refl i)
+itself s = λ i. equal_true s.from s.from refl i && (equal_true s.to s.to refl i && equal_true s.len s.len refl i)
 
 both : (a b : Bool) → (a && b) ≡ true → (a ≡ true) × (b ≡ true)
 both true true h = (refl, refl)
@@ -164,8 +164,8 @@ once_distinct [] h = tt
 once_distinct (s ∷ ss) h = (
   (λ t g e.
       let all = sum_by-cons (begins_at s.from) s ss in
-      let one : begins_at s.from s ≡ 1 = ap (λ b. cond b 1 0) (eq_true s.from s.from refl) in
-      let two : begins_at s.from t ≡ 1 = ap (λ b. cond b 1 0) (eq_true t.from s.from (sym e)) in
+      let one : begins_at s.from s ≡ 1 = ap (λ b. cond b 1 0) (equal_true s.from s.from refl) in
+      let two : begins_at s.from t ≡ 1 = ap (λ b. cond b 1 0) (equal_true t.from s.from (sym e)) in
       let there = summed_in (begins_at s.from) ss t g in
       let most = h s.from in
       omega arith),

@@ -1,7 +1,7 @@
 -- The last extent that has begun goes past the place, or it does not.
 use Rattle.std.proofs.Common.{◌≡◌, ℕ, ◌+◌, ◌-◌, ◌<◌, ◌≤◌, Some, slice_get, slice_index_or, subst, sym, ◌∙◌, arith}
+use Rattle.std.proofs.lemmas.Option.{same_Some}
 use Rattle.nc_base.specs.declared.plan.Extent.{Extent}
-use Rattle.overlay_laws.proofs.SaidLaws.{same_some}
 use Rattle.overlay_laws.specs.Walks.{IsCover}
 use Rattle.file_domains.specs.Rounds.{IsLeft}
 use Rattle.file_domains.proofs.CoverParts.{in_at, got_at, left_from_last, left_from_next}
@@ -27,7 +27,7 @@ returns-else-begun-gt0 c =
     (elim c.else-begun-gt0.branch [
       | else-begun-gt0-via-then-begun-gt0+else-end_of-place w ↦ (λ e some g.
           let at_last = got_at c.args.cover.now (c.args.begun - 1) (record { at = 0; len = 0 }) (omega (arith, c.requires.bound)) in
-          subst (λ (z : Extent). z.at + z.len ≤ c.args.place) (same_some _ e (sym at_last ∙ g)) (omega arith))
+          subst (λ (z : Extent). z.at + z.len ≤ c.args.place) (same_Some _ e (sym at_last ∙ g)) (omega arith))
       | else-begun-gt0-via-else-begun-gt0 w ↦ (λ e some g. absurd (omega arith))
     ])
     c.requires.bound c.requires.after)
