@@ -1,6 +1,7 @@
 -- One window of a loop over all windows.
 use Rattle.std.proofs.Common.{◌≡◌, ℕ, ◌+◌, ◌-◌, ◌^◌, ◌<◌, ◌≤◌, refl, sym, ◌∙◌, ap, subst, List, [], ◌∷◌, ◌++◌, length, min, Option, Some, None, Result, slice_get, arith}
 use Rattle.std.specs.Prelude.{IfSome, flat_map, IsErrOf}
+use Rattle.overlay_laws.proofs.Members.{at_in}
 use Rattle.nc_base.specs.declared.plan.Owned.{Owned}
 use Rattle.nc_base.specs.declared.plan.Post.{Post}
 use Rattle.nc_base.specs.declared.step.DiskCall.{DiskCall}
@@ -16,7 +17,6 @@ use Rattle.overlay_laws.specs.Windows.{clips}
 use Rattle.overlay_laws.specs.Lines.{extents, IsByPlace, EndBelow}
 use Rattle.overlay_laws.specs.Changes.{IsBetween, IsBegun, load_calls, store_calls}
 use Rattle.aggregator_rounds.specs.Pieces.{told_window}
-use Rattle.file_domains.proofs.CoverParts.{got_in}
 use Rattle.data_sieving.specs.Sieving.{source_of, put_cells, windows_of, AreFilled, LieOn}
 use Rattle.data_sieving.specs.Serving.{IsPast, AreLeft, IsNext, HasDone, windows_from}
 use Rattle.data_sieving.proofs.WindowSteps.{window_bytes, next_told, windows_next, all_windows, no_window, goes_on}
@@ -34,7 +34,7 @@ walk_ready list size sorted ends filled some = record {
   sorted = sorted;
   ends = ends;
   filled = filled;
-  next = λ o g. (let f = filled o (got_in list 0 o g) in omega arith);
+  next = λ o g. (let f = filled o (at_in list 0 o g) in omega arith);
   some = some;
 }
 

@@ -3,6 +3,7 @@ use Rattle.std.proofs.Common.{◌≡◌, ℕ, zero, suc, ◌+◌, ◌-◌, ◌<�
 use Rattle.std.proofs.lemmas.List.{take-take, take_all, take_more, drop-drop, length-take, map-append}
 use Rattle.std.proofs.lemmas.Grind.{fold-append}
 use Rattle.std.specs.Prelude.{map, nat_lt}
+use Rattle.std.proofs.lemmas.Option.{slice_get-get_or}
 use borrow.Author.Tests.{ltb-true, ltb-false}
 use Rattle.nc_base.specs.declared.plan.Owned.{Owned}
 use Rattle.nc_base.specs.declared.plan.Post.{Post}
@@ -11,7 +12,6 @@ use Rattle.serial_spec.specs.Said.{Cell, write_cells, moved_down}
 use Rattle.overlay_laws.specs.Windows.{clip, clips}
 use Rattle.overlay_laws.specs.Entries.{In, Source, cell_of}
 use Rattle.overlay_laws.specs.Origins.{AreFound}
-use Rattle.file_domains.proofs.CoverParts.{got_at}
 use Rattle.data_sieving.specs.Sieving.{bytes_of_post, source_of}
 use Rattle.data_sieving.specs.Serving.{part_at, part_in}
 
@@ -74,7 +74,7 @@ slot_in (p ∷ posts) zero h = omega arith
 slot_in (p ∷ posts) (suc slot) h = let l = slot_in posts slot h in omega arith
 
 pub slot_bytes : (posts : List Post) (slot : ℕ) (p : Post) → slot < length posts → (get_or posts slot p).bytes ≡ bytes_of_post (slice_get posts slot)
-slot_bytes posts slot p l = sym (ap bytes_of_post (got_at posts slot p l))
+slot_bytes posts slot p l = sym (ap bytes_of_post (slice_get-get_or posts slot p l))
 
 -- the bytes of the post that an entry names
 pub found_bytes : (posts given : List Post) (o : Owned) (p : Post) (bytes : List ℕ) → 1 ≤ o.extent.len → o.from + o.extent.len ≤ length (source_of posts o.rank o.slot)

@@ -3,13 +3,14 @@ use Rattle.std.proofs.Common.{◌≡◌, ℕ, zero, suc, ◌+◌, ◌^◌, ◌<�
 use Rattle.std.specs.Prelude.{nat_lt}
 use borrow.Author.Tests.{ltb-true, ltb-false}
 use Rattle.std.proofs.lemmas.List.{take-append-drop, length-take}
-use Rattle.std.proofs.lemmas.Option.{same_Some}
+use Rattle.std.proofs.lemmas.Option.{same_Some, slice_get-get_or}
+use Rattle.overlay_laws.proofs.Members.{entry_in}
 use Rattle.list_laws.proofs.Optional.{no_none_some}
 use Rattle.nc_base.specs.declared.plan.Extent.{Extent}
 use Rattle.nc_base.specs.declared.plan.Owned.{Owned}
 use Rattle.overlay_laws.specs.Entries.{In}
 use Rattle.overlay_laws.specs.Lines.{extents, IsByPlace, EndBelow}
-use Rattle.file_domains.proofs.CoverParts.{in_dropped, in_at, got_at, get_is}
+use Rattle.file_domains.proofs.CoverParts.{in_dropped, get_is}
 use Rattle.data_sieving.specs.Sieving.{AreFilled}
 use Rattle.data_sieving.specs.Serving.{IsPast, AreLeft, AreBegun}
 use Rattle.data_sieving.proofs.CoveredBytes.{in_extents}
@@ -141,7 +142,7 @@ some_taken (suc n) at stop list first l e begin room after = omega (arith, lengt
 
 pub entry_ends : (list : List Owned) (i : ℕ) (d : Owned) → EndBelow (2 ^ 62) (extents list) → i < length list
     → (get_or list i d).extent.at + (get_or list i d).extent.len < 2 ^ 62
-entry_ends list i d h l = h (get_or list i d).extent (in_extents list (get_or list i d) (in_at list i d l))
+entry_ends list i d h l = h (get_or list i d).extent (in_extents list (get_or list i d) (entry_in list i d l))
 
 pub ended_more : (place i : ℕ) (list : List Owned) (d : Owned) → i < length list → (get_or list i d).extent.at + (get_or list i d).extent.len ≤ place
     → ((k : ℕ) (o : Owned) → k < i → slice_get list k ≡ Some o → o.extent.at + o.extent.len ≤ place)
@@ -154,11 +155,11 @@ ended_more place i list d l e h k o m g = by_index (nat_lt k i) refl
         let past : i ≤ k = ltb-false _ _ f in
         let same : k ≡ i = omega arith in
         subst (λ (z : Owned). z.extent.at + z.extent.len ≤ place)
-        (same_Some (get_or list i d) o (sym (got_at list i d l) ∙ ap (λ (n : ℕ). slice_get list n) (sym same) ∙ g)) e
+        (same_Some (get_or list i d) o (sym (slice_get-get_or list i d l) ∙ ap (λ (n : ℕ). slice_get list n) (sym same) ∙ g)) e
 
 pub goes_past : (place i : ℕ) (list : List Owned) (d o : Owned) → i < length list → place < (get_or list i d).extent.at + (get_or list i d).extent.len
     → slice_get list i ≡ Some o → place < o.extent.at + o.extent.len
-goes_past place i list d o l e g = subst (λ (z : Owned). place < z.extent.at + z.extent.len) (same_Some (get_or list i d) o (sym (got_at list i d l) ∙ g)) e
+goes_past place i list d o l e g = subst (λ (z : Owned). place < z.extent.at + z.extent.len) (same_Some (get_or list i d) o (sym (slice_get-get_or list i d l) ∙ g)) e
 
 pub none_after : {A : Type 0} (list : List Owned) (o : Owned) → slice_get list (length list) ≡ Some o → A
 none_after list o g = let l = (get_is list (length list) o g).0 in absurd (omega arith)

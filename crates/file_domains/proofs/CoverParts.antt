@@ -6,8 +6,9 @@ use borrow.Author.Tests.{ltb-true, ltb-false}
 use Rattle.std.specs.Prelude.{filter, nat_lt, nat_le, ◌==◌}
 use Rattle.std.specs.List.{range_with_len, AllWithin}
 use Rattle.std.specs.List.Sorted.{IsPartitionedBy}
-use Rattle.std.proofs.lemmas.Option.{same_Some}
+use Rattle.std.proofs.lemmas.Option.{same_Some, slice_get-get_or}
 use Rattle.std.proofs.lemmas.Bool.{le-leb, leb-true, leb-false}
+use Rattle.overlay_laws.proofs.Members.{at_in}
 use Rattle.list_laws.proofs.Truth.{equal_above}
 use Rattle.list_laws.proofs.Optional.{no_none_some}
 use Rattle.nc_base.specs.declared.plan.Extent.{Extent}
@@ -18,21 +19,6 @@ use Rattle.overlay_laws.specs.Walks.{spans, below, above, IsCover, end_after, is
 use Rattle.overlay_laws.proofs.WalkLaws.{filter_joined}
 use Rattle.overlay_laws.proofs.CoverLaws.{range_above_none, spans_below, below_told}
 use Rattle.file_domains.specs.Rounds.{IsLeft}
-
-pub in_at : {X : Type 0} (xs : List X) (i : ℕ) (d : X) → i < length xs → In xs (get_or xs i d)
-in_at [] i d h = absurd (omega arith)
-in_at (x ∷ xs) zero d h = inl refl
-in_at (x ∷ xs) (suc i) d h = inr (in_at xs i d (omega arith))
-
-pub got_in : {X : Type 0} (xs : List X) (i : ℕ) (e : X) → slice_get xs i ≡ Some e → In xs e
-got_in [] i e h = no_none_some e h
-got_in (x ∷ xs) zero e h = inl (same_Some x e h)
-got_in (x ∷ xs) (suc i) e h = inr (got_in xs i e h)
-
-pub got_at : {X : Type 0} (xs : List X) (i : ℕ) (d : X) → i < length xs → slice_get xs i ≡ Some (get_or xs i d)
-got_at [] i d h = absurd (omega arith)
-got_at (x ∷ xs) zero d h = refl
-got_at (x ∷ xs) (suc i) d h = got_at xs i d (omega arith)
 
 pub in_dropped : {X : Type 0} (k : ℕ) (xs : List X) (e : X) → In (drop k xs) e → In xs e
 in_dropped zero xs e h = h
@@ -48,7 +34,7 @@ pub ends_before : (cover : List Extent) (i j : ℕ) (d e : Extent) → IsCover c
 ends_before [] i j d e h l f g = no_none_some d f
 ends_before (c ∷ cover) zero zero d e h l f g = absurd (omega arith)
 ends_before (c ∷ cover) zero (suc j) d e h l f g =
-    subst (λ (z : Extent). z.at + z.len < e.at) (same_Some c d f) (h.1 e (got_in cover j e g))
+    subst (λ (z : Extent). z.at + z.len < e.at) (same_Some c d f) (h.1 e (at_in cover j e g))
 ends_before (c ∷ cover) (suc i) zero d e h l f g = absurd (omega arith)
 ends_before (c ∷ cover) (suc i) (suc j) d e h l f g = ends_before cover i j d e h.2 (omega arith) f g
 
@@ -105,16 +91,16 @@ pub left_from_next : (begun place : ℕ) (cover : List Extent) → IsCover cover
     → IsLeft place cover (drop begun cover)
 left_from_next zero place cover h ends last bound after =
     dropped zero place cover h ends (λ i e l g. absurd (omega arith))
-    (λ e g. let low = after e g in let long = long_enough cover e h (got_in cover zero e g) in omega arith)
+    (λ e g. let low = after e g in let long = long_enough cover e h (at_in cover zero e g) in omega arith)
 left_from_next (suc k) place cover h ends last bound after =
     let none : Extent = record { at = 0; len = 0 } in
-    let there : slice_get cover k ≡ Some (get_or cover k none) = got_at cover k none (omega arith) in
+    let there : slice_get cover k ≡ Some (get_or cover k none) = slice_get-get_or cover k none (omega arith) in
     let here : suc k - 1 ≡ k = omega arith in
     let final : (get_or cover k none).at + (get_or cover k none).len ≤ place
     = last (get_or cover k none) (omega arith) (ap (λ (n : ℕ). slice_get cover n) here ∙ there) in
     dropped (suc k) place cover h ends
     (λ i e l g. by_place i e g final there (nat_lt i k) refl l)
-    (λ e g. let low = after e g in let long = long_enough cover e h (got_in cover (suc k) e g) in omega arith)
+    (λ e g. let low = after e g in let long = long_enough cover e h (at_in cover (suc k) e g) in omega arith)
   where
     by_place : (i : ℕ) (e : Extent) → slice_get cover i ≡ Some e → (get_or cover k (record { at = 0; len = 0 })).at + (get_or cover k (record { at = 0; len = 0 })).len ≤ place
         → slice_get cover k ≡ Some (get_or cover k (record { at = 0; len = 0 })) → (t : Bool) → nat_lt i k ≡ t → i < suc k → e.at + e.len ≤ place
@@ -133,7 +119,7 @@ cover_rises cover place i j d h l room e = by_place (nat_lt i j) refl
     by_place : (t : Bool) → nat_lt i j ≡ t → nat_le (get_or cover i d).at place ≡ true
     by_place true f =
         let low : i < j = ltb-true _ _ f in
-        let gap = ends_before cover i j (get_or cover i d) (get_or cover j d) h low (got_at cover i d (omega arith)) (got_at cover j d room) in
+        let gap = ends_before cover i j (get_or cover i d) (get_or cover j d) h low (slice_get-get_or cover i d (omega arith)) (slice_get-get_or cover j d room) in
         let last = leb-true (get_or cover j d).at place e in
         le-leb (get_or cover i d).at place (omega arith)
     by_place false f =

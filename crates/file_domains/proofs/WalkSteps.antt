@@ -14,13 +14,13 @@ use Rattle.overlay_laws.specs.Walks.{spans, below, above, IsCover, hull_of, end_
 use Rattle.overlay_laws.proofs.WalkLaws.{filter_same, take_first, drop_first, filter_none, windows_walked}
 use Rattle.overlay_laws.proofs.HullLaws.{filter_short, filter_in, filter_ascends, flat_in, range_high, range_low, in_either}
 use Rattle.overlay_laws.proofs.DomainLaws.{filter_two}
-use Rattle.overlay_laws.proofs.CoverLaws.{spans_below, spans_above, below_told, range_first, past_round, spans_below_none, spans_ascend, spans_past}
+use Rattle.overlay_laws.proofs.CoverLaws.{spans_below, spans_above, below_told, range_first, past_round, spans_below_none, spans_ascend, spans_past, triple_same}
 use Rattle.std.specs.Iterator.{MakesProgress, item_count}
-use Rattle.std.proofs.lemmas.Option.{same_Some}
+use Rattle.std.proofs.lemmas.Option.{same_Some, slice_get-get_or}
 use Rattle.std.proofs.lemmas.Bool.{lt-ltb, le-ltb, le-leb, lt-leb, leb-true, leb-false}
 use Rattle.file_domains.specs.declared.walk.Window.{Window}
 use Rattle.file_domains.specs.Rounds.{window_told, windows_of, windows_left, IsWalk, IsLeft}
-use Rattle.file_domains.proofs.CoverParts.{counted_below, ends_before, got_at}
+use Rattle.file_domains.proofs.CoverParts.{counted_below, ends_before}
 
 -- ---- walks
 
@@ -110,9 +110,6 @@ above_first from e cover h = by_start (nat_le from e.at) (nat_le (e.at + e.len) 
 head_cover : (from : ℕ) (e : Extent) (cover : List Extent) → IsCover (e ∷ cover) → from < e.at + e.len → IsCover (head_from from e ∷ cover)
 head_cover from e cover h k = let long = h.0 in (omega arith, (λ d m. let gap = h.1 d m in omega arith), h.2)
 
-three : (a b c d : ℕ) (s t : Bool) → a ≡ c → b ≡ d → s ≡ t → ◌≡◌ {A = ℕ × ℕ × Bool} (a, b, s) (c, d, t)
-three a b c d s t p q r = λ i. (p i, q i, r i)
-
 -- what is told of it
 pub first_told : (from stop k : ℕ) (e last : Extent) (cover : List Extent) → IsCover (e ∷ cover) → from < e.at + e.len → max e.at from < stop
     → slice_get (e ∷ cover) k ≡ Some last
@@ -125,7 +122,7 @@ first_told from stop k e last cover h l room at_last before after =
     ap (λ (b : List ℕ). told_of (filter (λ y. nat_lt y stop) b)) (spans_above from (e ∷ cover) h ∙ ap spans (above_first from e cover l))
     ∙ ap told_of (spans_below stop (head_from from e ∷ cover) head)
     ∙ below_told stop (head_from from e) cover head room
-    ∙ three _ _ _ _ _ _ counted.2 (λ i. counted.0 i - counted.2 i) counted.1
+    ∙ triple_same _ _ _ _ _ _ counted.2 (λ i. counted.0 i - counted.2 i) counted.1
   where
     by_count : (k : ℕ) → slice_get (e ∷ cover) k ≡ Some last → ((i : ℕ) (d : Extent) → i ≤ k → slice_get (e ∷ cover) i ≡ Some d → d.at < stop)
         → ((d : Extent) → slice_get cover k ≡ Some d → stop ≤ d.at)
@@ -215,7 +212,7 @@ first_ends [] k e d h g l = absurd (omega arith)
 first_ends (c ∷ cover) zero e d h g l =
     let same : e.at + e.len ≡ c.at + c.len = ap (λ (z : Extent). z.at + z.len) (sym (same_Some c e g)) in omega arith
 first_ends (c ∷ cover) (suc k) e d h g l =
-    let gap = ends_before (c ∷ cover) 0 (suc k) e (get_or cover k d) h (omega arith) g (got_at cover k d (omega arith)) in omega arith
+    let gap = ends_before (c ∷ cover) 0 (suc k) e (get_or cover k d) h (omega arith) g (slice_get-get_or cover k d (omega arith)) in omega arith
 
 one_more : (begun : ℕ) → 1 ≤ begun → (begun - 1 == 0) ≡ (begun == 1)
 one_more begun h = grind (arith, nat_tests)
@@ -239,7 +236,7 @@ next_window first size from end stop top begun last e d (c ∷ cover) left big l
     let index : suc (begun - 1) ≡ begun = omega arith in
     let window = first_window first size from end stop (begun - 1) e (get_or (e ∷ cover) (begun - 1) d) cover left big (omega arith)
     (subst (λ (z : Extent). IsCover (z ∷ cover)) first_is h) (subst (λ (z : Extent). from < z.at + z.len) first_is (past c (inl refl))) room stops
-    (got_at (e ∷ cover) (begun - 1) d (omega arith))
+    (slice_get-get_or (e ∷ cover) (begun - 1) d (omega arith))
     (λ i z l q. before i z (omega arith) (subst (λ (y : Extent). slice_get (y ∷ cover) i ≡ Some z) (sym first_is) q))
     (λ z q. after z (ap (λ (n : ℕ). slice_get (c ∷ cover) n) (sym index) ∙ q))
     (same ∙ ap (λ (y : Extent). filter (λ x. nat_le stop x) (spans (y ∷ cover))) first_is) in

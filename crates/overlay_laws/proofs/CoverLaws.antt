@@ -225,8 +225,8 @@ first_of_range : (a n : ℕ) (rest : List ℕ) → 1 ≤ n → first_of (range_w
 first_of_range a zero rest h = absurd (omega arith)
 first_of_range a (suc n) rest h = refl
 
-three : (a b c d : ℕ) (s t : Bool) → a ≡ c → b ≡ d → s ≡ t → ◌≡◌ {A = ℕ × ℕ × Bool} (a, b, s) (c, d, t)
-three a b c d s t p q r = λ i. (p i, q i, r i)
+pub triple_same : (a b c d : ℕ) (s t : Bool) → a ≡ c → b ≡ d → s ≡ t → ◌≡◌ {A = ℕ × ℕ × Bool} (a, b, s) (c, d, t)
+triple_same a b c d s t p q r = λ i. (p i, q i, r i)
 
 -- the hull of the bytes of a cover: its first byte, its length, and whether it has no hole
 pub hull_told : (e : Extent) (cover : List Extent) → IsCover (e ∷ cover) → told_of (spans (e ∷ cover)) ≡ hull_of (e ∷ cover)
@@ -234,7 +234,7 @@ hull_told e cover h =
     let first : first_of (spans (e ∷ cover)) ≡ e.at = first_of_range e.at e.len (spans cover) h.0 in
     let r = end_of_cover e cover h in
     let ends = r.0 in
-    three (first_of (spans (e ∷ cover))) (hull_len (spans (e ∷ cover))) e.at (end_after (e.at + e.len) cover - e.at)
+    triple_same (first_of (spans (e ∷ cover))) (hull_len (spans (e ∷ cover))) e.at (end_after (e.at + e.len) cover - e.at)
     (length (spans (e ∷ cover)) == hull_len (spans (e ∷ cover))) (is_single (e ∷ cover)) first (omega arith)
     (by_rest e cover h first ends)
   where
