@@ -40,7 +40,7 @@ said_mapped f (p ∷ ps) x =
     ∙ ap (λ q. option_or (option_map f (said_at ps x)) q) (one_mapped f p.0 p.1 x)
     ∙ else_mapped f (said_at ps x) (one_says p.0 p.1 x)
 
-slice_step : (b : List ℕ) (from n : ℕ) → from < length b → take (suc n) (drop from b) ≡ at b from ∷ take n (drop (from + 1) b)
+pub slice_step : (b : List ℕ) (from n : ℕ) → from < length b → take (suc n) (drop from b) ≡ at b from ∷ take n (drop (from + 1) b)
 slice_step b from n h = ap (λ (xs : List ℕ). take (suc n) xs) (drop_more b from 0 h)
 
 cell_origins : (source : Source) (r k p from n : ℕ) → from + n ≤ length (source r k)
