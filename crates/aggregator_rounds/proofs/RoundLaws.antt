@@ -40,7 +40,7 @@ from_lowered : (from lo : ℕ) (cells : List Cell) → IsFrom lo cells → IsFro
 from_lowered from lo [] h = tt
 from_lowered from lo (c ∷ cells) h = let a : lo ≤ c.0 = h.0 in (omega arith, from_lowered from lo cells h.1)
 
-from_less : (from lo : ℕ) (cells : List Cell) → from ≤ lo → IsFrom lo cells → IsFrom from cells
+pub from_less : (from lo : ℕ) (cells : List Cell) → from ≤ lo → IsFrom lo cells → IsFrom from cells
 from_less from lo [] l h = tt
 from_less from lo (c ∷ cells) l h = let a : lo ≤ c.0 = h.0 in (omega arith, from_less from lo cells l h.1)
 

@@ -5,6 +5,7 @@ use Rattle.std.proofs.lemmas.List.{map-append, length-take, length-set, take_mor
 use Rattle.std.specs.Prelude.{map, filter, nat_lt, ◌==◌, IfSome}
 use Rattle.std.specs.List.{enumerate_from, range_with_len}
 use borrow.Author.Tests.{ltb-true, ltb-false, eqb-true, eqb-false}
+use Rattle.overlay_laws.proofs.Members.{in_filter}
 use Rattle.serial_spec.proofs.FileLaws.{length-written_inside}
 use Rattle.list_laws.proofs.Truth.{equal_true}
 use Rattle.list_laws.proofs.Optional.{no_none_some}
@@ -16,13 +17,13 @@ use Rattle.serial_spec.specs.File.{at, read, written}
 use Rattle.serial_spec.specs.Said.{Cell, said_at, said_by, Says, IsOneValued, write_cells, IsWithin}
 use Rattle.overlay_laws.specs.Entries.{In, got_cell}
 use Rattle.overlay_laws.proofs.SaidLaws.{same_said, said_is, said_in_any_order}
-use Rattle.overlay_laws.proofs.WindowLaws.{append_within}
+use Rattle.overlay_laws.proofs.WindowLaws.{append_within, said_by_joined}
 use Rattle.overlay_laws.proofs.EntryLaws.{says_left, says_right, says_cases}
 use Rattle.overlay_laws.proofs.HullLaws.{filter_in, in_either}
 use Rattle.overlay_laws.proofs.WalkLaws.{filter_joined}
 use Rattle.data_sieving.specs.Sieving.{of_slot, got_cells, blob_at, HasGot, FitBlobs, places_of, HaveOnePlace, AreAsLong, LieOn}
 use Rattle.data_sieving.specs.Serving.{part_at, part_in, IsCovered, IsPast, AreBegun, IsNext, buffer_cell, HasGotPart}
-use Rattle.data_sieving.proofs.CoveredBytes.{in_filter, past_covered}
+use Rattle.data_sieving.proofs.CoveredBytes.{past_covered}
 use Rattle.data_sieving.proofs.ReachSteps.{begun_in}
 
 -- ---- parts of bytes that were read
@@ -194,9 +195,6 @@ parts_within base file lo hi n (o ∷ os) h =
 
 -- ---- one window more
 
-pub said_joined : (a b : List Cell) → said_by (a ++ b) ≡ said_by a ++ said_by b
-said_joined a b = flat_map-append (λ cell. enumerate_from cell.0 cell.1) a b
-
 slot_said : (base : ℕ) (file : List ℕ) (k : ℕ) (list left : List Owned) (place size : ℕ) (w : Window) (begun later : List Owned) (stop y : ℕ)
     → ((o : Owned) → In list o → base ≤ o.extent.at) → IsOneValued (places_of (of_slot k list)) → IsPast place list left → IsNext left place size w begun later stop
     → said_at (said_by (parts_got base file 0 stop (of_slot k list))) y
@@ -214,7 +212,7 @@ slot_said base file k list left place size w begun later stop y on once p n =
 
     joined : said_by (parts_got base file 0 place (of_slot k list) ++ parts_got base file w.hull.at (w.hull.at + w.hull.len) (of_slot k begun))
         ≡ said_by (parts_got base file 0 place (of_slot k list)) ++ said_by (parts_got base file w.hull.at (w.hull.at + w.hull.len) (of_slot k begun))
-    joined = said_joined (parts_got base file 0 place (of_slot k list)) (parts_got base file w.hull.at (w.hull.at + w.hull.len) (of_slot k begun))
+    joined = said_by_joined (parts_got base file 0 place (of_slot k list)) (parts_got base file w.hull.at (w.hull.at + w.hull.len) (of_slot k begun))
 
     has_begun : (r : Owned) (x : ℕ) → In list r → place ≤ x → x < stop → r.extent.at ≤ x → x < r.extent.at + r.extent.len → In begun r
     has_begun r x m l h b e =

@@ -23,12 +23,6 @@ taken_at (suc n) [] x h = absurd h
 taken_at (suc n) (y ∷ xs) x (inl e) = (zero, omega arith, ap Some e)
 taken_at (suc n) (y ∷ xs) x (inr h) = let r = taken_at n xs x h in let l = r.1 in (suc r.0, omega arith, r.2)
 
-pub in_taken : {X : Type 0} (n : ℕ) (xs : List X) (x : X) → In (take n xs) x → In xs x
-in_taken zero xs x h = absurd h
-in_taken (suc n) [] x h = absurd h
-in_taken (suc n) (y ∷ xs) x (inl e) = inl e
-in_taken (suc n) (y ∷ xs) x (inr h) = inr (in_taken n xs x h)
-
 pub got_dropped : {X : Type 0} (n : ℕ) (xs : List X) (x : X) → slice_get (drop n xs) 0 ≡ Some x → slice_get xs n ≡ Some x
 got_dropped zero xs x h = h
 got_dropped (suc n) [] x h = no_none_some x h

@@ -5,6 +5,7 @@ use Rattle.std.specs.List.{range_with_len}
 use Rattle.std.proofs.lemmas.List.FromFn.{length-range_with_len}
 use Rattle.std.proofs.lemmas.Bool.{lt-ltb, le-leb, lt-leb, leb-true}
 use borrow.Author.Tests.{ltb-true, ltb-false}
+use Rattle.overlay_laws.proofs.Members.{in_filter}
 use Rattle.list_laws.proofs.Truth.{equal_below, equal_true}
 use Rattle.nc_base.specs.declared.plan.Owned.{Owned}
 use Rattle.file_domains.specs.declared.walk.Window.{Window}
@@ -14,12 +15,12 @@ use Rattle.overlay_laws.specs.Hulls.{IsAscending}
 use Rattle.overlay_laws.specs.Walks.{told_of}
 use Rattle.overlay_laws.proofs.HullLaws.{filter_in, filter_ascends, filter_short, in_range, range_low, range_high, range_ascends, last_most, last_below}
 use Rattle.overlay_laws.proofs.WalkLaws.{drop_first, filter_all, sieved_walked}
-use Rattle.overlay_laws.proofs.CoverLaws.{same_ascending}
+use Rattle.overlay_laws.proofs.CoverLaws.{same_ascending, triple_same}
 use Rattle.file_domains.proofs.WalkSteps.{walked_enough}
 use Rattle.aggregator_rounds.specs.Pieces.{told_window}
 use Rattle.data_sieving.specs.Sieving.{windows_of}
 use Rattle.data_sieving.specs.Serving.{IsCovered, IsPast, AreLeft, IsNext, bytes_from, windows_from}
-use Rattle.data_sieving.proofs.CoveredBytes.{in_extents, covered_below, in_filter, byte_from, from_byte, bytes_ascend, same_bytes, begins, past_covered, covered_past, past_twice, begun_covered, covered_begun}
+use Rattle.data_sieving.proofs.CoveredBytes.{in_extents, covered_below, byte_from, from_byte, bytes_ascend, same_bytes, begins, past_covered, covered_past, past_twice, begun_covered, covered_begun}
 
 -- ---- how many numbers there are between two
 
@@ -96,9 +97,6 @@ window_in left place size w begun later stop x n h k c =
     in_filter (λ (y : ℕ). nat_lt y (w.hull.at + size)) (bytes_from place left) x
     (byte_from place left x (omega arith) (covered_begun stop left begun x n.begun c)) (lt-ltb x (w.hull.at + size) (omega arith))
 
-three : (a b c d : ℕ) (s t : Bool) → a ≡ c → b ≡ d → s ≡ t → ◌≡◌ {A = ℕ × ℕ × Bool} (a, b, s) (c, d, t)
-three a b c d s t p q r = λ i. (p i, q i, r i)
-
 begin_window : (left : List Owned) (place size : ℕ) (w : Window) (begun later : List Owned) (stop : ℕ) → AreLeft left place size
     → IsNext left place size w begun later stop → (ys : List ℕ) × (bytes_from place left ≡ w.hull.at ∷ ys)
 begin_window left place size w begun later stop l n =
@@ -109,7 +107,7 @@ begin_window left place size w begun later stop l n =
 pub next_told : (left : List Owned) (place size : ℕ) (w : Window) (begun later : List Owned) (stop : ℕ) → AreLeft left place size
     → IsNext left place size w begun later stop → told_of (window_bytes left place size w) ≡ told_window w
 next_told left place size w begun later stop l n =
-    three (first_of (window_bytes left place size w)) (hull_len (window_bytes left place size w)) w.hull.at w.hull.len
+    triple_same (first_of (window_bytes left place size w)) (hull_len (window_bytes left place size w)) w.hull.at w.hull.len
     (length (window_bytes left place size w) == hull_len (window_bytes left place size w)) w.full first long (by_full w.full refl)
   where
     asc : IsAscending (window_bytes left place size w)

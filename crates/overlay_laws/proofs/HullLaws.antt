@@ -31,7 +31,7 @@ keep_in : {X : Type 0} (t : X → Bool) (y x : X) (rest : List X) (b : Bool) →
 keep_in t y x rest true e h = inr h
 keep_in t y x rest false e h = h
 
-keep_first : {X : Type 0} (y : X) (rest : List X) (b : Bool) → b ≡ true → In (cond b (y ∷ rest) rest) y
+pub keep_first : {X : Type 0} (y : X) (rest : List X) (b : Bool) → b ≡ true → In (cond b (y ∷ rest) rest) y
 keep_first y rest true e = inl refl
 keep_first y rest false e = no_false e
 

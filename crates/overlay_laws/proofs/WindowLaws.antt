@@ -119,10 +119,10 @@ write_joined [] file = refl
 write_joined (cells ∷ lists) file =
     write_joined lists (write_cells file cells) ∙ sym (fold-append (λ f cell. written f cell.0 cell.1) file cells (flat_map (λ c. c) lists))
 
-said_by_joined : (a b : List Cell) → said_by (a ++ b) ≡ said_by a ++ said_by b
+pub said_by_joined : (a b : List Cell) → said_by (a ++ b) ≡ said_by a ++ said_by b
 said_by_joined a b = flat_map-append (λ cell. enumerate_from cell.0 cell.1) a b
 
-said_joined : (a b : List Cell) (x : ℕ) → said_at (said_by (a ++ b)) x ≡ option_or (said_at (said_by b) x) (said_at (said_by a) x)
+pub said_joined : (a b : List Cell) (x : ℕ) → said_at (said_by (a ++ b)) x ≡ option_or (said_at (said_by b) x) (said_at (said_by a) x)
 said_joined a b x = ap (λ ps. said_at ps x) (said_by_joined a b) ∙ said_append (said_by a) (said_by b) x
 
 parts_only : (whole : List (ℕ × ℕ)) (lists : List (List Cell)) → AreParts whole lists → (x v : ℕ)
