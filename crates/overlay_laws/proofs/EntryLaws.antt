@@ -181,7 +181,7 @@ map_joined : (f : ℕ → ℕ) (xs ys : List ℕ) → map f (xs ++ ys) ≡ map f
 map_joined f [] ys = refl
 map_joined f (x ∷ xs) ys = ap (λ rest. f x ∷ rest) (map_joined f xs ys)
 
-enumerate_joined : (n m : ℕ) (xs ys : List ℕ) → n + length xs ≡ m → enumerate_from n (xs ++ ys) ≡ enumerate_from n xs ++ enumerate_from m ys
+pub enumerate_joined : (n m : ℕ) (xs ys : List ℕ) → n + length xs ≡ m → enumerate_from n (xs ++ ys) ≡ enumerate_from n xs ++ enumerate_from m ys
 enumerate_joined n m [] ys e = let f : n ≡ m = omega arith in ap (λ k. enumerate_from k ys) f
 enumerate_joined n m (x ∷ xs) ys e = ap (λ rest. (n, x) ∷ rest) (enumerate_joined (n + 1) m xs ys (omega arith))
 
@@ -197,7 +197,7 @@ run_got file from (o ∷ os) h =
     long : from + length (read file o.extent.at o.extent.len) ≡ from + o.extent.len
     long = ap (λ (n : ℕ). from + n) (map_long (λ i. at file i) (range_with_len o.extent.at o.extent.len) ∙ length-range_with_len o.extent.at o.extent.len)
 
-says_place : (n : ℕ) (b : List ℕ) (x v : ℕ) → Says (enumerate_from n b) x v → (n ≤ x) × (slice_get b (x - n) ≡ Some v)
+pub says_place : (n : ℕ) (b : List ℕ) (x v : ℕ) → Says (enumerate_from n b) x v → (n ≤ x) × (slice_get b (x - n) ≡ Some v)
 says_place n [] x v h = absurd h
 says_place n (w ∷ b) x v (inl h) =
     let same : n ≡ x = h.0 in

@@ -132,7 +132,7 @@ pub last_below : (xs : List ℕ) (n : ℕ) → 1 ≤ n → ((x : ℕ) → In xs 
 last_below [] n l h = omega arith
 last_below (y ∷ ys) n l h = let a = h y (inl refl) in let b = last_below ys n l (λ x k. h x (inr k)) in omega arith
 
-first_last : (xs : List ℕ) → first_of xs ≤ last_of xs + 1
+pub first_last : (xs : List ℕ) → first_of xs ≤ last_of xs + 1
 first_last [] = omega arith
 first_last (y ∷ ys) = omega arith
 
@@ -192,7 +192,7 @@ window_hull ws x h = has_hull ws h.window x h.is_one h.has h.ascends
 
 -- ---- division
 
-ceil_covers : (n k : ℕ) → 1 ≤ k → n ≤ (n + (k - 1)) / k * k
+pub ceil_covers : (n k : ℕ) → 1 ≤ k → n ≤ (n + (k - 1)) / k * k
 ceil_covers n k h =
     let whole = div-add-mod' (n + (k - 1)) k in
     let part = mod_below (n + (k - 1)) k (omega arith) in

@@ -145,7 +145,7 @@ origins_in_order (o ∷ os) h =
 
 -- ---- a resolved list
 
-origins_moved : (xs ys : List Owned) → ((o : Owned) → In xs o → In ys o) → (x : ℕ) (a : Origin) → Says (origins xs) x a → Says (origins ys) x a
+pub origins_moved : (xs ys : List Owned) → ((o : Owned) → In xs o → In ys o) → (x : ℕ) (a : Origin) → Says (origins xs) x a → Says (origins ys) x a
 origins_moved xs ys p x a h = says_moved origins_of xs ys x a p h
 
 pub resolved_says : (ordered list result : List Owned) → HaveSame ordered list → IsInOrder ordered → IsOnceEach (origins ordered) → IsResolved list result

@@ -35,18 +35,18 @@ size_pos kind.UInt = omega arith
 size_pos kind.Int64 = omega arith
 size_pos kind.UInt64 = omega arith
 
-cells_room : (size : ℕ) (ps bytes : List ℕ) (n : ℕ) → 1 ≤ size → ((x : ℕ) → In (flat_map (λ p. range_with_len p size) ps) x → x < n) → IsWithin (cells size ps bytes) n
+pub cells_room : (size : ℕ) (ps bytes : List ℕ) (n : ℕ) → 1 ≤ size → ((x : ℕ) → In (flat_map (λ p. range_with_len p size) ps) x → x < n) → IsWithin (cells size ps bytes) n
 cells_room size [] bytes n h below = tt
 cells_room size (p ∷ ps) bytes n h below =
     let last = below (p + (size - 1)) (in_left (range_with_len p size) (flat_map (λ q. range_with_len q size) ps) (p + (size - 1)) (in_range p size (p + (size - 1)) (omega arith) (omega arith))) in
     let short = cell_short size bytes in
     (omega arith, cells_room size ps (drop size bytes) n h (λ x k. below x (in_right (range_with_len p size) (flat_map (λ q. range_with_len q size) ps) x k)))
 
-post_room : (header : Header) (v : Option Var) (post : Post) (n : ℕ) → ((x : ℕ) → In (bytes_of_some header v post) x → x < n) → IsWithin (cells_of_some header v post) n
+pub post_room : (header : Header) (v : Option Var) (post : Post) (n : ℕ) → ((x : ℕ) → In (bytes_of_some header v post) x → x < n) → IsWithin (cells_of_some header v post) n
 post_room header None post n below = tt
 post_room header (Some v) post n below = cells_room (size_of v.kind) (places header v post.region) post.bytes n (size_pos v.kind) below
 
-puts_room : (header : Header) (puts : Puts) (n : ℕ) → ((x : ℕ) → In (covered header puts) x → x < n) → IsWithin (cells_of_puts header puts) n
+pub puts_room : (header : Header) (puts : Puts) (n : ℕ) → ((x : ℕ) → In (covered header puts) x → x < n) → IsWithin (cells_of_puts header puts) n
 puts_room header [] n below = tt
 puts_room header (p ∷ puts) n below =
     append_within (cells_of header p.1) (cells_of_puts header puts) n
