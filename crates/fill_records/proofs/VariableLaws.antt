@@ -5,6 +5,7 @@ use Rattle.std.proofs.lemmas.Grind.{flat_map-append}
 use Rattle.std.proofs.lemmas.List.{append-nil}
 use Rattle.std.proofs.lemmas.List.Elements.{filter-append}
 use Rattle.std.proofs.lemmas.List.Sums.{fold-append}
+use Rattle.serial_spec.proofs.RoomLaws.{greatest_holds}
 use Rattle.nc_base.specs.declared.header.Header.{Header}
 use Rattle.nc_base.specs.declared.header.NcType.{NcType}
 use Rattle.nc_base.specs.declared.header.NcType.TheVariants.{Byte, Char, Short, Int, Float, Double, UByte, UShort, UInt, Int64, UInt64}
@@ -28,9 +29,6 @@ got {A = A} xs ys k x e h g = got_at xs k x h (g ∙ ap (λ zs. get_or zs k x) e
     got_at [] i z l f = absurd (omega arith)
     got_at (w ∷ zs) zero z l f = ap Some (sym f)
     got_at (w ∷ zs) (suc i) z l f = got_at zs i z (omega arith) f
-
-pub from_some : {A : Type 0} (P : A → Type 0) (o : Option A) (x : A) → o ≡ Some x → IfSome o P → P x
-from_some P o x e h = subst (λ q. IfSome q P) e h
 
 -- the item with a number, and what is known of it
 pub known_at : {A : Type 0} (P : A → Type 0) (xs : List A) (k : ℕ) → k < length xs → IfSome (slice_get xs k) P
@@ -60,11 +58,6 @@ size_most UInt64 = omega arith
 -- the bytes that are taken of an array for the value
 pub room_long : (kind : NcType) (n : ℕ) → n ≡ size_of kind → length {A = ℕ} (take n (0 ∷ 0 ∷ 0 ∷ 0 ∷ 0 ∷ 0 ∷ 0 ∷ 0 ∷ [])) ≡ size_of kind
 room_long kind n e = let most = size_most kind in length-take n (0 ∷ 0 ∷ 0 ∷ 0 ∷ 0 ∷ 0 ∷ 0 ∷ 0 ∷ []) ∙ omega arith
-
-greatest_holds : (ns : List ℕ) (k n : ℕ) → slice_get ns k ≡ Some n → n ≤ greatest ns
-greatest_holds [] k n h = absurd cc
-greatest_holds (m ∷ ns) zero n h = let same : m ≡ n = cc in omega arith
-greatest_holds (m ∷ ns) (suc k) n h = let l = greatest_holds ns k n h in omega arith
 
 pub fixed_end : (header : Header) (first k : ℕ) (v : Var) → slice_get header.vars k ≡ Some v → is_record header v ≡ false → v.begin + slab header v ≤ end_of header first 0
 fixed_end header first k v h e =

@@ -20,7 +20,7 @@ use Rattle.serial_spec.proofs.ElementLaws.{get_map}
 
 -- ---- the end of a file
 
-greatest_holds : (ns : List ℕ) (k n : ℕ) → slice_get ns k ≡ Some n → n ≤ greatest ns
+pub greatest_holds : (ns : List ℕ) (k n : ℕ) → slice_get ns k ≡ Some n → n ≤ greatest ns
 greatest_holds [] k n h = absurd cc
 greatest_holds (m ∷ ns) zero n h = let same : m ≡ n = cc in omega arith
 greatest_holds (m ∷ ns) (suc k) n h = let l = greatest_holds ns k n h in omega arith
