@@ -28,7 +28,7 @@ use Rattle.serial_spec.proofs.SpellingLaws.{known_version}
 abbrev pub Walk : ℕ → List Ask → List Ask → List ℕ → Type 0
 Walk v asks later text = (b : List ℕ) (x : ℕ) (more : List ℕ) → drop x b ≡ text ++ more → Run v b asks x later (x + length text)
 
-drop_on : (b : List ℕ) (x : ℕ) (s t : List ℕ) → drop x b ≡ s ++ t → drop (x + length s) b ≡ t
+pub drop_on : (b : List ℕ) (x : ℕ) (s t : List ℕ) → drop x b ≡ s ++ t → drop (x + length s) b ≡ t
 drop_on b x s t e = sym (drop-drop (length s) x b) ∙ ap (λ (c : List ℕ). drop (length s) c) e ∙ drop-append_seam s t
 
 pub walk_then : (v : ℕ) (asks mid later : List Ask) (s t : List ℕ) → Walk v asks mid s → Walk v mid later t → Walk v asks later (s ++ t)
@@ -67,16 +67,16 @@ walk_field v asks rest later f text a len is_right b x more e =
 
 -- ---- numbers
 
-read_4 : (p q r s : ℕ) → big_endian (p ∷ q ∷ r ∷ s ∷ []) ≡ from_be_bytes w32 (p ∷ q ∷ r ∷ s ∷ [])
+pub read_4 : (p q r s : ℕ) → big_endian (p ∷ q ∷ r ∷ s ∷ []) ≡ from_be_bytes w32 (p ∷ q ∷ r ∷ s ∷ [])
 read_4 p q r s = omega arith
 
-read_8 : (a b c d p q r s : ℕ) → big_endian (a ∷ b ∷ c ∷ d ∷ p ∷ q ∷ r ∷ s ∷ []) ≡ from_be_bytes w64 (a ∷ b ∷ c ∷ d ∷ p ∷ q ∷ r ∷ s ∷ [])
+pub read_8 : (a b c d p q r s : ℕ) → big_endian (a ∷ b ∷ c ∷ d ∷ p ∷ q ∷ r ∷ s ∷ []) ≡ from_be_bytes w64 (a ∷ b ∷ c ∷ d ∷ p ∷ q ∷ r ∷ s ∷ [])
 read_8 a b c d p q r s = omega arith
 
-back_4 : (n : ℕ) → n < 2 ^ 32 → big_endian (to_be_bytes w32 n) ≡ n
+pub back_4 : (n : ℕ) → n < 2 ^ 32 → big_endian (to_be_bytes w32 n) ≡ n
 back_4 n h = read_4 _ _ _ _ ∙ from_be_bytes-to_be_bytes_4 n h
 
-back_8 : (n : ℕ) → n < 2 ^ 64 → big_endian (to_be_bytes w64 n) ≡ n
+pub back_8 : (n : ℕ) → n < 2 ^ 64 → big_endian (to_be_bytes w64 n) ≡ n
 back_8 n h = read_8 _ _ _ _ _ _ _ _ ∙ from_be_bytes-to_be_bytes_8 n h
 
 back_by : (t : Bool) (n : ℕ) → fits_field (cond t w64 w32) n ≡ true → (big_endian (to_be_bytes (cond t w64 w32) n) ≡ n) × (length (to_be_bytes (cond t w64 w32) n) ≡ byte_len (cond t w64 w32))

@@ -5,8 +5,10 @@ use Rattle.std.specs.List.{list_all, position_from, AllByRecursion}
 use Rattle.std.specs.Option.{option_or}
 use Rattle.std.proofs.lemmas.Iterator.Adapters.{position_from-zero}
 use Rattle.std.proofs.lemmas.List.Sums.{length-filter}
+use Rattle.std.proofs.lemmas.Bool.{or_parts, not-false, leb-true, ltb-false, leb-false, eqb-true}
+use Rattle.list_laws.proofs.Each.{passes_each, fails_each, each_weaker}
 use Rattle.list_laws.proofs.Truth.{and_first, and_second}
-use Rattle.list_laws.proofs.Optional.{both_none, none_of_test, none_before_map}
+use Rattle.list_laws.proofs.Optional.{both_none, none_of_test, none_before_map, neither_some}
 use Rattle.nc_base.specs.declared.header.Header.{Header}
 use Rattle.nc_base.specs.declared.header.Dim.{Dim}
 use Rattle.nc_base.specs.declared.header.Attr.{Attr}
@@ -18,7 +20,6 @@ use Rattle.serial_spec.specs.Layout.{sharing}
 use Rattle.serial_spec.specs.HeaderGrammar.{is_sound, first_check, first_with, fault_if, two_record_dims, record_later, is_record_id, bad_id, is_too_large, all_ones, measure, counts_are_small, is_version, header_len, fits_count, is_writable_dim, is_writable_attr, is_writable_list}
 use Rattle.serial_spec.specs.Redefinition.{is_redefinable, is_redefinable_var}
 use Rattle.cdf_header.proofs.Pieces.{no_fault}
-use Rattle.redef_laws.proofs.FieldLaws.{or_none, not_false, le_told, not_lt_told, not_le_told, eq_told, passes_each, fails_each, each_then}
 use Rattle.redef_laws.proofs.GrownLaws.{IsTyped, HasFitLength, IsFitVar, IsFit, is_record_dim}
 
 -- ---- the checks of a sound header
@@ -41,27 +42,24 @@ checked header h =
     let c = both_none (first_with (bad_id header) (λ k. fault.BadDimId k) header.vars) _ b.1 in
     let d = both_none (fault_if (header.records == all_ones header.version) fault.Streaming) _ c.1 in
     let e = both_none (fault_if (is_too_large header) fault.TooLarge) _ d.1 in
-    let large = or_none (not (is_none (measure header))) (nat_le (record_limit header.version) header.records) (no_fault (is_too_large header) fault.TooLarge e.0) in
+    let large = or_parts (not (is_none (measure header))) (nat_le (record_limit header.version) header.records) (no_fault (is_too_large header) fault.TooLarge e.0) in
     record {
       one_record = no_fault (two_record_dims header) fault.TwoRecordDims a.0;
       first = none_before_map (λ k. fault.RecordDimNotFirst k) _ b.0;
       ids = none_before_map (λ k. fault.BadDimId k) _ c.0;
       counted = no_fault (header.records == all_ones header.version) fault.Streaming d.0;
-      measured = none_of_test (measure header) (not_false _ large.0);
+      measured = none_of_test (measure header) (not-false _ large.0);
       few = large.1;
       apart = none_before_map (λ p. fault.Shared p.0 p.1) _ e.1;
     }
 
-none_both : {A : Type 0} (a b : Option A) → a ≡ None → b ≡ None → option_or a b ≡ None
-none_both a b e f = ap (λ o. option_or o b) e ∙ f
-
 pub passes_checks : (header : Header) → IsChecked header → first_check header ≡ None
 passes_checks header c =
-    none_both _ _ (ap (λ (t : Bool). fault_if t fault.TwoRecordDims) c.one_record)
-    (none_both _ _ (ap (λ o. option_map (λ k. fault.RecordDimNotFirst k) o) c.first)
-    (none_both _ _ (ap (λ o. option_map (λ k. fault.BadDimId k) o) c.ids)
-    (none_both _ _ (ap (λ (t : Bool). fault_if t fault.Streaming) c.counted)
-    (none_both _ _ (ap (λ (t : Bool). fault_if t fault.TooLarge) small)
+    neither_some _ _ (ap (λ (t : Bool). fault_if t fault.TwoRecordDims) c.one_record)
+    (neither_some _ _ (ap (λ o. option_map (λ k. fault.RecordDimNotFirst k) o) c.first)
+    (neither_some _ _ (ap (λ o. option_map (λ k. fault.BadDimId k) o) c.ids)
+    (neither_some _ _ (ap (λ (t : Bool). fault_if t fault.Streaming) c.counted)
+    (neither_some _ _ (ap (λ (t : Bool). fault_if t fault.TooLarge) small)
     (ap (λ o. option_map (λ p. fault.Shared p.0 p.1) o) c.apart)))))
   where
     small : is_too_large header ≡ false
@@ -101,19 +99,19 @@ fit_attr : (version : ℕ) (a : Attr) → is_writable_attr version a ≡ true �
 fit_attr version a h =
     record {
       kind = and_second (fits_count version (length a.name)) _ (and_first _ _ (and_first _ _ h));
-      whole = eq_told (length a.bytes) (a.count * size_of a.kind) (and_second _ _ h);
+      whole = eqb-true (length a.bytes) (a.count * size_of a.kind) (and_second _ _ h);
     }
 
 fit_attrs : (version : ℕ) (attrs : List Attr) → is_writable_list version (is_writable_attr version) attrs ≡ true → AllByRecursion (IsTyped version) attrs
 fit_attrs version attrs h =
-    each_then (λ a. is_writable_attr version a ≡ true) (IsTyped version) (fit_attr version) attrs
+    each_weaker (λ a. is_writable_attr version a ≡ true) (IsTyped version) (fit_attr version) attrs
     (passes_each (is_writable_attr version) attrs (and_second (fits_count version (length attrs)) _ h))
 
 fit_dim : (version : ℕ) (d : Dim) → is_writable_dim version d ≡ true → HasFitLength version d
 fit_dim version d h =
     record {
       fits = and_second (fits_count version (length d.name)) _ (and_first _ _ h);
-      small = le_told d.len file_limit (and_second _ _ h);
+      small = leb-true d.len file_limit (and_second _ _ h);
     }
 
 -- of a variable, what the tests of its number of ids, of the ids, of the record dimension and of its parts tell
@@ -127,9 +125,9 @@ fit_var : (header : Header) (v : Var) → IsToldVar header v → IsFitVar header
 fit_var header v t =
     let h4 = and_first _ _ t.parts in
     record {
-      few = le_told (length v.dims) 32 t.few;
+      few = leb-true (length v.dims) 32 t.few;
       known =
-          each_then (λ id. nat_le (length header.dims) id ≡ false) (λ id. id < length header.dims) (λ id e. not_le_told (length header.dims) id e) v.dims
+          each_weaker (λ id. nat_le (length header.dims) id ≡ false) (λ id. id < length header.dims) (λ id e. leb-false (length header.dims) id e) v.dims
           (fails_each (λ id. nat_le (length header.dims) id) v.dims t.ids);
       later = fails_each (λ id. is_record_id header id) (drop 1 v.dims) t.later;
       known_type = and_second _ _ h4;
@@ -153,16 +151,16 @@ opened_old old h =
     let counts = and_second (is_version old.version) (counts_are_small old) (and_first _ _ (and_first _ _ sound)) in
     let limits = and_first _ (list_all (λ (v : Var). nat_le (length v.dims) most_dims_of_var) old.vars) counts in
     let dims : AllByRecursion (λ d. is_writable_dim old.version d ≡ true) old.dims = passes_each (is_writable_dim old.version) old.dims (and_second (fits_count old.version (length old.dims)) _ (and_second _ _ h3)) in
-    let one = not_lt_told 1 (count_by (λ (d : Dim). d.len == 0) old.dims) c.one_record in
+    let one = ltb-false 1 (count_by (λ (d : Dim). d.len == 0) old.dims) c.one_record in
     let same = length-filter is_record_dim old.dims in
     record {
       sound = sound;
       version = and_first (is_version old.version) _ (and_first _ _ (and_first _ _ sound));
       records = and_second (is_sound old) _ h2;
       fit = record {
-        few_dims = le_told (length old.dims) 1024 (and_first (nat_le (length old.dims) most_dims) _ limits);
-        few_vars = le_told (length old.vars) 8192 (and_second (nat_le (length old.dims) most_dims) _ limits);
-        lengths = each_then (λ d. is_writable_dim old.version d ≡ true) (HasFitLength old.version) (fit_dim old.version) old.dims dims;
+        few_dims = leb-true (length old.dims) 1024 (and_first (nat_le (length old.dims) most_dims) _ limits);
+        few_vars = leb-true (length old.vars) 8192 (and_second (nat_le (length old.dims) most_dims) _ limits);
+        lengths = each_weaker (λ d. is_writable_dim old.version d ≡ true) (HasFitLength old.version) (fit_dim old.version) old.dims dims;
         one_record = at_most_one _ _ one same;
         attrs = fit_attrs old.version old.attrs (and_second _ _ h4);
         vars =
@@ -171,7 +169,7 @@ opened_old old h =
             (passes_each (is_redefinable_var old) old.vars (and_second (fits_count old.version (length old.vars)) _ (and_second _ _ h)));
       };
       dim_names =
-          each_then (λ d. is_writable_dim old.version d ≡ true) (λ d. fits_count old.version (length d.name) ≡ true)
+          each_weaker (λ d. is_writable_dim old.version d ≡ true) (λ d. fits_count old.version (length d.name) ≡ true)
           (λ d e. and_first (fits_count old.version (length d.name)) _ (and_first _ _ e)) old.dims dims;
     }
   where

@@ -1,7 +1,7 @@
 -- Where old variables begin that share no byte: fixed variables apart and below the records, record variables within one record.
 use Rattle.std.proofs.Common.{◌≡◌, ℕ, suc, ◌+◌, ◌<◌, ◌≤◌, refl, sym, ◌∙◌, ap, inl, inr, ◌⊎◌, List, [], ◌∷◌, Bool, true, false, true≢false, cond, ◌&&◌, ◌||◌, None, max, arith}
 use Rattle.std.specs.Prelude.{filter, zip, nat_lt, nat_le}
-use Rattle.std.proofs.lemmas.Bool.{lt-ltb}
+use Rattle.std.proofs.lemmas.Bool.{lt-ltb, or_parts}
 use borrow.Author.Tests.{ltb-false}
 use Rattle.list_laws.proofs.Optional.{told_else, both_none}
 use Rattle.nc_base.specs.declared.header.Header.{Header}
@@ -47,10 +47,6 @@ either_way old (x ∷ ps) p q h (inr m) (inr n) = either_way old ps p q h.1 m n
 
 -- ---- what that says of begins
 
-either_false : (a b : Bool) → (a || b) ≡ false → (a ≡ false) × (b ≡ false)
-either_false true b h = cc
-either_false false b h = (refl, h)
-
 abbrev share_by : Header → Var → Var → Bool → Bool → Bool
 share_by old v w a b =
     cond a (cond b (cond (nat_le v.begin w.begin) (records_meet old v w) (records_meet old w v)) (nat_lt v.begin (w.begin + slab old w)))
@@ -77,7 +73,7 @@ Follows old v w = (v.begin + slab old v ≤ w.begin) × (w.begin + slab old w �
 
 follows : (old : Header) (v w : Var) → records_meet old v w ≡ false → Follows old v w
 follows old v w h =
-    let r = either_false (nat_lt w.begin (v.begin + slab old v)) (nat_lt (v.begin + recsize old) (w.begin + slab old w)) h in
+    let r = or_parts (nat_lt w.begin (v.begin + slab old v)) (nat_lt (v.begin + recsize old) (w.begin + slab old w)) h in
     (ltb-false _ _ r.0, ltb-false _ _ r.1)
 
 pub records_follow : (old : Header) (v w : Var) → is_record old v ≡ true → is_record old w ≡ true → share old v w ≡ false

@@ -6,8 +6,11 @@ use Rattle.std.specs.Int.{Width, w32, w64, byte_len, to_be_bytes, from_be_bytes}
 use Rattle.std.proofs.Math.Seq.{drop-append_seam, take-append_seam}
 use Rattle.std.proofs.lemmas.List.{drop-drop, take-append-drop}
 use Rattle.std.proofs.lemmas.Nat.{from_be_bytes-to_be_bytes_4, from_be_bytes-to_be_bytes_8}
-use Rattle.std.proofs.lemmas.Bool.{and_from, or_parts}
-use Rattle.list_laws.proofs.Truth.{and_first, and_second}
+use Rattle.std.proofs.lemmas.Bool.{and_from, or_parts, lt-ltb, le-leb, ltb-false}
+use Rattle.serial_spec.proofs.LengthLaws.{width_long}
+use Rattle.cdf_header.proofs.Walks.{drop_on, read_4, read_8, back_4, back_8}
+use Rattle.list_laws.proofs.Each.{each_passes, passes_each}
+use Rattle.list_laws.proofs.Truth.{and_first, and_second, equal_true}
 use Rattle.nc_base.specs.declared.header.Header.{Header}
 use Rattle.nc_base.specs.declared.header.Dim.{Dim}
 use Rattle.nc_base.specs.declared.header.Attr.{Attr}
@@ -23,12 +26,12 @@ use Rattle.serial_spec.proofs.FaultLaws.{EndsWrong, ends_later, fault_only}
 use Rattle.cdf_header.specs.Decoding.{BeginsWith}
 use Rattle.cdf_header.proofs.Pieces.{right_number, no_fault}
 use Rattle.redef_laws.proofs.FitLaws.{checked}
-use Rattle.redef_laws.proofs.FieldLaws.{lt_test, le_test, not_lt_told, eq_test, each_passes, passes_each, each_both}
+use Rattle.redef_laws.proofs.FieldLaws.{each_both}
 
 -- ---- what is spelled fits its field
 
 number_fits : (w : Width) (n : ℕ) (bytes : List ℕ) → Number w n bytes → fits_field w n ≡ true
-number_fits w n bytes h = lt_test (2 * n) (256 ^ byte_len w) h.0
+number_fits w n bytes h = lt-ltb (2 * n) (256 ^ byte_len w) h.0
 
 name_fits : (version : ℕ) (text bytes : List ℕ) → NameOf version text bytes → fits_count version (length text) ≡ true
 name_fits version text bytes h = number_fits (count_width version) (length text) h.front h.first
@@ -55,7 +58,7 @@ attr_fits version a bytes (whole, h) =
     (and_from (fits_count version (length a.name) && is_type version a.kind) _
     (and_from (fits_count version (length a.name)) (is_type version a.kind) (name_fits version a.name named.front named.first) named.second.0)
     (number_fits (count_width version) a.count h.first.rest h.first.second))
-    (eq_test (length a.bytes) (a.count * size_of a.kind) whole)
+    (equal_true (length a.bytes) (a.count * size_of a.kind) whole)
 
 var_fits : (header : Header) (v : Var) (bytes : List ℕ) → VariableOf header.version v bytes → is_redefinable_var header v ≡ true
 var_fits header v bytes h =
@@ -79,7 +82,7 @@ var_fits header v bytes h =
 
 records_fit : (version n : ℕ) (bytes : List ℕ) → RecordsOf version n bytes → (n == all_ones version) ≡ false → fits_count version n ≡ true
 records_fit version n bytes (inl h) e = number_fits (count_width version) n bytes h
-records_fit version n bytes (inr h) e = absurd (let is = eq_test n (all_ones version) h.0 in cc)
+records_fit version n bytes (inr h) e = absurd (let is = equal_true n (all_ones version) h.0 in cc)
 
 dim_fits : (version : ℕ) (d : Dim) (bytes : List ℕ) → DimensionOf version d bytes → (fits_count version (length d.name) && fits_count version d.len) ≡ true
 dim_fits version d bytes h =
@@ -104,9 +107,6 @@ abbrev Passes : ℕ → List Ask → List Ask → (List ℕ → Type 0) → Type
 Passes v asks later P G =
     (b : List ℕ) (x : ℕ) (text more : List ℕ) → drop x b ≡ text ++ more → P text → Clean v b asks x → G × Clean v b later (x + length text)
 
-drop_on : (b : List ℕ) (x : ℕ) (s t : List ℕ) → drop x b ≡ s ++ t → drop (x + length s) b ≡ t
-drop_on b x s t e = sym (drop-drop (length s) x b) ∙ ap (λ (c : List ℕ). drop (length s) c) e ∙ drop-append_seam s t
-
 passes_then : {P Q : List ℕ → Type 0} {G H : Type 0} (v : ℕ) (asks mid later : List Ask) → Passes v asks mid P G → Passes v mid later Q H → Passes v asks later (P ▹ Q) (G × H)
 passes_then v asks mid later p q b x text more e j clean =
     let there : drop x b ≡ j.front ++ (j.rest ++ more) = e ∙ ap (λ (t : List ℕ). t ++ more) j.split ∙ append_assoc j.front j.rest more in
@@ -129,25 +129,9 @@ field_passes v asks rest later f G a long go b x text more e p clean =
     let told = go b x text p here (right_number v f b x step.0) in
     (told.0, subst (λ (n : ℕ). Clean v b later (x + n)) (sym len) (subst (λ (next : List Ask). Clean v b next (x + field_len v f)) told.1 step.1))
 
-read_4 : (p q r s : ℕ) → big_endian (p ∷ q ∷ r ∷ s ∷ []) ≡ from_be_bytes w32 (p ∷ q ∷ r ∷ s ∷ [])
-read_4 p q r s = omega arith
-
-read_8 : (a b c d p q r s : ℕ) → big_endian (a ∷ b ∷ c ∷ d ∷ p ∷ q ∷ r ∷ s ∷ []) ≡ from_be_bytes w64 (a ∷ b ∷ c ∷ d ∷ p ∷ q ∷ r ∷ s ∷ [])
-read_8 a b c d p q r s = omega arith
-
-back_4 : (n : ℕ) → n < 2 ^ 32 → big_endian (to_be_bytes w32 n) ≡ n
-back_4 n h = read_4 _ _ _ _ ∙ from_be_bytes-to_be_bytes_4 n h
-
-back_8 : (n : ℕ) → n < 2 ^ 64 → big_endian (to_be_bytes w64 n) ≡ n
-back_8 n h = read_8 _ _ _ _ _ _ _ _ ∙ from_be_bytes-to_be_bytes_8 n h
-
 back_by : (t : Bool) (n : ℕ) → 2 * n < 256 ^ byte_len (cond t w64 w32) → (big_endian (to_be_bytes (cond t w64 w32) n) ≡ n) × (length (to_be_bytes (cond t w64 w32) n) ≡ byte_len (cond t w64 w32))
 back_by true n h = let less : 2 * n < 2 ^ 64 = h in (back_8 n (omega (arith, less)), refl)
 back_by false n h = let less : 2 * n < 2 ^ 32 = h in (back_4 n (omega (arith, less)), refl)
-
-count_long : (t : Bool) (n : ℕ) → length (to_be_bytes (cond t w64 w32) n) ≡ byte_len (cond t w64 w32)
-count_long true n = refl
-count_long false n = refl
 
 -- a number of the width of counts
 number_passes : (v n : ℕ) (asks rest later : List Ask) (f : Field) (G : Type 0) → asked asks ≡ Some (f, rest) → field_len v f ≡ byte_len (count_width v)
@@ -155,7 +139,7 @@ number_passes : (v n : ℕ) (asks rest later : List Ask) (f : Field) (G : Type 0
     → ((x : ℕ) → wrong v f x n ≡ None → G) → (after_field f n ++ rest) ≡ later → Passes v asks later (Number (count_width v) n) G
 number_passes v n asks rest later f G a wide read fine after =
     field_passes v asks rest later f G a
-    (λ text p. ap (λ (t : List ℕ). length t) p.1 ∙ count_long (v == 5) n ∙ sym wide)
+    (λ text p. ap (λ (t : List ℕ). length t) p.1 ∙ width_long (v == 5) n ∙ sym wide)
     (λ b x text p here right.
     let is : field_number v f b x ≡ n = read b x ∙ ap (λ (t : List ℕ). big_endian t) (here ∙ p.1) ∙ (back_by (v == 5) n p.0).0 in
     (fine x (subst (λ (k : ℕ). wrong v f x k ≡ None) is right), subst (λ (k : ℕ). (after_field f k ++ rest) ≡ later) (sym is) after))
@@ -190,7 +174,7 @@ abbrev IsWithinLimit : Dim → Type 0
 IsWithinLimit d = nat_le d.len file_limit ≡ true
 
 bounded : (v x n : ℕ) → wrong v DimLength x n ≡ None → nat_le n file_limit ≡ true
-bounded v x n w = le_test n file_limit (not_lt_told file_limit n (or_parts _ _ (no_fault _ (fault.BadNumber x) w)).1)
+bounded v x n w = le-leb n file_limit (ltb-false file_limit n (or_parts _ _ (no_fault _ (fault.BadNumber x) w)).1)
 
 dim_passes : (v : ℕ) (d : Dim) (asks rest : List Ask) → asked asks ≡ Some (NameLength, One DimLength ∷ rest) → Passes v asks rest (DimensionOf v d) ((Unit {0} × Unit {0}) × IsWithinLimit d)
 dim_passes v d asks rest a =
@@ -229,8 +213,8 @@ magic_passes : (v : ℕ) (rest : List Ask) → Passes v (One Magic ∷ rest) res
 magic_passes v rest = field_passes v (One Magic ∷ rest) rest rest Magic (Unit {0}) refl (λ text p. ap (λ (t : List ℕ). length t) p) (λ b x text p here right. (tt, refl))
 
 records_long : (v n : ℕ) (text : List ℕ) → RecordsOf v n text → length text ≡ byte_len (count_width v)
-records_long v n text (inl h) = ap (λ (t : List ℕ). length t) h.1 ∙ count_long (v == 5) n
-records_long v n text (inr h) = ap (λ (t : List ℕ). length t) h.1 ∙ count_long (v == 5) n
+records_long v n text (inl h) = ap (λ (t : List ℕ). length t) h.1 ∙ width_long (v == 5) n
+records_long v n text (inr h) = ap (λ (t : List ℕ). length t) h.1 ∙ width_long (v == 5) n
 
 records_pass : (v n : ℕ) (rest : List Ask) → Passes v (One Records ∷ rest) rest (RecordsOf v n) (Unit {0})
 records_pass v n rest = field_passes v (One Records ∷ rest) rest rest Records (Unit {0}) refl (records_long v n) (λ b x text p here right. (tt, refl))

@@ -5,6 +5,7 @@ use Rattle.std.proofs.lemmas.List.Folds.{find-append}
 use Rattle.std.specs.Prelude.{slice_get, find, fold, not, nat_lt, nat_le, ◌==◌, unwrap_or, sum_by}
 use Rattle.std.specs.List.{enumerate_from}
 use Rattle.std.specs.Option.{option_or}
+use Rattle.std.proofs.lemmas.Bool.{lt-ltb}
 use borrow.Author.Tests.{eqb-true}
 use Rattle.nc_base.specs.declared.header.Header.{Header}
 use Rattle.nc_base.specs.declared.header.Var.{Var}
@@ -191,9 +192,6 @@ first_past front (Some begin) = by_test (nat_le front begin) refl
 all_of : (header : Header) → AreOf header (enumerate_from 0 header.vars)
 all_of header p h = numbered_in header.vars p h
 
-below_true : (k n : ℕ) → k < n → nat_lt k n ≡ true
-below_true k n h = grind (arith, nat_tests)
-
 abbrev pub old_fixed : Header → ℕ → List Numbered
 old_fixed header n = old_of n (fixed_of header (enumerate_from 0 header.vars))
 
@@ -204,12 +202,12 @@ fixed_is_old : (header : Header) (n k : ℕ) (v : Var) → slice_get header.vars
 fixed_is_old header n k v h l e =
     (by_begin_same (old_fixed header n)).1 (k, v)
     (in_filter (λ w. nat_lt w.0 n) (fixed_of header (enumerate_from 0 header.vars)) (k, v)
-    (in_filter (λ w. not (is_record header w.1)) (enumerate_from 0 header.vars) (k, v) (in_numbered header.vars k v h) (ap not e)) (below_true k n l))
+    (in_filter (λ w. not (is_record header w.1)) (enumerate_from 0 header.vars) (k, v) (in_numbered header.vars k v h) (ap not e)) (lt-ltb k n l))
 
 record_is_old : (header : Header) (n k : ℕ) (v : Var) → slice_get header.vars k ≡ Some v → k < n → is_record header v ≡ true → In (old_records header n) (k, v)
 record_is_old header n k v h l e =
     in_filter (λ w. nat_lt w.0 n) (records_in header (enumerate_from 0 header.vars)) (k, v)
-    (in_filter (λ w. is_record header w.1) (enumerate_from 0 header.vars) (k, v) (in_numbered header.vars k v h) e) (below_true k n l)
+    (in_filter (λ w. is_record header w.1) (enumerate_from 0 header.vars) (k, v) (in_numbered header.vars k v h) e) (lt-ltb k n l)
 
 fixed_of_header : (header : Header) (n : ℕ) → AreOf header (by_begin (old_fixed header n))
 fixed_of_header header n p h =

@@ -5,6 +5,7 @@ use Rattle.std.proofs.lemmas.List.Sums.{sum_by-append}
 use Rattle.std.proofs.lemmas.List.Filters.{sum_by-filter_both}
 use Rattle.std.specs.Prelude.{filter, map, flat_map, zip, sum_by, nat_lt}
 use Rattle.std.specs.List.{range_with_len}
+use Rattle.std.proofs.lemmas.Bool.{not-true}
 use borrow.Author.Tests.{ltb-true, ltb-false}
 use Rattle.list_laws.proofs.Truth.{and_first}
 use Rattle.nc_base.specs.declared.header.Header.{Header}
@@ -51,14 +52,10 @@ slabs_record old new p e = ap (λ b. elim b as (λ _. List Slab) [ false ↦ fir
 abbrev record_sum : Header → Header → (Slab → ℕ) → Var × Var → ℕ
 record_sum old new f p = sum_by (λ r. f (slab_in old new p r)) (range_with_len 0 old.records)
 
-no_not : (b : Bool) → not b ≡ true → b ≡ false
-no_not false h = refl
-no_not true h = cc
-
 fixed_sum : (old new : Header) (f : Slab → ℕ) → sum_by (λ p. sum_by f (slabs_of old new p)) (fixed_pairs old new) ≡ sum_by f (fixed_slabs old new)
 fixed_sum old new f =
     sum_same (λ p. sum_by f (slabs_of old new p)) (λ p. f (first_slab old p)) (fixed_pairs old new)
-    (λ p m. ap (sum_by f) (slabs_fixed old new p (no_not (is_record old p.0) (filter_in (λ q. not (is_record old q.0)) (pairs old new) p m).1)) ∙ omega arith)
+    (λ p m. ap (sum_by f) (slabs_fixed old new p (not-true (is_record old p.0) (filter_in (λ q. not (is_record old q.0)) (pairs old new) p m).1)) ∙ omega arith)
     ∙ sym (sum_mapped f (first_slab old) (fixed_pairs old new))
     ∙ sym (sum_lowest f (map (first_slab old) (fixed_pairs old new)))
 
@@ -155,7 +152,7 @@ record IsRecord (old : Header) (p : Var × Var) : Type 0 where
 
 fixed_full : (old new : Header) (p : Var × Var) → IsFull old new → In (fixed_pairs old new) p → IsFixed old p
 fixed_full old new p h m = record {
-  fixed = no_not (is_record old p.0) (filter_in (λ q. not (is_record old q.0)) (pairs old new) p m).1;
+  fixed = not-true (is_record old p.0) (filter_in (λ q. not (is_record old q.0)) (pairs old new) p m).1;
   full = h.some (first_slab old p) (rising_in old new (first_slab old p)
       (in_left (fixed_slabs old new) (flat_map (slabs_of_record old new) (range_with_len 0 old.records)) (first_slab old p)
       (in_lowest (map (first_slab old) (fixed_pairs old new)) (first_slab old p) (in_map (first_slab old) (fixed_pairs old new) p m))));

@@ -10,7 +10,7 @@ use Rattle.serial_spec.specs.DeviceCalls.{Slab, slabs, slabs_of}
 use Rattle.serial_spec.specs.HeaderGrammar.{is_sound, header_len}
 use Rattle.serial_spec.specs.Layout.{is_record, slab, vsize, recsize, record_slabs, last_share, end_of_var, lengths}
 use Rattle.serial_spec.specs.Redefinition.{KeepsVars}
-use Rattle.serial_spec.proofs.RoomLaws.{end_holds}
+use Rattle.serial_spec.proofs.RoomLaws.{end_holds, slab_small, slab_shared, some_record}
 use Rattle.overlay_laws.specs.Entries.{In}
 use Rattle.overlay_laws.proofs.HullLaws.{flat_in, range_high}
 use Rattle.redef_laws.specs.Shifted.{IsShifted, new_end}
@@ -117,25 +117,12 @@ slab_in old new s keeps h =
 
 -- ---- where a slab lies
 
-slab_below : (header : Header) (v : Var) → slab header v ≤ vsize header v
-slab_below header v = omega arith
-
-slab_shared : (header : Header) (v : Var) → slab header v ≤ last_share header v
-slab_shared header v = by_test (length (record_slabs header) == 1)
-  where
-    by_test : (t : Bool) → slab header v ≤ cond t (slab header v) (vsize header v)
-    by_test true = omega arith
-    by_test false = slab_below header v
-
 fixed_ends : (header : Header) (n : ℕ) (v : Var) → is_record header v ≡ false → v.begin + slab header v ≤ end_of_var header n v
 fixed_ends header n v e =
     let own : end_of_var header n v ≡ v.begin + vsize header v =
     ap (λ (t : Bool). cond t (cond (n == 0) 0 (v.begin + (n - 1) * recsize header + last_share header v)) (v.begin + vsize header v)) e in
-    let below = slab_below header v in
+    let below = slab_small header v in
     omega arith
-
-some_record : (r n : ℕ) → r < n → (n == 0) ≡ false
-some_record r n h = grind (arith, nat_tests)
 
 record_ends : (header : Header) (n r : ℕ) (v : Var) → is_record header v ≡ true → r < n → v.begin + r * recsize header + slab header v ≤ end_of_var header n v
 record_ends header n r v e h =

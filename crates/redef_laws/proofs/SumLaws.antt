@@ -2,6 +2,7 @@
 use Rattle.std.proofs.Common.{◌≡◌, ℕ, ◌+◌, ◌<◌, ◌≤◌, refl, sym, ◌∙◌, ap, subst, inl, inr, List, [], ◌∷◌, Bool, true, false, cond, ◌&&◌, arith}
 use Rattle.std.proofs.lemmas.List.Sums.{sum_by-cons, sum_by-append}
 use Rattle.std.specs.Prelude.{map, flat_map, sum_by, nat_le, nat_lt, ◌==◌}
+use Rattle.std.proofs.lemmas.Bool.{and_parts}
 use borrow.Author.Tests.{ltb-true, ltb-false, eqb-true}
 use Rattle.list_laws.proofs.Truth.{equal_true}
 use Rattle.serial_spec.specs.DeviceCalls.{Slab}
@@ -94,15 +95,10 @@ is_slab s t = t.from == s.from && (t.to == s.to && t.len == s.len)
 itself : (s : Slab) → is_slab s s ≡ true
 itself s = λ i. equal_true s.from s.from refl i && (equal_true s.to s.to refl i && equal_true s.len s.len refl i)
 
-both : (a b : Bool) → (a && b) ≡ true → (a ≡ true) × (b ≡ true)
-both true true h = (refl, refl)
-both true false h = cc
-both false b h = cc
-
 same_slab : (s t : Slab) → is_slab s t ≡ true → t ≡ s
 same_slab s t h =
-    let a = both (t.from == s.from) _ h in
-    let b = both (t.to == s.to) _ a.1 in
+    let a = and_parts (t.from == s.from) _ h in
+    let b = and_parts (t.to == s.to) _ a.1 in
     let from : t.from ≡ s.from = eqb-true _ _ a.0 in
     let to : t.to ≡ s.to = eqb-true _ _ b.0 in
     let len : t.len ≡ s.len = eqb-true _ _ b.1 in

@@ -41,7 +41,7 @@ grew_on h g f a b =
       vars = λ k v e. let one = a.vars k v e in let two = b.vars k one.0 one.1 in (two.0, two.1, two.2 ∙ one.2, two.3 ∙ one.3);
     }
 
-in_front : (vs ws : List Var) (k : ℕ) (v : Var) → slice_get vs k ≡ Some v → slice_get (vs ++ ws) k ≡ Some v
+pub in_front : (vs ws : List Var) (k : ℕ) (v : Var) → slice_get vs k ≡ Some v → slice_get (vs ++ ws) k ≡ Some v
 in_front [] ws k v h = absurd cc
 in_front (x ∷ vs) ws zero v h = h
 in_front (x ∷ vs) ws (suc k) v h = in_front vs ws k v h

@@ -49,7 +49,7 @@ end_record header n v e f =
     ap (λ (t : Bool). cond t (cond (n == 0) 0 (v.begin + (n - 1) * recsize header + last_share header v)) (v.begin + vsize header v)) e
     ∙ ap (λ (t : Bool). cond t 0 (v.begin + (n - 1) * recsize header + last_share header v)) f
 
-some_record : (r n : ℕ) → r < n → (n == 0) ≡ false
+pub some_record : (r n : ℕ) → r < n → (n == 0) ≡ false
 some_record r n h = grind (arith, nat_tests)
 
 -- an element in a record below n ends within the file of n records

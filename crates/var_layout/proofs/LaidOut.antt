@@ -254,7 +254,7 @@ header_low header align first k d pos pos' h =
 
 -- ---- each variable keeps its bound
 
-past_none : (header : Header) (vs : List Var) (before n : ℕ)
+pub past_none : (header : Header) (vs : List Var) (before n : ℕ)
     → ((k : ℕ) (v : Var) → slice_get vs k ≡ Some v → keeps_bound header (before + sum_by (λ w. record_share header w) (take k vs)) v ≡ true)
     → past_bound header before n vs ≡ None
 past_none header [] before n h = refl
@@ -333,10 +333,10 @@ shares_by t u a n b m size =
 fixed_apart : (a n b m size : ℕ) → a + n ≤ b → shares_by false false a n b m size ≡ false
 fixed_apart a n b m size h = ap (λ (t : Bool). t && nat_lt (max a b) (b + m)) (let e : nat_lt (max a b) (a + n) ≡ false = grind (arith, nat_tests) in e)
 
-fixed_then_record : (a n b m size : ℕ) → a + n ≤ b → shares_by false true a n b m size ≡ false
+pub fixed_then_record : (a n b m size : ℕ) → a + n ≤ b → shares_by false true a n b m size ≡ false
 fixed_then_record a n b m size h = let e : nat_lt b (a + n) ≡ false = grind (arith, nat_tests) in e
 
-record_then_fixed : (a n b m size : ℕ) → b + m ≤ a → shares_by true false a n b m size ≡ false
+pub record_then_fixed : (a n b m size : ℕ) → b + m ≤ a → shares_by true false a n b m size ≡ false
 record_then_fixed a n b m size h = let e : nat_lt a (b + m) ≡ false = grind (arith, nat_tests) in e
 
 records_apart : (a n b m size : ℕ) → a + n ≤ b → b + m ≤ a + size → shares_by true true a n b m size ≡ false
@@ -361,7 +361,7 @@ placed_slabs header align first n (v ∷ vs) = by_test (is_record header v) (pla
 laid_recsize : (header : Header) (align : Align) (first : ℕ) → recsize (begins header align first) ≡ recsize header
 laid_recsize header align first = ap (λ ns. record_size ns) (placed_slabs header align first 0 header.vars)
 
-count_one : {A : Type 0} (p : A → Bool) (xs : List A) (k : ℕ) (x : A) → slice_get xs k ≡ Some x → p x ≡ true → 1 ≤ length (filter p xs)
+pub count_one : {A : Type 0} (p : A → Bool) (xs : List A) (k : ℕ) (x : A) → slice_get xs k ≡ Some x → p x ≡ true → 1 ≤ length (filter p xs)
 count_one p [] k x h e = cc
 count_one p (y ∷ xs) zero x h e =
     let same : y ≡ x = cc in
@@ -373,7 +373,7 @@ count_one p (y ∷ xs) (suc k) x h e = by_test (p y) (count_one p xs k x h e)
     by_test true l = omega arith
     by_test false l = l
 
-count_two : {A : Type 0} (p : A → Bool) (xs : List A) (i j : ℕ) (x y : A) → i < j → slice_get xs i ≡ Some x → slice_get xs j ≡ Some y → p x ≡ true → p y ≡ true
+pub count_two : {A : Type 0} (p : A → Bool) (xs : List A) (i j : ℕ) (x y : A) → i < j → slice_get xs i ≡ Some x → slice_get xs j ≡ Some y → p x ≡ true → p y ≡ true
     → 2 ≤ length (filter p xs)
 count_two p [] i j x y l h g e f = cc
 count_two p (z ∷ xs) i zero x y l h g e f = absurd (omega arith)
@@ -449,12 +449,12 @@ laid_apart header align len first pos place i j v w l lies lies' true true e f =
     let b_low = b.low in
     records_apart (begin_of header align len i v) (slab header v) (begin_of header align len j w) (slab header w) (recsize header) (omega arith) (omega arith)
 
-no_sharing_with : (header : Header) (v : Var) (k m : ℕ) (ws : List Var) → ((j : ℕ) (w : Var) → slice_get ws j ≡ Some w → share header v w ≡ false) → sharing_with header v k m ws ≡ None
+pub no_sharing_with : (header : Header) (v : Var) (k m : ℕ) (ws : List Var) → ((j : ℕ) (w : Var) → slice_get ws j ≡ Some w → share header v w ≡ false) → sharing_with header v k m ws ≡ None
 no_sharing_with header v k m [] h = refl
 no_sharing_with header v k m (w ∷ ws) h =
     ap (λ (t : Bool). cond t (Some (k, m)) (sharing_with header v k (suc m) ws)) (h 0 w refl) ∙ no_sharing_with header v k (suc m) ws (λ j x g. h (suc j) x g)
 
-no_sharing_from : (header : Header) (first k : ℕ) (vs : List Var) → ((i : ℕ) (v : Var) → slice_get vs i ≡ Some v → first ≤ v.begin)
+pub no_sharing_from : (header : Header) (first k : ℕ) (vs : List Var) → ((i : ℕ) (v : Var) → slice_get vs i ≡ Some v → first ≤ v.begin)
     → ((i j : ℕ) (v w : Var) → i < j → slice_get vs i ≡ Some v → slice_get vs j ≡ Some w → share header v w ≡ false) → sharing_from header first k vs ≡ None
 no_sharing_from header first k [] low h = refl
 no_sharing_from header first k (v ∷ vs) low h =

@@ -50,10 +50,10 @@ no_position {A} test xs k x h g =
 
 -- ---- fields
 
-small_field : (w : Width) (n m : ℕ) → 256 ^ byte_len w ≡ m → 2 * n < m → fits_field w n ≡ true
+pub small_field : (w : Width) (n m : ℕ) → 256 ^ byte_len w ≡ m → 2 * n < m → fits_field w n ≡ true
 small_field w n m e h = ap (λ (k : ℕ). nat_lt (2 * n) k) e ∙ (let f : nat_lt (2 * n) m ≡ true = grind (arith, nat_tests) in f)
 
-small_count : (version n : ℕ) → n < 2 ^ 31 → fits_count version n ≡ true
+pub small_count : (version n : ℕ) → n < 2 ^ 31 → fits_count version n ≡ true
 small_count version n h = by_test (version == 5)
   where
     by_test : (t : Bool) → fits_field (cond t w64 w32) n ≡ true
@@ -61,7 +61,7 @@ small_count version n h = by_test (version == 5)
     by_test false = small_field w32 n (2 ^ 32) refl (omega arith)
 
 -- a vsize that the version can store
-vsize_fits : (header : Header) (v : Var) → vsize header v < 2 ^ 62 → is_large_var header v ≡ false → fits_count header.version (vsize header v) ≡ true
+pub vsize_fits : (header : Header) (v : Var) → vsize header v < 2 ^ 62 → is_large_var header v ≡ false → fits_count header.version (vsize header v) ≡ true
 vsize_fits header v l h = by_test (header.version == 5) h
   where
     by_test : (t : Bool) → (not t && nat_lt (2 ^ 31 - 4) (vsize header v)) ≡ false → fits_field (cond t w64 w32) (vsize header v) ≡ true
