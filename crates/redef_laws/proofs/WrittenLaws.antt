@@ -72,7 +72,7 @@ no_fault old extras h = by_extras (extras_fault old extras) refl h
 -- ---- each variable keeps its bound
 
 -- what is not found fails the test
-found_fails : {A : Type 0} (bad p : A → Bool) (xs : List A) (x : A) → find bad xs ≡ None → find p xs ≡ Some x → bad x ≡ false
+pub found_fails : {A : Type 0} (bad p : A → Bool) (xs : List A) (x : A) → find bad xs ≡ None → find p xs ≡ Some x → bad x ≡ false
 found_fails bad p [] x h g = absurd cc
 found_fails {A} bad p (y ∷ xs) x h g = by_tests (bad y) (p y) refl h g (λ h' g'. found_fails bad p xs x h' g')
   where

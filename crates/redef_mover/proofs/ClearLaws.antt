@@ -5,6 +5,7 @@ use Rattle.std.proofs.lemmas.Grind.{flat_map-append, fold-append}
 use Rattle.std.specs.List.{range_with_len}
 use Rattle.std.proofs.Math.ListN.{drop_of_length-le}
 use Rattle.std.proofs.lemmas.List.{drop_more, length-replicate, map-append, take-replicate}
+use Rattle.overlay_laws.proofs.SaidLaws.{same_file}
 use Rattle.nc_base.specs.declared.step.DiskCall.{DiskCall}
 use Rattle.nc_base.specs.declared.step.DiskCall.TheVariants.{Store}
 use Rattle.serial_spec.specs.DeviceCalls.{Slab, stores}
@@ -18,7 +19,7 @@ use Rattle.redef_mover.specs.declared.slabs.Shift.{Shift}
 use Rattle.redef_mover.specs.declared.slabs.Slabs.{Slabs}
 use Rattle.redef_mover.specs.Moves.{all_cleared, behind, cleared, further, gap_calls, gaps_before, listed, slab_of, slabs_at, AreClearable, AreSpaced}
 use Rattle.redef_mover.proofs.MovesLaws.{map_id, no_further}
-use Rattle.redef_mover.proofs.SlabLaws.{below_or, same_files, write_none}
+use Rattle.redef_mover.proofs.SlabLaws.{below_or, write_none}
 use Rattle.redef_mover.proofs.WindowLaws.{count_is, range_joined, windows_of}
 
 -- ---- one gap
@@ -47,7 +48,7 @@ cleared_inside file x n y h k = let bytes = zeros_long n in at-written_inside fi
 
 both_cleared : (file : List ℕ) (x a b c : ℕ) → c ≡ a + b → x + c ≤ length file → cleared (cleared file (x, a)) (x + a, b) ≡ cleared file (x, c)
 both_cleared file x a b c e h =
-    same_files (cleared (cleared file (x, a)) (x + a, b)) (cleared file (x, c))
+    same_file (cleared (cleared file (x, a)) (x + a, b)) (cleared file (x, c))
     (cleared_long (cleared file (x, a)) (x + a) b room ∙ cleared_long file x a (omega arith) ∙ sym (cleared_long file x c h)) each
   where
     room : x + a + b ≤ length (cleared file (x, a))

@@ -11,10 +11,6 @@ pub for_told : {A : Type 0} {P Q : A → Type 0} (held : Option A) → ((x : A) 
 for_told None f h = tt
 for_told (Some x) f h = f x h
 
-pub on_ok : {T E P Q : Type 0} (r : Result T E) → (P → Q) → OnOk r P → OnOk r Q
-on_ok (Ok x) f p = f p
-on_ok (Err e) f p = tt
-
 pub when_ok : {T E A : Type 0} (r : Result T E) (x a b : A) → x ≡ (if is_ok r then a else b) → OnOk r (x ≡ a)
 when_ok (Ok y) x a b h = h
 when_ok (Err e) x a b h = tt
