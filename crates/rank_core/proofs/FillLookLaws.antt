@@ -5,6 +5,7 @@ use Rattle.std.specs.Int.{Width, byte_len, to_be_bytes, w8, w16, w32, w64, w128}
 use Rattle.std.specs.List.{list_all, list_any, range_with_len}
 use Rattle.std.proofs.lemmas.Bool.{and_from, and_left, and_parts, and_right, cases_lt, eq-eqb, eqb-true, le-ltb, leb-false, leb-true, lt-leb, ne_eqb, not_from_true, or_from, or_parts}
 use Rattle.std.proofs.lemmas.List.{length-map, length-replicate}
+use Rattle.overlay_laws.proofs.Members.{each_in, map_in}
 use Rattle.list_laws.proofs.Ranges.{pieces_long}
 use Rattle.nc_base.specs.declared.answer.Code.{Code}
 use Rattle.nc_base.specs.declared.answer.Code.TheVariants as code
@@ -35,7 +36,7 @@ use Rattle.rank_core.specs.Targets.{IsSmall}
 use Rattle.rank_core.proofs.FillLaws.{record_outcome, share_grows, share_within}
 use Rattle.rank_core.proofs.FillPostLaws.{boxes_fit, boxes_once, boxes_small, separate_boxes, Fits, FitsPart}
 use Rattle.rank_core.proofs.LookLaws.{alike, no_puts, put_right, puts_looked, ArePuts}
-use Rattle.rank_core.proofs.SeparateLaws.{all_in, map_from, own_once, AreSeparate, IsPostOf}
+use Rattle.rank_core.proofs.SeparateLaws.{own_once, AreSeparate, IsPostOf}
 
 -- ---- starts and ends within the lengths
 
@@ -208,17 +209,17 @@ module _ (header : Header) (k : ℕ) (v : Var) (number : ℕ) (sound : is_sound 
     accepted : (p : Part) → In parts p → check_var header v (box_region number p) 0 Put ≡ code.Ok
     accepted p i =
         box_accepted header v number is past p
-        (all_in (FitsPart (inner_lengths header v)) parts p (boxes_fit (inner_lengths header v) from to grows within) i)
-        (all_in IsSmall parts p (boxes_small header number (inner_lengths header v) from to grows within fit) i)
+        (each_in (FitsPart (inner_lengths header v)) parts p (boxes_fit (inner_lengths header v) from to grows within) i)
+        (each_in IsSmall parts p (boxes_small header number (inner_lengths header v) from to grows within fit) i)
 
     put_of : (q : Post) → In (map (box_post k v number) parts) q → IsPut header 0 q
     put_of q i =
-        let p = map_from (box_post k v number) parts q i in
+        let p = map_in (box_post k v number) parts q i in
         subst (IsPut header 0) p.2
         (put_right header k v 0 there 0 (box_region number p.0) (flat_map (λ m. fill_bytes v) (range_with_len 0 (product p.0.count))) (accepted p.0 p.1) (box_bytes_long v p.0))
 
     post_of : (q : Post) → In (map (box_post k v number) parts) q → IsPostOf header k v 0 q
-    post_of q i = let p = map_from (box_post k v number) parts q i in subst (IsPostOf header k v 0) p.2 (record { var = refl; accepted = accepted p.0 p.1 })
+    post_of q i = let p = map_in (box_post k v number) parts q i in subst (IsPostOf header k v 0) p.2 (record { var = refl; accepted = accepted p.0 p.1 })
 
     boxes_right : Right header (fills k v number parts)
     boxes_right =

@@ -167,11 +167,6 @@ pub shapes_next : (header : Header) (gets : List Post) (m : ℕ → Option Value
     → HaveShapes header gets m → shape v ≡ shape_at header g.var → HaveShapes header gets (added m g.id v)
 shapes_next header gets m g v here one h e q w p f k i = shape_next header gets m g v here one h e q w p (eqb g.id q) refl f k i
 
-pub in_at : {A : Type 0} (xs : List A) (i : ℕ) (x : A) → i < length xs → x ≡ get_or xs i x → In xs x
-in_at [] i x l e = absurd (omega arith)
-in_at (y ∷ xs) zero x l e = inl (sym e)
-in_at (y ∷ xs) (suc i) x l e = inr (in_at xs i x (omega arith) e)
-
 pub zip_next : (gets : List Post) (got : List (List ℕ)) (i : ℕ) (g : Post) (b : List ℕ) → i < length gets → i < length got → g ≡ get_or gets i g → b ≡ get_or got i b
     → zip (drop i gets) (drop i got) ≡ (g, b) ∷ zip (drop (i + 1) gets) (drop (i + 1) got)
 zip_next gets got i g b l k e f = λ j. zip (first j) (second j)

@@ -71,17 +71,6 @@ position_none p xs d none =
     let first = position_or_len_is p xs (length xs) d (omega arith) none (λ m. absurd (omega arith)) in
     sym (ap (λ (k : ℕ). cond (ltb k (length xs)) (Some k) None) first ∙ cond-false (ltb (length xs) (length xs)) (Some (length xs)) None (le-ltb (length xs) (length xs) (omega arith)))
 
-pub position-map : {A B : Type 0} (f : A → B) (p : B → Bool) (xs : List A) → position p (map f xs) ≡ position (λ x. p (f x)) xs
-position-map f p xs = λ i. cond (ltb (same f p xs i) (long f xs i)) (Some (same f p xs i)) None
-  where
-    same : {A B : Type 0} (f : A → B) (p : B → Bool) (xs : List A) → position_or_len p (map f xs) ≡ position_or_len (λ x. p (f x)) xs
-    same f p [] = refl
-    same f p (x ∷ xs) = ap (λ (k : ℕ). cond (not (p (f x))) (1 + k) 0) (same f p xs)
-
-    long : {A B : Type 0} (f : A → B) (xs : List A) → length (map f xs) ≡ length xs
-    long f [] = refl
-    long f (x ∷ xs) = ap suc (long f xs)
-
 -- ---- a search
 
 names_rank : IsStrictWeakOrder (λ a b. is_lt (slice_cmp nat_cmp a b))

@@ -24,7 +24,7 @@ use Rattle.vara_extents.proofs.BoxLaws.{box, boxes_share, any_of}
 
 -- ---- the first refusal
 
-ok_both : (c rest : Code) → cond (is_ok_code c) rest c ≡ code.Ok → (c ≡ code.Ok) × (rest ≡ code.Ok)
+pub ok_both : (c rest : Code) → cond (is_ok_code c) rest c ≡ code.Ok → (c ≡ code.Ok) × (rest ≡ code.Ok)
 ok_both code.Ok rest h = (refl, h)
 ok_both _ rest h = absurd cc
 
