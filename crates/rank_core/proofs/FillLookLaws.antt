@@ -146,14 +146,14 @@ module _ (header : Header) (v : Var) (number : ℕ) (is : is_record header v ≡
 
 -- ---- its bytes
 
-be_long : (w : Width) (n : ℕ) → length (to_be_bytes w n) ≡ byte_len w
+pub be_long : (w : Width) (n : ℕ) → length (to_be_bytes w n) ≡ byte_len w
 be_long w8 n = refl
 be_long w16 n = refl
 be_long w32 n = refl
 be_long w64 n = refl
 be_long w128 n = refl
 
-found_long : (kind : NcType) (attrs : List Attr) → length {A = ℕ} (elim (find (is_fill_value kind) attrs) [ None ↦ ext kind (default_fill kind) | Some a ↦ a.bytes ]) ≡ size_of kind
+pub found_long : (kind : NcType) (attrs : List Attr) → length {A = ℕ} (elim (find (is_fill_value kind) attrs) [ None ↦ ext kind (default_fill kind) | Some a ↦ a.bytes ]) ≡ size_of kind
 found_long kind [] = be_long (width_of kind) (code_of (width_of kind) (default_fill kind))
 found_long kind (a ∷ attrs) = by_test (is_fill_value kind a) refl (found_long kind attrs)
   where
@@ -162,7 +162,7 @@ found_long kind (a ∷ attrs) = by_test (is_fill_value kind a) refl (found_long 
     by_test true e h = eqb-true (length a.bytes) (size_of kind) (and_parts _ _ e).1
     by_test false e h = h
 
-box_bytes_long : (v : Var) (p : Part) → length (flat_map (λ m. fill_bytes v) (range_with_len 0 (product p.count))) ≡ product (1 ∷ p.count) * size_of v.kind
+pub box_bytes_long : (v : Var) (p : Part) → length (flat_map (λ m. fill_bytes v) (range_with_len 0 (product p.count))) ≡ product (1 ∷ p.count) * size_of v.kind
 box_bytes_long v p =
     let all = pieces_long (λ m. fill_bytes v) (size_of v.kind) (λ m. found_long v.kind v.attrs) 0 (product p.count) in
     let one : product (1 ∷ p.count) ≡ product p.count = omega arith in
@@ -179,7 +179,7 @@ all_at test [] k v h e = absurd cc
 all_at test (w ∷ vs) zero v h e = let same : w ≡ v = cc in ap test (sym same) ∙ (and_parts (test w) (list_all test vs) h).0
 all_at test (w ∷ vs) (suc k) v h e = all_at test vs k v (and_parts (test w) (list_all test vs) h).1 e
 
-few_dims : (header : Header) (k : ℕ) (v : Var) → is_sound header ≡ true → slice_get header.vars k ≡ Some v → length v.dims ≤ 32
+pub few_dims : (header : Header) (k : ℕ) (v : Var) → is_sound header ≡ true → slice_get header.vars k ≡ Some v → length v.dims ≤ 32
 few_dims header k v sound there =
     let three = and_parts _ _ sound in
     let two = and_parts _ _ three.0 in

@@ -18,7 +18,7 @@ use Rattle.run_laws.specs.Ways.{kinds_of}
 
 -- ---- tests and lists
 
-get_enumerate : {X : Type 0} (xs : List X) (a q n : ℕ) (x : X) → slice_get xs q ≡ Some x → a + q ≡ n → slice_get (enumerate_from a xs) q ≡ Some (n, x)
+pub get_enumerate : {X : Type 0} (xs : List X) (a q n : ℕ) (x : X) → slice_get xs q ≡ Some x → a + q ≡ n → slice_get (enumerate_from a xs) q ≡ Some (n, x)
 get_enumerate [] a q n x e l = cc
 get_enumerate (x' ∷ xs) a zero n x e l = let b : x' ≡ x = cc in let c : a ≡ n = omega arith in λ i. Some (c i, b i)
 get_enumerate (x' ∷ xs) a (suc q) n x e l = get_enumerate xs _ q n x e (omega arith)
@@ -118,7 +118,7 @@ tests_of script h =
       within = and_first _ _ t2;
     }
 
-le_two : (a b c : ℕ) → a ≤ b → b ≤ c → a ≤ c
+pub le_two : (a b c : ℕ) → a ≤ b → b ≤ c → a ≤ c
 le_two a b c h k = omega arith
 
 own_few : (script : Script) (r : ℕ) (own : List Call) → Tests script → slice_get script.calls r ≡ Some own → length own ≤ most_calls

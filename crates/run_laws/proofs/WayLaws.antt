@@ -63,25 +63,25 @@ not_own q r n = by (eqb_tells q r)
 longer : (answers : List Answer) (a : Answer) → length (answers ++ a ∷ []) ≡ suc (length answers)
 longer answers a = length-append answers (a ∷ []) ∙ (omega arith)
 
-kinds_skip : (c : Call) (calls : List Call) → kind_of_call c ≡ None → kinds (c ∷ calls) ≡ kinds calls
+pub kinds_skip : (c : Call) (calls : List Call) → kind_of_call c ≡ None → kinds (c ∷ calls) ≡ kinds calls
 kinds_skip c calls e = ap (λ (m : Option MeetKind). cons_option m (kinds calls)) e
 
-kinds_take : (c : Call) (calls : List Call) (kind : MeetKind) → kind_of_call c ≡ Some kind → kinds (c ∷ calls) ≡ kind ∷ kinds calls
+pub kinds_take : (c : Call) (calls : List Call) (kind : MeetKind) → kind_of_call c ≡ Some kind → kinds (c ∷ calls) ≡ kind ∷ kinds calls
 kinds_take c calls kind e = ap (λ (m : Option MeetKind). cons_option m (kinds calls)) e
 
-marks_meet : (q n k : ℕ) (ind : Bool) (c : Call) (calls : List Call) → is_collective c ≡ true
+pub marks_meet : (q n k : ℕ) (ind : Bool) (c : Call) (calls : List Call) → is_collective c ≡ true
     → marks_from q n k ind (c ∷ calls) ≡ Meet k ∷ marks_from q (suc n) (suc k) (mode_after ind c) calls
 marks_meet q n k ind c calls e = rw (e, marks_from) refl
 
-marks_alone : (q n k : ℕ) (ind : Bool) (c : Call) (calls : List Call) → is_collective c ≡ false → (ind && is_data c) ≡ false
+pub marks_alone : (q n k : ℕ) (ind : Bool) (c : Call) (calls : List Call) → is_collective c ≡ false → (ind && is_data c) ≡ false
     → marks_from q n k ind (c ∷ calls) ≡ marks_from q (suc n) k ind calls
 marks_alone q n k ind c calls e f = rw (e, marks_from) (rw f refl)
 
-marks_solo : (q n k : ℕ) (ind : Bool) (c : Call) (calls : List Call) → is_collective c ≡ false → (ind && is_data c) ≡ true
+pub marks_solo : (q n k : ℕ) (ind : Bool) (c : Call) (calls : List Call) → is_collective c ≡ false → (ind && is_data c) ≡ true
     → marks_from q n k ind (c ∷ calls) ≡ Solo q n ∷ marks_from q (suc n) k ind calls
 marks_solo q n k ind c calls e f = rw (e, marks_from) (rw f refl)
 
-mode_alone : (ind : Bool) (c : Call) → kind_of_call c ≡ None → mode_after ind c ≡ ind
+pub mode_alone : (ind : Bool) (c : Call) → kind_of_call c ≡ None → mode_after ind c ≡ ind
 mode_alone ind call.BeginIndep e = cc
 mode_alone ind call.EndIndep e = cc
 mode_alone ind c e = refl
