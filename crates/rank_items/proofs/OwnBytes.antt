@@ -5,6 +5,7 @@ use Rattle.std.specs.List.{range_with_len}
 use Rattle.std.proofs.lemmas.Bool.{cases_eq}
 use Rattle.std.proofs.lemmas.Nat.{div-add-mod', mod_below}
 use Rattle.std.proofs.lemmas.Option.{slice_get_within, same_Some}
+use Rattle.std.proofs.lemmas.List.FromFn.{length-range_with_len}
 use Rattle.nc_base.specs.declared.header.Header.{Header}
 use Rattle.nc_base.specs.declared.header.Var.{Var}
 use Rattle.nc_base.specs.declared.plan.Post.{Post}
@@ -20,18 +21,9 @@ use Rattle.var_layout.proofs.ElementPlaces.{size_pos}
 use Rattle.vara_extents.specs.Accepted.{IsAccepted}
 use Rattle.vara_extents.specs.Numbered.{index_of}
 use Rattle.vara_extents.proofs.NumberLaws.{element_at, length-places, place_at}
-use Rattle.vara_extents.proofs.OnceLaws.{in_block}
+use Rattle.vara_extents.proofs.OnceLaws.{in_block, range_at}
 use Rattle.vara_extents.proofs.PlaceLaws.{accepted_place}
 use Rattle.rank_items.specs.Own.{HasOwnElements}
-
-range_long : (a n : ℕ) → length (range_with_len a n) ≡ n
-range_long a zero = refl
-range_long a (suc n) = ap suc (range_long (a + 1) n)
-
-range_at : (a n r b : ℕ) → slice_get (range_with_len a n) r ≡ Some b → b ≡ a + r
-range_at a zero r b e = absurd cc
-range_at a (suc n) zero b e = let same : a ≡ b = cc in omega arith
-range_at a (suc n) (suc r) b e = let later = range_at (a + 1) n r b e in omega arith
 
 -- byte k of a post is byte r of its element n
 record IsByte (header : Header) (post : Post) (k x : ℕ) : Type 0 where
@@ -54,7 +46,7 @@ is_byte header post k x sound ok e = by_var (slice_get header.vars post.var) ref
         let size = size_of v.kind in
         let some : 1 ≤ size_of v.kind = size_pos v.kind in
         let g = post.region in
-        let block = in_block (λ y. range_with_len y size) size (λ y. range_long y size) (places header v g) (k / size) (k % size) x (mod_below k size some)
+        let block = in_block (λ y. range_with_len y size) size (λ y. length-range_with_len y size) (places header v g) (k / size) (k % size) x (mod_below k size some)
         (ap (λ (m : ℕ). slice_get (flat_map (λ y. range_with_len y size) (places header v g)) m) (div-add-mod' k size) ∙ e_at v f) in
         let below : k / size < product g.count = number v block.0 block.1 in
         let placed = accepted_place header post.var v g (k / size) sound f ok below in

@@ -43,7 +43,7 @@ in_block f p l (x ∷ xs) (suc q) r b h e =
     let long : length (f x) ≡ p = l x in
     in_block f p l xs q r b h (sym (get_right (f x) (flat_map f xs) (q * p + r) (suc q * p + r) (omega arith)) ∙ e)
 
-range_at : (a n r b : ℕ) → slice_get (range_with_len a n) r ≡ Some b → b ≡ a + r
+pub range_at : (a n r b : ℕ) → slice_get (range_with_len a n) r ≡ Some b → b ≡ a + r
 range_at a zero r b e = absurd cc
 range_at a (suc n) zero b e = let same : a ≡ b = cc in omega arith
 range_at a (suc n) (suc r) b e = let later = range_at (a + 1) n r b e in omega arith
