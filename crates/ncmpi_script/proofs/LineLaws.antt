@@ -65,6 +65,3 @@ fewer (x ∷ y ∷ more) = omega (arith, fewer (y ∷ more))
 
 pub few_lines : (text : List ℕ) → length (text_lines text) ≤ length text + 1
 few_lines text = omega (arith, fewer (slice_split is_newline text), length-slice_split is_newline text, count_by-le-length is_newline text)
-
-pub numbered : {A : Type 0} (n : ℕ) (xs : List A) → length (enumerate_from n xs) ≡ length xs
-numbered n xs = length-enumerate_from n xs

@@ -4,6 +4,7 @@ use Rattle.std.proofs.lemmas.List.Sums.{fold_push}
 use Rattle.std.proofs.lemmas.List.{take_more}
 use Rattle.std.proofs.lemmas.Grind.{common_steps}
 use Rattle.std.specs.List.{list_all}
+use Rattle.std.proofs.lemmas.Bool.{and_parts}
 use native.Mathlib.Numerals.{unary_clauses}
 use Rattle.script_spec.specs.ScriptWords.{is_digit, digits_value, hex_sum, hex_value}
 
@@ -18,17 +19,13 @@ tens-le i (suc k) j e = let more : suc (k + i) ≡ j = omega arith in rw (← mo
 pub tens-fits : (i : ℕ) → i ≤ 20 → tens i ≤ 10 ^ 20
 tens-fits i h = tens-le i (20 - i) 20 (omega arith)
 
-and_both : (a b : Bool) → (a && b) ≡ true → (a ≡ true) × (b ≡ true)
-and_both true b h = (refl, h)
-and_both false b h = absurd (cc)
-
 digit_bounds : (d : ℕ) → is_digit d ≡ true → (48 ≤ d) × (d ≤ 57)
 digit_bounds d h = grind (arith, common_steps)
 
 pub digit_at : (ds : List ℕ) (i d : ℕ) → list_all is_digit ds ≡ true → i < length ds → (48 ≤ get_or ds i d) × (get_or ds i d ≤ 57)
 digit_at [] i d all h = absurd (omega arith)
-digit_at (x ∷ ds) zero d all h = digit_bounds x (and_both (is_digit x) (list_all is_digit ds) all).0
-digit_at (x ∷ ds) (suc i) d all h = digit_at ds i d (and_both (is_digit x) (list_all is_digit ds) all).1 (omega arith)
+digit_at (x ∷ ds) zero d all h = digit_bounds x (and_parts (is_digit x) (list_all is_digit ds) all).0
+digit_at (x ∷ ds) (suc i) d all h = digit_at ds i d (and_parts (is_digit x) (list_all is_digit ds) all).1 (omega arith)
 
 pub value_more : (ds : List ℕ) (i d : ℕ) → i < length ds → digits_value (take (i + 1) ds) ≡ 10 * digits_value (take i ds) + (get_or ds i d - 48)
 value_more ds i d h = ap digits_value (take_more ds i d h) ∙ fold_push (λ n x. 10 * n + (x - 48)) 0 (take i ds) (get_or ds i d)
