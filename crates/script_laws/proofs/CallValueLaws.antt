@@ -3,6 +3,10 @@ use Rattle.std.proofs.Common.{◌≡◌, ℕ, zero, suc, ◌+◌, ◌-◌, ◌*�
 use Rattle.std.specs.List.{AllByRecursion, list_all, range_with_len}
 use Rattle.std.proofs.lemmas.Int.{ints}
 use Rattle.std.proofs.lemmas.List.FromFn.{length-map-range_with_len}
+use Rattle.std.proofs.lemmas.Bool.{and_from, not-false}
+use Rattle.std.proofs.lemmas.Option.{cond_some}
+use Rattle.list_laws.proofs.Each.{each_push}
+use Rattle.list_laws.proofs.Truth.{and_first, and_second}
 use Rattle.nc_base.specs.declared.errors.ScriptKind.TheVariants as kind
 use Rattle.nc_base.specs.declared.errors.LimitName.TheVariants as limit
 use Rattle.nc_base.specs.declared.request.Values.{Values}
@@ -15,9 +19,8 @@ use Rattle.serial_spec.specs.Request.{count_of}
 use Rattle.script_spec.specs.ScriptWords.{Word, Plain, Quoted, Broken, is_digit, is_digits, digits_value, natural_of, number_of_text}
 use Rattle.script_spec.specs.ScriptSteps.{refuse_if, or_fault, bare, reads_as, size, ended}
 use Rattle.script_spec.specs.ScriptValues.{within_limits, one_value, each_value, sequence_count, numbers_between, term, sequence, is_term, last_number, wrong_kind, may_be, are_numbers, are_patterns, seq_values, seqx_values, patterns_between, pattern_values, text_values, number_for, pattern_for, listed_values, listed_kind, values}
-use Rattle.script_laws.proofs.ListLaws.{is_true, and_left, and_right, both_true, all_more, all_pass}
+use Rattle.script_laws.proofs.ListLaws.{all_pass}
 use Rattle.script_laws.proofs.StepLaws.{first_then, then_with, ok_then, by_test, unless_refused, found}
-use Rattle.script_laws.proofs.WordLaws.{kept_if}
 use Rattle.script_laws.proofs.ValueLaws.{patterns_long}
 
 -- ---- a number
@@ -34,22 +37,22 @@ tens-fits : (i : ℕ) → i ≤ 20 → tens i ≤ 10 ^ 20
 tens-fits i h = tens-le i (20 - i) 20 (omega arith)
 
 digit_small : (d : ℕ) → is_digit d ≡ true → d - 48 ≤ 9
-digit_small d h = let most : d ≤ 57 = leb-true d 57 (and_right (nat_le 48 d) (nat_le d 57) h) in omega arith
+digit_small d h = let most : d ≤ 57 = leb-true d 57 (and_second (nat_le 48 d) (nat_le d 57) h) in omega arith
 
 digits_below : (ds : List ℕ) (n k : ℕ) → list_all is_digit ds ≡ true → n < tens k → fold (λ m d. 10 * m + (d - 48)) n ds < tens (k + length ds)
 digits_below [] n k all h = let same : k ≡ k + 0 = omega arith in subst (λ (i : ℕ). n < tens i) same h
 digits_below (d ∷ ds) n k all h =
-    let small = digit_small d (and_left (is_digit d) (list_all is_digit ds) all) in
+    let small = digit_small d (and_first (is_digit d) (list_all is_digit ds) all) in
     let same : suc k + length ds ≡ k + length (d ∷ ds) = omega arith in
     subst (λ (i : ℕ). fold (λ m x. 10 * m + (x - 48)) (10 * n + (d - 48)) ds < tens i) same
-    (digits_below ds (10 * n + (d - 48)) (suc k) (and_right (is_digit d) (list_all is_digit ds) all) (omega arith))
+    (digits_below ds (10 * n + (d - 48)) (suc k) (and_second (is_digit d) (list_all is_digit ds) all) (omega arith))
 
 natural_small : (ds : List ℕ) (n : ℕ) → natural_of ds ≡ Some n → n < 10 ^ 20
 natural_small ds n h =
-    let k = kept_if (is_digits ds) (digits_value ds) n h in
-    let few : length ds ≤ 20 = leb-true (length ds) 20 (and_right (nat_lt 0 (length ds)) (nat_le (length ds) 20) (and_left (nat_lt 0 (length ds) && nat_le (length ds) 20) (list_all is_digit ds) k.0)) in
+    let k = cond_some (is_digits ds) (digits_value ds) n h in
+    let few : length ds ≤ 20 = leb-true (length ds) 20 (and_second (nat_lt 0 (length ds)) (nat_le (length ds) 20) (and_first (nat_lt 0 (length ds) && nat_le (length ds) 20) (list_all is_digit ds) k.0)) in
     let below : digits_value ds < tens (length ds) =
-    subst (λ (i : ℕ). digits_value ds < tens i) (zero-add (length ds)) (digits_below ds 0 0 (and_right (nat_lt 0 (length ds) && nat_le (length ds) 20) (list_all is_digit ds) k.0) (omega arith)) in
+    subst (λ (i : ℕ). digits_value ds < tens i) (zero-add (length ds)) (digits_below ds 0 0 (and_second (nat_lt 0 (length ds) && nat_le (length ds) 20) (list_all is_digit ds) k.0) (omega arith)) in
     subst (λ (m : ℕ). m < 10 ^ 20) k.1 (omega (arith, tens-fits (length ds) few))
 
 abbrev IsSmall : ℤ → Type 0
@@ -99,7 +102,7 @@ is_term_small n z h some = by_none (n == 0) (λ e. eqb-true n 0 e) h
   where
     by_none : (b : Bool) → (b ≡ true → n ≡ 0) → (b || (nat_lt (unsigned_abs z) (10 ^ 20) && true)) ≡ true → IsSmall z
     by_none true f e = let none : n ≡ 0 = f refl in absurd (omega arith)
-    by_none false f e = ltb-true (unsigned_abs z) (10 ^ 20) (and_left (nat_lt (unsigned_abs z) (10 ^ 20)) true e)
+    by_none false f e = ltb-true (unsigned_abs z) (10 ^ 20) (and_first (nat_lt (unsigned_abs z) (10 ^ 20)) true e)
 
 sequence_small : (a b : ℤ) (n : ℕ) → is_term None n a ≡ true → is_term None n (last_number a b n) ≡ true → AllByRecursion IsSmall (sequence a b n)
 sequence_small a b zero p q = tt
@@ -139,7 +142,7 @@ each_read f P before found [] h all = all
 each_read {A} f P before found (w ∷ ws) h all =
     ok_then (one_value f None before (length found) w) (λ x. each_value f None before (found ++ x ∷ []) ws) _ (OneValue A P before (length found))
     (one_read f P before (length found) w h)
-    (λ x one. each_read f P before (found ++ x ∷ []) ws h (record { good = all_more P found x all.good one.good; few = grown x one.few }))
+    (λ x one. each_read f P before (found ++ x ∷ []) ws h (record { good = each_push P found x all.good one.good; few = grown x one.few }))
   where
     grown : (x : A) → FewMore before (length found + 1) → FewMore before (length (found ++ x ∷ []))
     grown x few = record { most = let m = few.most in omega (arith, length-append found (x ∷ [])); all = let m = few.all in omega (arith, length-append found (x ∷ [])) }
@@ -159,13 +162,13 @@ numbers_read n ws =
     then_with (term None n ws) _ _ (λ a. is_term None n a.0 ≡ true) (of_term ws) (λ a first.
     first_then (reads_as number_of_text kind.BadNumber a.1) _ _ (λ b _.
     then_with (refuse_if (not (is_term None n (last_number a.0 b.0 n))) kind.BadNumber) _ _ (λ _. is_term None n (last_number a.0 b.0 n) ≡ true)
-    (unless_refused _ kind.BadNumber _ (is_true (is_term None n (last_number a.0 b.0 n)))) (λ _ last.
+    (unless_refused _ kind.BadNumber _ (not-false (is_term None n (last_number a.0 b.0 n)))) (λ _ last.
     first_then (ended b.1) _ _ (λ _ _. record { long = length-map-range_with_len (λ k. a.0 +ℤ (b.0 *ℤ pos k)) 0 n; small = sequence_small a.0 b.0 n first last }))))
   where
     of_term : (us : List Word) → IfOk (term None n us) (λ a. is_term None n a.0 ≡ true)
     of_term us = first_then (reads_as number_of_text kind.BadNumber us) _ _ (λ a _.
         then_with (refuse_if (not (is_term None n a.0)) kind.BadNumber) _ _ (λ _. is_term None n a.0 ≡ true)
-        (unless_refused _ kind.BadNumber _ (is_true (is_term None n a.0))) (λ _ h. h))
+        (unless_refused _ kind.BadNumber _ (not-false (is_term None n a.0))) (λ _ h. h))
 
 -- ---- the values
 
@@ -175,7 +178,7 @@ pub record FitsValues (before : ℕ) (vs : Values) : Type 0 where
 
 numbers_fit : (before : ℕ) (zs : List ℤ) → AllByRecursion IsSmall zs → FewMore before (length zs) → FitsValues before (Numbers zs)
 numbers_fit before zs small few =
-    record { lawful = both_true _ _ (le-leb (length zs) most_elements few.most) (all_pass is_number IsSmall (λ z h. lt-ltb _ _ h) zs small); few = few.all }
+    record { lawful = and_from _ _ (le-leb (length zs) most_elements few.most) (all_pass is_number IsSmall (λ z h. lt-ltb _ _ h) zs small); few = few.all }
 
 patterns_fit : (before : ℕ) (ns : List ℕ) → FewMore before (length ns) → FitsValues before (pattern_values ns)
 patterns_fit before [] few = record { lawful = refl; few = few.all }

@@ -3,6 +3,7 @@ use Rattle.std.proofs.Common.{◌≡◌, ℕ, suc, ◌+◌, ◌≤◌, List, [],
 use Rattle.std.specs.Str.Lossy.{utf8_valid_len}
 use Rattle.std.specs.List.{enumerate_from}
 use Rattle.std.proofs.lemmas.List.FromFn.{length-enumerate_from}
+use Rattle.std.proofs.lemmas.Option.{cond_some}
 use borrow.Author.Tests.{ltb-false}
 use Rattle.nc_base.specs.declared.errors.ScriptKind.TheVariants as kind
 use Rattle.nc_base.specs.declared.errors.ScriptErr.{ScriptErr}
@@ -15,7 +16,7 @@ use Rattle.script_spec.specs.ScriptSteps.{◌>>=◌, or_fault, bare, reads_as, e
 use Rattle.script_spec.specs.ScriptDefinitions.{Known, nothing_known, known_after}
 use Rattle.script_spec.specs.ScriptGrammar.{at_line, version_of_text, version_line, head, data_line, definition_step, definitions, data_part, finish, script_of, no_calls, script_of_lines, most_bytes, most_lines, newlines, is_mismatch, too_many_lines, within_lines, script_of_utf8, script_of_text, Reads}
 use Rattle.script_laws.proofs.StepLaws.{first_then, then_with, ok_then, by_test, if_read, found, read_as, whole_line, at_line_kept}
-use Rattle.script_laws.proofs.WordLaws.{InRange, kept_if}
+use Rattle.script_laws.proofs.WordLaws.{InRange}
 use Rattle.script_laws.proofs.CalledLaws.{FitsCalled, calls_read, no_calls_fit}
 use Rattle.script_laws.proofs.AgreeLaws.{finish_agreed}
 use Rattle.script_laws.proofs.DefinedLaws.{FitsKnown, nothing_known_fits, later_known, known_more}
@@ -31,7 +32,7 @@ version_read w n h = by_size (size_of_text w) h
   where
     by_size : (o : Option ℕ) → elim o as (λ _. Option ℕ) [ None ↦ None | Some m ↦ cond (is_version m) (Some m) None ] ≡ Some n → is_version n ≡ true
     by_size None e = absurd (cc)
-    by_size (Some m) e = let k = kept_if (is_version m) m n e in subst (λ (x : ℕ). is_version x ≡ true) k.1 k.0
+    by_size (Some m) e = let k = cond_some (is_version m) m n e in subst (λ (x : ℕ). is_version x ≡ true) k.1 k.0
 
 head_read : (w : Word) (ws : List Word) → IfOk (head w ws) IsHead
 head_read w ws =
