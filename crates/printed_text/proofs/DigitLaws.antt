@@ -5,14 +5,12 @@ use Rattle.std.specs.List.{position_or_len}
 use Rattle.std.proofs.lemmas.Bool.Decides.{nat_tests}
 use Rattle.std.proofs.lemmas.List.Folds.{find_at}
 use Rattle.std.proofs.lemmas.Option.{slice_get_past}
+use Rattle.std.proofs.lemmas.Bool.{ltb-false}
 use Rattle.nc_base.specs.declared.header.Header.{Header}
 use Rattle.nc_base.specs.declared.header.Var.{Var}
 use Rattle.nc_base.specs.declared.request.Call.{Call}
 use Rattle.script_spec.specs.Texts.{digits_of, digits_of_name, digits_of_var, item_digits, posted_name, posts_id}
 use Rattle.printed_text.specs.Digits.{named_digits, posted_digits}
-
-not_below : (a b : ℕ) → nat_lt a b ≡ false → b ≤ a
-not_below a b h = grind (arith, nat_tests)
 
 -- of the first variable that a test passes
 named_by : (header : Header) (p : Var → Bool) → unwrap_or (option_map (λ v. digits_of v.kind) (find p header.vars)) 16 ≡ digits_of_var header (position p header.vars)
@@ -30,7 +28,7 @@ named_by header p =
     by_test true e = told (slice_get header.vars (position_or_len p header.vars))
     by_test false e =
         ap (λ (o : Option Var). unwrap_or (option_map (λ v. digits_of v.kind) o) 16)
-        (slice_get_past header.vars (position_or_len p header.vars) (not_below (position_or_len p header.vars) (length header.vars) e))
+        (slice_get_past header.vars (position_or_len p header.vars) (ltb-false (position_or_len p header.vars) (length header.vars) e))
 
 pub digits_named : (header : Header) (name : List ℕ) → unwrap_or (named_digits header.vars name) 16 ≡ digits_of_name header name
 digits_named header name = named_by header (λ v. bytes_eq v.name name)
