@@ -1,6 +1,6 @@
 -- Lines that are printed are the significant lines of their text, which is ASCII.
 use Rattle.std.proofs.Common.{◌≡◌, ◌∙◌, ℕ, zero, suc, ◌+◌, ◌/◌, ◌%◌, ◌≤◌, ◌<◌, List, [], ◌∷◌, ◌++◌, map, length, take, get_or, flat_map, Bool, true, false, not, nat_lt, nat_le, ◌==◌, ◌&&◌, refl, sym, ap, subst, ⊎_elim, append_assoc, take_all, arith, IsUtf8, IsAscii}
-use Rattle.std.proofs.lemmas.Bool.{and_parts, and_from, ne_eqb, eq-eqb, eqb-true, cases_Bool, cases_lt, cond-true, cond-false, agree_below_at, le-leb, lt-ltb, le-ltb}
+use Rattle.std.proofs.lemmas.Bool.{and_parts, and_from, ne_eqb, eq-eqb, eqb-true, cases_Bool, cases_lt, cond-true, cond-false, agree_below_at, le-leb, lt-ltb, le-ltb, not-true}
 use Rattle.std.proofs.lemmas.Grind.{common_steps}
 use Rattle.std.proofs.lemmas.List.Splits.{slice_split_at, length-slice_split}
 use Rattle.std.proofs.lemmas.List.Folds.{list_all-append}
@@ -13,7 +13,7 @@ use Rattle.std.specs.Str.Lossy.{valid_len_up_to, utf8_valid_len}
 use lib.Utf8.{scalar, scalars, encode, encodes, scalar_cases, next}
 use Rattle.script_spec.specs.Texts.{text_char, hex_digit, joined, line}
 use Rattle.script_spec.specs.ScriptWords.{Word, Plain, Quoted, Broken, Line, words, is_comment, is_newline, line_of, significant, significant_of, text_lines, without_empty_end}
-use Rattle.script_text.proofs.Lexing.{spelling, is_graphic, is_byte, is_good, graphic_bounds, char_else, byte_bound, tail_of, joined_words, words_again, not_true, below_16}
+use Rattle.script_text.proofs.Lexing.{spelling, is_graphic, is_byte, is_good, graphic_bounds, char_else, byte_bound, tail_of, joined_words, words_again, below_16}
 
 -- ---- what holds of each byte
 
@@ -137,7 +137,7 @@ numbered n ((w ∷ ws) ∷ wss) = record { number = n; first = w; rest = ws } �
 line_again : (n : ℕ) (w : Word) (ws : List Word) → is_line (w ∷ ws) ≡ true → line_of n (words (body (w ∷ ws))) ≡ record { number = n; first = w; rest = ws } ∷ []
 line_again n w ws h =
     let both = and_parts _ _ h in
-    ap (line_of n) (words_again w ws both.1) ∙ cond-false _ _ _ (not_true (is_comment w) both.0)
+    ap (line_of n) (words_again w ws both.1) ∙ cond-false _ _ _ (not-true (is_comment w) both.0)
 
 pub significant_again : (n : ℕ) (wss : List (List Word)) → list_all is_line wss ≡ true → significant_of (enumerate_from n (map body wss)) ≡ numbered n wss
 significant_again n [] h = refl

@@ -2,7 +2,7 @@
 use Rattle.std.proofs.Common.{◌≡◌, ◌∙◌, ℕ, zero, suc, ◌+◌, ◌-◌, ◌*◌, ◌/◌, ◌%◌, ◌^◌, ◌≤◌, ◌<◌, List, [], ◌∷◌, ◌++◌, map, length, take, get_or, fold, Bool, true, false, not, cond, nat_lt, nat_le, ◌==◌, ◌&&◌, ◌||◌, Option, Some, None, option_map, option_and_then, ℤ, pos, negsuc, neg_ℤ, unsigned_abs, refl, sym, ap, subst, length-append, arith, decimal}
 use Rattle.std.specs.Fmt.{signed_decimal}
 use Rattle.std.specs.List.{list_all, slice_split, All}
-use Rattle.std.proofs.lemmas.Bool.{and_parts, and_from, ne_eqb, eq-eqb, cond-true, cond-false, le-leb, lt-ltb}
+use Rattle.std.proofs.lemmas.Bool.{and_parts, and_from, ne_eqb, eq-eqb, cond-true, cond-false, le-leb, lt-ltb, not-true}
 use Rattle.std.proofs.lemmas.Fmt.{decimal_by_steps_wide, length-decimal-le_wide}
 use Rattle.std.proofs.lemmas.Grind.{common_steps}
 use Rattle.std.proofs.lemmas.List.{take_at, get_or_at}
@@ -267,10 +267,6 @@ brackets_again inside =
     let test : (true && nat_lt 0 (length cs) && (get_or cs (length cs - 1) 0 == 93)) ≡ true = and_from _ _ (and_from _ _ refl (lt-ltb 0 (length cs) (omega arith))) closed in
     cond-true _ _ _ test ∙ ap (λ (x : List ℕ). Some x) (ap (λ (k : ℕ). take k cs) last ∙ take_at inside (93 ∷ []) (length inside) refl)
 
-not_so : (b : Bool) → not b ≡ true → b ≡ false
-not_so true h = absurd (cc)
-not_so false h = refl
-
 item_bytes : (w : List ℕ) → is_item w ≡ true → list_all is_item_byte w ≡ true
 item_bytes [] h = refl
 item_bytes (c ∷ cs) h = h
@@ -279,7 +275,7 @@ item_graphic : (w : List ℕ) → is_item w ≡ true → list_all is_graphic w �
 item_graphic w h = all_more is_item_byte is_graphic (λ c b. (and_parts _ _ b).0) w (item_bytes w h)
 
 no_comma : (w : List ℕ) → list_all is_item_byte w ≡ true → All (λ c. is_comma c ≡ false) w
-no_comma w h k d low = not_so (is_comma (get_or w k d)) (and_parts _ _ (AllPass-from_list_all is_item_byte w h k d low)).1
+no_comma w h k d low = not-true (is_comma (get_or w k d)) (and_parts _ _ (AllPass-from_list_all is_item_byte w h k d low)).1
 
 cut_parts : (w : List ℕ) (ws : List (List ℕ)) → list_all is_item (w ∷ ws) ≡ true → slice_split is_comma (joined 44 (w ∷ ws)) ≡ w ∷ ws
 cut_parts w [] h = slice_split_none is_comma w (no_comma w (item_bytes w (and_parts _ _ h).0))
