@@ -67,10 +67,6 @@ pub numbered_pass : {A : Type 0} (p : ℕ × A → Bool) (f : ℕ → A) (a n : 
 numbered_pass p f a zero h = refl
 numbered_pass p f a (suc n) h = and_from _ _ (h a (omega arith)) (numbered_pass p f (a + 1) n (λ k b. h k (omega arith)))
 
-pub pieces_long : {A : Type 0} (f : ℕ → List A) (m : ℕ) → ((k : ℕ) → length (f k) ≡ m) → (a n : ℕ) → length (flat_map f (range_with_len a n)) ≡ n * m
-pieces_long f m h a zero = omega arith
-pieces_long f m h a (suc n) = omega (arith, length-append (f a) (flat_map f (range_with_len (a + 1) n)), h a, pieces_long f m h (a + 1) n)
-
 pub sum_within : {A : Type 0} (g : A → ℕ) (f : ℕ → A) (m a n : ℕ) → ((k : ℕ) → k < a + n → g (f k) ≤ m) → sum (map g (map f (range_with_len a n))) ≤ n * m
 sum_within g f m a zero h = omega arith
 sum_within g f m a (suc n) h =

@@ -7,6 +7,7 @@ use Rattle.std.proofs.lemmas.List.{append-nil, length-append}
 use Rattle.std.proofs.lemmas.List.Folds.{list_all-append}
 use Rattle.std.proofs.lemmas.List.FromFn.{length-map-range_with_len}
 use Rattle.std.proofs.lemmas.Bool.{and_from}
+use Rattle.list_laws.proofs.Ranges.{pieces_long}
 use Rattle.nc_base.specs.declared.request.Call.{Call}
 use Rattle.nc_base.specs.declared.request.Call.TheVariants as call
 use Rattle.nc_base.specs.declared.request.Choice.TheVariants.{Every}
@@ -17,7 +18,7 @@ use Rattle.serial_spec.specs.Lawful.{are_different, are_sizes, is_given, is_lawf
 use Rattle.script_spec.specs.Generator.{block, first_row, precip_at, temp_at}
 use Rattle.script_laws.proofs.ListLaws.{sum_cons}
 use Rattle.generated_run.specs.Made.{calls_of_rank, columns_of, precip_band, region_of_band, temp_band}
-use Rattle.generated_run.proofs.Ranges.{pieces_long, pieces_pass, range_differs, range_passes}
+use Rattle.generated_run.proofs.Ranges.{pieces_pass, range_differs, range_passes}
 
 -- ---- the values of its rows
 
