@@ -36,6 +36,3 @@ created bytes end size place old emptied grown new long s p e g n =
 -- a file ends behind its header
 pub front_fits : (header : Header) (n : ℕ) → header_len header ≤ end_of header (header_len header) n
 front_fits header n = omega arith
-
-pub sound_written : (header : Header) → is_writable header ≡ true → is_sound header ≡ true
-sound_written header h = and_first _ _ (and_first _ _ (and_first _ _ (and_first _ _ h)))

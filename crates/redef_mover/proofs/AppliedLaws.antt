@@ -21,7 +21,7 @@ use Rattle.redef_mover.proofs.CarryLaws.{carried_is}
 
 -- ---- the record count stays
 
-one_keeps : (header : Header) (e : Extra) → (with_extra header e).records ≡ header.records
+pub one_keeps : (header : Header) (e : Extra) → (with_extra header e).records ≡ header.records
 one_keeps header (extra.Dim d) = refl
 one_keeps header (extra.Var kind name dims) = refl
 one_keeps header (extra.Att None a) = refl
