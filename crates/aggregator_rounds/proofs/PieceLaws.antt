@@ -1,6 +1,5 @@
 -- Pieces laid over a buffer one by one.
-use Rattle.std.proofs.Common.{◌≡◌, ℕ, zero, suc, ◌+◌, ◌-◌, ◌<◌, ◌≤◌, ◌++◌, refl, sym, ◌∙◌, ap, List, [], ◌∷◌, length, take, drop, get_or, arith}
-use Rattle.std.proofs.lemmas.List.{drop_more}
+use Rattle.std.proofs.Common.{◌≡◌, ℕ, zero, suc, ◌+◌, ◌<◌, ◌≤◌, refl, sym, ◌∙◌, ap, List, [], ◌∷◌, length, take, drop, get_or, arith}
 use Rattle.overlay_laws.proofs.OriginLaws.{slice_step}
 use Rattle.nc_base.specs.declared.plan.Piece.{Piece}
 use Rattle.serial_spec.specs.File.{at, read}

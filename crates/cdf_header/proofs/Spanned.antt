@@ -10,7 +10,7 @@ use Rattle.var_layout.proofs.ElementPlaces.{size_pos}
 use Rattle.nc_base.specs.declared.header.Header.{Header}
 use Rattle.nc_base.specs.declared.header.Var.{Var}
 use Rattle.serial_spec.specs.ExternalForm.{size_of}
-use Rattle.serial_spec.specs.Layout.{product, inner_lengths, slab, is_record, recsize, sharing_with, sharing_from, sharing}
+use Rattle.serial_spec.specs.Layout.{product, inner_lengths, slab, recsize, sharing_with, sharing_from, sharing}
 use Rattle.serial_spec.specs.Layout as layout
 use Rattle.serial_spec.specs.HeaderGrammar.{record_later}
 use Rattle.cdf_header.specs.declared.spans.Span.{Span}

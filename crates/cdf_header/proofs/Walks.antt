@@ -60,8 +60,8 @@ RightAt v rest later f text =
 walk_field : (v : ℕ) (asks rest later : List Ask) (f : Field) (text : List ℕ) → asked asks ≡ Some (f, rest) → length text ≡ field_len v f → RightAt v rest later f text → Walk v asks later text
 walk_field v asks rest later f text a len is_right b x more e =
     let r = is_right b x (take_here b text more x (field_len v f) e len) in
-    let le-ltb = le-ltb (length b) (x + field_len v f) (inside b text more x (field_len v f) e len (len_pos v f)) in
-    let fine : wrong_at v f b x ≡ None = rw le-ltb r.0 in
+    let ends_inside = le-ltb (length b) (x + field_len v f) (inside b text more x (field_len v f) e len (len_pos v f)) in
+    let fine : wrong_at v f b x ≡ None = rw ends_inside r.0 in
     takes a fine (subst (λ (as' : List Ask). Run v b as' (x + field_len v f) later (x + length text)) (sym r.1)
     (subst (λ (n : ℕ). Run v b later (x + field_len v f) later (x + n)) (sym len) stands))
 

@@ -1,16 +1,14 @@
 -- Entries that are read window by window, each into its blob.
-use Rattle.std.proofs.Common.{◌≡◌, ◌≢◌, ℕ, zero, suc, ◌+◌, ◌-◌, ◌<◌, ◌≤◌, inl, inr, refl, sym, ◌∙◌, ap, subst, List, [], ◌∷◌, ◌++◌, length, take, drop, get_or, set, Bool, true, false, cond, max, min, Option, Some, None, arith}
-use Rattle.std.proofs.lemmas.Grind.{fold-append, flat_map-append}
+use Rattle.std.proofs.Common.{◌≡◌, ◌≢◌, ℕ, zero, suc, ◌+◌, ◌-◌, ◌<◌, ◌≤◌, inl, inr, refl, sym, ◌∙◌, ap, subst, List, [], ◌∷◌, ◌++◌, length, take, drop, get_or, set, Bool, true, false, cond, min, Option, Some, None, arith}
+use Rattle.std.proofs.lemmas.Grind.{fold-append}
 use Rattle.std.proofs.lemmas.List.{map-append, length-take, length-set, take_more, get_or-set_same, get_or-set_other, set-set, get_or_default}
-use Rattle.std.specs.Prelude.{map, filter, nat_lt, ◌==◌, IfSome}
+use Rattle.std.specs.Prelude.{map, nat_lt, ◌==◌, IfSome}
 use Rattle.std.specs.List.{enumerate_from, range_with_len}
 use borrow.Author.Tests.{ltb-true, ltb-false, eqb-true, eqb-false}
 use Rattle.overlay_laws.proofs.Members.{in_filter}
 use Rattle.serial_spec.proofs.FileLaws.{length-written_inside}
 use Rattle.list_laws.proofs.Truth.{equal_true}
-use Rattle.list_laws.proofs.Optional.{no_none_some}
 use Rattle.serial_spec.proofs.CellLaws.{read_long}
-use Rattle.nc_base.specs.declared.plan.Extent.{Extent}
 use Rattle.nc_base.specs.declared.plan.Owned.{Owned}
 use Rattle.file_domains.specs.declared.walk.Window.{Window}
 use Rattle.serial_spec.specs.File.{at, read, written}
@@ -22,7 +20,7 @@ use Rattle.overlay_laws.proofs.EntryLaws.{says_left, says_right, says_cases}
 use Rattle.overlay_laws.proofs.HullLaws.{filter_in, in_either}
 use Rattle.overlay_laws.proofs.WalkLaws.{filter_joined}
 use Rattle.data_sieving.specs.Sieving.{of_slot, got_cells, blob_at, HasGot, FitBlobs, places_of, HaveOnePlace, AreAsLong, LieOn}
-use Rattle.data_sieving.specs.Serving.{part_at, part_in, IsCovered, IsPast, AreBegun, IsNext, buffer_cell, HasGotPart}
+use Rattle.data_sieving.specs.Serving.{part_at, part_in, IsCovered, IsPast, IsNext, buffer_cell, HasGotPart}
 use Rattle.data_sieving.proofs.CoveredBytes.{past_covered}
 use Rattle.data_sieving.proofs.ReachSteps.{begun_in}
 

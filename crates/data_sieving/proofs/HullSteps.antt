@@ -9,7 +9,7 @@ use Rattle.nc_base.specs.declared.plan.Owned.{Owned}
 use Rattle.file_domains.specs.declared.walk.Window.{Window}
 use Rattle.overlay_laws.specs.Entries.{In}
 use Rattle.overlay_laws.specs.Lines.{extents, IsByPlace}
-use Rattle.overlay_laws.proofs.HullLaws.{in_either, in_left, in_right}
+use Rattle.overlay_laws.proofs.HullLaws.{in_either, in_right}
 use Rattle.data_sieving.specs.Sieving.{AreFilled}
 use Rattle.data_sieving.specs.Serving.{IsCovered, IsHull}
 use Rattle.data_sieving.proofs.CoveredBytes.{covered_left}

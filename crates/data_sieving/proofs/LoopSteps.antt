@@ -1,18 +1,16 @@
 -- One window of a loop over all windows.
-use Rattle.std.proofs.Common.{◌≡◌, ℕ, ◌+◌, ◌-◌, ◌^◌, ◌<◌, ◌≤◌, refl, sym, ◌∙◌, ap, subst, List, [], ◌∷◌, ◌++◌, length, min, Option, Some, None, Result, slice_get, arith}
-use Rattle.std.specs.Prelude.{IfSome, flat_map, IsErrOf}
+use Rattle.std.proofs.Common.{◌≡◌, ℕ, ◌+◌, ◌-◌, ◌^◌, ◌<◌, ◌≤◌, refl, ◌∙◌, ap, subst, List, [], ◌++◌, length, Option, Result, arith}
+use Rattle.std.specs.Prelude.{IfSome, flat_map}
 use Rattle.overlay_laws.proofs.Members.{at_in}
 use Rattle.nc_base.specs.declared.plan.Owned.{Owned}
 use Rattle.nc_base.specs.declared.plan.Post.{Post}
 use Rattle.nc_base.specs.declared.step.DiskCall.{DiskCall}
 use Rattle.file_domains.specs.declared.walk.Window.{Window}
 use Rattle.nc_outside.specs.declared.disk.DiskErr.{DiskErr}
-use Rattle.nc_outside.specs.declared.disk.DiskErr.TheVariants.{Failed}
 use Rattle.nc_outside.specs.Told.{after, with_end, BothTold}
-use Rattle.nc_outside.specs.Cause.{HasDiskCause, Rose}
+use Rattle.nc_outside.specs.Cause.{HasDiskCause}
 use Rattle.serial_spec.specs.DeviceCalls.{overlays, loads}
 use Rattle.serial_spec.specs.Said.{write_cells, moved_down}
-use Rattle.overlay_laws.specs.Entries.{In}
 use Rattle.overlay_laws.specs.Windows.{clips}
 use Rattle.overlay_laws.specs.Lines.{extents, IsByPlace, EndBelow}
 use Rattle.overlay_laws.specs.Changes.{IsBetween, IsBegun, load_calls, store_calls}

@@ -1,10 +1,10 @@
 -- The next window of what is left.
-use Rattle.std.proofs.Common.{◌≡◌, ℕ, ◌+◌, ◌-◌, ◌^◌, ◌<◌, ◌≤◌, sym, ◌∙◌, subst, List, take, max, min, Some, slice_get, arith}
+use Rattle.std.proofs.Common.{◌≡◌, ℕ, ◌+◌, ◌-◌, ◌^◌, ◌<◌, sym, ◌∙◌, subst, List, take, max, min, Some, slice_get, arith}
 use Rattle.std.proofs.lemmas.Option.{same_Some}
 use Rattle.overlay_laws.proofs.Members.{at_in}
 use Rattle.nc_base.specs.declared.plan.Owned.{Owned}
 use Rattle.file_domains.specs.declared.walk.Window.{Window}
-use Rattle.data_sieving.specs.Serving.{IsCovered, IsPast, AreLeft, AreBegun, IsHull, IsNext}
+use Rattle.data_sieving.specs.Serving.{IsPast, AreLeft, AreBegun, IsHull, IsNext}
 use Rattle.data_sieving.proofs.CoveredBytes.{in_extents}
 use Rattle.data_sieving.proofs.SplitSteps.{first_begins, got_taken}
 

@@ -1,5 +1,5 @@
 -- Parts of entries, and entries laid over a buffer one by one.
-use Rattle.std.proofs.Common.{◌≡◌, ℕ, zero, suc, ◌+◌, ◌-◌, ◌<◌, ◌≤◌, refl, sym, ◌∙◌, ap, subst, List, [], ◌∷◌, ◌++◌, length, take, drop, get_or, Bool, true, false, min, max, Some, None, slice_get, arith}
+use Rattle.std.proofs.Common.{◌≡◌, ℕ, zero, suc, ◌+◌, ◌-◌, ◌<◌, ◌≤◌, refl, sym, ◌∙◌, ap, subst, List, [], ◌∷◌, length, take, drop, get_or, Bool, true, false, min, slice_get, arith}
 use Rattle.std.proofs.lemmas.List.{take-take, take_all, take_more, drop-drop, length-take, map-append}
 use Rattle.std.proofs.lemmas.Grind.{fold-append}
 use Rattle.std.specs.Prelude.{map, nat_lt}
@@ -10,7 +10,7 @@ use Rattle.nc_base.specs.declared.plan.Post.{Post}
 use Rattle.serial_spec.specs.File.{written}
 use Rattle.serial_spec.specs.Said.{Cell, write_cells, moved_down}
 use Rattle.overlay_laws.specs.Windows.{clip, clips}
-use Rattle.overlay_laws.specs.Entries.{In, Source, cell_of}
+use Rattle.overlay_laws.specs.Entries.{Source, cell_of}
 use Rattle.overlay_laws.specs.Origins.{AreFound}
 use Rattle.data_sieving.specs.Sieving.{bytes_of_post, source_of}
 use Rattle.data_sieving.specs.Serving.{part_at, part_in}

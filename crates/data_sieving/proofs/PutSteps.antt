@@ -1,6 +1,6 @@
 -- Entries that are written window by window.
 use Rattle.std.proofs.Common.{◌≡◌, ℕ, ◌+◌, ◌-◌, ◌<◌, ◌≤◌, ◌⊎◌, inl, inr, refl, sym, ◌∙◌, ap, subst, List, [], ◌∷◌, ◌++◌, length, take, drop, get_or, Bool, true, false, max, min, Option, Some, None, arith}
-use Rattle.std.proofs.lemmas.Grind.{flat_map-append, fold-append}
+use Rattle.std.proofs.lemmas.Grind.{fold-append}
 use Rattle.std.proofs.lemmas.List.{map-append, length-take, length-drop}
 use Rattle.std.specs.Prelude.{map, nat_lt, IfSome}
 use Rattle.std.specs.List.{enumerate_from}
@@ -14,14 +14,14 @@ use Rattle.file_domains.specs.declared.walk.Window.{Window}
 use Rattle.nc_outside.specs.Told.{after, BothTold}
 use Rattle.serial_spec.specs.File.{at, written}
 use Rattle.serial_spec.specs.Said.{Cell, said_at, said_by, byte_or, write_cells, IsFrom, IsWithin, moved_down}
-use Rattle.overlay_laws.specs.Windows.{clip, clips, HasPlace}
+use Rattle.overlay_laws.specs.Windows.{clips, HasPlace}
 use Rattle.overlay_laws.specs.Entries.{In, Source, cell_of}
 use Rattle.overlay_laws.specs.Origins.{AreFound}
 use Rattle.overlay_laws.specs.Changes.{IsBetween}
 use Rattle.overlay_laws.proofs.SaidLaws.{cells_long, same_said}
 use Rattle.overlay_laws.proofs.WindowLaws.{moved_said, within_lowered, within_more, append_within, none_below, none_past, clips_within, clips_from, clips_in, said_joined}
-use Rattle.data_sieving.specs.Serving.{IsCovered, IsPast, AreLeft, IsNext}
-use Rattle.data_sieving.proofs.CoveredBytes.{covered_left, covered_right, past_covered, begun_covered}
+use Rattle.data_sieving.specs.Serving.{IsCovered, IsPast, IsNext}
+use Rattle.data_sieving.proofs.CoveredBytes.{covered_right, past_covered, begun_covered}
 
 -- ---- what entries say
 

@@ -11,7 +11,6 @@ use Rattle.nc_base.specs.declared.plan.Owned.{Owned}
 use Rattle.overlay_laws.specs.Entries.{In}
 use Rattle.overlay_laws.specs.Lines.{extents, IsByPlace, EndBelow}
 use Rattle.file_domains.proofs.CoverParts.{in_dropped, get_is}
-use Rattle.data_sieving.specs.Sieving.{AreFilled}
 use Rattle.data_sieving.specs.Serving.{IsPast, AreLeft, AreBegun}
 use Rattle.data_sieving.proofs.CoveredBytes.{in_extents}
 

@@ -1,5 +1,5 @@
 -- The first window of what is left, as it is told and as one of the windows of sieving.
-use Rattle.std.proofs.Common.{◌≡◌, ℕ, suc, ◌+◌, ◌-◌, ◌^◌, ◌<◌, ◌≤◌, inl, inr, refl, sym, ◌∙◌, ap, subst, List, [], ◌∷◌, length, Bool, true, false, cond, min, arith}
+use Rattle.std.proofs.Common.{◌≡◌, ℕ, ◌+◌, ◌-◌, ◌^◌, ◌<◌, ◌≤◌, inl, inr, refl, sym, ◌∙◌, ap, subst, List, [], ◌∷◌, length, Bool, true, false, arith}
 use Rattle.std.specs.Prelude.{filter, nat_lt, nat_le, ◌==◌}
 use Rattle.std.specs.List.{range_with_len}
 use Rattle.std.proofs.lemmas.List.FromFn.{length-range_with_len}
@@ -9,7 +9,7 @@ use Rattle.overlay_laws.proofs.Members.{in_filter}
 use Rattle.list_laws.proofs.Truth.{equal_below, equal_true}
 use Rattle.nc_base.specs.declared.plan.Owned.{Owned}
 use Rattle.file_domains.specs.declared.walk.Window.{Window}
-use Rattle.serial_spec.specs.DeviceCalls.{in_order, first_of, last_of, hull_len, sieved, sieving_windows}
+use Rattle.serial_spec.specs.DeviceCalls.{in_order, first_of, hull_len, sieved, sieving_windows}
 use Rattle.overlay_laws.specs.Entries.{In, ranges}
 use Rattle.overlay_laws.specs.Hulls.{IsAscending}
 use Rattle.overlay_laws.specs.Walks.{told_of}
@@ -20,7 +20,7 @@ use Rattle.file_domains.proofs.WalkSteps.{walked_enough}
 use Rattle.aggregator_rounds.specs.Pieces.{told_window}
 use Rattle.data_sieving.specs.Sieving.{windows_of}
 use Rattle.data_sieving.specs.Serving.{IsCovered, IsPast, AreLeft, IsNext, bytes_from, windows_from}
-use Rattle.data_sieving.proofs.CoveredBytes.{in_extents, covered_below, byte_from, from_byte, bytes_ascend, same_bytes, begins, past_covered, covered_past, past_twice, begun_covered, covered_begun}
+use Rattle.data_sieving.proofs.CoveredBytes.{covered_below, byte_from, from_byte, bytes_ascend, same_bytes, begins, past_covered, covered_past, begun_covered, covered_begun}
 
 -- ---- how many numbers there are between two
 

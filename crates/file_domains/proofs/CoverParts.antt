@@ -1,6 +1,5 @@
 -- What is left of a cover from a place on, by how many extents begin before the place.
-use Rattle.std.proofs.Common.{◌≡◌, ℕ, zero, suc, ◌+◌, ◌-◌, ◌<◌, ◌≤◌, ◌⊎◌, refl, sym, ◌∙◌, ap, subst, inl, inr, List, [], ◌∷◌, ◌++◌, length, take, drop, get_or, length-drop, ◌^◌, Bool, true, false, cond, min, max, Option, Some, None, slice_get, arith}
-use Rattle.std.proofs.lemmas.Bool.Decides.{nat_tests}
+use Rattle.std.proofs.Common.{◌≡◌, ℕ, zero, suc, ◌+◌, ◌-◌, ◌<◌, ◌≤◌, refl, sym, ◌∙◌, ap, subst, inl, inr, List, [], ◌∷◌, ◌++◌, length, take, drop, get_or, length-drop, ◌^◌, Bool, true, false, cond, min, Some, slice_get, arith}
 use Rattle.std.proofs.lemmas.List.{take_all}
 use borrow.Author.Tests.{ltb-true, ltb-false}
 use Rattle.std.specs.Prelude.{filter, nat_lt, nat_le, ◌==◌}
@@ -12,12 +11,11 @@ use Rattle.overlay_laws.proofs.Members.{at_in}
 use Rattle.list_laws.proofs.Truth.{equal_above}
 use Rattle.list_laws.proofs.Optional.{no_none_some}
 use Rattle.nc_base.specs.declared.plan.Extent.{Extent}
-use Rattle.serial_spec.specs.DeviceCalls.{first_of}
 use Rattle.overlay_laws.specs.Entries.{In}
 use Rattle.overlay_laws.specs.Lines.{EndBelow}
-use Rattle.overlay_laws.specs.Walks.{spans, below, above, IsCover, end_after, is_single, first_at, hull_of, told_of}
+use Rattle.overlay_laws.specs.Walks.{spans, below, IsCover, end_after, is_single, first_at}
 use Rattle.overlay_laws.proofs.WalkLaws.{filter_joined}
-use Rattle.overlay_laws.proofs.CoverLaws.{range_above_none, spans_below, below_told}
+use Rattle.overlay_laws.proofs.CoverLaws.{range_above_none}
 use Rattle.file_domains.specs.Rounds.{IsLeft}
 
 pub in_dropped : {X : Type 0} (k : ℕ) (xs : List X) (e : X) → In (drop k xs) e → In xs e

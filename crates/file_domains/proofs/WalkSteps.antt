@@ -1,5 +1,5 @@
 -- One window of a walk.
-use Rattle.std.proofs.Common.{◌≡◌, ℕ, zero, suc, ◌+◌, ◌-◌, ◌*◌, ◌/◌, ◌^◌, ◌<◌, ◌≤◌, refl, sym, ◌∙◌, ap, subst, inl, inr, List, [], ◌∷◌, ◌++◌, length, Bool, true, false, ◌&&◌, cond, min, max, Option, Some, None, slice_get, get_or, arith}
+use Rattle.std.proofs.Common.{◌≡◌, ℕ, zero, suc, ◌+◌, ◌-◌, ◌/◌, ◌^◌, ◌<◌, ◌≤◌, refl, sym, ◌∙◌, ap, subst, inl, inr, List, [], ◌∷◌, length, Bool, true, false, ◌&&◌, cond, min, max, Some, None, slice_get, get_or, arith}
 use Rattle.std.proofs.lemmas.Bool.Decides.{nat_tests}
 use Rattle.std.specs.Prelude.{filter, map, nat_lt, nat_le, ◌==◌}
 use Rattle.std.specs.List.{range_with_len}
@@ -10,8 +10,8 @@ use Rattle.serial_spec.specs.DeviceCalls.{first_of}
 use Rattle.overlay_laws.specs.Hulls.{IsAscending}
 use Rattle.overlay_laws.specs.Entries.{In}
 use Rattle.overlay_laws.specs.Lines.{EndBelow}
-use Rattle.overlay_laws.specs.Walks.{spans, below, above, IsCover, hull_of, end_after, is_single, first_at, told_of, walked, round_end}
-use Rattle.overlay_laws.proofs.WalkLaws.{filter_same, take_first, drop_first, filter_none, windows_walked}
+use Rattle.overlay_laws.specs.Walks.{spans, below, above, IsCover, end_after, is_single, first_at, told_of, walked, round_end}
+use Rattle.overlay_laws.proofs.WalkLaws.{filter_same, take_first, drop_first, windows_walked}
 use Rattle.overlay_laws.proofs.HullLaws.{filter_short, filter_in, filter_ascends, flat_in, range_high, range_low, in_either}
 use Rattle.overlay_laws.proofs.DomainLaws.{filter_two}
 use Rattle.overlay_laws.proofs.CoverLaws.{spans_below, spans_above, below_told, range_first, past_round, spans_below_none, spans_ascend, spans_past, triple_same}
@@ -19,7 +19,7 @@ use Rattle.std.specs.Iterator.{MakesProgress, item_count}
 use Rattle.std.proofs.lemmas.Option.{same_Some, slice_get-get_or}
 use Rattle.std.proofs.lemmas.Bool.{lt-ltb, le-ltb, le-leb, lt-leb, leb-true, leb-false}
 use Rattle.file_domains.specs.declared.walk.Window.{Window}
-use Rattle.file_domains.specs.Rounds.{window_told, windows_of, windows_left, IsWalk, IsLeft}
+use Rattle.file_domains.specs.Rounds.{window_told, windows_of}
 use Rattle.file_domains.proofs.CoverParts.{counted_below, ends_before}
 
 -- ---- walks

@@ -1,11 +1,11 @@
 -- The fixed variables of a sound header, one after another.
-use Rattle.std.proofs.Common.{◌≡◌, ℕ, zero, suc, ◌+◌, ◌*◌, ◌<◌, ◌≤◌, ◌-◌, refl, sym, ◌∙◌, ap, subst, List, [], ◌∷◌, ◌++◌, length, map, take, length-take, get_or, Bool, true, false, not, cond, Option, Some, arith}
+use Rattle.std.proofs.Common.{◌≡◌, ℕ, zero, suc, ◌+◌, ◌*◌, ◌<◌, ◌≤◌, ◌-◌, refl, sym, ◌∙◌, ap, List, [], ◌∷◌, ◌++◌, length, map, take, length-take, get_or, Bool, true, false, not, cond, Some, arith}
 use Rattle.std.specs.Prelude.{◌==◌, IfSome, slice_get, fold, flat_map}
 use Rattle.std.proofs.lemmas.Grind.{flat_map-append}
 use Rattle.std.proofs.lemmas.List.{append-nil}
 use Rattle.std.proofs.lemmas.List.Elements.{filter-append}
 use Rattle.std.proofs.lemmas.List.Sums.{fold-append}
-use Rattle.serial_spec.proofs.RoomLaws.{greatest_holds}
+use Rattle.serial_spec.proofs.RoomLaws.{greatest_holds, slab_below}
 use Rattle.nc_base.specs.declared.header.Header.{Header}
 use Rattle.nc_base.specs.declared.header.NcType.{NcType}
 use Rattle.nc_base.specs.declared.header.NcType.TheVariants.{Byte, Char, Short, Int, Float, Double, UByte, UShort, UInt, Int64, UInt64}
@@ -14,9 +14,8 @@ use Rattle.serial_spec.specs.DeviceCalls.{stores}
 use Rattle.serial_spec.specs.ExternalForm.{size_of}
 use Rattle.serial_spec.specs.File.{written}
 use Rattle.serial_spec.specs.Fill.{fill_bytes, fill_var}
-use Rattle.serial_spec.specs.Layout.{greatest, is_record, slab, vsize, end_of, end_of_var, fixed_variables, recsize, last_share}
+use Rattle.serial_spec.specs.Layout.{is_record, slab, vsize, end_of, end_of_var, fixed_variables, recsize, last_share}
 use Rattle.serial_spec.proofs.ElementLaws.{get_map}
-use Rattle.var_layout.proofs.Soundness.{slab_below}
 use Rattle.fill_records.specs.Filling.{repeated, filled_variable, variable_stores}
 use Rattle.fill_records.proofs.WriteLaws.{var_filled}
 

@@ -1,12 +1,11 @@
 -- The file of a created dataset.
-use Rattle.std.proofs.Common.{◌≡◌, ℕ, ◌+◌, ◌-◌, ◌≤◌, List, [], ◌++◌, length, true, drop, replicate, Option, ap, ◌∙◌, arith}
+use Rattle.std.proofs.Common.{◌≡◌, ℕ, ◌+◌, ◌-◌, ◌≤◌, List, [], ◌++◌, length, drop, replicate, Option, ap, ◌∙◌, arith}
 use Rattle.std.proofs.lemmas.List.{drop-replicate}
-use Rattle.list_laws.proofs.Truth.{and_first}
 use Rattle.nc_base.specs.declared.header.Header.{Header}
 use Rattle.nc_outside.specs.Told.{after}
 use Rattle.nc_outside.proofs.ToldLaws.{after-after}
 use Rattle.serial_spec.specs.File.{longer, written}
-use Rattle.serial_spec.specs.HeaderGrammar.{header_len, is_sound, is_writable}
+use Rattle.serial_spec.specs.HeaderGrammar.{header_len}
 use Rattle.serial_spec.specs.Layout.{end_of}
 use Rattle.serial_spec.proofs.FileLaws.{written-front}
 

@@ -1,11 +1,10 @@
 -- The value of digits, from left to right.
-use Rattle.std.proofs.Common.{◌≡◌, ℕ, zero, suc, ◌+◌, ◌-◌, ◌*◌, ◌^◌, ◌≤◌, ◌<◌, List, [], ◌∷◌, ◌++◌, length, take, get_or, Bool, true, false, fold, Option, Some, None, option_map, drop, drop-cons, add-one, refl, sym, ap, ◌∙◌, arith, ◌&&◌, nat_le}
+use Rattle.std.proofs.Common.{◌≡◌, ℕ, zero, suc, ◌+◌, ◌-◌, ◌*◌, ◌^◌, ◌≤◌, ◌<◌, List, [], ◌∷◌, length, take, get_or, true, fold, Option, Some, None, option_map, drop, drop-cons, add-one, refl, ap, ◌∙◌, arith}
 use Rattle.std.proofs.lemmas.List.Sums.{fold_push}
 use Rattle.std.proofs.lemmas.List.{take_more}
 use Rattle.std.proofs.lemmas.Grind.{common_steps}
 use Rattle.std.specs.List.{list_all}
 use Rattle.std.proofs.lemmas.Bool.{and_parts}
-use native.Mathlib.Numerals.{unary_clauses}
 use Rattle.script_spec.specs.ScriptWords.{is_digit, digits_value, hex_sum, hex_value}
 
 abbrev pub tens : ℕ → ℕ

@@ -1,8 +1,7 @@
 -- Requests that are the same or not, and entries among the first of a list.
-use Rattle.std.proofs.Common.{◌≡◌, ℕ, zero, suc, ◌+◌, ◌-◌, ◌<◌, ◌≤◌, ◌⊎◌, refl, sym, ◌∙◌, ap, subst, inl, inr, List, [], ◌∷◌, ◌++◌, length, take, drop, get_or, Bool, true, false, cond, ◌&&◌, ◌||◌, arith}
+use Rattle.std.proofs.Common.{◌≡◌, ℕ, zero, suc, ◌+◌, ◌-◌, ◌<◌, ◌≤◌, ◌⊎◌, refl, sym, ◌∙◌, ap, subst, inl, inr, List, [], ◌∷◌, ◌++◌, length, take, get_or, Bool, true, false, arith}
 use Rattle.std.proofs.lemmas.Bool.Decides.{nat_tests}
 use Rattle.std.proofs.lemmas.List.{take_more, take_all, map-append}
-use Rattle.std.specs.Prelude.{nat_lt, ◌==◌}
 use Rattle.overlay_laws.proofs.Members.{entry_in}
 use Rattle.serial_spec.proofs.PairLaws.{key_itself}
 use Rattle.overlay_laws.proofs.WalkLaws.{no_both}
@@ -13,7 +12,6 @@ use Rattle.overlay_laws.specs.Entries.{In}
 use Rattle.overlay_laws.specs.Lines.{extents, IsByPlace, EndBelow}
 use Rattle.overlay_laws.proofs.HullLaws.{in_either, in_left, in_right}
 use Rattle.overlay_laws.proofs.HolderLaws.{same_keys, keys_same}
-use Rattle.overlap_report.specs.Sharing.{key_of, Covers}
 
 -- ---- keys
 

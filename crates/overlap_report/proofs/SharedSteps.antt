@@ -1,5 +1,5 @@
 -- How far the entries so far reach, and the first byte that two requests hold.
-use Rattle.std.proofs.Common.{◌≡◌, ℕ, zero, suc, ◌+◌, ◌-◌, ◌<◌, ◌≤◌, ◌⊎◌, refl, sym, ◌∙◌, ap, subst, inl, inr, List, [], ◌∷◌, length, take, get_or, Bool, true, false, cond, max, Option, Some, None, arith}
+use Rattle.std.proofs.Common.{◌≡◌, ℕ, ◌+◌, ◌-◌, ◌<◌, ◌≤◌, ◌⊎◌, refl, sym, ◌∙◌, ap, subst, inl, inr, List, length, take, get_or, Bool, true, false, cond, max, Option, Some, None, arith}
 use Rattle.std.specs.Prelude.{nat_lt, MatchOption}
 use Rattle.std.specs.List.{range_with_len}
 use Rattle.std.proofs.lemmas.List.{take_all}
@@ -8,16 +8,16 @@ use Rattle.overlay_laws.proofs.Members.{entry_in, in_taken}
 use Rattle.overlay_laws.proofs.WalkLaws.{no_both}
 use Rattle.nc_base.specs.declared.plan.Owned.{Owned}
 use Rattle.nc_base.specs.declared.answer.Pair.{Pair}
-use Rattle.serial_spec.specs.SharedByte.{Key, same_key, key_below, Holds, holdings_of_entries, shared_pair_of, IsSharedPair, first_end, second_end}
+use Rattle.serial_spec.specs.SharedByte.{Key, same_key, key_below, Holds, holdings_of_entries, shared_pair_of, first_end, second_end}
 use Rattle.serial_spec.proofs.PairLaws.{pair_found, pair_only, key_itself, key_equal}
 use Rattle.overlay_laws.specs.Entries.{In}
 use Rattle.overlay_laws.specs.Lines.{extents, IsByPlace}
 use Rattle.overlay_laws.proofs.HullLaws.{in_range, range_low, range_high}
-use Rattle.overlay_laws.proofs.HolderLaws.{holds_by, holder_of, IsHolder}
+use Rattle.overlay_laws.proofs.HolderLaws.{holds_by, holder_of}
 use Rattle.overlap_report.specs.declared.shared.Reach.{Reach}
 use Rattle.overlap_report.specs.Sharing.{key_of, Covers, IsClearAt, AreTwo, IsFirst, HasHolder, ArePairAt}
 use Rattle.overlap_report.specs.Reaching.{same_as, with_entry}
-use Rattle.overlap_report.proofs.KeySteps.{key_back, key_meet, key_apart, key_apart_back, equal_key, not_below_itself, IsNext, next_taken, before_next, at_or_before}
+use Rattle.overlap_report.proofs.KeySteps.{key_back, key_meet, key_apart, key_apart_back, equal_key, not_below_itself, IsNext, before_next, at_or_before}
 
 -- an entry that ends there, of the request or not
 pub record EndsAt (seen : List Owned) (r : Reach) (n : ℕ) (same : Bool) : Type 0 where

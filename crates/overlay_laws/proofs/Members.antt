@@ -1,5 +1,5 @@
 -- Members of lists: of filtered, mapped, numbered and paired ones, by place, of a list's first entries.
-use Rattle.std.proofs.Common.{◌≡◌, ℕ, zero, suc, ◌+◌, ◌<◌, refl, sym, subst, length, take, get_or, ◌∙◌, ap, inl, inr, List, [], ◌∷◌, map, Bool, true, false, cond, Some, arith}
+use Rattle.std.proofs.Common.{◌≡◌, ℕ, zero, suc, ◌+◌, ◌<◌, refl, subst, length, take, get_or, ◌∙◌, ap, inl, inr, List, [], ◌∷◌, map, Bool, true, false, cond, Some, arith}
 use Rattle.std.specs.Prelude.{filter, zip, slice_get}
 use Rattle.std.specs.List.{enumerate_from, AllByRecursion}
 use Rattle.std.proofs.lemmas.Option.{slice_get_read}

@@ -1,16 +1,13 @@
 -- Cells written one after another: each byte is what the last cell that has it says, else the old one.
-use Rattle.std.proofs.Common.{◌≡◌, ℕ, suc, ◌+◌, ◌-◌, ◌<◌, ◌≤◌, refl, sym, ◌∙◌, ap, subst, inl, inr, ◌⊎◌, List, [], ◌∷◌, ◌++◌, length, take, drop, get_or, Bool, true, false, cond, Option, Some, None, arith}
-use Rattle.std.proofs.lemmas.Grind.{common_steps}
-use Rattle.std.proofs.lemmas.List.{get_or-append_right, get_or_append_left, get_or-drop, length-append, ext_get_or}
-use Rattle.std.proofs.lemmas.Bool.Decides.{nat_tests}
-use Rattle.std.specs.Prelude.{nat_lt, ◌==◌}
-use Rattle.std.specs.List.{enumerate_from}
-use borrow.Author.Tests.{ltb-true, ltb-false, eqb-true}
-use Rattle.list_laws.proofs.Truth.{equal_above, equal_below, equal_true}
-use Rattle.serial_spec.proofs.SaidLaws.{byte_or_later, one_miss, one_hit, missed, said_below, said_past, said_inside, taken_long, front_long, at-written_inside, written_said, said_append, cells_said}
-use Rattle.list_laws.proofs.Optional.{no_none_some, neither_some, second_counts, first_counts, option_or_assoc, none_last}
-use Rattle.serial_spec.specs.File.{at, longer, written}
-use Rattle.serial_spec.proofs.FileLaws.{at-written_before, at-written_after, written-front, length-written_inside}
+use Rattle.std.proofs.Common.{◌≡◌, ℕ, ◌-◌, refl, sym, ◌∙◌, ap, subst, inl, inr, ◌⊎◌, List, [], ◌∷◌, length, Bool, true, false, cond, Option, Some, None}
+use Rattle.std.proofs.lemmas.List.{ext_get_or}
+use Rattle.std.specs.Prelude.{◌==◌}
+use borrow.Author.Tests.{eqb-true}
+use Rattle.list_laws.proofs.Truth.{equal_true}
+use Rattle.serial_spec.proofs.SaidLaws.{one_hit, cells_said}
+use Rattle.list_laws.proofs.Optional.{no_none_some, first_counts}
+use Rattle.serial_spec.specs.File.{at, written}
+use Rattle.serial_spec.proofs.FileLaws.{length-written_inside}
 use Rattle.std.specs.Option.{option_or}
 use Rattle.std.proofs.lemmas.Option.{same_Some}
 use Rattle.serial_spec.specs.Said.{one_says, said_at, byte_or, Says, IsOneValued, Cell, write_cells, said_by, IsWithin}

@@ -1,6 +1,5 @@
 -- Puts of which no two requests share a byte, and no request holds one twice, say one thing of each place.
-use Rattle.std.proofs.Common.{◌≡◌, ℕ, zero, suc, refl, sym, ◌∙◌, ap, subst, inl, inr, List, [], ◌∷◌, Bool, true, false, ◌&&◌, ◌||◌, Option, Some, None, arith}
-use Rattle.std.proofs.lemmas.Bool.Decides.{nat_tests}
+use Rattle.std.proofs.Common.{◌≡◌, ℕ, zero, suc, refl, sym, ◌∙◌, ap, subst, inl, inr, List, [], ◌∷◌, true, ◌&&◌, Option, Some, None}
 use Rattle.std.proofs.lemmas.Option.{slice_get-map, same_Some}
 use Rattle.std.specs.Prelude.{zip, slice_get, option_map, ◌==◌}
 use Rattle.std.specs.List.{list_any}

@@ -1,13 +1,12 @@
 -- The posts that fill a share of a record are puts that a step takes, and hold no byte twice.
-use Rattle.std.proofs.Common.{◌≡◌, ℕ, zero, suc, ◌+◌, ◌-◌, ◌*◌, ◌<◌, ◌≤◌, refl, sym, ap, subst, ◌∙◌, inl, inr, ◌⊎◌, List, [], ◌∷◌, length, map, replicate, Bool, true, false, not, cond, ltb, leb, eqb, ◌&&◌, ◌||◌, Option, None, Some, add-one, arith}
-use Rattle.std.specs.Prelude.{find, flat_map, slice_get, slice_index, bytes_eq}
+use Rattle.std.proofs.Common.{◌≡◌, ℕ, zero, suc, ◌+◌, ◌-◌, ◌*◌, ◌<◌, ◌≤◌, refl, sym, ap, subst, ◌∙◌, List, [], ◌∷◌, length, map, replicate, Bool, true, false, not, cond, ltb, leb, eqb, ◌&&◌, ◌||◌, Option, None, Some, add-one, arith}
+use Rattle.std.specs.Prelude.{find, flat_map, slice_get, slice_index}
 use Rattle.std.specs.Int.{Width, byte_len, to_be_bytes, w8, w16, w32, w64, w128}
 use Rattle.std.specs.List.{list_all, list_any, range_with_len}
-use Rattle.std.proofs.lemmas.Bool.{and_from, and_left, and_parts, and_right, cases_lt, eq-eqb, eqb-true, le-ltb, leb-false, leb-true, lt-leb, ne_eqb, not_from_true, or_from, or_parts}
+use Rattle.std.proofs.lemmas.Bool.{and_from, and_left, and_parts, and_right, eq-eqb, eqb-true, le-ltb, leb-false, leb-true, lt-leb, ne_eqb, not_from_true, or_from, or_parts}
 use Rattle.std.proofs.lemmas.List.{length-map, length-replicate}
 use Rattle.overlay_laws.proofs.Members.{each_in, map_in}
 use Rattle.list_laws.proofs.Ranges.{pieces_long}
-use Rattle.nc_base.specs.declared.answer.Code.{Code}
 use Rattle.nc_base.specs.declared.answer.Code.TheVariants as code
 use Rattle.nc_base.specs.declared.header.Attr.{Attr}
 use Rattle.nc_base.specs.declared.header.Header.{Header}
@@ -19,15 +18,15 @@ use Rattle.nc_base.specs.declared.request.Part.{Part}
 use Rattle.nc_base.specs.declared.request.Region.{Region}
 use Rattle.fill_records.proofs.CutLaws.{boxes_few}
 use Rattle.overlay_laws.specs.Entries.{In}
-use Rattle.serial_spec.specs.ExternalForm.{class_of, code_of, ext, size_of, width_of}
+use Rattle.serial_spec.specs.ExternalForm.{code_of, ext, size_of, width_of}
 use Rattle.serial_spec.specs.Fill.{boxes, default_fill, fill_bytes, is_fill_value, share_begin}
-use Rattle.serial_spec.specs.HeaderGrammar.{counts_are_small, first_check, header_len, is_sound, is_version, number_of}
+use Rattle.serial_spec.specs.HeaderGrammar.{header_len, is_sound}
 use Rattle.serial_spec.specs.Layout.{end_of, inner_lengths, is_record, lengths, length_of, product, starts_with_zero, without_record}
 use Rattle.serial_spec.specs.Limits.{file_limit, most_elements, record_limit}
 use Rattle.serial_spec.specs.RankMachine as machine
 use Rattle.serial_spec.specs.RankMachine.{box_post, box_region, fills, find_var, is_record_past, look_fill}
 use Rattle.serial_spec.specs.Records.{records_of}
-use Rattle.serial_spec.specs.RegionCheck.{bad_edge, bad_start, bound, bounds, check_var, first_code, is_past, is_too_large, last_position, other_shape, some_edge, some_start}
+use Rattle.serial_spec.specs.RegionCheck.{bad_edge, bad_start, bound, bounds, check_var, first_code, is_too_large, other_shape, some_edge, some_start}
 use Rattle.serial_spec.proofs.RoomLaws.{end_grows}
 use Rattle.rank_core.specs.declared.looking.Look.{Look}
 use Rattle.rank_core.specs.Looked.{as_look, posts_of, posts_looked, ArePutsLooked}

@@ -1,11 +1,11 @@
 -- The boxes of a share of a record are regions of the variable, no two of which share an element.
-use Rattle.std.proofs.Common.{◌≡◌, ℕ, zero, suc, ◌+◌, ◌-◌, ◌*◌, ◌/◌, ◌%◌, ◌<◌, ◌≤◌, refl, sym, ap, subst, ◌∙◌, inl, inr, ◌⊎◌, List, [], ◌∷◌, ◌++◌, length, map, take, drop, replicate, min, Bool, true, false, cond, ltb, eqb, ◌||◌, Some, None, add-one, arith}
+use Rattle.std.proofs.Common.{◌≡◌, ℕ, zero, suc, ◌+◌, ◌-◌, ◌*◌, ◌/◌, ◌%◌, ◌<◌, ◌≤◌, refl, sym, ap, subst, ◌∙◌, inl, inr, ◌⊎◌, List, [], ◌∷◌, ◌++◌, length, map, take, drop, replicate, Bool, true, false, ltb, eqb, ◌||◌, Some, add-one, arith}
 use Rattle.std.specs.Prelude.{flat_map, slice_get, nat_lt}
 use Rattle.std.specs.List.{range_with_len, AllByRecursion}
 use Rattle.std.proofs.Math.Nat.{mul-div_cancel, mul-le-mul_left}
 use Rattle.std.proofs.lemmas.Bool.{cases_lt, eqb-true, ltb-false, ltb-true, or_parts}
 use Rattle.std.proofs.lemmas.List.{length-append, length-take, length-map}
-use Rattle.std.proofs.lemmas.Nat.{div-add-mod', div_below, mod_below}
+use Rattle.std.proofs.lemmas.Nat.{div-add-mod', mod_below}
 use Rattle.std.proofs.lemmas.Option.{slice_get_within}
 use Rattle.overlay_laws.proofs.Members.{in_map, each_in, map_in}
 use Rattle.var_layout.proofs.ElementPlaces.{same_len}
@@ -15,9 +15,9 @@ use Rattle.nc_base.specs.declared.request.Part.{Part}
 use Rattle.nc_base.specs.declared.request.Region.{Region}
 use Rattle.fill_records.proofs.CutLaws.{no_boxes}
 use Rattle.overlay_laws.specs.Entries.{In}
-use Rattle.overlay_laws.proofs.HullLaws.{div_grows, flat_in, in_flat, in_left, in_right}
+use Rattle.overlay_laws.proofs.HullLaws.{div_grows, flat_in, in_flat}
 use Rattle.overlay_laws.proofs.RegionLaws.{coordinate_row}
-use Rattle.serial_spec.specs.Fill.{box_indices, boxes, in_row, shifted, whole_rows, AreBoxes}
+use Rattle.serial_spec.specs.Fill.{box_indices, boxes, in_row, shifted, whole_rows}
 use Rattle.serial_spec.specs.Layout.{product}
 use Rattle.serial_spec.specs.Limits.{most_elements}
 use Rattle.serial_spec.specs.Place.{row, IsIndex}
@@ -27,7 +27,7 @@ use Rattle.serial_spec.proofs.AcceptLaws.{coordinates_all}
 use Rattle.serial_spec.proofs.BoxLaws.{boxes_right}
 use Rattle.serial_spec.proofs.ElementLaws.{get_left, get_right, length-coordinates}
 use Rattle.rank_core.specs.Targets.{IsSmall}
-use Rattle.rank_core.proofs.SeparateLaws.{AreSeparate, ShareNone}
+use Rattle.rank_core.proofs.SeparateLaws.{AreSeparate}
 
 -- ---- how many elements they have
 

@@ -1,6 +1,6 @@
 -- The values of the gets, added one after another by the ids of their requests.
-use Rattle.std.proofs.Common.{◌≡◌, ℕ, zero, suc, ◌+◌, ◌<◌, ◌≤◌, ◌∙◌, ap, sym, refl, subst, inl, inr, ◌⊎◌, List, [], ◌∷◌, ◌++◌, map, length, get_or, drop, zip, Bool, true, false, cond, eqb, Option, Some, None, arith}
-use Rattle.std.specs.Prelude.{filter_map, option_map, slice_get}
+use Rattle.std.proofs.Common.{◌≡◌, ℕ, ◌+◌, ◌<◌, ◌∙◌, ap, sym, refl, List, [], ◌∷◌, map, length, get_or, drop, zip, Bool, true, false, cond, eqb, Option, Some, None, arith}
+use Rattle.std.specs.Prelude.{option_map, slice_get}
 use Rattle.std.specs.List.{cons_option}
 use Rattle.std.proofs.lemmas.Bool.{eqb-true}
 use Rattle.std.proofs.lemmas.List.{append_assoc, drop_more, get_or-map, length-map}

@@ -1,6 +1,6 @@
 -- Every post that a call comes to is of an accepted region; those of a put have their bytes, and hold none twice.
-use Rattle.std.proofs.Common.{◌≡◌, ℕ, zero, suc, ◌+◌, ◌*◌, ◌<◌, ◌≤◌, refl, sym, ap, subst, ◌∙◌, inl, inr, ◌⊎◌, List, [], ◌∷◌, length, map, max, Bool, true, false, not, cond, leb, ltb, ◌&&◌, Option, Some, None, IfSome, arith}
-use Rattle.std.specs.Prelude.{filter, slice_get, sum_by}
+use Rattle.std.proofs.Common.{◌≡◌, ℕ, suc, ◌+◌, ◌*◌, ◌<◌, ◌≤◌, refl, sym, ap, subst, ◌∙◌, inl, inr, ◌⊎◌, List, [], ◌∷◌, length, map, max, Bool, true, false, not, cond, ltb, ◌&&◌, Option, Some, None, IfSome, arith}
+use Rattle.std.specs.Prelude.{filter, slice_get}
 use Rattle.std.proofs.lemmas.Bool.{cases_lt, le-leb, le-ltb, lt-leb, lt-ltb, ltb-false}
 use Rattle.std.proofs.lemmas.List.{length-map}
 use Rattle.std.proofs.lemmas.List.Sums.{sum_by-cons}
@@ -25,8 +25,8 @@ use Rattle.serial_spec.specs.HeaderGrammar.{is_sound}
 use Rattle.serial_spec.specs.Layout.{product}
 use Rattle.serial_spec.specs.Limits.{most_elements}
 use Rattle.serial_spec.specs.RankMachine as machine
-use Rattle.serial_spec.specs.RankMachine.{data_bytes, data_code, direction_of, find_var, is_varn, kind_code, look_at, look_parts, look_region, part_posts, parts_code, values_bytes, values_code}
-use Rattle.serial_spec.specs.RegionCheck.{check, check_parts, check_some, check_var, elements_of_all, first_refusal, has_element, is_ok_code, is_put, part_region, part_regions, share_element, widen}
+use Rattle.serial_spec.specs.RankMachine.{data_bytes, data_code, direction_of, find_var, is_varn, kind_code, look_at, look_parts, look_region, part_posts, parts_code, values_bytes}
+use Rattle.serial_spec.specs.RegionCheck.{check_parts, check_some, check_var, elements_of_all, first_refusal, has_element, is_ok_code, is_put, part_region, part_regions, share_element, widen}
 use Rattle.serial_spec.specs.Request.{count_of}
 use Rattle.serial_spec.specs.SharedByte.{holdings, IsOwnOnce}
 use Rattle.vara_extents.specs.Parts.{refusal_of}
@@ -35,7 +35,7 @@ use Rattle.rank_core.specs.declared.looking.Look.TheVariants.{Asks, Empty, Refus
 use Rattle.rank_core.specs.Looked.{as_look, posts_of, posts_looked, some_unfit, AreLooked, ArePutsLooked, HasValues}
 use Rattle.rank_core.specs.Offered.{IsGet, IsPut}
 use Rattle.rank_core.proofs.OutcomeLaws.{outcome, outcome_posts}
-use Rattle.rank_core.proofs.SeparateLaws.{own_once, separate_from_parts, AreSeparate, IsPostOf, ShareNone}
+use Rattle.rank_core.proofs.SeparateLaws.{own_once, separate_from_parts, AreSeparate, IsPostOf}
 use Rattle.rank_core.proofs.ValueLaws.{length-packed_bytes, length-values_bytes}
 
 -- ---- what the check of many regions says

@@ -1,7 +1,7 @@
 -- Posts of one variable, no two of which share an element, hold no byte twice.
-use Rattle.std.proofs.Common.{◌≡◌, ℕ, zero, suc, ◌+◌, ◌<◌, ◌≤◌, refl, sym, ap, subst, ◌∙◌, inl, inr, ◌⊎◌, List, [], ◌∷◌, length, map, Bool, true, false, cond, ◌||◌, Option, Some, None, arith}
+use Rattle.std.proofs.Common.{◌≡◌, ℕ, zero, suc, ◌+◌, ◌<◌, ◌≤◌, refl, sym, ap, subst, ◌∙◌, inl, inr, ◌⊎◌, List, [], ◌∷◌, map, Bool, true, false, cond, Option, Some, arith}
 use Rattle.std.specs.Prelude.{filter, flat_map, slice_get, bytes_eq}
-use Rattle.std.specs.List.{list_any, range_with_len, AllByRecursion}
+use Rattle.std.specs.List.{list_any, range_with_len}
 use Rattle.std.proofs.lemmas.Bool.{both_ways, cases_order, or_left, or_parts, or_right}
 use Rattle.std.proofs.lemmas.Slice.Eq.{bytes_eq-Decides}
 use Rattle.overlay_laws.proofs.Members.{each_in, map_in, at_in}
@@ -17,7 +17,7 @@ use Rattle.serial_spec.specs.ExternalForm.{size_of}
 use Rattle.serial_spec.specs.HeaderGrammar.{is_sound}
 use Rattle.serial_spec.specs.Place.{place, AreApart, IsElement, IsElementBelow}
 use Rattle.serial_spec.specs.Records.{records_of}
-use Rattle.serial_spec.specs.RegionCheck.{check, check_some, check_var, has_element, has_index, share_element}
+use Rattle.serial_spec.specs.RegionCheck.{check_some, check_var, has_element, has_index, share_element}
 use Rattle.serial_spec.specs.Request.{elements, places}
 use Rattle.serial_spec.specs.SharedByte.{bytes_of, bytes_of_some, holdings, Holding, IsOwnOnce}
 use Rattle.serial_spec.proofs.AcceptLaws.{accepted_elements}

@@ -4,7 +4,7 @@
 --     Numbers vars list      each variable of the list stands with its number
 --     fixed_begin, map_begin, record_begin      what is found for a variable of the list
 --     fixed_apart, record_apart                 two variables of the list stand apart
-use Rattle.std.proofs.Common.{◌≡◌, ℕ, zero, suc, ◌+◌, ◌≤◌, List, [], ◌∷◌, ◌++◌, map, Bool, true, false, cond, Option, Some, None, refl, sym, ap, subst, ◌∙◌, inl, inr, ◌⊎◌, arith}
+use Rattle.std.proofs.Common.{◌≡◌, ℕ, zero, suc, ◌+◌, ◌≤◌, List, [], ◌∷◌, map, Bool, true, false, cond, Option, Some, None, refl, sym, ap, subst, ◌∙◌, inl, inr, ◌⊎◌, arith}
 use Rattle.std.specs.Prelude.{nat_le, ◌==◌, filter, find, sum_by, slice_get}
 use Rattle.std.specs.List.{enumerate_from, AllByRecursion}
 use Rattle.std.proofs.lemmas.List.Sums.{sum_by-cons}

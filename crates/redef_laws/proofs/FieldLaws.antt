@@ -1,12 +1,9 @@
 -- Tests of numbers and lists, and which numbers fit their fields.
-use Rattle.std.proofs.Common.{◌≡◌, ℕ, ◌*◌, ◌^◌, ◌<◌, ◌≤◌, List, [], ◌∷◌, Bool, true, false, cond, ◌&&◌, ◌||◌, refl, ap, ◌∙◌, arith}
-use Rattle.std.specs.Prelude.{not, nat_lt, nat_le, ◌==◌}
-use Rattle.std.specs.List.{list_any, list_all, AllByRecursion}
-use Rattle.std.specs.Int.{Width, w32, w64, byte_len}
-use Rattle.std.proofs.lemmas.Bool.Decides.{nat_tests}
-use Rattle.std.proofs.lemmas.Bool.{and_from, or_parts, or_from, lt-ltb, eqb-true}
+use Rattle.std.proofs.Common.{◌≡◌, ℕ, ◌^◌, ◌<◌, List, [], ◌∷◌, Bool, true, false, cond, ◌&&◌, refl, arith}
+use Rattle.std.specs.Prelude.{◌==◌}
+use Rattle.std.specs.List.{AllByRecursion}
+use Rattle.std.specs.Int.{w32, w64}
 use Rattle.var_layout.proofs.LaidWritable.{small_field}
-use Rattle.list_laws.proofs.Truth.{and_first, and_second}
 use Rattle.serial_spec.specs.HeaderGrammar.{begin_width, fits_field, fits_count}
 
 -- ---- tests

@@ -1,5 +1,5 @@
 -- Where old variables begin that share no byte: fixed variables apart and below the records, record variables within one record.
-use Rattle.std.proofs.Common.{◌≡◌, ℕ, suc, ◌+◌, ◌<◌, ◌≤◌, refl, sym, ◌∙◌, ap, inl, inr, ◌⊎◌, List, [], ◌∷◌, Bool, true, false, true≢false, cond, ◌&&◌, ◌||◌, None, max, arith}
+use Rattle.std.proofs.Common.{◌≡◌, ℕ, suc, ◌+◌, ◌<◌, ◌≤◌, sym, ◌∙◌, ap, inl, inr, ◌⊎◌, List, [], ◌∷◌, Bool, true, false, true≢false, cond, ◌&&◌, None, max, arith}
 use Rattle.std.specs.Prelude.{filter, zip, nat_lt, nat_le}
 use Rattle.std.proofs.lemmas.Bool.{lt-ltb, or_parts}
 use borrow.Author.Tests.{ltb-false}

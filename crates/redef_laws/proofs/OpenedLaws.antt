@@ -2,13 +2,12 @@
 use Rattle.std.proofs.Common.{◌≡◌, ℕ, ◌+◌, ◌-◌, ◌*◌, ◌^◌, ◌<◌, List, [], ◌∷◌, ◌++◌, length, take, drop, Bool, true, false, cond, ◌&&◌, Option, Some, None, refl, sym, ap, subst, ◌∙◌, inl, inr, arith, append_assoc, length-append}
 use Rattle.std.specs.Prelude.{nat_le, ◌==◌}
 use Rattle.std.specs.List.{list_all, AllByRecursion}
-use Rattle.std.specs.Int.{Width, w32, w64, byte_len, to_be_bytes, from_be_bytes}
-use Rattle.std.proofs.Math.Seq.{drop-append_seam, take-append_seam}
-use Rattle.std.proofs.lemmas.List.{drop-drop, take-append-drop}
-use Rattle.std.proofs.lemmas.Nat.{from_be_bytes-to_be_bytes_4, from_be_bytes-to_be_bytes_8}
+use Rattle.std.specs.Int.{Width, w32, w64, byte_len, to_be_bytes}
+use Rattle.std.proofs.Math.Seq.{take-append_seam}
+use Rattle.std.proofs.lemmas.List.{take-append-drop}
 use Rattle.std.proofs.lemmas.Bool.{and_from, or_parts, lt-ltb, le-leb, ltb-false}
 use Rattle.serial_spec.proofs.LengthLaws.{width_long}
-use Rattle.cdf_header.proofs.Walks.{drop_on, read_4, read_8, back_4, back_8}
+use Rattle.cdf_header.proofs.Walks.{drop_on, back_4, back_8}
 use Rattle.list_laws.proofs.Each.{each_passes, passes_each}
 use Rattle.list_laws.proofs.Truth.{and_first, and_second, equal_true}
 use Rattle.nc_base.specs.declared.header.Header.{Header}

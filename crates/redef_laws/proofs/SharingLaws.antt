@@ -1,12 +1,13 @@
 -- No two variables of a redefined header share a byte, and none has one of the header.
-use Rattle.std.proofs.Common.{◌≡◌, ℕ, zero, suc, ◌+◌, ◌<◌, ◌≤◌, List, [], ◌∷◌, length, drop, map, Bool, true, false, cond, ◌||◌, Some, refl, sym, ap, subst, ◌∙◌, inl, inr, ◌⊎◌, arith}
-use Rattle.std.specs.Prelude.{nat_lt, nat_le, ◌==◌, filter, sum_by, slice_get}
+use Rattle.std.proofs.Common.{◌≡◌, ℕ, zero, suc, ◌+◌, ◌<◌, ◌≤◌, List, [], ◌∷◌, length, drop, map, Bool, true, false, cond, ◌||◌, Some, refl, sym, ap, ◌∙◌, inl, inr, ◌⊎◌, arith}
+use Rattle.std.specs.Prelude.{nat_lt, nat_le, ◌==◌, sum_by, slice_get}
 use Rattle.std.specs.List.{AllByRecursion}
 use Rattle.std.proofs.Math.Nat.{mul-pos}
 use Rattle.std.proofs.lemmas.Bool.Decides.{nat_tests}
 use Rattle.std.proofs.lemmas.List.{length-map}
 use Rattle.std.proofs.lemmas.List.Sums.{sum_by-cons}
 use Rattle.std.proofs.lemmas.Bool.{ltb-true, ltb-false, eqb-true}
+use Rattle.serial_spec.proofs.RoomLaws.{slab_below}
 use Rattle.overlay_laws.proofs.Members.{each_in}
 use Rattle.list_laws.proofs.Truth.{equal_true}
 use Rattle.nc_base.specs.declared.header.Header.{Header}
@@ -20,8 +21,8 @@ use Rattle.serial_spec.specs.Layout.{product, length_of, lengths, without_record
 use Rattle.serial_spec.specs.HeaderGrammar.{header_len, is_sound}
 use Rattle.serial_spec.specs.Redefinition.{Numbered, added, records_in}
 use Rattle.serial_spec.proofs.ApartLaws.{none_from}
-use Rattle.var_layout.proofs.Soundness.{slab_below, recsize_shared}
-use Rattle.var_layout.proofs.LaidOut.{shares_by, count_one, count_two}
+use Rattle.var_layout.proofs.Soundness.{recsize_shared}
+use Rattle.var_layout.proofs.LaidOut.{shares_by, count_two}
 use Rattle.overlay_laws.specs.Entries.{In}
 use Rattle.overlay_laws.proofs.HullLaws.{filter_in}
 use Rattle.redef_laws.proofs.FieldLaws.{opposite}

@@ -1,6 +1,5 @@
 -- The slabs of the old variables: what they are, and where each lies.
-use Rattle.std.proofs.Common.{◌≡◌, ℕ, ◌+◌, ◌-◌, ◌*◌, ◌<◌, ◌≤◌, refl, sym, ◌∙◌, ap, inl, inr, ◌⊎◌, List, [], ◌∷◌, length, map, Bool, true, false, cond, Some, arith}
-use Rattle.std.proofs.lemmas.Bool.Decides.{nat_tests}
+use Rattle.std.proofs.Common.{◌≡◌, ℕ, ◌+◌, ◌-◌, ◌*◌, ◌<◌, ◌≤◌, refl, sym, ◌∙◌, ap, inl, inr, ◌⊎◌, List, [], ◌∷◌, map, Bool, true, false, cond, Some, arith}
 use Rattle.std.proofs.lemmas.Nat.{mul-le}
 use Rattle.std.specs.Prelude.{slice_get, zip, ◌==◌}
 use Rattle.std.specs.List.{range_with_len}
@@ -8,9 +7,9 @@ use Rattle.nc_base.specs.declared.header.Header.{Header}
 use Rattle.nc_base.specs.declared.header.Var.{Var}
 use Rattle.serial_spec.specs.DeviceCalls.{Slab, slabs, slabs_of}
 use Rattle.serial_spec.specs.HeaderGrammar.{is_sound, header_len}
-use Rattle.serial_spec.specs.Layout.{is_record, slab, vsize, recsize, record_slabs, last_share, end_of_var, lengths}
+use Rattle.serial_spec.specs.Layout.{is_record, slab, vsize, recsize, last_share, end_of_var, lengths}
 use Rattle.serial_spec.specs.Redefinition.{KeepsVars}
-use Rattle.serial_spec.proofs.RoomLaws.{end_holds, slab_small, slab_shared, some_record}
+use Rattle.serial_spec.proofs.RoomLaws.{end_holds, slab_below, slab_shared, some_record}
 use Rattle.overlay_laws.specs.Entries.{In}
 use Rattle.overlay_laws.proofs.HullLaws.{flat_in, range_high}
 use Rattle.redef_laws.specs.Shifted.{IsShifted, new_end}
@@ -121,7 +120,7 @@ fixed_ends : (header : Header) (n : ℕ) (v : Var) → is_record header v ≡ fa
 fixed_ends header n v e =
     let own : end_of_var header n v ≡ v.begin + vsize header v =
     ap (λ (t : Bool). cond t (cond (n == 0) 0 (v.begin + (n - 1) * recsize header + last_share header v)) (v.begin + vsize header v)) e in
-    let below = slab_small header v in
+    let below = slab_below header v in
     omega arith
 
 record_ends : (header : Header) (n r : ℕ) (v : Var) → is_record header v ≡ true → r < n → v.begin + r * recsize header + slab header v ≤ end_of_var header n v

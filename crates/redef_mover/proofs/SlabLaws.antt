@@ -1,7 +1,6 @@
 -- The bytes of a file in which a slab was moved.
 use Rattle.std.proofs.Common.{◌≡◌, ℕ, ◌+◌, ◌-◌, ◌<◌, ◌≤◌, ◌⊎◌, inl, inr, refl, sym, ◌∙◌, ap, List, [], ◌++◌, length, take, drop, Bool, true, false, arith}
 use Rattle.std.specs.Prelude.{nat_lt}
-use Rattle.std.proofs.lemmas.Grind.{same_number_lists}
 use Rattle.std.proofs.lemmas.List.{append-nil, take-append-drop}
 use borrow.Author.Tests.{ltb-true, ltb-false}
 use Rattle.overlay_laws.proofs.SaidLaws.{same_file}

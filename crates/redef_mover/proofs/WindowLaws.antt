@@ -4,7 +4,7 @@ use Rattle.std.specs.Prelude.{flat_map, IfSome}
 use Rattle.std.specs.List.{range_with_len}
 use Rattle.std.proofs.Math.Nat.{mul-le-mul_right}
 use Rattle.std.proofs.lemmas.Grind.{div_ceil_times, flat_map-append}
-use Rattle.std.proofs.lemmas.List.{append-nil, drop_more}
+use Rattle.std.proofs.lemmas.List.{append-nil}
 use Rattle.std.proofs.lemmas.Nat.{div-add-mod', div-mul-add, mod_below}
 use Rattle.overlay_laws.proofs.OriginLaws.{slice_step}
 use Rattle.nc_base.specs.declared.step.DiskCall.{DiskCall}

@@ -22,7 +22,7 @@ use Rattle.nc_base.specs.declared.step.OfferKind.TheVariants as offer
 use Rattle.nc_base.specs.declared.step.Reply.{Reply}
 use Rattle.nc_base.specs.declared.step.Want.TheVariants as want
 use Rattle.serial_spec.specs.RankMachine as machine
-use Rattle.serial_spec.specs.RankMachine.{Open, Posted, new_rank, step, hear}
+use Rattle.serial_spec.specs.RankMachine.{Open, Posted, step, hear}
 use Rattle.serial_spec.specs.SerialEnd.{Going, first_going}
 use Rattle.serial_spec.specs.History.{kinds, marks_from, concerns, kind_of_call, kind_of_meeting, mode_after, is_collective, is_data}
 use Rattle.serial_spec.specs.Lawful.{is_lawful, is_lawful_call, most_calls, most_parts, are_different, posted_ids, id_posted}

@@ -2,7 +2,6 @@
 use Rattle.std.proofs.Common.{◌≡◌, ◌∙◌, ◌≤◌, ◌<◌, ℕ, zero, suc, ◌+◌, List, [], ◌∷◌, length, map, Bool, true, false, cond, not, Option, Some, None, Result, Ok, Err, refl, sym, ap, subst, arith, find, position, is_some, option_map, ◌==◌, nat_lt, bytes_eq, eqb-true, ltb-false, eq-or-lt_of_le, ◌⊎◌, inl, inr, true≢false}
 use Rattle.std.specs.List.{AllByRecursion, list_all, range_with_len, position_or_len, prefix_len}
 use Rattle.std.proofs.lemmas.Slice.Eq.{bytes_eq-Decides}
-use Rattle.std.proofs.lemmas.Option.{same_Some}
 use Rattle.std.proofs.lemmas.Bool.{and_from}
 use Rattle.list_laws.proofs.Each.{each_weaker}
 use Rattle.list_laws.proofs.Maps.{found_passes}

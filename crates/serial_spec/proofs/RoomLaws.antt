@@ -30,15 +30,15 @@ end_holds header first n k v h =
     let l = greatest_holds (map (λ w. end_of_var header n w) header.vars) k (end_of_var header n v) (get_map (λ w. end_of_var header n w) header.vars k v h) in
     omega arith
 
-pub slab_small : (header : Header) (v : Var) → slab header v ≤ vsize header v
-slab_small header v = omega arith
+pub slab_below : (header : Header) (v : Var) → slab header v ≤ vsize header v
+slab_below header v = omega arith
 
 pub slab_shared : (header : Header) (v : Var) → slab header v ≤ last_share header v
 slab_shared header v = by_test (length (record_slabs header) == 1)
   where
     by_test : (t : Bool) → slab header v ≤ cond t (slab header v) (vsize header v)
     by_test true = omega arith
-    by_test false = slab_small header v
+    by_test false = slab_below header v
 
 pub end_fixed : (header : Header) (n : ℕ) (v : Var) → is_record header v ≡ false → end_of_var header n v ≡ v.begin + vsize header v
 end_fixed header n v e = ap (λ (t : Bool). cond t (cond (n == 0) 0 (v.begin + (n - 1) * recsize header + last_share header v)) (v.begin + vsize header v)) e
@@ -61,7 +61,7 @@ element_inside header first n k v index h p = by_kind (is_record header v) refl
     by_kind false e =
         let w = span_fixed header v index e p.0 in
         let high = w.high in
-        let small = slab_small header v in
+        let small = slab_below header v in
         let own = end_fixed header n v e in
         let whole = end_holds header first n k v h in
         omega arith

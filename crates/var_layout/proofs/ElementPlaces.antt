@@ -1,22 +1,22 @@
 -- Rows of elements, one dimension at a time, and where elements end.
 use Rattle.std.proofs.Common.{◌≡◌, ℕ, zero, suc, ◌+◌, ◌-◌, ◌*◌, ◌^◌, ◌<◌, ◌≤◌, List, [], ◌∷◌, length, drop, get_or, map, Bool, true, false, cond, Some, refl, sym, ap, subst, ◌∙◌, arith}
-use Rattle.std.specs.Prelude.{slice_get, MatchBool, nat_lt, ◌==◌}
+use Rattle.std.specs.Prelude.{slice_get, nat_lt, ◌==◌}
 use Rattle.std.proofs.lemmas.List.{drop_more, drop_all}
 use Rattle.std.proofs.lemmas.Nat.{row_fits, mul-le}
 use Rattle.std.proofs.Math.Nat.{mul-le-mul_left}
 use Rattle.std.proofs.lemmas.Bool.Decides.{nat_tests}
-use Rattle.serial_spec.proofs.RoomLaws.{slab_shared, end_fixed}
+use Rattle.serial_spec.proofs.RoomLaws.{slab_shared, end_fixed, slab_below}
 use Rattle.serial_spec.proofs.ApartLaws.{index_fixed, index_record}
 use Rattle.nc_base.specs.declared.header.Header.{Header}
 use Rattle.nc_base.specs.declared.header.Var.{Var}
 use Rattle.nc_base.specs.declared.header.NcType.{NcType}
 use Rattle.nc_base.specs.declared.header.NcType.TheVariants.{Byte, Char, Short, Int, Float, Double, UByte, UShort, UInt, Int64, UInt64}
 use Rattle.serial_spec.specs.ExternalForm.{size_of}
-use Rattle.serial_spec.specs.Layout.{product, greatest, is_record, inner_lengths, slab, vsize, recsize, record_slabs, last_share, end_of, end_of_var}
-use Rattle.serial_spec.specs.Place.{row, place, record_of, within_record, IsIndex, HasRecord, IsElement}
+use Rattle.serial_spec.specs.Layout.{product, greatest, is_record, inner_lengths, slab, vsize, recsize, last_share, end_of, end_of_var}
+use Rattle.serial_spec.specs.Place.{row, place, record_of, within_record, IsIndex, IsElement}
 use Rattle.serial_spec.proofs.RowLaws.{row_below}
 use Rattle.var_layout.specs.Reached.{records_for}
-use Rattle.var_layout.proofs.Soundness.{Keeps, slab_below, var_kept, header_short}
+use Rattle.var_layout.proofs.Soundness.{Keeps, var_kept, header_short}
 use Rattle.serial_spec.specs.HeaderGrammar.{is_sound, header_len}
 use borrow.Author.Tests.{ltb-true, ltb-false}
 

@@ -1,5 +1,5 @@
 -- A laid out header is sound, and it can be written where its names and attributes can.
-use Rattle.std.proofs.Common.{◌≡◌, ℕ, zero, suc, ◌+◌, ◌-◌, ◌*◌, ◌^◌, ◌<◌, ◌≤◌, List, [], ◌∷◌, length, take, get_or, map, Bool, true, false, cond, ◌&&◌, ◌||◌, Option, Some, None, refl, sym, ap, subst, ◌∙◌, arith, max}
+use Rattle.std.proofs.Common.{◌≡◌, ℕ, zero, suc, ◌+◌, ◌-◌, ◌*◌, ◌^◌, ◌<◌, ◌≤◌, List, [], ◌∷◌, length, take, get_or, map, Bool, true, false, cond, ◌&&◌, ◌||◌, Some, None, refl, sym, ap, subst, ◌∙◌, arith, max}
 use Rattle.std.specs.Prelude.{filter, sum_by, not, nat_lt, nat_le, ◌==◌, option_map, is_none, slice_get, position}
 use Rattle.std.specs.List.{list_any, list_all, prefix_len}
 use Rattle.std.specs.Option.{option_or}
@@ -9,6 +9,7 @@ use Rattle.std.proofs.lemmas.List.{take_all, get_or_default, length-map}
 use Rattle.std.proofs.lemmas.List.Sums.{sum_by-cons}
 use Rattle.std.proofs.lemmas.Option.{slice_get_within, slice_get_read, get_or_from_slice_get}
 use Rattle.std.proofs.lemmas.Bool.{or_parts, not-true, and_from}
+use Rattle.serial_spec.proofs.RoomLaws.{slab_below}
 use Rattle.list_laws.proofs.Truth.{and_first, and_second}
 use Rattle.list_laws.proofs.Optional.{neither_some}
 use Rattle.nc_base.specs.declared.header.Header.{Header}
@@ -20,7 +21,7 @@ use Rattle.serial_spec.specs.Layout.{slab, vsize, is_record, recsize, record_siz
 use Rattle.serial_spec.specs.HeaderGrammar.{is_sound, first_check, header_len, two_record_dims, record_later, bad_id, is_too_large, all_ones, measure, past_bound, keeps_bound, counts_are_small, is_version, variable}
 use Rattle.var_layout.specs.Begins.{fixed_end, first_record, HasPlace}
 use Rattle.var_layout.specs.Unplaced.{is_unplaced}
-use Rattle.var_layout.proofs.Soundness.{slab_below, shares_are, recsize_shared}
+use Rattle.var_layout.proofs.Soundness.{shares_are, recsize_shared}
 use Rattle.var_layout.proofs.WrittenLengths.{list_len, variable_len, canon_len}
 use Rattle.var_layout.proofs.CreatedFiles.{at_begin, in_place, fixed_end_more, fixed_end_same, records_more, records_same, begin_fixed, begin_record, fixed_near, record_near}
 

@@ -1,12 +1,12 @@
 -- What a sound header bounds.
 use Rattle.std.proofs.Common.{◌≡◌, ℕ, zero, suc, ◌+◌, ◌-◌, ◌*◌, ◌^◌, ◌<◌, ◌≤◌, List, [], ◌∷◌, length, take, drop, get_or, map, Bool, true, false, cond, ◌&&◌, ◌||◌, Option, Some, None, refl, sym, ap, subst, ◌∙◌, arith}
-use Rattle.std.specs.Prelude.{count_by, sum_by, not, nat_lt, nat_le, ◌==◌, slice_get, is_none, IfSome}
+use Rattle.std.specs.Prelude.{count_by, sum_by, not, nat_lt, nat_le, ◌==◌, slice_get, IfSome}
 use borrow.Author.Tests.{ltb-true}
 use Rattle.std.proofs.lemmas.Bool.Decides.{nat_tests}
-use Rattle.std.specs.Option.{option_or}
 use Rattle.std.proofs.lemmas.List.{take_all, drop_more, length-map}
 use Rattle.std.proofs.lemmas.List.Sums.{length-filter, sum_by-cons, sum_by_more}
 use Rattle.std.proofs.lemmas.Bool.{not-false}
+use Rattle.serial_spec.proofs.RoomLaws.{slab_below}
 use Rattle.list_laws.proofs.Optional.{none_of_test, both_none, untold, told_unless}
 use Rattle.list_laws.proofs.Truth.{and_first, and_second, or_first_false}
 use Rattle.nc_base.specs.declared.header.Header.{Header}
@@ -75,9 +75,6 @@ kept header before n (w ∷ vs) (suc k) v h g = kept header (before + record_sha
 
 pub var_kept : (header : Header) (k : ℕ) (v : Var) → is_sound header ≡ true → slice_get header.vars k ≡ Some v → (seen : ℕ) × Keeps header seen v
 var_kept header k v h g = kept header 0 0 header.vars k v (measured header h) g
-
-pub slab_below : (header : Header) (v : Var) → slab header v ≤ vsize header v
-slab_below header v = omega arith
 
 pub vsize_small : (header : Header) (k : ℕ) (v : Var) → is_sound header ≡ true → slice_get header.vars k ≡ Some v → vsize header v < 2 ^ 62
 vsize_small header k v h g = (var_kept header k v h g).1.size

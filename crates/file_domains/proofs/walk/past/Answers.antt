@@ -1,9 +1,8 @@
 -- The last extent that has begun goes past the place, or it does not.
-use Rattle.std.proofs.Common.{◌≡◌, ℕ, ◌+◌, ◌-◌, ◌<◌, ◌≤◌, Some, slice_get, slice_index_or, subst, sym, ◌∙◌, arith}
+use Rattle.std.proofs.Common.{◌+◌, ◌-◌, ◌≤◌, slice_index_or, subst, sym, ◌∙◌, arith}
 use Rattle.std.proofs.lemmas.Option.{same_Some, slice_get-get_or}
 use Rattle.overlay_laws.proofs.Members.{entry_in}
 use Rattle.nc_base.specs.declared.plan.Extent.{Extent}
-use Rattle.overlay_laws.specs.Walks.{IsCover}
 use Rattle.file_domains.specs.Rounds.{IsLeft}
 use Rattle.file_domains.proofs.CoverParts.{left_from_last, left_from_next}
 use Rattle.file_domains.proofs.walk.past.Goals as goal

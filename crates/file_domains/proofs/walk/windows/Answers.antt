@@ -1,5 +1,5 @@
 -- The walk begins at the first covered byte of the domain.
-use Rattle.std.proofs.Common.{◌≡◌, Some, slice_get, ℕ, ◌+◌, ◌-◌, ◌^◌, ◌≤◌, List, ap, ◌∙◌, max, arith}
+use Rattle.std.proofs.Common.{◌≡◌, Some, slice_get, ℕ, ◌+◌, ◌-◌, ◌^◌, List, ap, ◌∙◌, max, arith}
 use Rattle.list_laws.proofs.Optional.{no_none_some}
 use Rattle.nc_base.specs.declared.plan.Extent.{Extent}
 use Rattle.std.specs.Prelude.{filter, nat_lt, nat_le}

@@ -1,5 +1,5 @@
 -- Each entry is served up to where the next begins.
-use Rattle.std.proofs.Common.{◌≡◌, ℕ, suc, ◌+◌, ◌-◌, ◌^◌, ◌<◌, ◌≤◌, List, take, drop, get_or, subst, sym, ◌∙◌, arith}
+use Rattle.std.proofs.Common.{◌≡◌, ℕ, suc, ◌+◌, ◌-◌, ◌^◌, ◌≤◌, List, take, drop, get_or, subst, sym, arith}
 use Rattle.std.specs.BinaryHeap.{heap_items}
 use Rattle.overlay_laws.proofs.Members.{entry_in}
 use Rattle.nc_base.specs.declared.plan.Owned.{Owned}

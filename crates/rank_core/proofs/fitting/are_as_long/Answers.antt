@@ -2,10 +2,9 @@
 use Rattle.std.proofs.Common.{◌≡◌, ◌<◌, ◌∙◌, ap, sym, List, ℕ, length, map, take, arith}
 use Rattle.std.proofs.Math.Seq.{take-length}
 use Rattle.overlay_laws.proofs.Members.{read_in}
-use Rattle.nc_base.specs.declared.plan.Post.{Post}
 use Rattle.serial_spec.specs.RankSide.{wanted}
 use Rattle.rank_core.proofs.FittingLaws.{are_same, not_same, same_more}
-use Rattle.rank_core.proofs.HeardLaws.{same_at, same_long}
+use Rattle.rank_core.proofs.HeardLaws.{same_at}
 use Rattle.rank_core.proofs.fitting.are_as_long.Goals as goal
 
 pub bytes_wanted-requires : goal.bytes_wanted-requires

@@ -1,7 +1,6 @@
 -- A window is the first of those left.
-use Rattle.std.proofs.Common.{◌≡◌, ℕ, ◌+◌, ◌-◌, ◌^◌, ◌<◌, ◌≤◌, Some, slice_get, sym, ◌∙◌, ap, min, arith}
+use Rattle.std.proofs.Common.{ℕ, ◌-◌, ◌^◌, sym, ◌∙◌, ap, min, arith}
 use Rattle.overlay_laws.proofs.Members.{entry_in, at_in}
-use Rattle.nc_base.specs.declared.plan.Extent.{Extent}
 use Rattle.file_domains.specs.Rounds.{IsWalk, windows_left}
 use Rattle.file_domains.proofs.CoverParts.{get_is, long_enough}
 use Rattle.file_domains.proofs.WalkSteps.{next_window_at, empty_left, none_left_at, goes_on, first_ends, stops_past}

@@ -1,4 +1,4 @@
-use Rattle.std.proofs.Common.{◌≡◌, ◌∙◌, sym, ap, bytes_eq, position}
+use Rattle.std.proofs.Common.{◌∙◌, sym, ap, bytes_eq, position}
 use Rattle.list_laws.proofs.Maps.{position_map}
 use Rattle.ncmpi_script.proofs.names.Names.find.Goals as goal
 

@@ -1,4 +1,4 @@
-use Rattle.std.proofs.Common.{◌≡◌, ◌∙◌, List, [], ◌∷◌, ◌++◌, sym, ap}
+use Rattle.std.proofs.Common.{◌∙◌, List, [], ◌∷◌, ◌++◌, sym, ap}
 use Rattle.std.specs.List.{list_any}
 use Rattle.list_laws.proofs.Maps.{any_map}
 use Rattle.script_spec.specs.ScriptDefinitions.{Title, same_title}

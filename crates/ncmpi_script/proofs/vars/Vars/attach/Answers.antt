@@ -1,7 +1,6 @@
 use Rattle.std.proofs.Common.{◌≡◌, ◌∙◌, List, ◌++◌, ◌∷◌, [], slice_set, length, refl, sym, ap, arith}
 use Rattle.std.proofs.lemmas.Result.{on_ok_weaker}
 use Rattle.nc_base.specs.declared.header.Attr.{Attr}
-use Rattle.nc_base.specs.declared.header.Var.{Var}
 use Rattle.script_spec.specs.ScriptDefinitions.{with_attr_at}
 use Rattle.ncmpi_script.proofs.VarLaws.{names_kept, attached}
 use Rattle.ncmpi_script.proofs.vars.Vars.attach.Goals as goal
