@@ -1,5 +1,5 @@
 -- The bytes that entries have, and those of them from a place on.
-use Rattle.std.proofs.Common.{◌≡◌, ℕ, ◌<◌, ◌≤◌, ◌⊎◌, inl, inr, refl, sym, ◌∙◌, ap, subst, List, [], ◌∷◌, ◌++◌, Bool, true, false, cond, append_assoc, arith}
+use Rattle.std.proofs.Common.{◌≡◌, ℕ, ◌<◌, ◌≤◌, ◌⊎◌, inl, inr, refl, sym, ◌∙◌, ap, subst, List, [], ◌∷◌, ◌++◌, append_assoc, arith}
 use Rattle.std.specs.Prelude.{nat_le}
 use Rattle.std.specs.List.{range_with_len}
 use Rattle.std.proofs.lemmas.Bool.{le-leb, leb-true}
@@ -49,10 +49,6 @@ covered_below n list x h c =
     omega arith
 
 -- ---- bytes from a place on
-
-keep_in : {X : Type 0} (y x : X) (rest : List X) (b : Bool) → In rest x → In (cond b (y ∷ rest) rest) x
-keep_in y x rest true h = inr h
-keep_in y x rest false h = h
 
 pub byte_from : (place : ℕ) (list : List Owned) (x : ℕ) → place ≤ x → IsCovered list x → In (bytes_from place list) x
 byte_from place list x h c =

@@ -66,10 +66,6 @@ hole_short (x ∷ xs) a e y h k l m n =
 abbrev pub window_bytes : List Owned → ℕ → ℕ → Window → List ℕ
 window_bytes left place size w = filter (λ (y : ℕ). nat_lt y (w.hull.at + size)) (bytes_from place left)
 
-first_below : (left : List Owned) (place size : ℕ) (w : Window) (begun later : List Owned) (stop : ℕ) → AreLeft left place size
-    → IsNext left place size w begun later stop → w.hull.at < 2 ^ 62
-first_below left place size w begun later stop l n = covered_below (2 ^ 62) left w.hull.at l.ends n.first
-
 before_stop : (left : List Owned) (place size : ℕ) (w : Window) (begun later : List Owned) (stop x : ℕ) → AreLeft left place size
     → IsNext left place size w begun later stop → IsCovered left x → x < w.hull.at + size → x < stop
 before_stop left place size w begun later stop x l n c h =

@@ -166,15 +166,6 @@ half_left cover place middle i none d h room e l = by_test (nat_le (get_or cover
 
 -- ---- the hull of the extents of which k + 1 begin before a place
 
-after_none : (m n : ℕ) (cover : List Extent) → ((e : Extent) → slice_get cover 0 ≡ Some e → m ≤ e.at) → end_after n (below m cover) ≡ n
-after_none m n [] h = refl
-after_none m n (e ∷ cover) h = by_start (nat_le m e.at) refl
-  where
-    by_start : (t : Bool) → nat_le m e.at ≡ t
-        → end_after n (cond t [] (cond (nat_le (e.at + e.len) m) (e ∷ below m cover) (record { at = e.at; len = m - e.at } ∷ []))) ≡ n
-    by_start true g = refl
-    by_start false g = let a = h e refl in let b = leb-false m e.at g in absurd (omega arith)
-
 none_below : (m : ℕ) (cover : List Extent) → ((e : Extent) → slice_get cover 0 ≡ Some e → m ≤ e.at) → below m cover ≡ []
 none_below m [] h = refl
 none_below m (e ∷ cover) h = by_start (nat_le m e.at) refl
@@ -213,9 +204,6 @@ below_cut m e cover h k =
         → cond t (e ∷ below m cover) (record { at = e.at; len = m - e.at } ∷ []) ≡ record { at = e.at; len = m - e.at } ∷ []
     by_end true g = let a = leb-true (e.at + e.len) m g in absurd (omega arith)
     by_end false g = refl
-
-two_singles : (e : Extent) (cs ds : List Extent) → cs ≡ ds → is_single (e ∷ cs) ≡ is_single (e ∷ ds)
-two_singles e cs ds h = ap (λ (c : List Extent). is_single (e ∷ c)) h
 
 -- where it ends, and whether it is one extent
 pub counted_below : (m k : ℕ) (e last : Extent) (cover : List Extent) → IsCover (e ∷ cover) → e.at < m → slice_get (e ∷ cover) k ≡ Some last

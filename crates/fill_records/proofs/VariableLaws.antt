@@ -5,10 +5,10 @@ use Rattle.std.proofs.lemmas.Grind.{flat_map-append}
 use Rattle.std.proofs.lemmas.List.{append-nil}
 use Rattle.std.proofs.lemmas.List.Elements.{filter-append}
 use Rattle.std.proofs.lemmas.List.Sums.{fold-append}
+use Rattle.serial_spec.proofs.LengthLaws.{size_most}
 use Rattle.serial_spec.proofs.RoomLaws.{greatest_holds, slab_below}
 use Rattle.nc_base.specs.declared.header.Header.{Header}
 use Rattle.nc_base.specs.declared.header.NcType.{NcType}
-use Rattle.nc_base.specs.declared.header.NcType.TheVariants.{Byte, Char, Short, Int, Float, Double, UByte, UShort, UInt, Int64, UInt64}
 use Rattle.nc_base.specs.declared.header.Var.{Var}
 use Rattle.serial_spec.specs.DeviceCalls.{stores}
 use Rattle.serial_spec.specs.ExternalForm.{size_of}
@@ -40,19 +40,6 @@ known_at P (x ∷ xs) (suc k) h p =
     (rest.0, ap (λ (n : ℕ). take n (x ∷ xs)) on ∙ ap (λ ys. x ∷ ys) (rest.1), rest.2)
 
 -- ---- sizes and ends
-
-size_most : (kind : NcType) → size_of kind ≤ 8
-size_most Byte = omega arith
-size_most Char = omega arith
-size_most Short = omega arith
-size_most Int = omega arith
-size_most Float = omega arith
-size_most Double = omega arith
-size_most UByte = omega arith
-size_most UShort = omega arith
-size_most UInt = omega arith
-size_most Int64 = omega arith
-size_most UInt64 = omega arith
 
 -- the bytes that are taken of an array for the value
 pub room_long : (kind : NcType) (n : ℕ) → n ≡ size_of kind → length {A = ℕ} (take n (0 ∷ 0 ∷ 0 ∷ 0 ∷ 0 ∷ 0 ∷ 0 ∷ 0 ∷ [])) ≡ size_of kind

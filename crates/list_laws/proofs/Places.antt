@@ -1,5 +1,8 @@
 -- The entries of a list by their places.
-use Rattle.std.proofs.Common.{◌≡◌, ℕ, zero, suc, ◌<◌, ◌≤◌, refl, ap, List, [], ◌∷◌, length, take, set, Some, arith}
+use Rattle.std.proofs.Common.{◌≡◌, ℕ, zero, suc, ◌<◌, ◌≤◌, refl, ap, List, [], ◌∷◌, length, take, set, Some, arith, Bool, subst, nat_lt, position}
+use Rattle.std.specs.List.{position_or_len}
+use Rattle.std.proofs.lemmas.Bool.{ltb-true}
+use Rattle.std.proofs.lemmas.Option.{cond_some}
 use Rattle.std.specs.Prelude.{slice_get}
 
 pub entry_below : {X : Type 0} (xs : List X) (k : ℕ) → k < length xs → (x : X) × (slice_get xs k ≡ Some x)
@@ -24,3 +27,8 @@ pub take_at_most : {X : Type 0} (n : ℕ) (xs : List X) → length (take n xs) �
 take_at_most zero xs = omega arith
 take_at_most (suc n) [] = omega arith
 take_at_most (suc n) (x ∷ xs) = let rest = take_at_most n xs in omega arith
+
+pub position_below : {A : Type 0} (p : A → Bool) (xs : List A) (n : ℕ) → position p xs ≡ Some n → n < length xs
+position_below p xs n e =
+    let k = cond_some (nat_lt (position_or_len p xs) (length xs)) (position_or_len p xs) n e in
+    subst (λ (m : ℕ). m < length xs) k.1 (ltb-true _ _ k.0)

@@ -46,7 +46,3 @@ natural ds r e h =
     let some : 0 < length ds = ltb-true 0 (length ds) (and_first _ _ (and_first _ _ e)) in
     by_value r (length ds) (digits_value ds) some (parse_digits numerals 64 ds r h digits)
     ∙ ap (λ (b : Bool). below (2 ^ 64) (if b then Some (digits_value ds) else None)) (sym e)
-
--- and of another text
-pub no_natural : (ds : List ℕ) → is_digits ds ≡ false → None ≡ below (2 ^ 64) (natural_of ds)
-no_natural ds e = ap (λ (b : Bool). below (2 ^ 64) (if b then Some (digits_value ds) else None)) (sym e)

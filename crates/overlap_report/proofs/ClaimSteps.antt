@@ -166,11 +166,6 @@ at_dropped [] i d h = absurd (omega arith)
 at_dropped (o ∷ list) zero d h = inl refl
 at_dropped (o ∷ list) (suc i) d h = at_dropped list i d (omega arith)
 
-in_dropped : (i : ℕ) (list : List Owned) (o : Owned) → In (drop i list) o → In list o
-in_dropped zero list o h = h
-in_dropped (suc i) [] o h = h
-in_dropped (suc i) (p ∷ list) o h = inr (in_dropped i list o h)
-
 pub later_begin : (list : List Owned) (i : ℕ) (d o : Owned) → i < length list → IsByPlace (extents list) → In (drop (suc i) list) o → (get_or list i d).extent.at ≤ o.extent.at
 later_begin [] i d o h sorted m = absurd (omega arith)
 later_begin (p ∷ list) zero d o h sorted m = sorted.0 o.extent (in_extents list o m)

@@ -33,15 +33,6 @@ pub record Reaches (r : Reach) (seen : List Owned) : Type 0 where
   pub other_of : 0 < r.other → EndsAt seen r r.other false
   pub clear : (x : ℕ) → IsClearAt seen x
 
-pub nothing_reached : (list : List Owned) → Reaches (record { end = 0; rank = 0; request = 0; other = 0 }) (take 0 list)
-nothing_reached list = record {
-  most = λ o m l. absurd m;
-  others = λ o m l e. absurd m;
-  end_of = λ l. absurd (omega arith);
-  other_of = λ l. absurd (omega arith);
-  clear = λ x o p m n c d. absurd m;
-}
-
 -- ---- one more entry
 
 clear_next : (seen more : List Owned) (r : Reach) (o : Owned) → IsNext seen more o → Reaches r seen

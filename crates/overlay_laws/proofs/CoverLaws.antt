@@ -255,19 +255,6 @@ hull_told e cover h =
 
 -- ---- the walk
 
-spans_none : (cover : List Extent) → IsCover cover → length cover ≤ length (spans cover)
-spans_none [] h = omega arith
-spans_none (e ∷ cover) h =
-    let l = h.0 in
-    let r = spans_none cover h.2 in
-    let long = length-append (range_with_len e.at e.len) (spans cover) in
-    let b : length (range_with_len e.at e.len) ≡ e.len = length-range_with_len e.at e.len in
-    omega arith
-
-none_told : (stop : ℕ → ℕ) (fuel : ℕ) → extents_walked stop fuel [] ≡ []
-none_told stop zero = refl
-none_told stop (suc fuel) = refl
-
 -- the window that begins at a place, told: its extents are not none, since it ends past that place
 pub below_told : (stop : ℕ) (e : Extent) (cover : List Extent) → IsCover (e ∷ cover) → e.at < stop
     → told_of (spans (below stop (e ∷ cover))) ≡ hull_of (below stop (e ∷ cover))

@@ -27,14 +27,6 @@ use Rattle.overlay_laws.proofs.WindowLaws.{windows_done}
 
 -- ---- members of lists
 
-keep_in : {X : Type 0} (t : X → Bool) (y x : X) (rest : List X) (b : Bool) → t y ≡ b → In rest x → In (cond b (y ∷ rest) rest) x
-keep_in t y x rest true e h = inr h
-keep_in t y x rest false e h = h
-
-pub keep_first : {X : Type 0} (y : X) (rest : List X) (b : Bool) → b ≡ true → In (cond b (y ∷ rest) rest) y
-keep_first y rest true e = inl refl
-keep_first y rest false e = no_false e
-
 kept_in : {X : Type 0} (t : X → Bool) (y x : X) (ys rest : List X) (b : Bool) → t y ≡ b → (In rest x → In ys x × (t x ≡ true))
     → In (cond b (y ∷ rest) rest) x → In (y ∷ ys) x × (t x ≡ true)
 kept_in {X} t y x ys rest true e ih (inl g) = (inl g, subst (λ (z : X). t z ≡ true) g e)

@@ -1,11 +1,10 @@
 -- Windows that are each read, overlaid and written, one after another.
 use Rattle.std.proofs.Common.{◌≡◌, ℕ, zero, suc, ◌+◌, ◌-◌, ◌<◌, ◌≤◌, None, refl, sym, ◌∙◌, ap, subst, List, [], ◌∷◌, length, Some, arith}
 use Rattle.std.specs.Prelude.{fold, map}
-use Rattle.list_laws.proofs.Optional.{no_none_some}
 use Rattle.serial_spec.proofs.CellLaws.{read_long}
 use Rattle.serial_spec.specs.File.{at, read, written}
 use Rattle.serial_spec.specs.Said.{Cell, write_cells, IsWithin, IsFrom, moved_down, said_at, said_by}
-use Rattle.overlay_laws.specs.Windows.{clips, IsInOne, HasEach, HasPlace, read_overlaid, all_read_overlaid}
+use Rattle.overlay_laws.specs.Windows.{clips, IsInOne, HasEach, read_overlaid, all_read_overlaid}
 use Rattle.overlay_laws.proofs.SaidLaws.{cells_long}
 use Rattle.overlay_laws.proofs.WindowLaws.{clips_within, clips_from, within_more, window_done, windows_done}
 
@@ -18,9 +17,6 @@ pub kept_read : (file buf : List ℕ) (lo n x : ℕ) → buf ≡ read file lo n 
 kept_read file buf lo n x e h k =
     let place : lo + (x - lo) ≡ x = omega arith in
     ap (λ (b : List ℕ). at b (x - lo)) e ∙ read_at file lo n (x - lo) (omega arith) ∙ ap (λ (i : ℕ). at file i) place
-
-pub kept_full : (file buf : List ℕ) (cells : List Cell) (lo x : ℕ) → HasPlace cells x → said_at (said_by cells) x ≡ None → at buf (x - lo) ≡ at file x
-kept_full file buf cells lo x h e = no_none_some h.0 (sym e ∙ h.1)
 
 pub window_answer : (file buf : List ℕ) (n lo : ℕ) (cells : List Cell) → length buf ≡ n → lo + n ≤ length file → IsFrom lo cells → IsWithin cells (lo + n)
     → ((x : ℕ) → lo ≤ x → x < lo + n → said_at (said_by cells) x ≡ None → at buf (x - lo) ≡ at file x)

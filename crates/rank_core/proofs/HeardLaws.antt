@@ -101,10 +101,6 @@ pub added_next : (m : ℕ → Option Values) (id q : ℕ) (v : Values) (rest : L
     → followed (m q) (values_for ((id, v) ∷ rest) q) ≡ followed (added m id v q) (values_for rest q)
 added_next m id q v rest h = added_is m id q v rest h (eqb id q) refl
 
-pub followed_none : (m : Option Values) → followed m None ≡ m
-followed_none None = refl
-followed_none (Some v) = refl
-
 -- ---- the values of one get
 
 one_more : {Y : Type 0} (o : Option Y) (y : Y) (rest : List Y) → cons_option o [] ≡ y ∷ [] → cons_option o rest ≡ y ∷ rest

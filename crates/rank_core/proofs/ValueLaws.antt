@@ -181,7 +181,3 @@ pub parts_code-has_values : (kind : NcType) (values : Option Values) (n : ℕ) �
 parts_code-has_values kind None n h = refl
 parts_code-has_values kind (Some values) n h =
     code_of_values (kind_code (class_of kind) values) (ltb (count_of values) n) (some_unfit kind (Some values) 0 n) h.0 (le-ltb (count_of values) n h.1)
-
-pub has_fewer : (kind : NcType) (values : Option Values) (m n : ℕ) → m ≤ n → HasValues kind values n → HasValues kind values m
-has_fewer kind None m n h v = v
-has_fewer kind (Some values) m n h v = (v.0, omega (arith, h, v.1))

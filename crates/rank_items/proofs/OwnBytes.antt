@@ -6,6 +6,7 @@ use Rattle.std.proofs.lemmas.Bool.{cases_eq}
 use Rattle.std.proofs.lemmas.Nat.{div-add-mod', mod_below}
 use Rattle.std.proofs.lemmas.Option.{slice_get_within, same_Some}
 use Rattle.std.proofs.lemmas.List.FromFn.{length-range_with_len}
+use Rattle.serial_spec.proofs.LengthLaws.{size_pos}
 use Rattle.nc_base.specs.declared.header.Header.{Header}
 use Rattle.nc_base.specs.declared.header.Var.{Var}
 use Rattle.nc_base.specs.declared.plan.Post.{Post}
@@ -16,7 +17,6 @@ use Rattle.serial_spec.specs.Place.{place, AreApart, IsElement}
 use Rattle.serial_spec.specs.Request.{elements, places}
 use Rattle.serial_spec.specs.SharedByte.{bytes_of, bytes_of_some, holdings, Holding, IsOwnOnce}
 use Rattle.serial_spec.proofs.ApartLaws.{elements_apart}
-use Rattle.var_layout.proofs.ElementPlaces.{size_pos}
 use Rattle.vara_extents.specs.Accepted.{IsAccepted}
 use Rattle.vara_extents.specs.Numbered.{index_of}
 use Rattle.vara_extents.proofs.NumberLaws.{element_at, length-places, place_at}

@@ -3,6 +3,7 @@ use Rattle.std.proofs.Common.{◌≡◌, ℕ, zero, suc, ◌*◌, ◌≤◌, ref
 use Rattle.std.specs.Prelude.{slice_get, flat_map, is_some}
 use Rattle.std.specs.List.{range_with_len}
 use Rattle.std.proofs.lemmas.List.FromFn.{length-range_with_len}
+use Rattle.serial_spec.proofs.LengthLaws.{size_pos}
 use Rattle.list_laws.proofs.Numbers.{same_factor}
 use Rattle.nc_base.specs.declared.header.Header.{Header}
 use Rattle.nc_base.specs.declared.header.Var.{Var}
@@ -12,7 +13,6 @@ use Rattle.serial_spec.specs.Place.{place}
 use Rattle.serial_spec.specs.Request.{elements, places}
 use Rattle.serial_spec.specs.SharedByte.{bytes_of, bytes_of_some, holdings, Holding, IsOwnOnce}
 use Rattle.serial_spec.proofs.ElementLaws.{get_left, get_map, get_right}
-use Rattle.var_layout.proofs.ElementPlaces.{size_pos}
 use Rattle.rank_items.specs.Own.{HasOwnElements}
 
 -- ---- blocks of one length

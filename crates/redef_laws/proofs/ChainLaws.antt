@@ -21,10 +21,6 @@ AreDistinct (s ∷ ss) = ((t : Slab) → In ss t → s.from ≡ t.from → ⊥) 
 
 -- ---- chains
 
--- the first slab lies from these places on, and holds a byte
-Begins : ℕ → ℕ → Slab → Type 0
-Begins a b s = (0 < s.len) × (a ≤ s.from) × (b ≤ s.to) × (s.from ≤ s.to)
-
 risen_from : (old_first first end a b : ℕ) (all ss : List Slab) → AreShifted old_first first end all → ((s : Slab) → In ss s → In all s)
     → Ascends ss → ((s : Slab) → In ss s → (a ≤ s.from) × (b ≤ s.to)) → IsRisen a b ss
 risen_from old_first first end a b all [] h k l m = tt

@@ -50,12 +50,6 @@ old_place_of header n v = first_place header n + (v.begin - old_first header n)
 abbrev pub new_from : Header → ℕ → ℕ
 new_from header n = first_place header n + vsizes header (old_records header n)
 
-parts : (header : Header) (n : ℕ)
-    → begins_by_number header n
-    ≡ fixed_begins header (header_len header) (fixed_order header n) ++ mapped_begins (old_place_of header n) (old_records header n)
-    ++ record_begins header (new_from header n) (new_records header n)
-parts header n = refl
-
 pub first_up : (header : Header) (n : ℕ) → fixed_end header n ≤ first_place header n
 first_up header n = by_least (fixed_end header n) (least (map (λ v. v.1.begin) (old_records header n)))
   where

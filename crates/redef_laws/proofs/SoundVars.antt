@@ -6,6 +6,7 @@ use Rattle.std.proofs.lemmas.Nat.{mul-le}
 use Rattle.std.specs.Prelude.{slice_get, drop, nat_lt, nat_le, ◌==◌}
 use Rattle.std.specs.List.{AllByRecursion}
 use borrow.Author.Tests.{ltb-false}
+use Rattle.serial_spec.proofs.LengthLaws.{size_pos}
 use Rattle.nc_base.specs.declared.header.Header.{Header}
 use Rattle.nc_base.specs.declared.header.Var.{Var}
 use Rattle.serial_spec.specs.ExternalForm.{size_of}
@@ -13,7 +14,6 @@ use Rattle.serial_spec.specs.Layout.{product, without_record, lengths, inner_len
 use Rattle.serial_spec.specs.HeaderGrammar.{is_sound, header_len}
 use Rattle.serial_spec.proofs.ApartLaws.{none_from, none_shared, past_header}
 use Rattle.serial_spec.proofs.RoomLaws.{none_later}
-use Rattle.var_layout.proofs.ElementPlaces.{size_pos}
 
 -- ---- one variable
 

@@ -28,13 +28,6 @@ use Rattle.redef_mover.specs.Placing.{capped_pairs}
 abbrev begun : ℕ → List (ℕ × ℕ) → List Var → List Var
 begun n found vars = map (λ (v : Numbered). record v.1 { begin = begin_of_number found v.0 }) (enumerate_from n vars)
 
-begun_sum : (f : Var → ℕ) → ((v : Var) (b : ℕ) → f (record v { begin = b }) ≡ f v) → (found : List (ℕ × ℕ)) (n : ℕ) (vars : List Var) → sum_by f (begun n found vars) ≡ sum_by f vars
-begun_sum f same found n [] = refl
-begun_sum f same found n (v ∷ vars) =
-    sum_by-cons f (record v { begin = begin_of_number found n }) (begun (n + 1) found vars)
-    ∙ ap (λ (m : ℕ). m + sum_by f (begun (n + 1) found vars)) (same v (begin_of_number found n))
-    ∙ ap (λ (m : ℕ). f v + m) (begun_sum f same found (n + 1) vars) ∙ sym (sum_by-cons f v vars)
-
 begun_sum_front : (f : Var → ℕ) → ((v : Var) (b : ℕ) → f (record v { begin = b }) ≡ f v) → (found : List (ℕ × ℕ)) (n : ℕ) (vars : List Var) (k : ℕ)
     → sum_by f (take k (begun n found vars)) ≡ sum_by f (take k vars)
 begun_sum_front f same found n [] zero = refl
@@ -271,9 +264,6 @@ layout_part made header n =
 
 abbrev fault_by : Option RedefErr → Option RedefErr → Option RedefErr
 fault_by o other = elim o [ Some f ↦ Some f | None ↦ other ]
-
-pub fault_of_extra : (old : Header) (extras : List Extra) (f : RedefErr) → extras_fault old extras ≡ Some f → redefined_fault old extras ≡ Some f
-fault_of_extra old extras f h = ap (λ (o : Option RedefErr). fault_by o (layout_part (redefined_header old extras) (added old extras) (length old.vars))) h
 
 past_extras : (old : Header) (extras : List Extra) → extras_fault old extras ≡ None
     → redefined_fault old extras ≡ layout_part (redefined_header old extras) (added old extras) (length old.vars)

@@ -12,7 +12,7 @@ use Rattle.serial_spec.specs.DeviceCalls.{Slab, move_window, window_count}
 use Rattle.serial_spec.specs.File.{at, read, written}
 use Rattle.nc_outside.specs.Told.{after}
 use Rattle.redef_mover.specs.Moves.{slab_calls, slab_moved, window, window_calls}
-use Rattle.redef_mover.proofs.SlabLaws.{both_moved, moved_none}
+use Rattle.redef_mover.proofs.SlabLaws.{both_moved}
 
 -- ---- how many windows
 
@@ -78,9 +78,6 @@ abbrev pub upper : ℕ → Slab → ℕ → Slab
 upper z s j =
     let rest = s.len - j * z in
     record { from = s.from + rest; to = s.to + rest; len = s.len - rest }
-
-pub none_moved : (z : ℕ) (s : Slab) (file : List ℕ) → s.to + s.len ≤ length file → slab_moved file (upper z s 0) ≡ file
-none_moved z s file h = moved_none file (upper z s 0) (omega arith) (omega arith)
 
 pub window_moved : (z j : ℕ) (s : Slab) (file : List ℕ) → s.from ≤ s.to → j * z < s.len → s.to + s.len ≤ length file
     → slab_moved (slab_moved file (upper z s j)) (window z s j) ≡ slab_moved file (upper z s (j + 1))

@@ -1,13 +1,12 @@
 -- The ranks of a script agree on the kinds of their collective calls.
-use Rattle.std.proofs.Common.{◌≡◌, ◌∙◌, ◌≤◌, ◌<◌, ℕ, zero, suc, ◌+◌, List, [], ◌∷◌, length, map, Bool, true, false, cond, not, Option, Some, None, Result, Ok, Err, refl, sym, ap, subst, arith, find, position, is_some, option_map, ◌==◌, nat_lt, bytes_eq, eqb-true, ltb-false, eq-or-lt_of_le, ◌⊎◌, inl, inr, true≢false}
+use Rattle.std.proofs.Common.{◌≡◌, ◌∙◌, ◌≤◌, ◌<◌, ℕ, zero, suc, ◌+◌, List, [], ◌∷◌, length, map, Bool, true, false, cond, not, Option, Some, None, Ok, refl, sym, ap, subst, arith, find, position, is_some, option_map, ◌==◌, nat_lt, bytes_eq, eqb-true, ltb-false, eq-or-lt_of_le, ◌⊎◌, inl, inr, true≢false}
 use Rattle.std.specs.List.{AllByRecursion, list_all, range_with_len, position_or_len, prefix_len}
 use Rattle.std.proofs.lemmas.Slice.Eq.{bytes_eq-Decides}
 use Rattle.std.proofs.lemmas.Bool.{and_from}
+use Rattle.script_spec.proofs.TextLaws.{finished}
 use Rattle.list_laws.proofs.Each.{each_weaker}
 use Rattle.list_laws.proofs.Maps.{found_passes}
 use Rattle.list_laws.proofs.Optional.{none_before_map}
-use Rattle.nc_base.specs.declared.errors.ScriptErr.{ScriptErr}
-use Rattle.nc_base.specs.declared.errors.ScriptKind.{ScriptKind}
 use Rattle.nc_base.specs.declared.errors.ScriptKind.TheVariants as kind
 use Rattle.nc_base.specs.declared.request.Call.{Call}
 use Rattle.nc_base.specs.declared.step.MeetKind.{MeetKind}
@@ -17,14 +16,6 @@ use Rattle.serial_spec.specs.Lawful.{kind_numbers, agree}
 use Rattle.script_spec.specs.ScriptWords.{Line}
 use Rattle.script_spec.specs.ScriptCalls.{kind_at, differs_at, is_difference, first_difference, mismatch}
 use Rattle.script_spec.specs.ScriptGrammar.{finish}
-
-no_fault : (o : Option ScriptKind) (n : ℕ) (u : Unit {0}) → elim o as (λ _. Result (Unit {0}) ScriptErr) [ None ↦ Ok tt | Some e ↦ Err (record { line = n; kind = e }) ] ≡ Ok u → o ≡ None
-no_fault None n u h = refl
-no_fault (Some e) n u h = absurd (cc)
-
-finished : (n : ℕ) (calls : List (List Call)) (ls : List Line) (u : Unit {0}) → finish n calls ls ≡ Ok u → mismatch (map (λ own. kinds own) calls) ≡ None
-finished n calls (l ∷ ls) u h = absurd (cc)
-finished n calls [] u h = no_fault (mismatch (map (λ own. kinds own) calls)) n u h
 
 -- ---- no difference
 

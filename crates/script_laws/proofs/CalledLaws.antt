@@ -5,6 +5,7 @@ use Rattle.std.proofs.lemmas.List.Elements.{filter_map-append}
 use Rattle.std.proofs.lemmas.List.Folds.{list_any-append}
 use Rattle.std.proofs.lemmas.List.{length-replicate}
 use Rattle.std.proofs.lemmas.Bool.{and_from, not_from_false, not-true, or_from}
+use Rattle.script_spec.proofs.TextLaws.{one_posted, none_posted}
 use Rattle.list_laws.proofs.Each.{each_push}
 use Rattle.list_laws.proofs.Truth.{and_first, and_second, or_first_false, or_second_false}
 use Rattle.nc_base.specs.declared.errors.ScriptErr.{ScriptErr}
@@ -51,12 +52,6 @@ different_more (n ∷ ns) id h new =
     let none : list_any (λ m. m == n) (ns ++ id ∷ []) ≡ false = list_any-append (λ m. m == n) ns (id ∷ []) ∙ or_from _ _ others last in
     and_from _ _ (not_from_false _ none)
     (different_more ns id (and_second (not (list_any (λ m. m == n) ns)) (are_different ns) h) (or_second_false (id == n) (list_any (λ other. id == other) ns) new))
-
-one_posted : (c : Call) (id : ℕ) → id_of_post c ≡ Some id → posted (c ∷ []) ≡ id ∷ []
-one_posted c id h = rw h refl
-
-none_posted : (c : Call) → id_of_post c ≡ None → posted (c ∷ []) ≡ []
-none_posted c h = rw h refl
 
 posted_more : (own : List Call) (c : Call) (ids : List ℕ) → posted (c ∷ []) ≡ ids → posted (own ++ c ∷ []) ≡ posted own ++ ids
 posted_more own c ids h = filter_map-append id_of_post own (c ∷ []) ∙ ap (λ (more : List ℕ). posted own ++ more) h

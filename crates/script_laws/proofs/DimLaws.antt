@@ -1,11 +1,11 @@
 -- Dimensions, variables and attributes as they are defined, line by line.
-use Rattle.std.proofs.Common.{◌≡◌, ◌∙◌, ℕ, suc, ◌+◌, ◌*◌, ◌^◌, ◌<◌, ◌≤◌, List, [], ◌∷◌, ◌++◌, length, drop, Bool, true, false, cond, ◌&&◌, ◌||◌, Option, Some, None, IfOk, IfSome, refl, ap, subst, arith, nat_lt, nat_le, ◌==◌, count_by, sum, map, slice_get, slice_set, position, bytes_eq, length-append, length-set}
-use Rattle.std.specs.List.{AllByRecursion, list_any, position_or_len}
-use borrow.Author.Tests.{ltb-true, ltb-false, leb-false, eq-eqb}
+use Rattle.std.proofs.Common.{◌≡◌, ◌∙◌, ℕ, suc, ◌+◌, ◌*◌, ◌^◌, ◌<◌, ◌≤◌, List, [], ◌∷◌, ◌++◌, length, drop, Bool, true, false, cond, ◌&&◌, ◌||◌, Option, Some, None, IfOk, IfSome, refl, ap, arith, nat_lt, nat_le, ◌==◌, count_by, sum, map, slice_get, slice_set, position, bytes_eq, length-append, length-set}
+use Rattle.std.specs.List.{AllByRecursion, list_any}
+use borrow.Author.Tests.{ltb-false, leb-false, eq-eqb}
 use Rattle.std.proofs.lemmas.List.{length-map}
 use Rattle.std.proofs.lemmas.List.Sums.{sum_by-cons}
 use Rattle.std.proofs.lemmas.Bool.{and_from}
-use Rattle.std.proofs.lemmas.Option.{cond_some}
+use Rattle.list_laws.proofs.Places.{position_below}
 use Rattle.list_laws.proofs.Each.{each_push, each_weaker, each_later, each_at, fails_each}
 use Rattle.list_laws.proofs.Truth.{and_second}
 use Rattle.nc_base.specs.declared.errors.ScriptKind.{ScriptKind}
@@ -156,11 +156,6 @@ later version lines more dims h v f =
     }
 
 -- ---- the places of a variable's dimensions
-
-position_below : {A : Type 0} (p : A → Bool) (xs : List A) (n : ℕ) → position p xs ≡ Some n → n < length xs
-position_below p xs n e =
-    let k = cond_some (nat_lt (position_or_len p xs) (length xs)) (position_or_len p xs) n e in
-    subst (λ (m : ℕ). m < length xs) k.1 (ltb-true _ _ k.0)
 
 some_or_fault : {A : Type 0} (e : ScriptKind) (o : Option A) (P : A → Type 0) → IfSome o P → IfOk (or_fault e o) P
 some_or_fault e None P h = tt

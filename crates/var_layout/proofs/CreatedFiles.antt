@@ -43,10 +43,6 @@ pub length-placed : (header : Header) (align : Align) (first n : ℕ) (vs : List
 length-placed header align first n [] = refl
 length-placed header align first n (v ∷ vs) = ap (λ (m : ℕ). suc m) (length-placed header align first (suc n) vs)
 
--- the variables of the laid out header with their numbers
-pub numbered : Header → Align → ℕ → List Numbered
-numbered header align first = enumerate_from 0 (placed header align first 0 header.vars)
-
 numbered_at : (header : Header) (align : Align) (first k : ℕ) (v : Var) → k < length header.vars → v ≡ get_or header.vars k v
     → get_or (enumerate_from 0 (placed header align first 0 header.vars)) k (0, v) ≡ (k, in_place header align first k v)
 numbered_at header align first k v h e =

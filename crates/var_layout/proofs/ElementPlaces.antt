@@ -1,16 +1,16 @@
 -- Rows of elements, one dimension at a time, and where elements end.
 use Rattle.std.proofs.Common.{◌≡◌, ℕ, zero, suc, ◌+◌, ◌-◌, ◌*◌, ◌^◌, ◌<◌, ◌≤◌, List, [], ◌∷◌, length, drop, get_or, map, Bool, true, false, cond, Some, refl, sym, ap, subst, ◌∙◌, arith}
 use Rattle.std.specs.Prelude.{slice_get, nat_lt, ◌==◌}
-use Rattle.std.proofs.lemmas.List.{drop_more, drop_all}
+use Rattle.std.proofs.lemmas.List.{drop_more}
 use Rattle.std.proofs.lemmas.Nat.{row_fits, mul-le}
 use Rattle.std.proofs.Math.Nat.{mul-le-mul_left}
 use Rattle.std.proofs.lemmas.Bool.Decides.{nat_tests}
+use Rattle.serial_spec.proofs.LengthLaws.{size_pos}
 use Rattle.serial_spec.proofs.RoomLaws.{slab_shared, end_fixed, slab_below}
 use Rattle.serial_spec.proofs.ApartLaws.{index_fixed, index_record}
 use Rattle.nc_base.specs.declared.header.Header.{Header}
 use Rattle.nc_base.specs.declared.header.Var.{Var}
 use Rattle.nc_base.specs.declared.header.NcType.{NcType}
-use Rattle.nc_base.specs.declared.header.NcType.TheVariants.{Byte, Char, Short, Int, Float, Double, UByte, UShort, UInt, Int64, UInt64}
 use Rattle.serial_spec.specs.ExternalForm.{size_of}
 use Rattle.serial_spec.specs.Layout.{product, greatest, is_record, inner_lengths, slab, vsize, recsize, last_share, end_of, end_of_var}
 use Rattle.serial_spec.specs.Place.{row, place, record_of, within_record, IsIndex, IsElement}
@@ -35,9 +35,6 @@ same_len (n ∷ lengths) (i ∷ index) h = ap (λ (k : ℕ). suc k) (same_len le
 pub record RowSoFar (lengths index : List ℕ) (k so_far : ℕ) : Type 0 where
   pub whole : so_far * product (drop k lengths) + row (drop k lengths) (drop k index) ≡ row lengths index
   pub valid : IsIndex (drop k lengths) (drop k index)
-
-pub no_row : (lengths index : List ℕ) → IsIndex lengths index → RowSoFar lengths index 0 0
-no_row lengths index h = record { whole = omega arith; valid = h }
 
 step_whole : (a n p i r : ℕ) → a * (n * p) + (i * p + r) ≡ (a * n + i) * p + r
 step_whole a n p i r = omega arith
@@ -65,12 +62,6 @@ so_far_below lengths index k so_far h =
     let e = h.whole in
     omega (arith, mul-le-mul_left so_far some)
 
-pub all_rows : (lengths index : List ℕ) (k so_far : ℕ) → length lengths ≤ k → RowSoFar lengths index k so_far → so_far ≡ row lengths index
-all_rows lengths index k so_far h so =
-    let none = ap (λ xs. so_far * product xs + row xs (drop k index)) (drop_all k lengths h) in
-    let e = so.whole in
-    omega arith
-
 -- ---- elements
 
 pub place_fixed : (header : Header) (v : Var) (index : List ℕ) → is_record header v ≡ false
@@ -80,19 +71,6 @@ place_fixed header v index e = ap (λ (t : Bool). cond t (v.begin + record_of in
 pub place_record : (header : Header) (v : Var) (index : List ℕ) → is_record header v ≡ true
     → place header v index ≡ v.begin + record_of index * recsize header + row (inner_lengths header v) (within_record index) * size_of v.kind
 place_record header v index e = ap (λ (t : Bool). cond t (v.begin + record_of index * recsize header + row (inner_lengths header v) (within_record index) * size_of v.kind) (v.begin + row (inner_lengths header v) index * size_of v.kind)) e
-
-pub size_pos : (kind : NcType) → 1 ≤ size_of kind
-size_pos Byte = omega arith
-size_pos Char = omega arith
-size_pos Short = omega arith
-size_pos Int = omega arith
-size_pos Float = omega arith
-size_pos Double = omega arith
-size_pos UByte = omega arith
-size_pos UShort = omega arith
-size_pos UInt = omega arith
-size_pos Int64 = omega arith
-size_pos UInt64 = omega arith
 
 in_slab : (header : Header) (v : Var) (index : List ℕ) → IsIndex (inner_lengths header v) index
     → row (inner_lengths header v) index * size_of v.kind + size_of v.kind ≤ slab header v

@@ -6,6 +6,7 @@ use Rattle.std.proofs.lemmas.Bool.{or_parts, eqb-false, cases_eq}
 use Rattle.std.proofs.lemmas.Nat.{div-add-mod', mod_below}
 use Rattle.std.proofs.lemmas.Option.{slice_get_within, same_Some}
 use Rattle.std.proofs.lemmas.List.FromFn.{length-range_with_len}
+use Rattle.serial_spec.proofs.LengthLaws.{size_pos}
 use Rattle.list_laws.proofs.Numbers.{same_factor}
 use Rattle.nc_base.specs.declared.header.Header.{Header}
 use Rattle.nc_base.specs.declared.header.Var.{Var}
@@ -20,7 +21,6 @@ use Rattle.serial_spec.specs.SharedByte.{bytes_of, bytes_of_some}
 use Rattle.serial_spec.proofs.AcceptLaws as accept
 use Rattle.serial_spec.proofs.ApartLaws.{elements_apart}
 use Rattle.serial_spec.proofs.ElementLaws.{get_left, get_right}
-use Rattle.var_layout.proofs.ElementPlaces.{size_pos}
 use Rattle.vara_extents.specs.Accepted.{IsAccepted}
 use Rattle.vara_extents.specs.Joined.{extents_of, element_extents, spans, IsOnce}
 use Rattle.vara_extents.specs.Numbered.{coordinates_of, index_of}

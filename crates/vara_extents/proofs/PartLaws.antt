@@ -61,12 +61,6 @@ not_picked : (small put share large : Bool) (c : Code) → (c ≡ code.Ok → �
 not_picked small put share large code.Ok n = absurd (n refl)
 not_picked small put share large _ n = refl
 
-picked : (header : Header) (var : Var) (parts : List Region) (known : ℕ) (direction : Direction)
-    → check_parts header var parts known direction
-    ≡ pick (is_ok_code (refusal_of header var parts known direction)) (leb (elements_of_all parts) most_elements) (is_put direction) (share_element parts)
-    (ltb most_elements (elements_of_all parts)) (refusal_of header var parts known direction)
-picked header var parts known direction = refl
-
 pub refused_first : (header : Header) (var : Var) (parts : List Region) (known : ℕ) (direction : Direction) (c : Code)
     → c ≡ refusal_of header var parts known direction → (c ≡ code.Ok → ⊥) → c ≡ check_parts header var parts known direction
 refused_first header var parts known direction c h n =

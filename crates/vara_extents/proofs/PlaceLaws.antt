@@ -1,8 +1,9 @@
 -- Where the elements of an accepted region lie.
-use Rattle.std.proofs.Common.{◌≡◌, ℕ, zero, suc, ◌+◌, ◌^◌, ◌<◌, ◌≤◌, sym, ap, ◌∙◌, List, [], ◌∷◌, length, map, true, false, not, ltb, leb, ◌||◌, ◌&&◌, Option, Some, arith}
+use Rattle.std.proofs.Common.{◌≡◌, ℕ, ◌+◌, ◌^◌, ◌<◌, ◌≤◌, sym, ap, ◌∙◌, List, [], ◌∷◌, map, true, false, not, ltb, leb, ◌||◌, ◌&&◌, Option, Some, arith}
 use Rattle.std.specs.Prelude.{slice_get}
 use Rattle.std.proofs.lemmas.Bool.{or_parts, leb-false, ltb-false}
 use Rattle.std.proofs.lemmas.Nat.{mul-le}
+use Rattle.serial_spec.proofs.LengthLaws.{size_pos}
 use Rattle.list_laws.proofs.Each.{each_map, each_weaker, each_at}
 use Rattle.nc_base.specs.declared.header.Header.{Header}
 use Rattle.nc_base.specs.declared.header.Var.{Var}
@@ -20,22 +21,13 @@ use Rattle.serial_spec.specs.Request.{elements, places}
 use Rattle.serial_spec.proofs.AcceptLaws.{accepted_elements}
 use Rattle.serial_spec.proofs.ApartLaws.{slab_fits, index_record}
 use Rattle.serial_spec.proofs.RoomLaws.{element_inside}
-use Rattle.var_layout.proofs.ElementPlaces.{product_pos, size_pos}
+use Rattle.var_layout.proofs.ElementPlaces.{product_pos}
 use Rattle.vara_extents.specs.Accepted.{IsAccepted}
 use Rattle.vara_extents.specs.Joined.{element_extents, extents_of}
 use Rattle.vara_extents.specs.Numbered.{index_of}
 use Rattle.vara_extents.proofs.AcceptedLaws.{passed}
 use Rattle.vara_extents.proofs.JoinLaws.{AreSome, EndBy, joined_some, joined_end}
 use Rattle.vara_extents.proofs.NumberLaws.{element_at}
-
--- the variable of an accepted region is there
-pub accepted_there : (header : Header) (k : ℕ) (g : Region) → IsAccepted header k g → k < length header.vars
-accepted_there header k g h = by_var header.vars k (h.2)
-  where
-    by_var : (vars : List Var) (k : ℕ) → check_some header (slice_get vars k) g h.0 h.1 ≡ code.Ok → k < length vars
-    by_var [] k e = absurd cc
-    by_var (v ∷ vars) zero e = omega arith
-    by_var (v ∷ vars) (suc k) e = let l = by_var vars k e in omega arith
 
 pub accepted_var : (header : Header) (k : ℕ) (v : Var) (g : Region) → slice_get header.vars k ≡ Some v → (h : IsAccepted header k g) → check_var header v g h.0 h.1 ≡ code.Ok
 accepted_var header k v g is h = ap (λ (o : Option Var). check_some header o g h.0 h.1) (sym is) ∙ h.2

@@ -8,8 +8,6 @@ use Rattle.std.proofs.lemmas.Bool.{eqb-true, eqb-false}
 use Rattle.serial_spec.proofs.ApartLaws.{index_fixed, index_record}
 use Rattle.nc_base.specs.declared.header.Header.{Header}
 use Rattle.nc_base.specs.declared.header.Var.{Var}
-use Rattle.nc_base.specs.declared.header.NcType.{NcType}
-use Rattle.nc_base.specs.declared.header.NcType.TheVariants.{Byte, Char, Short, Int, Float, Double, UByte, UShort, UInt, Int64, UInt64}
 use Rattle.nc_base.specs.declared.request.Region.{Region}
 use Rattle.serial_spec.specs.ExternalForm.{size_of}
 use Rattle.serial_spec.specs.Layout.{product, length_of, recsize, is_record, starts_with_zero, without_record}
@@ -339,16 +337,3 @@ run_low header ids counts strides run h some =
     parts_low : (m : ℕ) → product counts ≡ m * run → run ≤ product counts
     parts_low zero e = absurd (omega arith)
     parts_low (suc m) e = omega arith
-
-pub size_low : (kind : NcType) → size_of kind ≤ 8
-size_low Byte = omega arith
-size_low Char = omega arith
-size_low Short = omega arith
-size_low Int = omega arith
-size_low Float = omega arith
-size_low Double = omega arith
-size_low UByte = omega arith
-size_low UShort = omega arith
-size_low UInt = omega arith
-size_low Int64 = omega arith
-size_low UInt64 = omega arith
