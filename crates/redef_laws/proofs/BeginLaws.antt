@@ -112,8 +112,8 @@ found_on m k b rest e = ap (λ (t : Bool). cond t (Some (m, b)) (at_number rest 
 
 -- ---- fixed variables
 
-pub begin_up : (front : ℕ) (v : Var) → front ≤ begin_at front v
-begin_up front v = by_test (nat_le front v.begin) refl
+pub begin_past : (front : ℕ) (v : Var) → front ≤ begin_at front v
+begin_past front v = by_test (nat_le front v.begin) refl
   where
     by_test : (t : Bool) → nat_le front v.begin ≡ t → front ≤ cond t v.begin (round_up 4 front)
     by_test true e = leb-true front v.begin e
@@ -121,7 +121,7 @@ begin_up front v = by_test (nat_le front v.begin) refl
 
 pub front_grows : (header : Header) (front : ℕ) (list : List Numbered) → front ≤ front_after header front list
 front_grows header front [] = omega arith
-front_grows header front (p ∷ list) = let one = begin_up front p.1 in let rest = front_grows header (begin_at front p.1 + slab header p.1) list in omega arith
+front_grows header front (p ∷ list) = let one = begin_past front p.1 in let rest = front_grows header (begin_at front p.1 + slab header p.1) list in omega arith
 
 pub record IsFixedBegin (header : Header) (front : ℕ) (list : List Numbered) (k : ℕ) (v : Var) (b : ℕ) : Type 0 where
   pub at : at_number (fixed_begins header front list) k ≡ Some (k, b)
@@ -143,13 +143,13 @@ fixed_begin header vars front (p ∷ list) k v all g h =
           begin_at front p.1,
           record {
             at = found_if p.0 k (begin_at front p.1) (fixed_begins header (begin_at front p.1 + slab header p.1) list) e;
-            low = begin_up front p.1;
+            low = begin_past front p.1;
             high = omega arith;
           },
         )
     by_test rest false e =
         let later = rest (in_tail p list k v e h) in
-        let one = begin_up front p.1 in
+        let one = begin_past front p.1 in
         let low = later.1.low in (
           later.0,
           record {

@@ -246,7 +246,7 @@ min_is (x ∷ xs) a = by_rest (min_is xs (min a x)) (nat_le a x) refl
     by_rest (inl s) true e = let l = leb-true a x e in inl (s ∙ (let m : min a x ≡ a = omega arith in m))
     by_rest (inl s) false e = let l = leb-false a x e in inr (inl (sym (s ∙ (let m : min a x ≡ x = omega arith in m))))
 
-least_low : (xs : List ℕ) (y : ℕ) → In xs y → unwrap_or (least xs) 0 ≤ y
+pub least_low : (xs : List ℕ) (y : ℕ) → In xs y → unwrap_or (least xs) 0 ≤ y
 least_low [] y h = absurd h
 least_low (x ∷ xs) y (inl e) = let l = min_low xs x in omega arith
 least_low (x ∷ xs) y (inr h) = min_each xs x y h

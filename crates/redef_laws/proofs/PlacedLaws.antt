@@ -1,12 +1,14 @@
 -- Where the old variables begin in a redefined header: no lower than before, and in the same order.
-use Rattle.std.proofs.Common.{◌≡◌, ℕ, ◌+◌, ◌-◌, ◌<◌, ◌≤◌, min, refl, sym, ◌∙◌, ap, subst, inl, inr, ◌⊎◌, List, [], ◌∷◌, ◌++◌, map, Bool, true, false, cond, Option, Some, None, arith}
+use Rattle.std.proofs.Common.{◌≡◌, ℕ, ◌+◌, ◌-◌, ◌<◌, ◌≤◌, refl, sym, ◌∙◌, ap, subst, inl, inr, ◌⊎◌, List, [], ◌∷◌, ◌++◌, map, Bool, true, false, cond, Option, Some, None, arith}
 use Rattle.std.proofs.lemmas.Bool.Decides.{nat_tests}
 use Rattle.std.proofs.lemmas.List.Folds.{find-append}
-use Rattle.std.specs.Prelude.{slice_get, find, fold, not, nat_lt, nat_le, ◌==◌, unwrap_or, sum_by}
+use Rattle.std.specs.Prelude.{slice_get, find, not, nat_lt, nat_le, ◌==◌, unwrap_or, sum_by}
 use Rattle.std.specs.List.{enumerate_from}
 use Rattle.std.specs.Option.{option_or}
 use Rattle.std.proofs.lemmas.Bool.{lt-ltb}
 use borrow.Author.Tests.{eqb-true}
+use Rattle.redef_laws.proofs.PlaceLaws.{least_low}
+use Rattle.redef_laws.proofs.BeginLaws.{begin_past}
 use Rattle.nc_base.specs.declared.header.Header.{Header}
 use Rattle.nc_base.specs.declared.header.Var.{Var}
 use Rattle.serial_spec.specs.Layout.{is_record, slab, vsize, round_up}
@@ -37,13 +39,6 @@ later p vars k u (inl e) f = absurd (differs (ap (λ (q : Numbered). q.0) e) f)
 later p vars k u (inr h) f = h
 
 -- ---- fixed variables
-
-begin_past : (front : ℕ) (v : Var) → front ≤ begin_at front v
-begin_past front v = by_test (nat_le front v.begin) refl
-  where
-    by_test : (t : Bool) → nat_le front v.begin ≡ t → front ≤ cond t v.begin (round_up 4 front)
-    by_test true e = grind (arith, nat_tests)
-    by_test false e = omega arith
 
 begin_up : (front : ℕ) (v : Var) → v.begin ≤ begin_at front v
 begin_up front v = by_test (nat_le front v.begin) refl
@@ -162,20 +157,6 @@ map_placed header f (p ∷ vars) k u of h = by_test (λ g. map_placed header f v
         ∙ (λ t. Some (number t, f (number t, same t)))
     by_test rest false e =
         ap (λ (t : Bool). cond t (Some (p.0, f p)) (find (λ (b : ℕ × ℕ). b.0 == k) (map (λ (v : Numbered). (v.0, f v)) vars))) e ∙ rest (later p vars k u h e)
-
-least_low : (xs : List ℕ) (x : ℕ) → In xs x → unwrap_or (least xs) 0 ≤ x
-least_low [] x h = absurd h
-least_low (y ∷ ys) x h = below y ys x h
-  where
-    low : (a : ℕ) (zs : List ℕ) → fold (λ b c. min b c) a zs ≤ a
-    low a [] = omega arith
-    low a (z ∷ zs) = let l = low (min a z) zs in omega arith
-
-    below : (a : ℕ) (zs : List ℕ) (z : ℕ) → In (a ∷ zs) z → fold (λ b c. min b c) a zs ≤ z
-    below a zs z (inl e) = let l = low a zs in omega (arith, e)
-    below a [] z (inr h) = absurd h
-    below a (w ∷ zs) z (inr (inl e)) = let l = low (min a w) zs in omega (arith, e)
-    below a (w ∷ zs) z (inr (inr h)) = below (min a w) zs z (inr h)
 
 first_past : (front : ℕ) (before : Option ℕ) → unwrap_or before 0 ≤ first_record front before
 first_past front None = omega arith

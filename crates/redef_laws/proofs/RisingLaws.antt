@@ -7,6 +7,7 @@ use Rattle.std.specs.Prelude.{filter, map, flat_map, zip, sum_by, nat_lt}
 use Rattle.std.specs.List.{range_with_len}
 use Rattle.std.proofs.lemmas.Bool.{not-true}
 use borrow.Author.Tests.{ltb-true, ltb-false}
+use Rattle.redef_laws.proofs.ElementSlabs.{slabs_fixed}
 use Rattle.list_laws.proofs.Truth.{and_first}
 use Rattle.nc_base.specs.declared.header.Header.{Header}
 use Rattle.nc_base.specs.declared.header.Var.{Var}
@@ -41,9 +42,6 @@ record_pairs old new = filter (λ p. is_record old p.0) (pairs old new)
 -- a variable's slab in record r
 abbrev slab_in : Header → Header → Var × Var → ℕ → Slab
 slab_in old new p r = in_record (recsize old) (recsize new) r (first_slab old p)
-
-slabs_fixed : (old new : Header) (p : Var × Var) → is_record old p.0 ≡ false → slabs_of old new p ≡ first_slab old p ∷ []
-slabs_fixed old new p e = ap (λ b. elim b as (λ _. List Slab) [ false ↦ first_slab old p ∷ [] | true ↦ map (slab_in old new p) (range_with_len 0 old.records) ]) e
 
 slabs_record : (old new : Header) (p : Var × Var) → is_record old p.0 ≡ true → slabs_of old new p ≡ map (slab_in old new p) (range_with_len 0 old.records)
 slabs_record old new p e = ap (λ b. elim b as (λ _. List Slab) [ false ↦ first_slab old p ∷ [] | true ↦ map (slab_in old new p) (range_with_len 0 old.records) ]) e

@@ -119,7 +119,7 @@ unshared size a n b m true true p q h =
       both_records = λ e f. one_then_other size a n b m (nat_le a b) h;
     }
 
-swapped : {A B : Type 0} → A ⊎ B → B ⊎ A
+pub swapped : {A B : Type 0} → A ⊎ B → B ⊎ A
 swapped (inl x) = inr x
 swapped (inr y) = inl y
 
