@@ -3,6 +3,7 @@ use Rattle.std.proofs.Common.{◌≡◌, ◌≢◌, ℕ, suc, ◌+◌, ◌<◌, 
 use Rattle.std.proofs.lemmas.List.Splits.{slice_split_first, length-slice_split}
 use Rattle.std.proofs.lemmas.List.Sums.{prefix_len-le-length, count_by-le-length}
 use Rattle.std.specs.List.{position_or_len, slice_split, onto_first, before_first, after_first}
+use Rattle.std.proofs.lemmas.List.FromFn.{length-enumerate_from}
 use Rattle.script_spec.proofs.TextLaws.{first_line_kept}
 use Rattle.script_spec.specs.ScriptWords.{text_lines, is_newline, without_empty_end, is_comma}
 
@@ -60,3 +61,6 @@ fewer (x ∷ y ∷ more) = omega (arith, fewer (y ∷ more))
 
 pub few_lines : (text : List ℕ) → length (text_lines text) ≤ length text + 1
 few_lines text = omega (arith, fewer (slice_split is_newline text), length-slice_split is_newline text, count_by-le-length is_newline text)
+
+-- what the count of lines goes by
+pub ruleset numbered = (few_lines, length-enumerate_from)

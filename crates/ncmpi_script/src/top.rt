@@ -19,7 +19,7 @@ use nc_base::{
 use std::alloc::Global;
 
 /// How many lines a text has.
-#[tactic(auto, using(crate::proofs::LineLaws::few_lines, std::proofs::lemmas::List::FromFn::length-enumerate_from))]
+#[tactic(auto, using(crate::proofs::LineLaws::few_lines, crate::proofs::LineLaws::numbered))]
 fn count_lines(text: &[u8]) -> u32
     requires { length text.now ≤ 2 ^ 26 }
     ensures value { result ≡ length (text_lines text.now) }
