@@ -1,6 +1,6 @@
 -- Pieces laid over a buffer one by one.
-use Rattle.std.proofs.Common.{◌≡◌, ℕ, zero, suc, ◌+◌, ◌-◌, ◌<◌, ◌≤◌, ◌++◌, refl, sym, ◌∙◌, ap, List, [], ◌∷◌, length, take, drop, get_or, arith}
-use Rattle.std.proofs.lemmas.List.{drop_more}
+use Rattle.std.proofs.Common.{◌≡◌, ℕ, zero, suc, ◌+◌, ◌<◌, ◌≤◌, refl, sym, ◌∙◌, ap, List, [], ◌∷◌, length, take, drop, get_or, arith}
+use Rattle.overlay_laws.proofs.OriginLaws.{slice_step}
 use Rattle.nc_base.specs.declared.plan.Piece.{Piece}
 use Rattle.serial_spec.specs.File.{at, read}
 use Rattle.serial_spec.specs.Said.{IsFrom, IsWithin}
@@ -16,9 +16,6 @@ pub within_at : (n : ℕ) (ps : List Piece) (k : ℕ) (d : Piece) → k < length
 within_at n [] k d h g = absurd (omega arith)
 within_at n (p ∷ ps) zero d h g = g.0
 within_at n (p ∷ ps) (suc k) d h g = within_at n ps k d (omega arith) g.1
-
-slice_step : (b : List ℕ) (from n : ℕ) → from < length b → take (suc n) (drop from b) ≡ at b from ∷ take n (drop (from + 1) b)
-slice_step b from n h = ap (λ (xs : List ℕ). take (suc n) xs) (drop_more b from 0 h)
 
 -- bytes read within a file, as a slice of it
 pub read_slice : (file : List ℕ) (x n : ℕ) → x + n ≤ length file → read file x n ≡ take n (drop x file)

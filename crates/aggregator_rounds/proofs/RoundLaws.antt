@@ -1,14 +1,14 @@
 -- What a window leaves on a disk that may tell its bytes and its calls.
-use Rattle.std.proofs.Common.{◌≡◌, ℕ, zero, suc, ◌+◌, ◌-◌, ◌<◌, ◌≤◌, ◌⊎◌, ◌++◌, inl, inr, refl, sym, ◌∙◌, ap, subst, List, [], ◌∷◌, length, take, drop, get_or, Bool, true, false, cond, Option, Some, None, Result, Ok, Err, arith}
+use Rattle.std.proofs.Common.{◌≡◌, ℕ, ◌+◌, ◌-◌, ◌<◌, ◌≤◌, inl, inr, refl, sym, ◌∙◌, ap, subst, List, [], ◌∷◌, length, take, drop, Bool, true, false, Option, Some, None, Result, Ok, Err, arith}
 use Rattle.std.specs.Prelude.{IfSome, OnErr, if◌then◌else◌}
+use Rattle.list_laws.proofs.Optional.{no_none_some}
 use Rattle.nc_base.specs.declared.step.DiskCall.{DiskCall}
-use Rattle.nc_base.specs.declared.step.DiskCall.TheVariants.{Load, Store}
 use Rattle.serial_spec.specs.File.{at, read, written}
 use Rattle.serial_spec.specs.Said.{Cell, said_at, said_by, write_cells, IsFrom, IsWithin, moved_down}
 use Rattle.serial_spec.proofs.FileLaws.{length-written_inside}
 use Rattle.overlay_laws.specs.Windows.{HasPlace}
 use Rattle.overlay_laws.specs.Changes.{IsBetween, IsBegun, load_calls, store_calls}
-use Rattle.overlay_laws.proofs.SaidLaws.{no_none_some, cells_long}
+use Rattle.overlay_laws.proofs.SaidLaws.{cells_long}
 use Rattle.overlay_laws.proofs.WindowLaws.{moved_said, within_lowered}
 use Rattle.overlay_laws.proofs.ReadLaws.{kept_read, window_answer}
 use Rattle.nc_outside.specs.Told.{after, with_end, BothTold}
@@ -39,7 +39,7 @@ from_lowered : (from lo : ℕ) (cells : List Cell) → IsFrom lo cells → IsFro
 from_lowered from lo [] h = tt
 from_lowered from lo (c ∷ cells) h = let a : lo ≤ c.0 = h.0 in (omega arith, from_lowered from lo cells h.1)
 
-from_less : (from lo : ℕ) (cells : List Cell) → from ≤ lo → IsFrom lo cells → IsFrom from cells
+pub from_less : (from lo : ℕ) (cells : List Cell) → from ≤ lo → IsFrom lo cells → IsFrom from cells
 from_less from lo [] l h = tt
 from_less from lo (c ∷ cells) l h = let a : lo ≤ c.0 = h.0 in (omega arith, from_less from lo cells l h.1)
 

@@ -3,14 +3,15 @@ use Rattle.std.proofs.Common.{◌≡◌, ℕ, ◌+◌, ◌-◌, ◌≤◌, ◌^�
 use Rattle.std.specs.Prelude.{is_none}
 use Rattle.std.proofs.lemmas.List.{take-append-drop, length-take, append-nil}
 use Rattle.std.proofs.Math.Seq.{take-append_seam, take-append-add}
+use Rattle.std.proofs.lemmas.Bool.{leb-true}
+use Rattle.list_laws.proofs.Truth.{and_first, and_second}
 use Rattle.nc_base.specs.declared.header.Header.{Header}
 use Rattle.nc_base.specs.declared.errors.HeaderErr.{HeaderErr}
 use Rattle.serial_spec.specs.HeaderGrammar.{Spells, HasFault, canon, header_len, field_fault, first_check, is_writable, is_sound}
-use Rattle.serial_spec.proofs.SpellingLaws.{left, right, canon_spelled}
+use Rattle.serial_spec.proofs.SpellingLaws.{canon_spelled}
 use Rattle.serial_spec.proofs.FaultLaws.{fault_only}
 use Rattle.serial_spec.proofs.OnceLaws.{spells_once}
 use Rattle.cdf_header.specs.Decoding.{BeginsWith}
-use Rattle.cdf_header.proofs.Types.{le_from}
 use Rattle.cdf_header.proofs.Walks.{no_fault}
 
 no_some : {A : Type 0} (o : Option A) (x : A) → o ≡ None → o ≡ Some x → ⊥
@@ -47,10 +48,10 @@ no_check (Some e) h = absurd cc
 
 pub begins_whole : (header : Header) (more : List ℕ) → is_writable header ≡ true → BeginsWith (canon header ++ more) header (header_len header)
 begins_whole header more is =
-    let sound : is_sound header ≡ true = left _ _ (left _ _ (left _ _ (left _ _ is))) in
+    let sound : is_sound header ≡ true = and_first _ _ (and_first _ _ (and_first _ _ (and_first _ _ is))) in
     let whole : take (header_len header) (canon header ++ more) ≡ canon header = take-append_seam (canon header) more in
     let long = length-append (canon header) more in
-    (subst (λ (t : List ℕ). Spells header t) (sym whole) (canon_spelled header is), no_fault header more is, no_check (first_check header) (right _ _ sound), omega (arith, long))
+    (subst (λ (t : List ℕ). Spells header t) (sym whole) (canon_spelled header is), no_fault header more is, no_check (first_check header) (and_second _ _ sound), omega (arith, long))
 
 -- the first 2^20 bytes
 cut_after : (t more : List ℕ) (n : ℕ) → length t ≤ n → (rest : List ℕ) × (take n (t ++ more) ≡ t ++ rest)
@@ -60,8 +61,8 @@ cut_after t more n h =
 
 pub begins_cut : (header : Header) (more : List ℕ) → is_writable header ≡ true → BeginsWith (take (2 ^ 20) (canon header ++ more)) header (header_len header)
 begins_cut header more is =
-    let sound : is_sound header ≡ true = left _ _ (left _ _ (left _ _ (left _ _ is))) in
-    let short : header_len header ≤ 2 ^ 20 = le_from (header_len header) (2 ^ 20) (right _ _ (left _ _ sound)) in
+    let sound : is_sound header ≡ true = and_first _ _ (and_first _ _ (and_first _ _ (and_first _ _ is))) in
+    let short : header_len header ≤ 2 ^ 20 = leb-true (header_len header) (2 ^ 20) (and_second _ _ (and_first _ _ sound)) in
     let cut = cut_after (canon header) more (2 ^ 20) short in
     subst (λ (t : List ℕ). BeginsWith t header (header_len header)) (sym cut.1) (begins_whole header cut.0 is)
 

@@ -2,7 +2,7 @@
 use Rattle.std.proofs.Common.{◌≡◌, ℕ, ◌+◌, ◌<◌, ◌≤◌, min, List, [], ◌∷◌, Bool, true, false, None, length, get_or, drop, refl, sym, ap, subst, ◌∙◌, inl, inr, ◌⊎◌, arith}
 use Rattle.std.specs.Prelude.{nat_lt, nat_le, cond}
 use Rattle.std.specs.List.{All, AllPairs, Contains}
-use Rattle.std.proofs.lemmas.Bool.{cases_lt}
+use Rattle.std.proofs.lemmas.Bool.{cases_lt, le-ltb, le-leb, lt-leb}
 use Rattle.std.proofs.lemmas.List.{get_or_default, get_or-drop, length-drop}
 use Rattle.std.proofs.lemmas.List.Elements.{All-contains, All-head, All-tail, All-get_or, Contains-get_or}
 use Rattle.cdf_header.specs.declared.spans.Span.{Span}
@@ -27,21 +27,12 @@ apart_fixed p q (inr h) = grind arith
 apart_records : (size : ℕ) (p q : Span) → p.end ≤ q.begin → q.end ≤ p.begin + size → records_meet size p q ≡ false
 apart_records size p q h k = grind arith
 
-not_before : (a b : ℕ) → b ≤ a → nat_lt a b ≡ false
-not_before a b h = grind arith
-
-at_or_before : (a b : ℕ) → a ≤ b → nat_le a b ≡ true
-at_or_before a b h = grind arith
-
-after : (a b : ℕ) → b < a → nat_le a b ≡ false
-after a b h = grind arith
-
 record_pair : (size : ℕ) (p q : Span) → p.begin < p.end → q.begin < q.end → (p.end ≤ q.begin) ⊎ (q.end ≤ p.begin) → q.end ≤ p.begin + size → p.end ≤ q.begin + size
     → cond (nat_le p.begin q.begin) (records_meet size p q) (records_meet size q p) ≡ false
 record_pair size p q some more (inl h) k m =
-    let b : nat_le p.begin q.begin ≡ true = at_or_before p.begin q.begin (omega arith) in rw b (apart_records size p q h k)
+    let b : nat_le p.begin q.begin ≡ true = le-leb p.begin q.begin (omega arith) in rw b (apart_records size p q h k)
 record_pair size p q some more (inr h) k m =
-    let b : nat_le p.begin q.begin ≡ false = after p.begin q.begin (omega arith) in rw b (apart_records size q p h m)
+    let b : nat_le p.begin q.begin ≡ false = lt-leb p.begin q.begin (omega arith) in rw b (apart_records size q p h m)
 
 by_kind : (size : ℕ) (p q : Span) (s t : Bool) → p.is_record ≡ s → q.is_record ≡ t
     → cond s (cond t (cond (nat_le p.begin q.begin) (records_meet size p q) (records_meet size q p)) (nat_lt p.begin q.end)) (cond t (nat_lt q.begin p.end) (fixed_meet p q)) ≡ false
@@ -78,12 +69,12 @@ by_kinds n size spans fixed records p q clear has_fixed has_records two false tr
     let here = All-contains (λ s. s.is_record ≡ false → Contains fixed s) spans p has_fixed two.in_p e in
     let there = All-contains (λ s. s.is_record ≡ true → Contains records s) spans q has_records two.in_q f in
     let first = All-contains (λ s. EndsBefore n p s) records q (All-contains (λ r. All (λ s. EndsBefore n r s) records) fixed p clear.fixed_first here) there in
-    not_before q.begin p.end (first (low_left n p.number q.number two.low))
+    le-ltb q.begin p.end (first (low_left n p.number q.number two.low))
 by_kinds n size spans fixed records p q clear has_fixed has_records two true false e f =
     let here = All-contains (λ s. s.is_record ≡ true → Contains records s) spans p has_records two.in_p e in
     let there = All-contains (λ s. s.is_record ≡ false → Contains fixed s) spans q has_fixed two.in_q f in
     let first = All-contains (λ s. EndsBefore n q s) records p (All-contains (λ r. All (λ s. EndsBefore n r s) records) fixed q clear.fixed_first there) here in
-    not_before p.begin q.end (first (low_right n p.number q.number two.low))
+    le-ltb p.begin q.end (first (low_right n p.number q.number two.low))
 by_kinds n size spans fixed records p q clear has_fixed has_records two true true e f =
     let here = All-contains (λ s. s.is_record ≡ true → Contains records s) spans p has_records two.in_p e in
     let there = All-contains (λ s. s.is_record ≡ true → Contains records s) spans q has_records two.in_q f in

@@ -5,13 +5,13 @@ use Rattle.std.specs.List.{All, AllByRecursion}
 use Rattle.std.proofs.lemmas.Bool.{ltb-true}
 use Rattle.std.proofs.lemmas.List.Elements.{All-from_recursion}
 use Rattle.std.proofs.lemmas.List.Sums.{sum_by-cons}
+use Rattle.list_laws.proofs.Truth.{and_first, and_second}
 use Rattle.var_layout.proofs.Soundness.{recsize_below}
 use Rattle.nc_base.specs.declared.header.Header.{Header}
 use Rattle.nc_base.specs.declared.header.Var.{Var}
 use Rattle.serial_spec.specs.Limits.{record_limit}
 use Rattle.serial_spec.specs.Layout.{round_up, slab, vsize, is_record, record_share, recsize}
 use Rattle.serial_spec.specs.HeaderGrammar.{keeps_bound, past_bound, measure, is_too_large}
-use Rattle.serial_spec.proofs.SpellingLaws.{left, right}
 
 kept : (t : Bool) (k : ℕ) (o : Option ℕ) → cond t o (Some k) ≡ None → (t ≡ true) × (o ≡ None)
 kept true k o h = (refl, h)
@@ -22,7 +22,7 @@ rounded n = omega arith
 
 begin_kept : (header : Header) (before : ℕ) (v : Var) → keeps_bound header before v ≡ true → v.begin + slab header v < 2 ^ 62
 begin_kept header before v h =
-    let placed : v.begin + vsize header v < 2 ^ 62 = ltb-true _ _ (right _ _ (left _ _ h)) in
+    let placed : v.begin + vsize header v < 2 ^ 62 = ltb-true _ _ (and_second _ _ (and_first _ _ h)) in
     let more = rounded (slab header v) in
     omega (arith, placed, more)
 
@@ -34,7 +34,7 @@ sizes_kept header h = each_small header 0 0 header.vars h
     each_small header before k [] h = tt
     each_small header before k (v ∷ vs) h =
         let p = kept (keeps_bound header before v) k (past_bound header (before + record_share header v) (suc k) vs) h in
-        (ltb-true _ _ (left _ _ (left _ _ p.0)), each_small header (before + record_share header v) (suc k) vs p.1)
+        (ltb-true _ _ (and_first _ _ (and_first _ _ p.0)), each_small header (before + record_share header v) (suc k) vs p.1)
 
 each_kept : (header : Header) (before k : ℕ) (vs : List Var) → past_bound header before k vs ≡ None → AllByRecursion (λ v. v.begin + slab header v < 2 ^ 62) vs
 each_kept header before k [] h = tt
@@ -65,7 +65,7 @@ share_kept header before v low h = by (is_record header v) refl
   where
     by : (t : Bool) → is_record header v ≡ t → before + record_share header v < 2 ^ 62
     by true e =
-        let small : before + vsize header v < 2 ^ 62 = ltb-true _ _ (or_true (is_record header v) _ _ e (right _ _ h)) in
+        let small : before + vsize header v < 2 ^ 62 = ltb-true _ _ (or_true (is_record header v) _ _ e (and_second _ _ h)) in
         let share : record_share header v ≡ vsize header v = ap (λ (t : Bool). cond t (vsize header v) 0) e in
         omega (arith, small, share)
     by false e =

@@ -1,24 +1,17 @@
 -- No variable of a header is empty whose record dimension stands only first.
-use Rattle.std.proofs.Common.{◌≡◌, ℕ, zero, suc, ◌≤◌, List, [], ◌∷◌, drop, map, sym, refl, arith, Bool, true, false}
-use Rattle.std.proofs.lemmas.Bool.{false≢true}
-use Rattle.std.specs.Prelude.{slice_get, ◌||◌, ◌==◌}
+use Rattle.std.proofs.Common.{◌≡◌, ℕ, zero, suc, ◌≤◌, List, [], ◌∷◌, drop, map, sym, arith, false}
+use Rattle.std.proofs.lemmas.Bool.{false≢true, or_parts}
+use Rattle.std.specs.Prelude.{slice_get, ◌==◌}
 use Rattle.std.specs.List.{AllByRecursion, list_any}
 use Rattle.std.proofs.Math.Nat.{mul-le-mul_left}
 use Rattle.nc_base.specs.declared.header.Header.{Header}
 use Rattle.nc_base.specs.declared.header.Var.{Var}
-use Rattle.nc_base.specs.declared.header.NcType.{NcType}
-use Rattle.nc_base.specs.declared.header.NcType.TheVariants.{Byte, Char, Short, Int, Float, Double, UByte, UShort, UInt, Int64, UInt64}
-use Rattle.serial_spec.specs.ExternalForm.{size_of}
 use Rattle.serial_spec.specs.Layout.{inner_lengths, length_of, product, without_record}
 use Rattle.serial_spec.specs.HeaderGrammar.{is_record_id, record_later}
 
 pub product-pos : (ns : List ℕ) → AllByRecursion (λ n. 1 ≤ n) ns → 1 ≤ product ns
 product-pos [] h = omega arith
 product-pos (n ∷ ns) h = let rest = product-pos ns h.1 in omega (arith, mul-le-mul_left n rest, h.0)
-
-or_parts : (a b : Bool) → (a || b) ≡ false → (a ≡ false) × (b ≡ false)
-or_parts true b h = absurd (false≢true (sym h))
-or_parts false b h = (refl, h)
 
 some-pos : (n : ℕ) → (n == 0) ≡ false → 1 ≤ n
 some-pos zero h = absurd (false≢true (sym h))
@@ -41,16 +34,3 @@ inner_ids-pos h (i ∷ ids) e = inner_of (length_of (slice_get h.dims i)) _ (non
 -- Where the record dimension stands in no later place, no inner length is zero.
 pub inner-pos : (h : Header) (v : Var) → record_later h v ≡ false → AllByRecursion (λ n. 1 ≤ n) (inner_lengths h v)
 inner-pos h v e = inner_ids-pos h v.dims e
-
-pub size-pos : (kind : NcType) → 1 ≤ size_of kind
-size-pos Byte = omega arith
-size-pos Char = omega arith
-size-pos Short = omega arith
-size-pos Int = omega arith
-size-pos Float = omega arith
-size-pos Double = omega arith
-size-pos UByte = omega arith
-size-pos UShort = omega arith
-size-pos UInt = omega arith
-size-pos Int64 = omega arith
-size-pos UInt64 = omega arith

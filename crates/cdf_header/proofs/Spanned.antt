@@ -6,15 +6,16 @@ use Rattle.std.specs.Option.{option_or}
 use Rattle.std.proofs.lemmas.Iterator.Adapters.{position_from-zero}
 use Rattle.std.proofs.lemmas.List.Elements.{All-from_recursion}
 use Rattle.std.proofs.Math.Nat.{mul-le-mul_left}
+use Rattle.serial_spec.proofs.LengthLaws.{size_pos}
 use Rattle.nc_base.specs.declared.header.Header.{Header}
 use Rattle.nc_base.specs.declared.header.Var.{Var}
 use Rattle.serial_spec.specs.ExternalForm.{size_of}
-use Rattle.serial_spec.specs.Layout.{product, inner_lengths, slab, is_record, recsize, sharing_with, sharing_from, sharing}
+use Rattle.serial_spec.specs.Layout.{product, inner_lengths, slab, recsize, sharing_with, sharing_from, sharing}
 use Rattle.serial_spec.specs.Layout as layout
 use Rattle.serial_spec.specs.HeaderGrammar.{record_later}
 use Rattle.cdf_header.specs.declared.spans.Span.{Span}
 use Rattle.cdf_header.specs.Spans.{span_of, spans_of, partner, shared_pair, AreSpans}
-use Rattle.cdf_header.proofs.Products.{inner-pos, product-pos, size-pos}
+use Rattle.cdf_header.proofs.Products.{inner-pos, product-pos}
 
 one_partner : (t : Bool) (k m : ℕ) (o : Option (ℕ × ℕ)) (p : Option ℕ) → o ≡ option_map (λ n. (k, n)) p
     → cond t (Some (k, m)) o ≡ option_map (λ n. (k, n)) (cond t (Some m) p)
@@ -57,7 +58,7 @@ rising header vs i j d lt within =
 some_bytes : (header : Header) (v : Var) → record_later header v ≡ false → v.begin < v.begin + slab header v
 some_bytes header v h =
     let elements : 1 ≤ product (inner_lengths header v) = product-pos (inner_lengths header v) (inner-pos header v h) in
-    let size : 1 ≤ size_of v.kind = size-pos v.kind in
+    let size : 1 ≤ size_of v.kind = size_pos v.kind in
     let more = mul-le-mul_left (product (inner_lengths header v)) size in
     omega (arith, elements, more)
 

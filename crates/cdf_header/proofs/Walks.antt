@@ -6,7 +6,9 @@ use Rattle.std.specs.Int.{w32, w64, byte_len, to_be_bytes, from_be_bytes}
 use Rattle.std.proofs.Math.Seq.{drop-append_seam, take-append_seam}
 use Rattle.std.proofs.lemmas.List.{length-drop, length-replicate, drop-drop}
 use Rattle.std.proofs.lemmas.Nat.{from_be_bytes-to_be_bytes_4, from_be_bytes-to_be_bytes_8}
-use Rattle.std.proofs.lemmas.Bool.{ltb-true, eqb-true, eq-eqb}
+use Rattle.std.proofs.lemmas.Bool.{ltb-true, eqb-true, eq-eqb, le-ltb, leb-true}
+use Rattle.serial_spec.proofs.LengthLaws.{width_long}
+use Rattle.list_laws.proofs.Truth.{and_first, and_second}
 use Rattle.nc_base.specs.declared.header.Header.{Header}
 use Rattle.nc_base.specs.declared.header.Dim.{Dim}
 use Rattle.nc_base.specs.declared.header.Attr.{Attr}
@@ -20,13 +22,13 @@ use Rattle.serial_spec.specs.ExternalForm.{size_of}
 use Rattle.serial_spec.specs.Layout.{round_up, vsize}
 use Rattle.serial_spec.specs.HeaderGrammar.{Field, Magic, Records, Tag, Count, NameLength, Block, DimLength, AttrType, AttrCount, DimCount, DimId, VarType, Vsize, Begin, Entries, Dimensions, Attributes, Variables, Ids, Ask, One, Many, Run, stands, takes, asked, the_header, first_field, other_fields, many, block, most_of, tag_of, type_size, number_of, last_type, is_type, bad_type, is_version, version_of, fault_if, wrong, wrong_at, after_field, field_number, field_len, big_endian, count, tag, name, padded, list_of, dimension, attribute, variable, magic, canon, count_width, begin_width, fits_field, fits_count, field_fault, is_writable, is_writable_dim, is_writable_attr, is_writable_list, is_writable_var}
 use Rattle.serial_spec.proofs.FaultLaws.{run_on, run_whole, len_pos}
-use Rattle.serial_spec.proofs.SpellingLaws.{left, right, known_version}
+use Rattle.serial_spec.proofs.SpellingLaws.{known_version}
 
 -- Where the text stands, right fields lead over it from what is asked to what is asked later.
 abbrev pub Walk : ℕ → List Ask → List Ask → List ℕ → Type 0
 Walk v asks later text = (b : List ℕ) (x : ℕ) (more : List ℕ) → drop x b ≡ text ++ more → Run v b asks x later (x + length text)
 
-drop_on : (b : List ℕ) (x : ℕ) (s t : List ℕ) → drop x b ≡ s ++ t → drop (x + length s) b ≡ t
+pub drop_on : (b : List ℕ) (x : ℕ) (s t : List ℕ) → drop x b ≡ s ++ t → drop (x + length s) b ≡ t
 drop_on b x s t e = sym (drop-drop (length s) x b) ∙ ap (λ (c : List ℕ). drop (length s) c) e ∙ drop-append_seam s t
 
 pub walk_then : (v : ℕ) (asks mid later : List Ask) (s t : List ℕ) → Walk v asks mid s → Walk v mid later t → Walk v asks later (s ++ t)
@@ -49,9 +51,6 @@ inside b text more x n e len some =
     let left_over = length-drop x b in
     omega (arith, whole, left_over, len, some)
 
-not_past : (len end : ℕ) → end ≤ len → nat_lt len end ≡ false
-not_past len end h = grind arith
-
 -- the field is right, and what is asked after it is what is asked later
 abbrev RightAt : ℕ → List Ask → List Ask → Field → List ℕ → Type 0
 RightAt v rest later f text =
@@ -61,23 +60,23 @@ RightAt v rest later f text =
 walk_field : (v : ℕ) (asks rest later : List Ask) (f : Field) (text : List ℕ) → asked asks ≡ Some (f, rest) → length text ≡ field_len v f → RightAt v rest later f text → Walk v asks later text
 walk_field v asks rest later f text a len is_right b x more e =
     let r = is_right b x (take_here b text more x (field_len v f) e len) in
-    let within = not_past (length b) (x + field_len v f) (inside b text more x (field_len v f) e len (len_pos v f)) in
-    let fine : wrong_at v f b x ≡ None = rw within r.0 in
+    let ends_inside = le-ltb (length b) (x + field_len v f) (inside b text more x (field_len v f) e len (len_pos v f)) in
+    let fine : wrong_at v f b x ≡ None = rw ends_inside r.0 in
     takes a fine (subst (λ (as' : List Ask). Run v b as' (x + field_len v f) later (x + length text)) (sym r.1)
     (subst (λ (n : ℕ). Run v b later (x + field_len v f) later (x + n)) (sym len) stands))
 
 -- ---- numbers
 
-read_4 : (p q r s : ℕ) → big_endian (p ∷ q ∷ r ∷ s ∷ []) ≡ from_be_bytes w32 (p ∷ q ∷ r ∷ s ∷ [])
+pub read_4 : (p q r s : ℕ) → big_endian (p ∷ q ∷ r ∷ s ∷ []) ≡ from_be_bytes w32 (p ∷ q ∷ r ∷ s ∷ [])
 read_4 p q r s = omega arith
 
-read_8 : (a b c d p q r s : ℕ) → big_endian (a ∷ b ∷ c ∷ d ∷ p ∷ q ∷ r ∷ s ∷ []) ≡ from_be_bytes w64 (a ∷ b ∷ c ∷ d ∷ p ∷ q ∷ r ∷ s ∷ [])
+pub read_8 : (a b c d p q r s : ℕ) → big_endian (a ∷ b ∷ c ∷ d ∷ p ∷ q ∷ r ∷ s ∷ []) ≡ from_be_bytes w64 (a ∷ b ∷ c ∷ d ∷ p ∷ q ∷ r ∷ s ∷ [])
 read_8 a b c d p q r s = omega arith
 
-back_4 : (n : ℕ) → n < 2 ^ 32 → big_endian (to_be_bytes w32 n) ≡ n
+pub back_4 : (n : ℕ) → n < 2 ^ 32 → big_endian (to_be_bytes w32 n) ≡ n
 back_4 n h = read_4 _ _ _ _ ∙ from_be_bytes-to_be_bytes_4 n h
 
-back_8 : (n : ℕ) → n < 2 ^ 64 → big_endian (to_be_bytes w64 n) ≡ n
+pub back_8 : (n : ℕ) → n < 2 ^ 64 → big_endian (to_be_bytes w64 n) ≡ n
 back_8 n h = read_8 _ _ _ _ _ _ _ _ ∙ from_be_bytes-to_be_bytes_8 n h
 
 back_by : (t : Bool) (n : ℕ) → fits_field (cond t w64 w32) n ≡ true → (big_endian (to_be_bytes (cond t w64 w32) n) ≡ n) × (length (to_be_bytes (cond t w64 w32) n) ≡ byte_len (cond t w64 w32))
@@ -88,15 +87,8 @@ back_begin : (t : Bool) (n : ℕ) → fits_field (cond t w32 w64) n ≡ true →
 back_begin true n h = let less : 2 * n < 2 ^ 32 = ltb-true _ _ h in (back_4 n (omega (arith, less)), refl)
 back_begin false n h = let less : 2 * n < 2 ^ 64 = ltb-true _ _ h in (back_8 n (omega (arith, less)), refl)
 
-long_by : (t : Bool) (n : ℕ) → length (to_be_bytes (cond t w64 w32) n) ≡ byte_len (cond t w64 w32)
-long_by true n = refl
-long_by false n = refl
-
 not_negative : (n m : ℕ) → nat_lt n m ≡ true → nat_le m n ≡ false
 not_negative n m h = grind arith
-
-within : (n m : ℕ) → n ≤ m → nat_lt m n ≡ false
-within n m h = grind arith
 
 -- a field of the width of counts whose number counts
 number_walk : (v n : ℕ) (asks rest later : List Ask) (f : Field) → asked asks ≡ Some (f, rest) → field_len v f ≡ byte_len (count_width v)
@@ -142,13 +134,13 @@ name_walk v n asks rest a fits =
 
 dim_walk : (v : ℕ) (d : Dim) (asks rest : List Ask) → asked asks ≡ Some (NameLength, One DimLength ∷ rest) → is_writable_dim v d ≡ true → Walk v asks rest (dimension v d)
 dim_walk v d asks rest a h =
-    let fits : fits_count v d.len ≡ true = right _ _ (left _ _ h) in
-    let few : nat_lt file_limit d.len ≡ false = at_most d.len file_limit (right _ _ h) in
-    walk_then v asks (One DimLength ∷ rest) rest (name v d.name) (count v d.len) (name_walk v d.name asks (One DimLength ∷ rest) a (left _ _ (left _ _ h)))
+    let fits : fits_count v d.len ≡ true = and_second _ _ (and_first _ _ h) in
+    let few : nat_lt file_limit d.len ≡ false = leb-true d.len file_limit (and_second _ _ h) in
+    walk_then v asks (One DimLength ∷ rest) rest (name v d.name) (count v d.len) (name_walk v d.name asks (One DimLength ∷ rest) a (and_first _ _ (and_first _ _ h)))
     (number_walk v d.len (One DimLength ∷ rest) rest rest DimLength refl refl (λ b x. refl) fits (λ x. rw (not_negative _ _ fits, few) refl) refl)
   where
-    at_most : (n m : ℕ) → nat_le n m ≡ true → nat_lt m n ≡ false
-    at_most n m k = grind arith
+    leb-true : (n m : ℕ) → nat_le n m ≡ true → nat_lt m n ≡ false
+    leb-true n m k = grind arith
 
 number_known : (kind : NcType) → ((number_of kind == 0) ≡ false) × (number_of kind < 2 ^ 32) × (type_size (number_of kind) ≡ size_of kind)
 number_known Byte = (refl, omega arith, refl)
@@ -164,24 +156,24 @@ number_known Int64 = (refl, omega arith, refl)
 number_known UInt64 = (refl, omega arith, refl)
 
 type_fine : (v : ℕ) (kind : NcType) (x : ℕ) → is_type v kind ≡ true → bad_type v x (number_of kind) ≡ None
-type_fine v kind x h = rw ((number_known kind).0, at_most (number_of kind) (last_type v) h) refl
+type_fine v kind x h = rw ((number_known kind).0, leb-true (number_of kind) (last_type v) h) refl
   where
-    at_most : (n m : ℕ) → nat_le n m ≡ true → nat_lt m n ≡ false
-    at_most n m k = grind arith
+    leb-true : (n m : ℕ) → nat_le n m ≡ true → nat_lt m n ≡ false
+    leb-true n m k = grind arith
 
 attr_walk : (v : ℕ) (a : Attr) (asks rest : List Ask) → asked asks ≡ Some (NameLength, One AttrType ∷ rest) → is_writable_attr v a ≡ true → Walk v asks rest (attribute v a)
 attr_walk v a asks rest e h =
-    let front = left _ _ h in
+    let front = and_first _ _ h in
     let n = number_of a.kind in
     let known = number_known a.kind in
-    let fits : fits_count v a.count ≡ true = right _ _ front in
-    let long : length a.bytes ≡ a.count * type_size n = eqb-true _ _ (right _ _ h) ∙ ap (λ (s : ℕ). a.count * s) (sym known.2) in
+    let fits : fits_count v a.count ≡ true = and_second _ _ front in
+    let long : length a.bytes ≡ a.count * type_size n = eqb-true _ _ (and_second _ _ h) ∙ ap (λ (s : ℕ). a.count * s) (sym known.2) in
     let typed = One (AttrCount (type_size n)) ∷ rest in
     let counted = block (length a.bytes) ++ rest in
     walk_then v asks counted rest (name v a.name ++ tag n ++ count v a.count) (padded a.bytes)
     (walk_then v asks typed counted (name v a.name ++ tag n) (count v a.count)
-    (walk_then v asks (One AttrType ∷ rest) typed (name v a.name) (tag n) (name_walk v a.name asks (One AttrType ∷ rest) e (left _ _ (left _ _ front)))
-    (word_walk v n (One AttrType ∷ rest) rest typed AttrType refl refl (λ b x. refl) known.1 (λ x. type_fine v a.kind x (right _ _ (left _ _ front))) refl))
+    (walk_then v asks (One AttrType ∷ rest) typed (name v a.name) (tag n) (name_walk v a.name asks (One AttrType ∷ rest) e (and_first _ _ (and_first _ _ front)))
+    (word_walk v n (One AttrType ∷ rest) rest typed AttrType refl refl (λ b x. refl) known.1 (λ x. type_fine v a.kind x (and_second _ _ (and_first _ _ front))) refl))
     (number_walk v a.count typed rest counted (AttrCount (type_size n)) refl refl (λ b x. refl) fits (λ x. rw (not_negative _ _ fits) refl) (ap (λ (k : ℕ). block k ++ rest) (sym long))))
     (block_walk v a.bytes rest)
 
@@ -196,8 +188,8 @@ each_walk : {A : Type 0} (v : ℕ) (e : Entries) (f : A → List ℕ) (test : A 
 each_walk v e f test one [] h rest = nothing v rest
 each_walk v e f test one (x ∷ xs) h rest =
     walk_then v (Many e (length xs) ∷ rest) (many e (length xs) ++ rest) rest (f x) (flat_map f xs)
-    (one x (left _ _ h) (Many e (length xs) ∷ rest) (many e (length xs) ++ rest) (ap (λ (t : List Ask). Some (first_field e, t)) (append_assoc (other_fields e) (many e (length xs)) rest)))
-    (each_walk v e f test one xs (right _ _ h) rest)
+    (one x (and_first _ _ h) (Many e (length xs) ∷ rest) (many e (length xs) ++ rest) (ap (λ (t : List Ask). Some (first_field e, t)) (append_assoc (other_fields e) (many e (length xs)) rest)))
+    (each_walk v e f test one xs (and_second _ _ h) rest)
 
 tag_fine : (n x : ℕ) → fault_if (not (n == 0 || n == n)) (fault.BadTag x) ≡ None
 tag_fine n x = rw (same n) (either_way (n == 0))
@@ -242,7 +234,7 @@ list_walk v e f test tagged one (y ∷ ys) few fits all rest =
     walk_then v (One (Tag e) ∷ rest) (many e n ++ rest) rest (tag (tag_of e) ++ count v n) (flat_map f (y ∷ ys))
     (walk_then v (One (Tag e) ∷ rest) counted (many e n ++ rest) (tag (tag_of e)) (count v n)
     (word_walk v (tag_of e) (One (Tag e) ∷ rest) rest counted (Tag e) refl refl (λ b x. refl) tagged.small (λ x. tag_fine (tag_of e) x) (ap (λ (t : Bool). One (Count e t) ∷ rest) tagged.some))
-    (number_walk v n counted rest (many e n ++ rest) (Count e false) refl refl (λ b x. refl) fits (λ x. few_fine _ _ _ _ (not_negative _ _ fits) (within n (most_of e) few)) refl))
+    (number_walk v n counted rest (many e n ++ rest) (Count e false) refl refl (λ b x. refl) fits (λ x. few_fine _ _ _ _ (not_negative _ _ fits) (le-ltb (most_of e) n few)) refl))
     (each_walk v e f test one (y ∷ ys) all rest)
 
 attributes_few : (v n : ℕ) → fits_count v n ≡ true → n ≤ 2 ^ 64
@@ -255,7 +247,7 @@ attributes_few v n h = few_by (v == 5) n h
 attrs_walk : (v : ℕ) (xs : List Attr) → is_writable_list v (is_writable_attr v) xs ≡ true → (rest : List Ask) → Walk v (One (Tag Attributes) ∷ rest) rest (list_of v 12 (λ a. attribute v a) xs)
 attrs_walk v xs h rest =
     list_walk v Attributes (λ a. attribute v a) (is_writable_attr v) attributes_tagged
-    (λ a k asks more e. attr_walk v a asks more e k) xs (attributes_few v (length xs) (left _ _ h)) (left _ _ h) (right _ _ h) rest
+    (λ a k asks more e. attr_walk v a asks more e k) xs (attributes_few v (length xs) (and_first _ _ h)) (and_first _ _ h) (and_second _ _ h) rest
 
 -- ---- variables
 
@@ -270,16 +262,13 @@ begin_walk v n rest fits =
     let is : field_number v Begin b x ≡ n = ap (λ (t : List ℕ). big_endian t) here ∙ known.0 in
     (subst (λ (k : ℕ). wrong v Begin x k ≡ None) (sym is) (rw (not_negative _ _ fits) refl), refl))
 
-at_most : (n m : ℕ) → nat_le n m ≡ true → n ≤ m
-at_most n m h = grind arith
-
 var_walk : (h : Header) (v : Var) → is_writable_var h v ≡ true → nat_le (length v.dims) most_dims_of_var ≡ true → WalksEntry h.version Variables (λ w. variable h w) v
 var_walk h v is few asks rest a =
-    let t5 = left _ _ is in
-    let t4 = left _ _ t5 in
-    let t3 = left _ _ t4 in
-    let t2 = left _ _ t3 in
-    let ids = right _ _ t2 in
+    let t5 = and_first _ _ is in
+    let t4 = and_first _ _ t5 in
+    let t3 = and_first _ _ t4 in
+    let t2 = and_first _ _ t3 in
+    let ids = and_second _ _ t2 in
     let version = h.version in
     let n = length v.dims in
     let after_stored = One Begin ∷ rest in
@@ -299,13 +288,13 @@ var_walk h v is few asks rest a =
     (walk_then version asks after_ids after_attrs listed (list_of version 12 (λ b. attribute version b) v.attrs)
     (walk_then version asks (many Ids n ++ after_ids) after_ids counted (flat_map (λ id. count version id) v.dims)
     (walk_then version asks after_name (many Ids n ++ after_ids) named (count version n)
-    (name_walk version v.name asks after_name a (left _ _ t2))
-    (number_walk version n after_name after_ids (many Ids n ++ after_ids) DimCount refl refl (λ b x. refl) (left _ _ ids) (λ x. few_fine _ _ _ _ (not_negative _ _ (left _ _ ids)) (within n most_dims_of_var (at_most n most_dims_of_var few))) refl))
-    (each_walk version Ids (λ id. count version id) (λ id. fits_count version id) (λ id k. id_walk version id k) v.dims (right _ _ ids) after_ids))
-    (attrs_walk version v.attrs (right _ _ t3) after_attrs))
-    (word_walk version (number_of v.kind) after_attrs after_type after_type VarType refl refl (λ b x. refl) (number_known v.kind).1 (λ x. type_fine version v.kind x (right _ _ t4)) refl))
-    (walk_field version after_type after_stored after_stored Vsize (count version (vsize h v)) refl (long_by (version == 5) (vsize h v)) (λ b x here. (refl, refl))))
-    (begin_walk version v.begin rest (right _ _ is))
+    (name_walk version v.name asks after_name a (and_first _ _ t2))
+    (number_walk version n after_name after_ids (many Ids n ++ after_ids) DimCount refl refl (λ b x. refl) (and_first _ _ ids) (λ x. few_fine _ _ _ _ (not_negative _ _ (and_first _ _ ids)) (le-ltb most_dims_of_var n (leb-true n most_dims_of_var few))) refl))
+    (each_walk version Ids (λ id. count version id) (λ id. fits_count version id) (λ id k. id_walk version id k) v.dims (and_second _ _ ids) after_ids))
+    (attrs_walk version v.attrs (and_second _ _ t3) after_attrs))
+    (word_walk version (number_of v.kind) after_attrs after_type after_type VarType refl refl (λ b x. refl) (number_known v.kind).1 (λ x. type_fine version v.kind x (and_second _ _ t4)) refl))
+    (walk_field version after_type after_stored after_stored Vsize (count version (vsize h v)) refl (width_long (version == 5) (vsize h v)) (λ b x here. (refl, refl))))
+    (begin_walk version v.begin rest (and_second _ _ is))
 
 -- ---- a header
 
@@ -314,7 +303,7 @@ all_three s t u h k l = rw (h, k, l) refl
 
 both_tests : {A : Type 0} (p q : A → Bool) (xs : List A) → list_all p xs ≡ true → list_all q xs ≡ true → list_all (λ x. p x && q x) xs ≡ true
 both_tests p q [] h k = refl
-both_tests p q (x ∷ xs) h k = all_three (p x) (q x) _ (left _ _ h) (left _ _ k) (both_tests p q xs (right _ _ h) (right _ _ k))
+both_tests p q (x ∷ xs) h k = all_three (p x) (q x) _ (and_first _ _ h) (and_first _ _ k) (both_tests p q xs (and_second _ _ h) (and_second _ _ k))
 
 version_cases : (v : ℕ) (P : ℕ → Type 0) → P 1 → P 2 → P 5 → is_version v ≡ true → P v
 version_cases v P a b c h = by (v == 1) (v == 2) (v == 5) refl refl refl h
@@ -340,11 +329,11 @@ records_walk v n rest fits = number_walk v n (One Records ∷ rest) rest rest Re
 header_walk : (h : Header) → is_writable h ≡ true → Walk h.version the_header [] (canon h)
 unfolding canon
 header_walk h is =
-    let h4 = left _ _ is in
-    let h3 = left _ _ h4 in
-    let h2 = left _ _ h3 in
-    let sound = left _ _ h2 in
-    let small = right _ _ (left _ _ (left _ _ sound)) in
+    let h4 = and_first _ _ is in
+    let h3 = and_first _ _ h4 in
+    let h2 = and_first _ _ h3 in
+    let sound = and_first _ _ h2 in
+    let small = and_second _ _ (and_first _ _ (and_first _ _ sound)) in
     let v = h.version in
     let after_attrs = One (Tag Variables) ∷ [] in
     let after_dims = One (Tag Attributes) ∷ after_attrs in
@@ -358,13 +347,13 @@ header_walk h is =
     (walk_then v the_header after_records after_dims counted (list_of v 10 (λ d. dimension v d) h.dims)
     (walk_then v the_header after_magic after_records (magic v) (count v h.records)
     (magic_walk v after_magic (known_version h sound))
-    (records_walk v h.records after_records (right _ _ h2)))
+    (records_walk v h.records after_records (and_second _ _ h2)))
     (list_walk v Dimensions (λ d. dimension v d) (is_writable_dim v) dimensions_tagged
-    (λ d k asks more e. dim_walk v d asks more e k) h.dims (at_most (length h.dims) most_dims (left _ _ (left _ _ small))) (left _ _ (right _ _ h3)) (right _ _ (right _ _ h3)) after_dims))
-    (attrs_walk v h.attrs (right _ _ h4) after_attrs))
+    (λ d k asks more e. dim_walk v d asks more e k) h.dims (leb-true (length h.dims) most_dims (and_first _ _ (and_first _ _ small))) (and_first _ _ (and_second _ _ h3)) (and_second _ _ (and_second _ _ h3)) after_dims))
+    (attrs_walk v h.attrs (and_second _ _ h4) after_attrs))
     (list_walk v Variables (λ w. variable h w) (λ w. is_writable_var h w && nat_le (length w.dims) most_dims_of_var) variables_tagged
-    (λ w k. var_walk h w (left _ _ k) (right _ _ k)) h.vars (at_most (length h.vars) most_vars (right _ _ (left _ _ small))) (left _ _ (right _ _ is))
-    (both_tests (is_writable_var h) (λ w. nat_le (length w.dims) most_dims_of_var) h.vars (right _ _ (right _ _ is)) (right _ _ small)) [])
+    (λ w k. var_walk h w (and_first _ _ k) (and_second _ _ k)) h.vars (leb-true (length h.vars) most_vars (and_second _ _ (and_first _ _ small))) (and_first _ _ (and_second _ _ is))
+    (both_tests (is_writable_var h) (λ w. nat_le (length w.dims) most_dims_of_var) h.vars (and_second _ _ (and_second _ _ is)) (and_second _ _ small)) [])
 
 version_there : (h : Header) (more : List ℕ) → version_of (canon h ++ more) ≡ h.version
 unfolding canon

@@ -4,6 +4,8 @@ use Rattle.std.proofs.lemmas.List.Folds.{flat_map-map}
 use Rattle.std.specs.Prelude.{map, flat_map, nat_lt, is_ok, IfSome, OnOk}
 use Rattle.std.specs.Option.{option_or}
 use borrow.Author.Tests.{ltb-true, ltb-false}
+use Rattle.overlay_laws.proofs.HullLaws.{first_last}
+use Rattle.list_laws.proofs.Optional.{second_counts}
 use Rattle.nc_base.specs.declared.plan.Owned.{Owned}
 use Rattle.nc_base.specs.declared.step.DiskCall.{DiskCall}
 use Rattle.nc_outside.specs.Told.{after, with_end}
@@ -14,7 +16,7 @@ use Rattle.overlay_laws.specs.Entries.{Source, cell_of}
 use Rattle.overlay_laws.specs.Hulls.{written_over}
 use Rattle.overlay_laws.specs.Walks.{told_of}
 use Rattle.overlay_laws.specs.Windows.{clips}
-use Rattle.overlay_laws.proofs.SaidLaws.{second_counts, same_said}
+use Rattle.overlay_laws.proofs.SaidLaws.{same_said}
 use Rattle.overlay_laws.proofs.WindowLaws.{within_more, none_below, none_past, clips_within, clips_from, clips_in}
 use Rattle.data_sieving.proofs.PutSteps.{entries_two, or_none, unsaid}
 use Rattle.collective_round.specs.Turns.{Told, written_told}
@@ -90,10 +92,6 @@ pub loads_are : (ws : List (List ℕ)) → flat_map load_calls (map told_of ws) 
 loads_are ws = flat_map-map load_calls told_of ws
 
 -- ---- all hulls
-
-first_last : (xs : List ℕ) → first_of xs ≤ last_of xs + 1
-first_last [] = omega arith
-first_last (x ∷ xs) = omega arith
 
 pub written_is : (cells : List Cell) (ws : List (List ℕ)) (file : List ℕ) → written_told file cells (map told_of ws) ≡ written_over file cells ws
 written_is cells [] file = refl

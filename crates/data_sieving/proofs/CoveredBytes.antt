@@ -1,14 +1,15 @@
 -- The bytes that entries have, and those of them from a place on.
-use Rattle.std.proofs.Common.{◌≡◌, ℕ, ◌+◌, ◌<◌, ◌≤◌, ◌⊎◌, inl, inr, refl, sym, ◌∙◌, ap, subst, List, [], ◌∷◌, ◌++◌, Bool, true, false, cond, append_assoc, arith}
-use Rattle.std.specs.Prelude.{filter, nat_le}
+use Rattle.std.proofs.Common.{◌≡◌, ℕ, ◌<◌, ◌≤◌, ◌⊎◌, inl, inr, refl, sym, ◌∙◌, ap, subst, List, [], ◌∷◌, ◌++◌, append_assoc, arith}
+use Rattle.std.specs.Prelude.{nat_le}
 use Rattle.std.specs.List.{range_with_len}
+use Rattle.std.proofs.lemmas.Bool.{le-leb, leb-true}
+use Rattle.overlay_laws.proofs.Members.{in_filter}
 use Rattle.nc_base.specs.declared.plan.Owned.{Owned}
 use Rattle.serial_spec.specs.DeviceCalls.{in_order}
 use Rattle.overlay_laws.specs.Entries.{In, ranges}
 use Rattle.overlay_laws.specs.Hulls.{IsAscending}
 use Rattle.overlay_laws.specs.Lines.{extents, EndBelow}
 use Rattle.overlay_laws.proofs.HullLaws.{filter_in, filter_ascends, in_left, in_right, in_either, in_flat, flat_in, in_range, range_low, range_high, in_in_order, in_order_in, in_order_ascends, first_least}
-use Rattle.overlay_laws.proofs.WalkLaws.{le_true, from_le}
 use Rattle.overlay_laws.proofs.CoverLaws.{same_ascending}
 use Rattle.data_sieving.specs.Serving.{IsCovered, IsPast, AreBegun, bytes_from}
 
@@ -49,27 +50,14 @@ covered_below n list x h c =
 
 -- ---- bytes from a place on
 
-keep_in : {X : Type 0} (y x : X) (rest : List X) (b : Bool) → In rest x → In (cond b (y ∷ rest) rest) x
-keep_in y x rest true h = inr h
-keep_in y x rest false h = h
-
-keep_first : {X : Type 0} (y : X) (rest : List X) (b : Bool) → b ≡ true → In (cond b (y ∷ rest) rest) y
-keep_first y rest true e = inl refl
-keep_first y rest false e = cc
-
-pub in_filter : {X : Type 0} (t : X → Bool) (xs : List X) (x : X) → In xs x → t x ≡ true → In (filter t xs) x
-in_filter t [] x h e = absurd h
-in_filter {X} t (y ∷ ys) x (inl g) e = subst (λ (z : X). In (filter t (y ∷ ys)) z) g (keep_first y (filter t ys) (t y) (ap t g ∙ e))
-in_filter t (y ∷ ys) x (inr h) e = keep_in y x (filter t ys) (t y) (in_filter t ys x h e)
-
 pub byte_from : (place : ℕ) (list : List Owned) (x : ℕ) → place ≤ x → IsCovered list x → In (bytes_from place list) x
 byte_from place list x h c =
-    in_filter (λ (y : ℕ). nat_le place y) (in_order (ranges list)) x (in_in_order (ranges list) x (in_ranges list x c)) (le_true place x h)
+    in_filter (λ (y : ℕ). nat_le place y) (in_order (ranges list)) x (in_in_order (ranges list) x (in_ranges list x c)) (le-leb place x h)
 
 pub from_byte : (place : ℕ) (list : List Owned) (x : ℕ) → In (bytes_from place list) x → (place ≤ x) × IsCovered list x
 from_byte place list x h =
     let r = filter_in (λ (y : ℕ). nat_le place y) (in_order (ranges list)) x h in
-    (from_le place x r.1, ranges_in list x (in_order_in (ranges list) x r.0))
+    (leb-true place x r.1, ranges_in list x (in_order_in (ranges list) x r.0))
 
 pub bytes_ascend : (place : ℕ) (list : List Owned) → IsAscending (bytes_from place list)
 bytes_ascend place list = filter_ascends (λ (y : ℕ). nat_le place y) (in_order (ranges list)) (in_order_ascends (ranges list))

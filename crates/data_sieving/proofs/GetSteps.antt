@@ -1,25 +1,27 @@
 -- Entries that are read window by window, each into its blob.
-use Rattle.std.proofs.Common.{◌≡◌, ◌≢◌, ℕ, zero, suc, ◌+◌, ◌-◌, ◌<◌, ◌≤◌, inl, inr, refl, sym, ◌∙◌, ap, subst, List, [], ◌∷◌, ◌++◌, length, take, drop, get_or, set, Bool, true, false, cond, max, min, Option, Some, None, arith}
-use Rattle.std.proofs.lemmas.Grind.{fold-append, flat_map-append}
+use Rattle.std.proofs.Common.{◌≡◌, ◌≢◌, ℕ, zero, suc, ◌+◌, ◌-◌, ◌<◌, ◌≤◌, inl, inr, refl, sym, ◌∙◌, ap, subst, List, [], ◌∷◌, ◌++◌, length, take, drop, get_or, set, Bool, true, false, cond, min, Option, Some, None, arith}
+use Rattle.std.proofs.lemmas.Grind.{fold-append}
 use Rattle.std.proofs.lemmas.List.{map-append, length-take, length-set, take_more, get_or-set_same, get_or-set_other, set-set, get_or_default}
-use Rattle.std.specs.Prelude.{map, filter, nat_lt, ◌==◌, IfSome}
+use Rattle.std.specs.Prelude.{map, nat_lt, ◌==◌, IfSome}
 use Rattle.std.specs.List.{enumerate_from, range_with_len}
 use borrow.Author.Tests.{ltb-true, ltb-false, eqb-true, eqb-false}
-use Rattle.nc_base.specs.declared.plan.Extent.{Extent}
+use Rattle.overlay_laws.proofs.Members.{in_filter}
+use Rattle.serial_spec.proofs.FileLaws.{length-written_inside}
+use Rattle.list_laws.proofs.Truth.{equal_true}
+use Rattle.serial_spec.proofs.CellLaws.{read_long}
 use Rattle.nc_base.specs.declared.plan.Owned.{Owned}
 use Rattle.file_domains.specs.declared.walk.Window.{Window}
 use Rattle.serial_spec.specs.File.{at, read, written}
 use Rattle.serial_spec.specs.Said.{Cell, said_at, said_by, Says, IsOneValued, write_cells, IsWithin}
 use Rattle.overlay_laws.specs.Entries.{In, got_cell}
-use Rattle.overlay_laws.proofs.SaidLaws.{no_none_some, write_long, same_said, said_is, said_in_any_order, same_hit}
-use Rattle.overlay_laws.proofs.WindowLaws.{append_within}
+use Rattle.overlay_laws.proofs.SaidLaws.{same_said, said_is, said_in_any_order}
+use Rattle.overlay_laws.proofs.WindowLaws.{append_within, said_by_joined}
 use Rattle.overlay_laws.proofs.EntryLaws.{says_left, says_right, says_cases}
 use Rattle.overlay_laws.proofs.HullLaws.{filter_in, in_either}
 use Rattle.overlay_laws.proofs.WalkLaws.{filter_joined}
-use Rattle.overlay_laws.proofs.ReadLaws.{read_long}
 use Rattle.data_sieving.specs.Sieving.{of_slot, got_cells, blob_at, HasGot, FitBlobs, places_of, HaveOnePlace, AreAsLong, LieOn}
-use Rattle.data_sieving.specs.Serving.{part_at, part_in, IsCovered, IsPast, AreBegun, IsNext, buffer_cell, HasGotPart}
-use Rattle.data_sieving.proofs.CoveredBytes.{in_filter, past_covered}
+use Rattle.data_sieving.specs.Serving.{part_at, part_in, IsCovered, IsPast, IsNext, buffer_cell, HasGotPart}
+use Rattle.data_sieving.proofs.CoveredBytes.{past_covered}
 use Rattle.data_sieving.proofs.ReachSteps.{begun_in}
 
 -- ---- parts of bytes that were read
@@ -181,7 +183,7 @@ pub in_slot : (k : ℕ) (list : List Owned) (o : Owned) → In (of_slot k list) 
 in_slot k list o m = let r = filter_in (λ (q : Owned). q.slot == k) list o m in (r.0, eqb-true _ _ r.1)
 
 pub slot_in : (k : ℕ) (list : List Owned) (o : Owned) → In list o → o.slot ≡ k → In (of_slot k list) o
-slot_in k list o m e = in_filter (λ (q : Owned). q.slot == k) list o m (same_hit o.slot k e)
+slot_in k list o m e = in_filter (λ (q : Owned). q.slot == k) list o m (equal_true o.slot k e)
 
 pub parts_within : (base : ℕ) (file : List ℕ) (lo hi n : ℕ) (os : List Owned) → ((o : Owned) → In os o → o.from + o.extent.len ≤ n) → IsWithin (parts_got base file lo hi os) n
 parts_within base file lo hi n [] h = tt
@@ -190,9 +192,6 @@ parts_within base file lo hi n (o ∷ os) h =
     (omega (arith, read_long file ((part_in lo hi o).extent.at - base) (part_in lo hi o).extent.len), parts_within base file lo hi n os (λ q m. h q (inr m)))
 
 -- ---- one window more
-
-pub said_joined : (a b : List Cell) → said_by (a ++ b) ≡ said_by a ++ said_by b
-said_joined a b = flat_map-append (λ cell. enumerate_from cell.0 cell.1) a b
 
 slot_said : (base : ℕ) (file : List ℕ) (k : ℕ) (list left : List Owned) (place size : ℕ) (w : Window) (begun later : List Owned) (stop y : ℕ)
     → ((o : Owned) → In list o → base ≤ o.extent.at) → IsOneValued (places_of (of_slot k list)) → IsPast place list left → IsNext left place size w begun later stop
@@ -211,7 +210,7 @@ slot_said base file k list left place size w begun later stop y on once p n =
 
     joined : said_by (parts_got base file 0 place (of_slot k list) ++ parts_got base file w.hull.at (w.hull.at + w.hull.len) (of_slot k begun))
         ≡ said_by (parts_got base file 0 place (of_slot k list)) ++ said_by (parts_got base file w.hull.at (w.hull.at + w.hull.len) (of_slot k begun))
-    joined = said_joined (parts_got base file 0 place (of_slot k list)) (parts_got base file w.hull.at (w.hull.at + w.hull.len) (of_slot k begun))
+    joined = said_by_joined (parts_got base file 0 place (of_slot k list)) (parts_got base file w.hull.at (w.hull.at + w.hull.len) (of_slot k begun))
 
     has_begun : (r : Owned) (x : ℕ) → In list r → place ≤ x → x < stop → r.extent.at ≤ x → x < r.extent.at + r.extent.len → In begun r
     has_begun r x m l h b e =
@@ -458,7 +457,7 @@ collected_long lo hi buf mid now o room fit is = (
         ap (λ (bs : List (List ℕ)). length (blob_at bs k)) is
         ∙ ap (λ (j : ℕ). length (blob_at (set mid o.slot (written (blob_at mid o.slot) (buffer_cell lo hi buf o).0 (buffer_cell lo hi buf o).1)) j)) (sym same)
         ∙ ap (λ (b : List ℕ). length b) (get_or-set_same mid o.slot (written (blob_at mid o.slot) (buffer_cell lo hi buf o).0 (buffer_cell lo hi buf o).1) [] room)
-        ∙ write_long (blob_at mid o.slot) (buffer_cell lo hi buf o).1 (buffer_cell lo hi buf o).0 (buffer_fits lo hi buf o (length (blob_at mid o.slot)) fit)
+        ∙ length-written_inside (blob_at mid o.slot) (buffer_cell lo hi buf o).0 (buffer_cell lo hi buf o).1 (buffer_fits lo hi buf o (length (blob_at mid o.slot)) fit)
         ∙ ap (λ (j : ℕ). length (blob_at mid j)) same
     by_slot k false f =
         let other : k ≢ o.slot = λ g. eqb-false _ _ f (sym g) in

@@ -2,13 +2,14 @@
 use Rattle.std.proofs.Common.{◌≡◌, ℕ, ◌+◌, ◌-◌, ◌<◌, ◌≤◌, ◌⊎◌, inl, inr, refl, sym, ◌∙◌, ap, subst, List, [], ◌∷◌, ◌++◌, length, take, get_or, Bool, true, false, min, max, Some, slice_get, arith}
 use Rattle.std.proofs.lemmas.List.{take_more, take_all}
 use Rattle.std.specs.Prelude.{nat_lt}
+use Rattle.std.proofs.lemmas.Option.{slice_get-get_or}
 use borrow.Author.Tests.{ltb-true, ltb-false}
+use Rattle.overlay_laws.proofs.Members.{entry_in}
 use Rattle.nc_base.specs.declared.plan.Owned.{Owned}
 use Rattle.file_domains.specs.declared.walk.Window.{Window}
 use Rattle.overlay_laws.specs.Entries.{In}
 use Rattle.overlay_laws.specs.Lines.{extents, IsByPlace}
-use Rattle.overlay_laws.proofs.HullLaws.{in_either, in_left, in_right}
-use Rattle.file_domains.proofs.CoverParts.{in_at, got_at}
+use Rattle.overlay_laws.proofs.HullLaws.{in_either, in_right}
 use Rattle.data_sieving.specs.Sieving.{AreFilled}
 use Rattle.data_sieving.specs.Serving.{IsCovered, IsHull}
 use Rattle.data_sieving.proofs.CoveredBytes.{covered_left}
@@ -100,11 +101,11 @@ scanned_more at stop end next i solid more_solid whole o d l e sorted filled bef
     (take_more whole i d l ∙ ap (λ (p : Owned). take i whole ++ p ∷ []) (sym e))
     (λ p m. subst (λ (q : Owned). In (take i whole) p ⊎ (q.extent.at ≤ p.extent.at)) (sym e) (before_or_later whole i d p l sorted m))
     (filled o inside) (before o inside)
-    (λ z. first o (ap (λ (k : ℕ). slice_get whole k) (sym z) ∙ got_at whole i d l ∙ ap Some (sym e)))
+    (λ z. first o (ap (λ (k : ℕ). slice_get whole k) (sym z) ∙ slice_get-get_or whole i d l ∙ ap Some (sym e)))
     room n keeps breaks h
   where
     inside : In whole o
-    inside = subst (λ (p : Owned). In whole p) (sym e) (in_at whole i d l)
+    inside = subst (λ (p : Owned). In whole p) (sym e) (entry_in whole i d l)
 
 pub nothing_scanned : (at stop : ℕ) (whole : List Owned) → at < stop → Scanned at stop at true whole (take 0 whole) 0
 nothing_scanned at stop whole room = record {

@@ -1,28 +1,24 @@
 -- One window of a loop over all windows.
-use Rattle.std.proofs.Common.{◌≡◌, ℕ, ◌+◌, ◌-◌, ◌^◌, ◌<◌, ◌≤◌, refl, sym, ◌∙◌, ap, subst, List, [], ◌∷◌, ◌++◌, length, min, Option, Some, None, Result, slice_get, arith}
-use Rattle.std.specs.Prelude.{IfSome, flat_map, IsErrOf}
+use Rattle.std.proofs.Common.{◌≡◌, ℕ, ◌+◌, ◌^◌, ◌≤◌, refl, ◌∙◌, ap, subst, List, [], ◌++◌, length, Option, arith}
+use Rattle.std.specs.Prelude.{IfSome, flat_map}
+use Rattle.overlay_laws.proofs.Members.{at_in}
 use Rattle.nc_base.specs.declared.plan.Owned.{Owned}
 use Rattle.nc_base.specs.declared.plan.Post.{Post}
 use Rattle.nc_base.specs.declared.step.DiskCall.{DiskCall}
 use Rattle.file_domains.specs.declared.walk.Window.{Window}
-use Rattle.nc_outside.specs.declared.disk.DiskErr.{DiskErr}
-use Rattle.nc_outside.specs.declared.disk.DiskErr.TheVariants.{Failed}
 use Rattle.nc_outside.specs.Told.{after, with_end, BothTold}
-use Rattle.nc_outside.specs.Cause.{HasDiskCause, Rose}
 use Rattle.serial_spec.specs.DeviceCalls.{overlays, loads}
 use Rattle.serial_spec.specs.Said.{write_cells, moved_down}
-use Rattle.overlay_laws.specs.Entries.{In}
 use Rattle.overlay_laws.specs.Windows.{clips}
 use Rattle.overlay_laws.specs.Lines.{extents, IsByPlace, EndBelow}
 use Rattle.overlay_laws.specs.Changes.{IsBetween, IsBegun, load_calls, store_calls}
 use Rattle.aggregator_rounds.specs.Pieces.{told_window}
-use Rattle.file_domains.proofs.CoverParts.{got_in}
 use Rattle.data_sieving.specs.Sieving.{source_of, put_cells, windows_of, AreFilled, LieOn}
 use Rattle.data_sieving.specs.Serving.{IsPast, AreLeft, IsNext, HasDone, windows_from}
-use Rattle.data_sieving.proofs.WindowSteps.{window_bytes, next_told, windows_next, all_windows, no_window, goes_on}
+use Rattle.data_sieving.proofs.WindowSteps.{window_bytes, next_told, windows_next, all_windows, no_window}
 use Rattle.data_sieving.proofs.CallSteps.{none_done, done_more, all_done, done_begun}
 use Rattle.data_sieving.proofs.PutSteps.{AreCells, entries_from, entries_within, file_to, file_step, to_begin, to_end, mixed_to, held_same, held_begin, held_twice, held_refused}
-use Rattle.data_sieving.proofs.ReachSteps.{hull_low, hull_high, place_below}
+use Rattle.data_sieving.proofs.ReachSteps.{hull_low, hull_high}
 
 -- ---- the walk
 
@@ -34,16 +30,9 @@ walk_ready list size sorted ends filled some = record {
   sorted = sorted;
   ends = ends;
   filled = filled;
-  next = λ o g. (let f = filled o (got_in list 0 o g) in omega arith);
+  next = λ o g. (let f = filled o (at_in list 0 o g) in omega arith);
   some = some;
 }
-
-pub nearer_end : (left : List Owned) (place size : ℕ) (w : Window) (begun later : List Owned) (stop : ℕ) → AreLeft left place size
-    → IsNext left place size w begun later stop → 2 ^ 64 - stop < 2 ^ 64 - place
-nearer_end left place size w begun later stop l n =
-    let further = goes_on left place size w begun later stop n in
-    let below = place_below left place size w begun later stop l n in
-    omega arith
 
 -- ---- the calls
 
@@ -128,12 +117,3 @@ pub put_end : (held now : Option (List ℕ)) (posts : List Post) (list left : Li
 put_end held now posts list left place base n told on none p e =
     e ∙ held_same held n (λ file. file_to base place (put_cells posts list) file) (λ file. write_cells file (moved_down base (put_cells posts list))) told
     (λ file long. to_end (source_of posts) list left base place n file (are_cells posts list base n on) long none p)
-
--- ---- causes
-
--- a cause counts from an earlier moment on
-pub cause_before : {T : Type 0} (before mid now : ℕ) (r : Result T DiskErr) → before ≤ mid → HasDiskCause mid now r → HasDiskCause before now r
-cause_before before mid now r h c = record {
-  later = (let l = c.later in omega arith);
-  failed = λ e. (let f = c.failed e in omega arith);
-}

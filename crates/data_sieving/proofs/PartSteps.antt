@@ -1,17 +1,16 @@
 -- Parts of entries, and entries laid over a buffer one by one.
-use Rattle.std.proofs.Common.{◌≡◌, ℕ, zero, suc, ◌+◌, ◌-◌, ◌<◌, ◌≤◌, refl, sym, ◌∙◌, ap, subst, List, [], ◌∷◌, ◌++◌, length, take, drop, get_or, Bool, true, false, min, max, Some, None, slice_get, arith}
-use Rattle.std.proofs.lemmas.List.{take-take, take_all, take_more, drop-drop, length-take, map-append}
-use Rattle.std.proofs.lemmas.Grind.{fold-append}
-use Rattle.std.specs.Prelude.{map, nat_lt}
+use Rattle.std.proofs.Common.{◌≡◌, ℕ, zero, suc, ◌+◌, ◌-◌, ◌<◌, ◌≤◌, refl, sym, ◌∙◌, ap, subst, List, [], ◌∷◌, length, take, drop, get_or, Bool, true, false, min, slice_get, arith}
+use Rattle.std.proofs.lemmas.List.{take-take, take_all, drop-drop, length-take}
+use Rattle.std.specs.Prelude.{nat_lt}
+use Rattle.std.proofs.lemmas.Option.{slice_get-get_or}
 use borrow.Author.Tests.{ltb-true, ltb-false}
 use Rattle.nc_base.specs.declared.plan.Owned.{Owned}
 use Rattle.nc_base.specs.declared.plan.Post.{Post}
 use Rattle.serial_spec.specs.File.{written}
 use Rattle.serial_spec.specs.Said.{Cell, write_cells, moved_down}
-use Rattle.overlay_laws.specs.Windows.{clip, clips}
-use Rattle.overlay_laws.specs.Entries.{In, Source, cell_of}
+use Rattle.overlay_laws.specs.Windows.{clip}
+use Rattle.overlay_laws.specs.Entries.{Source, cell_of}
 use Rattle.overlay_laws.specs.Origins.{AreFound}
-use Rattle.file_domains.proofs.CoverParts.{got_at}
 use Rattle.data_sieving.specs.Sieving.{bytes_of_post, source_of}
 use Rattle.data_sieving.specs.Serving.{part_at, part_in}
 
@@ -74,7 +73,7 @@ slot_in (p ∷ posts) zero h = omega arith
 slot_in (p ∷ posts) (suc slot) h = let l = slot_in posts slot h in omega arith
 
 pub slot_bytes : (posts : List Post) (slot : ℕ) (p : Post) → slot < length posts → (get_or posts slot p).bytes ≡ bytes_of_post (slice_get posts slot)
-slot_bytes posts slot p l = sym (ap bytes_of_post (got_at posts slot p l))
+slot_bytes posts slot p l = sym (ap bytes_of_post (slice_get-get_or posts slot p l))
 
 -- the bytes of the post that an entry names
 pub found_bytes : (posts given : List Post) (o : Owned) (p : Post) (bytes : List ℕ) → 1 ≤ o.extent.len → o.from + o.extent.len ≤ length (source_of posts o.rank o.slot)
@@ -105,19 +104,6 @@ part_high lo n o p e =
 
 -- ---- one entry more
 
--- cells of so many entries, and of one more
-pub laid_more : (g : Owned → Cell) (file : List ℕ) (list : List Owned) (i : ℕ) (d : Owned) → i < length list
-    → write_cells (write_cells file (map g (take i list))) (g (get_or list i d) ∷ []) ≡ write_cells file (map g (take (i + 1) list))
-laid_more g file list i d l =
-    sym (ap (λ (os : List Owned). write_cells file (map g os)) (take_more list i d l)
-    ∙ ap (λ (cells : List Cell). write_cells file cells) (map-append g (take i list) (get_or list i d ∷ []))
-    ∙ fold-append (λ f cell. written f cell.0 cell.1) file (map g (take i list)) (g (get_or list i d) ∷ []))
-
 -- the cells of entries in a window, as the buffer sees them
 abbrev pub laid_cell : Source → ℕ → ℕ → Owned → Cell
 laid_cell source lo hi o = ((clip lo hi (cell_of source o)).0 - lo, (clip lo hi (cell_of source o)).1)
-
-pub laid_cells : (source : Source) (lo hi : ℕ) (list : List Owned)
-    → moved_down lo (clips lo hi (map (λ o. cell_of source o) list)) ≡ map (λ o. laid_cell source lo hi o) list
-laid_cells source lo hi [] = refl
-laid_cells source lo hi (o ∷ list) = ap (λ (cells : List Cell). laid_cell source lo hi o ∷ cells) (laid_cells source lo hi list)

@@ -1,37 +1,37 @@
 -- Entries that are written window by window.
 use Rattle.std.proofs.Common.{◌≡◌, ℕ, ◌+◌, ◌-◌, ◌<◌, ◌≤◌, ◌⊎◌, inl, inr, refl, sym, ◌∙◌, ap, subst, List, [], ◌∷◌, ◌++◌, length, take, drop, get_or, Bool, true, false, max, min, Option, Some, None, arith}
-use Rattle.std.proofs.lemmas.Grind.{flat_map-append, fold-append}
+use Rattle.std.proofs.lemmas.Grind.{fold-append}
 use Rattle.std.proofs.lemmas.List.{map-append, length-take, length-drop}
 use Rattle.std.specs.Prelude.{map, nat_lt, IfSome}
 use Rattle.std.specs.List.{enumerate_from}
 use Rattle.std.specs.Option.{option_or}
 use borrow.Author.Tests.{ltb-true, ltb-false}
+use Rattle.aggregator_rounds.proofs.RoundLaws.{from_less}
+use Rattle.serial_spec.proofs.SaidLaws.{said_below, said_past, said_inside, said_append, cells_said}
+use Rattle.list_laws.proofs.Optional.{neither_some, second_counts, first_counts}
 use Rattle.nc_base.specs.declared.plan.Owned.{Owned}
 use Rattle.file_domains.specs.declared.walk.Window.{Window}
 use Rattle.nc_outside.specs.Told.{after, BothTold}
 use Rattle.serial_spec.specs.File.{at, written}
 use Rattle.serial_spec.specs.Said.{Cell, said_at, said_by, byte_or, write_cells, IsFrom, IsWithin, moved_down}
-use Rattle.overlay_laws.specs.Windows.{clip, clips, HasPlace}
+use Rattle.overlay_laws.specs.Windows.{clips, HasPlace}
 use Rattle.overlay_laws.specs.Entries.{In, Source, cell_of}
 use Rattle.overlay_laws.specs.Origins.{AreFound}
 use Rattle.overlay_laws.specs.Changes.{IsBetween}
-use Rattle.overlay_laws.proofs.SaidLaws.{both_none, first_counts, second_counts, said_below, said_past, said_inside, said_append, cells_said, cells_long, same_said}
-use Rattle.overlay_laws.proofs.WindowLaws.{moved_said, within_lowered, within_more, append_within, none_below, none_past, clips_within, clips_from, clips_in}
-use Rattle.data_sieving.specs.Serving.{IsCovered, IsPast, AreLeft, IsNext}
-use Rattle.data_sieving.proofs.CoveredBytes.{covered_left, covered_right, past_covered, begun_covered}
+use Rattle.overlay_laws.proofs.SaidLaws.{cells_long, same_said}
+use Rattle.overlay_laws.proofs.WindowLaws.{moved_said, within_lowered, within_more, append_within, none_below, none_past, clips_within, clips_from, clips_in, said_joined}
+use Rattle.data_sieving.specs.Serving.{IsCovered, IsPast, IsNext}
+use Rattle.data_sieving.proofs.CoveredBytes.{covered_right, past_covered, begun_covered}
 
 -- ---- what entries say
 
 abbrev pub entry_cells : Source → List Owned → List Cell
 entry_cells source list = map (λ o. cell_of source o) list
 
-said_two : (a b : List Cell) (x : ℕ) → said_at (said_by (a ++ b)) x ≡ option_or (said_at (said_by b) x) (said_at (said_by a) x)
-said_two a b x = ap (λ ps. said_at ps x) (flat_map-append (λ cell. enumerate_from cell.0 cell.1) a b) ∙ said_append (said_by a) (said_by b) x
-
 pub entries_two : (source : Source) (a b : List Owned) (x : ℕ)
     → said_at (said_by (entry_cells source (a ++ b))) x ≡ option_or (said_at (said_by (entry_cells source b)) x) (said_at (said_by (entry_cells source a)) x)
 entries_two source a b x =
-    ap (λ cells. said_at (said_by cells) x) (map-append (λ o. cell_of source o) a b) ∙ said_two (entry_cells source a) (entry_cells source b) x
+    ap (λ cells. said_at (said_by cells) x) (map-append (λ o. cell_of source o) a b) ∙ said_joined (entry_cells source a) (entry_cells source b) x
 
 pub or_none : (o : Option ℕ) → option_or o None ≡ o
 or_none None = refl
@@ -53,7 +53,7 @@ pub unsaid : (source : Source) (list : List Owned) (x : ℕ) → (IsCovered list
 unsaid source [] x h = refl
 unsaid source (o ∷ list) x h =
     said_append (enumerate_from o.extent.at (take o.extent.len (drop o.from (source o.rank o.slot)))) (said_by (entry_cells source list)) x
-    ∙ both_none (said_at (said_by (entry_cells source list)) x) _ (unsaid source list x (λ c. h (covered_right (o ∷ []) list x c)))
+    ∙ neither_some (said_at (said_by (entry_cells source list)) x) _ (unsaid source list x (λ c. h (covered_right (o ∷ []) list x c)))
     (outside o.extent.at o.extent.len x (take o.extent.len (drop o.from (source o.rank o.slot)))
     (omega (arith, length-take o.extent.len (drop o.from (source o.rank o.slot))))
     (λ l k. h (record { by = o; inside = inl refl; low = l; high = k })))
@@ -110,10 +110,6 @@ entries_within source (o ∷ list) n h =
     let end = h o (inl refl) in
     (omega (arith, length-take o.extent.len (drop o.from (source o.rank o.slot))), entries_within source list n (λ p m. h p (inr m)))
 
-from_less : (lo hi : ℕ) (cells : List Cell) → lo ≤ hi → IsFrom hi cells → IsFrom lo cells
-from_less lo hi [] l h = tt
-from_less lo hi (c ∷ cells) l h = let a : hi ≤ c.0 = h.0 in (omega arith, from_less lo hi cells l h.1)
-
 append_from : (lo : ℕ) (a b : List Cell) → IsFrom lo a → IsFrom lo b → IsFrom lo (a ++ b)
 append_from lo [] b h k = k
 append_from lo (c ∷ a) b h k = (h.0, append_from lo a b h.1 k)
@@ -152,7 +148,7 @@ step_said : (source : Source) (list left : List Owned) (place size : ℕ) (w : W
     → said_at (said_by (clips base (max base place) (entry_cells source list) ++ clips w.hull.at (w.hull.at + w.hull.len) (entry_cells source begun))) x
     ≡ said_at (said_by (clips base (max base stop) (entry_cells source list))) x
 step_said source list left place size w begun later stop base x p n low here =
-    said_two (clips base (max base place) (entry_cells source list)) (clips w.hull.at (w.hull.at + w.hull.len) (entry_cells source begun)) x
+    said_joined (clips base (max base place) (entry_cells source list)) (clips w.hull.at (w.hull.at + w.hull.len) (entry_cells source begun)) x
     ∙ by_place (nat_lt x (max base place)) refl
   where
     from : place ≤ w.hull.at

@@ -1,5 +1,5 @@
 -- What holds of all entries holds of those of a window.
-use Rattle.std.proofs.Common.{◌≡◌, ℕ, ◌+◌, ◌-◌, ◌^◌, ◌<◌, ◌≤◌, inl, inr, refl, sym, ◌∙◌, ap, subst, List, [], ◌∷◌, ◌++◌, length, min, arith}
+use Rattle.std.proofs.Common.{ℕ, ◌+◌, ◌^◌, ◌<◌, ◌≤◌, inl, inr, sym, subst, List, [], ◌∷◌, ◌++◌, arith}
 use Rattle.nc_base.specs.declared.plan.Extent.{Extent}
 use Rattle.nc_base.specs.declared.plan.Owned.{Owned}
 use Rattle.file_domains.specs.declared.walk.Window.{Window}
@@ -60,12 +60,6 @@ hull_end left place size w begun later stop l n =
     let below = begun_ends left place size stop begun l n.begun last.by.extent (in_extents begun last.by last.inside) in
     let end = last.high in
     let some = n.hull.some in
-    omega arith
-
-pub hull_room : (left : List Owned) (place size : ℕ) (w : Window) (begun later : List Owned) (stop : ℕ) → IsNext left place size w begun later stop → w.hull.len ≤ size
-hull_room left place size w begun later stop n =
-    let short = n.hull.short in
-    let is = n.ends in
     omega arith
 
 -- a window begins below 2 ^ 62, and what was served before it ends there

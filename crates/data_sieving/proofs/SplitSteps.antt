@@ -3,13 +3,14 @@ use Rattle.std.proofs.Common.{◌≡◌, ℕ, zero, suc, ◌+◌, ◌^◌, ◌<�
 use Rattle.std.specs.Prelude.{nat_lt}
 use borrow.Author.Tests.{ltb-true, ltb-false}
 use Rattle.std.proofs.lemmas.List.{take-append-drop, length-take}
+use Rattle.std.proofs.lemmas.Option.{same_Some, slice_get-get_or}
+use Rattle.overlay_laws.proofs.Members.{entry_in}
+use Rattle.list_laws.proofs.Optional.{no_none_some}
 use Rattle.nc_base.specs.declared.plan.Extent.{Extent}
 use Rattle.nc_base.specs.declared.plan.Owned.{Owned}
 use Rattle.overlay_laws.specs.Entries.{In}
 use Rattle.overlay_laws.specs.Lines.{extents, IsByPlace, EndBelow}
-use Rattle.overlay_laws.proofs.SaidLaws.{no_none_some, same_some}
-use Rattle.file_domains.proofs.CoverParts.{in_dropped, in_at, got_at, get_is}
-use Rattle.data_sieving.specs.Sieving.{AreFilled}
+use Rattle.file_domains.proofs.CoverParts.{in_dropped, get_is}
 use Rattle.data_sieving.specs.Serving.{IsPast, AreLeft, AreBegun}
 use Rattle.data_sieving.proofs.CoveredBytes.{in_extents}
 
@@ -20,12 +21,6 @@ taken_at zero xs x h = absurd h
 taken_at (suc n) [] x h = absurd h
 taken_at (suc n) (y ∷ xs) x (inl e) = (zero, omega arith, ap Some e)
 taken_at (suc n) (y ∷ xs) x (inr h) = let r = taken_at n xs x h in let l = r.1 in (suc r.0, omega arith, r.2)
-
-pub in_taken : {X : Type 0} (n : ℕ) (xs : List X) (x : X) → In (take n xs) x → In xs x
-in_taken zero xs x h = absurd h
-in_taken (suc n) [] x h = absurd h
-in_taken (suc n) (y ∷ xs) x (inl e) = inl e
-in_taken (suc n) (y ∷ xs) x (inr h) = inr (in_taken n xs x h)
 
 pub got_dropped : {X : Type 0} (n : ℕ) (xs : List X) (x : X) → slice_get (drop n xs) 0 ≡ Some x → slice_get xs n ≡ Some x
 got_dropped zero xs x h = h
@@ -80,11 +75,11 @@ later_all (suc n) place (p ∷ list) h k o m = later_all n place list h.1 k o m
 pub first_begins : (list : List Owned) (first o : Owned) → IsByPlace (extents list) → slice_get list 0 ≡ Some first → In list o → first.extent.at ≤ o.extent.at
 first_begins [] first o h e m = absurd m
 first_begins (p ∷ list) first o h e (inl g) =
-    let begin : first.extent.at ≡ p.extent.at = ap (λ (q : Owned). q.extent.at) (sym (same_some p first e)) in
+    let begin : first.extent.at ≡ p.extent.at = ap (λ (q : Owned). q.extent.at) (sym (same_Some p first e)) in
     let same : p.extent.at ≡ o.extent.at = ap (λ (q : Owned). q.extent.at) g in
     omega arith
 first_begins (p ∷ list) first o h e (inr m) =
-    let begin : first.extent.at ≡ p.extent.at = ap (λ (q : Owned). q.extent.at) (sym (same_some p first e)) in
+    let begin : first.extent.at ≡ p.extent.at = ap (λ (q : Owned). q.extent.at) (sym (same_Some p first e)) in
     let above = h.0 o.extent (in_extents list o m) in
     omega arith
 
@@ -140,7 +135,7 @@ some_taken (suc n) at stop list first l e begin room after = omega (arith, lengt
 
 pub entry_ends : (list : List Owned) (i : ℕ) (d : Owned) → EndBelow (2 ^ 62) (extents list) → i < length list
     → (get_or list i d).extent.at + (get_or list i d).extent.len < 2 ^ 62
-entry_ends list i d h l = h (get_or list i d).extent (in_extents list (get_or list i d) (in_at list i d l))
+entry_ends list i d h l = h (get_or list i d).extent (in_extents list (get_or list i d) (entry_in list i d l))
 
 pub ended_more : (place i : ℕ) (list : List Owned) (d : Owned) → i < length list → (get_or list i d).extent.at + (get_or list i d).extent.len ≤ place
     → ((k : ℕ) (o : Owned) → k < i → slice_get list k ≡ Some o → o.extent.at + o.extent.len ≤ place)
@@ -153,11 +148,11 @@ ended_more place i list d l e h k o m g = by_index (nat_lt k i) refl
         let past : i ≤ k = ltb-false _ _ f in
         let same : k ≡ i = omega arith in
         subst (λ (z : Owned). z.extent.at + z.extent.len ≤ place)
-        (same_some (get_or list i d) o (sym (got_at list i d l) ∙ ap (λ (n : ℕ). slice_get list n) (sym same) ∙ g)) e
+        (same_Some (get_or list i d) o (sym (slice_get-get_or list i d l) ∙ ap (λ (n : ℕ). slice_get list n) (sym same) ∙ g)) e
 
 pub goes_past : (place i : ℕ) (list : List Owned) (d o : Owned) → i < length list → place < (get_or list i d).extent.at + (get_or list i d).extent.len
     → slice_get list i ≡ Some o → place < o.extent.at + o.extent.len
-goes_past place i list d o l e g = subst (λ (z : Owned). place < z.extent.at + z.extent.len) (same_some (get_or list i d) o (sym (got_at list i d l) ∙ g)) e
+goes_past place i list d o l e g = subst (λ (z : Owned). place < z.extent.at + z.extent.len) (same_Some (get_or list i d) o (sym (slice_get-get_or list i d l) ∙ g)) e
 
 pub none_after : {A : Type 0} (list : List Owned) (o : Owned) → slice_get list (length list) ≡ Some o → A
 none_after list o g = let l = (get_is list (length list) o g).0 in absurd (omega arith)

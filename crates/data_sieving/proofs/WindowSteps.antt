@@ -1,22 +1,26 @@
 -- The first window of what is left, as it is told and as one of the windows of sieving.
-use Rattle.std.proofs.Common.{◌≡◌, ℕ, suc, ◌+◌, ◌-◌, ◌^◌, ◌<◌, ◌≤◌, inl, inr, refl, sym, ◌∙◌, ap, subst, List, [], ◌∷◌, length, Bool, true, false, cond, min, arith}
+use Rattle.std.proofs.Common.{◌≡◌, ℕ, ◌+◌, ◌-◌, ◌^◌, ◌<◌, ◌≤◌, inl, inr, refl, sym, ◌∙◌, ap, subst, List, [], ◌∷◌, length, Bool, true, false, arith}
 use Rattle.std.specs.Prelude.{filter, nat_lt, nat_le, ◌==◌}
 use Rattle.std.specs.List.{range_with_len}
+use Rattle.std.proofs.lemmas.List.FromFn.{length-range_with_len}
+use Rattle.std.proofs.lemmas.Bool.{lt-ltb, le-leb, lt-leb, leb-true}
 use borrow.Author.Tests.{ltb-true, ltb-false}
+use Rattle.overlay_laws.proofs.Members.{in_filter}
+use Rattle.list_laws.proofs.Truth.{equal_below, equal_true}
 use Rattle.nc_base.specs.declared.plan.Owned.{Owned}
 use Rattle.file_domains.specs.declared.walk.Window.{Window}
-use Rattle.serial_spec.specs.DeviceCalls.{in_order, first_of, last_of, hull_len, sieved, sieving_windows}
+use Rattle.serial_spec.specs.DeviceCalls.{in_order, first_of, hull_len, sieved, sieving_windows}
 use Rattle.overlay_laws.specs.Entries.{In, ranges}
 use Rattle.overlay_laws.specs.Hulls.{IsAscending}
 use Rattle.overlay_laws.specs.Walks.{told_of}
 use Rattle.overlay_laws.proofs.HullLaws.{filter_in, filter_ascends, filter_short, in_range, range_low, range_high, range_ascends, last_most, last_below}
-use Rattle.overlay_laws.proofs.WalkLaws.{lt_true, le_true, le_false, from_le, eq_true, eq_false_below, drop_first, filter_all, sieved_walked}
-use Rattle.overlay_laws.proofs.CoverLaws.{same_ascending, range_long}
+use Rattle.overlay_laws.proofs.WalkLaws.{drop_first, filter_all, sieved_walked}
+use Rattle.overlay_laws.proofs.CoverLaws.{same_ascending, triple_same}
 use Rattle.file_domains.proofs.WalkSteps.{walked_enough}
 use Rattle.aggregator_rounds.specs.Pieces.{told_window}
 use Rattle.data_sieving.specs.Sieving.{windows_of}
 use Rattle.data_sieving.specs.Serving.{IsCovered, IsPast, AreLeft, IsNext, bytes_from, windows_from}
-use Rattle.data_sieving.proofs.CoveredBytes.{in_extents, covered_below, in_filter, byte_from, from_byte, bytes_ascend, same_bytes, begins, past_covered, covered_past, past_twice, begun_covered, covered_begun}
+use Rattle.data_sieving.proofs.CoveredBytes.{covered_below, byte_from, from_byte, bytes_ascend, same_bytes, begins, past_covered, covered_past, begun_covered, covered_begun}
 
 -- ---- how many numbers there are between two
 
@@ -62,10 +66,6 @@ hole_short (x ∷ xs) a e y h k l m n =
 abbrev pub window_bytes : List Owned → ℕ → ℕ → Window → List ℕ
 window_bytes left place size w = filter (λ (y : ℕ). nat_lt y (w.hull.at + size)) (bytes_from place left)
 
-first_below : (left : List Owned) (place size : ℕ) (w : Window) (begun later : List Owned) (stop : ℕ) → AreLeft left place size
-    → IsNext left place size w begun later stop → w.hull.at < 2 ^ 62
-first_below left place size w begun later stop l n = covered_below (2 ^ 62) left w.hull.at l.ends n.first
-
 before_stop : (left : List Owned) (place size : ℕ) (w : Window) (begun later : List Owned) (stop x : ℕ) → AreLeft left place size
     → IsNext left place size w begun later stop → IsCovered left x → x < w.hull.at + size → x < stop
 before_stop left place size w begun later stop x l n c h =
@@ -91,10 +91,7 @@ window_in left place size w begun later stop x n h k c =
     let is = n.ends in
     let low = n.from in
     in_filter (λ (y : ℕ). nat_lt y (w.hull.at + size)) (bytes_from place left) x
-    (byte_from place left x (omega arith) (covered_begun stop left begun x n.begun c)) (lt_true x (w.hull.at + size) (omega arith))
-
-three : (a b c d : ℕ) (s t : Bool) → a ≡ c → b ≡ d → s ≡ t → ◌≡◌ {A = ℕ × ℕ × Bool} (a, b, s) (c, d, t)
-three a b c d s t p q r = λ i. (p i, q i, r i)
+    (byte_from place left x (omega arith) (covered_begun stop left begun x n.begun c)) (lt-ltb x (w.hull.at + size) (omega arith))
 
 begin_window : (left : List Owned) (place size : ℕ) (w : Window) (begun later : List Owned) (stop : ℕ) → AreLeft left place size
     → IsNext left place size w begun later stop → (ys : List ℕ) × (bytes_from place left ≡ w.hull.at ∷ ys)
@@ -106,7 +103,7 @@ begin_window left place size w begun later stop l n =
 pub next_told : (left : List Owned) (place size : ℕ) (w : Window) (begun later : List Owned) (stop : ℕ) → AreLeft left place size
     → IsNext left place size w begun later stop → told_of (window_bytes left place size w) ≡ told_window w
 next_told left place size w begun later stop l n =
-    three (first_of (window_bytes left place size w)) (hull_len (window_bytes left place size w)) w.hull.at w.hull.len
+    triple_same (first_of (window_bytes left place size w)) (hull_len (window_bytes left place size w)) w.hull.at w.hull.len
     (length (window_bytes left place size w) == hull_len (window_bytes left place size w)) w.full first long (by_full w.full refl)
   where
     asc : IsAscending (window_bytes left place size w)
@@ -145,15 +142,15 @@ next_told left place size w begun later stop l n =
 
     by_full : (t : Bool) → w.full ≡ t → (length (window_bytes left place size w) == hull_len (window_bytes left place size w)) ≡ t
     by_full true f =
-        let all : length (window_bytes left place size w) ≡ w.hull.len = ap (λ (xs : List ℕ). length xs) (solid f) ∙ range_long w.hull.at w.hull.len in
-        eq_true (length (window_bytes left place size w)) (hull_len (window_bytes left place size w)) (all ∙ sym long)
+        let all : length (window_bytes left place size w) ≡ w.hull.len = ap (λ (xs : List ℕ). length xs) (solid f) ∙ length-range_with_len w.hull.at w.hull.len in
+        equal_true (length (window_bytes left place size w)) (hull_len (window_bytes left place size w)) (all ∙ sym long)
     by_full false f =
         let r = n.hull.hole f in
         let short = hole_short (window_bytes left place size w) w.hull.at (w.hull.at + w.hull.len) r.0 asc
         (λ x m. let g = in_window left place size w begun later stop x l n m in (g.0, g.1)) r.1 r.2
         (λ m. r.3 (in_window left place size w begun later stop r.0 l n m).2) in
         let is = long in
-        eq_false_below (length (window_bytes left place size w)) (hull_len (window_bytes left place size w)) (omega arith)
+        equal_below (length (window_bytes left place size w)) (hull_len (window_bytes left place size w)) (omega arith)
 
 -- ---- the windows that are left
 
@@ -168,7 +165,7 @@ sieve_first size a ys xs h e =
     (ap (λ (r : List (List ℕ)). filter (λ (y : ℕ). nat_lt y (a + size)) (a ∷ ys) ∷ r)
     (enough (length ys) size (filter (λ (y : ℕ). nat_le (a + size) y) ys) (filter_short (λ (y : ℕ). nat_le (a + size) y) ys)
     ∙ ap (λ (b : List ℕ). sieving_windows size b)
-    (sym (drop_first a (filter (λ (y : ℕ). nat_le (a + size) y) ys) (nat_le (a + size) a) (le_false (a + size) a (omega arith))))))
+    (sym (drop_first a (filter (λ (y : ℕ). nat_le (a + size) y) ys) (nat_le (a + size) a) (lt-leb (a + size) a (omega arith))))))
 
 rest_bytes : (left : List Owned) (place size : ℕ) (w : Window) (begun later : List Owned) (stop : ℕ) → AreLeft left place size
     → IsNext left place size w begun later stop
@@ -178,7 +175,7 @@ rest_bytes left place size w begun later stop l n =
     (filter_ascends (λ (y : ℕ). nat_le (w.hull.at + size) y) (bytes_from place left) (bytes_ascend place left)) (bytes_ascend stop left)
     (λ x m.
     let r = filter_in (λ (y : ℕ). nat_le (w.hull.at + size) y) (bytes_from place left) x m in
-    let past = from_le (w.hull.at + size) x r.1 in
+    let past = leb-true (w.hull.at + size) x r.1 in
     let b = from_byte place left x r.0 in
     let is = n.ends in
     byte_from stop left x (omega arith) b.1)
@@ -189,7 +186,7 @@ rest_bytes left place size w begun later stop l n =
     let is = n.ends in
     let low = n.from in
     in_filter (λ (y : ℕ). nat_le (w.hull.at + size) y) (bytes_from place left) x (byte_from place left x (omega arith) b.1)
-    (le_true (w.hull.at + size) x (omega arith)))
+    (le-leb (w.hull.at + size) x (omega arith)))
 
 -- a window ends past what was served before it
 pub goes_on : (left : List Owned) (place size : ℕ) (w : Window) (begun later : List Owned) (stop : ℕ) → IsNext left place size w begun later stop → place < stop
@@ -218,7 +215,7 @@ windows_next list left place size w begun later stop p l n =
 pub all_windows : (size : ℕ) (list : List Owned) → windows_of size list ≡ windows_from size 0 list
 all_windows size list =
     ap (λ (xs : List ℕ). sieving_windows size xs)
-    (sym (filter_all (λ (y : ℕ). nat_le 0 y) (in_order (ranges list)) (λ y m. le_true 0 y (omega arith))))
+    (sym (filter_all (λ (y : ℕ). nat_le 0 y) (in_order (ranges list)) (λ y m. le-leb 0 y (omega arith))))
 
 pub no_window : (size place : ℕ) (list left : List Owned) → left ≡ [] → IsPast place list left → windows_from size place list ≡ []
 no_window size place list left e p =

@@ -1,35 +1,22 @@
 -- What is left of a cover from a place on, by how many extents begin before the place.
-use Rattle.std.proofs.Common.{◌≡◌, ℕ, zero, suc, ◌+◌, ◌-◌, ◌<◌, ◌≤◌, ◌⊎◌, refl, sym, ◌∙◌, ap, subst, inl, inr, List, [], ◌∷◌, ◌++◌, length, take, drop, get_or, length-drop, ◌^◌, Bool, true, false, cond, min, max, Option, Some, None, slice_get, arith}
-use Rattle.std.proofs.lemmas.Bool.Decides.{nat_tests}
+use Rattle.std.proofs.Common.{◌≡◌, ℕ, zero, suc, ◌+◌, ◌-◌, ◌<◌, ◌≤◌, refl, sym, ◌∙◌, ap, subst, inl, inr, List, [], ◌∷◌, ◌++◌, length, take, drop, get_or, length-drop, ◌^◌, Bool, true, false, cond, min, Some, slice_get, arith}
 use Rattle.std.proofs.lemmas.List.{take_all}
 use borrow.Author.Tests.{ltb-true, ltb-false}
 use Rattle.std.specs.Prelude.{filter, nat_lt, nat_le, ◌==◌}
 use Rattle.std.specs.List.{range_with_len, AllWithin}
 use Rattle.std.specs.List.Sorted.{IsPartitionedBy}
+use Rattle.std.proofs.lemmas.Option.{same_Some, slice_get-get_or}
+use Rattle.std.proofs.lemmas.Bool.{le-leb, leb-true, leb-false}
+use Rattle.overlay_laws.proofs.Members.{at_in}
+use Rattle.list_laws.proofs.Truth.{equal_above}
+use Rattle.list_laws.proofs.Optional.{no_none_some}
 use Rattle.nc_base.specs.declared.plan.Extent.{Extent}
-use Rattle.serial_spec.specs.DeviceCalls.{first_of}
 use Rattle.overlay_laws.specs.Entries.{In}
 use Rattle.overlay_laws.specs.Lines.{EndBelow}
-use Rattle.overlay_laws.specs.Walks.{spans, below, above, IsCover, end_after, is_single, first_at, hull_of, told_of}
-use Rattle.overlay_laws.proofs.SaidLaws.{no_none_some, same_some}
-use Rattle.overlay_laws.proofs.WalkLaws.{filter_joined, from_le, from_not_le, le_true, eq_false}
-use Rattle.overlay_laws.proofs.CoverLaws.{range_above_none, spans_below, below_told}
+use Rattle.overlay_laws.specs.Walks.{spans, below, IsCover, end_after, is_single, first_at}
+use Rattle.overlay_laws.proofs.WalkLaws.{filter_joined}
+use Rattle.overlay_laws.proofs.CoverLaws.{range_above_none}
 use Rattle.file_domains.specs.Rounds.{IsLeft}
-
-pub in_at : {X : Type 0} (xs : List X) (i : ℕ) (d : X) → i < length xs → In xs (get_or xs i d)
-in_at [] i d h = absurd (omega arith)
-in_at (x ∷ xs) zero d h = inl refl
-in_at (x ∷ xs) (suc i) d h = inr (in_at xs i d (omega arith))
-
-pub got_in : {X : Type 0} (xs : List X) (i : ℕ) (e : X) → slice_get xs i ≡ Some e → In xs e
-got_in [] i e h = no_none_some e h
-got_in (x ∷ xs) zero e h = inl (same_some x e h)
-got_in (x ∷ xs) (suc i) e h = inr (got_in xs i e h)
-
-pub got_at : {X : Type 0} (xs : List X) (i : ℕ) (d : X) → i < length xs → slice_get xs i ≡ Some (get_or xs i d)
-got_at [] i d h = absurd (omega arith)
-got_at (x ∷ xs) zero d h = refl
-got_at (x ∷ xs) (suc i) d h = got_at xs i d (omega arith)
 
 pub in_dropped : {X : Type 0} (k : ℕ) (xs : List X) (e : X) → In (drop k xs) e → In xs e
 in_dropped zero xs e h = h
@@ -45,7 +32,7 @@ pub ends_before : (cover : List Extent) (i j : ℕ) (d e : Extent) → IsCover c
 ends_before [] i j d e h l f g = no_none_some d f
 ends_before (c ∷ cover) zero zero d e h l f g = absurd (omega arith)
 ends_before (c ∷ cover) zero (suc j) d e h l f g =
-    subst (λ (z : Extent). z.at + z.len < e.at) (same_some c d f) (h.1 e (got_in cover j e g))
+    subst (λ (z : Extent). z.at + z.len < e.at) (same_Some c d f) (h.1 e (at_in cover j e g))
 ends_before (c ∷ cover) (suc i) zero d e h l f g = absurd (omega arith)
 ends_before (c ∷ cover) (suc i) (suc j) d e h l f g = ends_before cover i j d e h.2 (omega arith) f g
 
@@ -92,7 +79,7 @@ pub left_from_last : (begun place : ℕ) (last : Extent) (cover : List Extent) �
 left_from_last begun place last cover h ends some at_last long before =
     dropped (begun - 1) place cover h ends
     (λ i e l g. let gap = ends_before cover i (begun - 1) e last h l g at_last in let low = before (begun - 1) last (omega arith) at_last in omega arith)
-    (λ e g. subst (λ (z : Extent). place < z.at + z.len) (same_some last e (sym at_last ∙ g)) long)
+    (λ e g. subst (λ (z : Extent). place < z.at + z.len) (same_Some last e (sym at_last ∙ g)) long)
 
 -- the last extent that has begun is past, or none has begun
 pub left_from_next : (begun place : ℕ) (cover : List Extent) → IsCover cover → EndBelow (2 ^ 62) cover
@@ -102,16 +89,16 @@ pub left_from_next : (begun place : ℕ) (cover : List Extent) → IsCover cover
     → IsLeft place cover (drop begun cover)
 left_from_next zero place cover h ends last bound after =
     dropped zero place cover h ends (λ i e l g. absurd (omega arith))
-    (λ e g. let low = after e g in let long = long_enough cover e h (got_in cover zero e g) in omega arith)
+    (λ e g. let low = after e g in let long = long_enough cover e h (at_in cover zero e g) in omega arith)
 left_from_next (suc k) place cover h ends last bound after =
     let none : Extent = record { at = 0; len = 0 } in
-    let there : slice_get cover k ≡ Some (get_or cover k none) = got_at cover k none (omega arith) in
+    let there : slice_get cover k ≡ Some (get_or cover k none) = slice_get-get_or cover k none (omega arith) in
     let here : suc k - 1 ≡ k = omega arith in
     let final : (get_or cover k none).at + (get_or cover k none).len ≤ place
     = last (get_or cover k none) (omega arith) (ap (λ (n : ℕ). slice_get cover n) here ∙ there) in
     dropped (suc k) place cover h ends
     (λ i e l g. by_place i e g final there (nat_lt i k) refl l)
-    (λ e g. let low = after e g in let long = long_enough cover e h (got_in cover (suc k) e g) in omega arith)
+    (λ e g. let low = after e g in let long = long_enough cover e h (at_in cover (suc k) e g) in omega arith)
   where
     by_place : (i : ℕ) (e : Extent) → slice_get cover i ≡ Some e → (get_or cover k (record { at = 0; len = 0 })).at + (get_or cover k (record { at = 0; len = 0 })).len ≤ place
         → slice_get cover k ≡ Some (get_or cover k (record { at = 0; len = 0 })) → (t : Bool) → nat_lt i k ≡ t → i < suc k → e.at + e.len ≤ place
@@ -120,7 +107,7 @@ left_from_next (suc k) place cover h ends last bound after =
     by_place i e g final there false f l =
         let low : k ≤ i = ltb-false _ _ f in
         let same : i ≡ k = omega arith in
-        subst (λ (z : Extent). z.at + z.len ≤ place) (same_some (get_or cover k (record { at = 0; len = 0 })) e (sym there ∙ ap (λ (n : ℕ). slice_get cover n) (sym same) ∙ g)) final
+        subst (λ (z : Extent). z.at + z.len ≤ place) (same_Some (get_or cover k (record { at = 0; len = 0 })) e (sym there ∙ ap (λ (n : ℕ). slice_get cover n) (sym same) ∙ g)) final
 
 -- extents of a cover rise
 pub cover_rises : (cover : List Extent) (place i j : ℕ) (d : Extent) → IsCover cover → i ≤ j → j < length cover
@@ -130,9 +117,9 @@ cover_rises cover place i j d h l room e = by_place (nat_lt i j) refl
     by_place : (t : Bool) → nat_lt i j ≡ t → nat_le (get_or cover i d).at place ≡ true
     by_place true f =
         let low : i < j = ltb-true _ _ f in
-        let gap = ends_before cover i j (get_or cover i d) (get_or cover j d) h low (got_at cover i d (omega arith)) (got_at cover j d room) in
-        let last = from_le (get_or cover j d).at place e in
-        le_true (get_or cover i d).at place (omega arith)
+        let gap = ends_before cover i j (get_or cover i d) (get_or cover j d) h low (slice_get-get_or cover i d (omega arith)) (slice_get-get_or cover j d room) in
+        let last = leb-true (get_or cover j d).at place e in
+        le-leb (get_or cover i d).at place (omega arith)
     by_place false f =
         let high : j ≤ i = ltb-false _ _ f in
         let same : j ≡ i = omega arith in
@@ -140,19 +127,19 @@ cover_rises cover place i j d h l room e = by_place (nat_lt i j) refl
 
 pub get_is : {X : Type 0} (xs : List X) (i : ℕ) (e : X) → slice_get xs i ≡ Some e → (i < length xs) × (get_or xs i e ≡ e)
 get_is [] i e h = no_none_some e h
-get_is (x ∷ xs) zero e h = (omega arith, same_some x e h)
+get_is (x ∷ xs) zero e h = (omega arith, same_Some x e h)
 get_is (x ∷ xs) (suc i) e h = let r = get_is xs i e h in let l = r.0 in (omega arith, r.1)
 
 pub begun_low : (cover : List Extent) (place k : ℕ) → AllWithin (λ e. nat_le e.at place ≡ true) cover 0 k
     → (i : ℕ) (e : Extent) → i < k → slice_get cover i ≡ Some e → e.at ≤ place
 begun_low cover place k h i e l g =
-    from_le e.at place (subst (λ (z : Extent). nat_le z.at place ≡ true) (get_is cover i e g).1 (h i e (omega arith) l))
+    leb-true e.at place (subst (λ (z : Extent). nat_le z.at place ≡ true) (get_is cover i e g).1 (h i e (omega arith) l))
 
 pub begun_high : (cover : List Extent) (place k : ℕ) → AllWithin (λ e. nat_le e.at place ≡ false) cover k (length cover)
     → (e : Extent) → slice_get cover k ≡ Some e → place ≤ e.at
 begun_high cover place k h e g =
     let r = get_is cover k e g in
-    let past = from_not_le e.at place (subst (λ (z : Extent). nat_le z.at place ≡ false) r.1 (h k e (omega arith) r.0)) in
+    let past = leb-false e.at place (subst (λ (z : Extent). nat_le z.at place ≡ false) r.1 (h k e (omega arith) r.0)) in
     omega arith
 
 any_default : {X : Type 0} (xs : List X) (i : ℕ) (d e : X) → i < length xs → get_or xs i d ≡ get_or xs i e
@@ -164,7 +151,7 @@ any_default (x ∷ xs) (suc i) d e h = any_default xs i d e (omega arith)
 pub half_begun : (cover : List Extent) (place middle i : ℕ) (none d : Extent) → IsPartitionedBy (λ e. nat_le e.at place) cover → middle < length cover
     → (get_or cover middle none).at ≤ place → i ≤ middle → nat_le (get_or cover i d).at place ≡ true
 half_begun cover place middle i none d h room e l =
-    h i middle d l room (subst (λ (z : Extent). nat_le z.at place ≡ true) (any_default cover middle none d room) (le_true (get_or cover middle none).at place e))
+    h i middle d l room (subst (λ (z : Extent). nat_le z.at place ≡ true) (any_default cover middle none d room) (le-leb (get_or cover middle none).at place e))
 
 pub half_left : (cover : List Extent) (place middle i : ℕ) (none d : Extent) → IsPartitionedBy (λ e. nat_le e.at place) cover → i < length cover
     → place < (get_or cover middle none).at → middle ≤ i → nat_le (get_or cover i d).at place ≡ false
@@ -173,20 +160,11 @@ half_left cover place middle i none d h room e l = by_test (nat_le (get_or cover
     by_test : (t : Bool) → nat_le (get_or cover i d).at place ≡ t → nat_le (get_or cover i d).at place ≡ false
     by_test false f = f
     by_test true f =
-        let low = from_le (get_or cover middle none).at place
+        let low = leb-true (get_or cover middle none).at place
         (h middle i none l room (subst (λ (z : Extent). nat_le z.at place ≡ true) (any_default cover i d none room) f)) in
         absurd (omega arith)
 
 -- ---- the hull of the extents of which k + 1 begin before a place
-
-after_none : (m n : ℕ) (cover : List Extent) → ((e : Extent) → slice_get cover 0 ≡ Some e → m ≤ e.at) → end_after n (below m cover) ≡ n
-after_none m n [] h = refl
-after_none m n (e ∷ cover) h = by_start (nat_le m e.at) refl
-  where
-    by_start : (t : Bool) → nat_le m e.at ≡ t
-        → end_after n (cond t [] (cond (nat_le (e.at + e.len) m) (e ∷ below m cover) (record { at = e.at; len = m - e.at } ∷ []))) ≡ n
-    by_start true g = refl
-    by_start false g = let a = h e refl in let b = from_not_le m e.at g in absurd (omega arith)
 
 none_below : (m : ℕ) (cover : List Extent) → ((e : Extent) → slice_get cover 0 ≡ Some e → m ≤ e.at) → below m cover ≡ []
 none_below m [] h = refl
@@ -195,7 +173,7 @@ none_below m (e ∷ cover) h = by_start (nat_le m e.at) refl
     by_start : (t : Bool) → nat_le m e.at ≡ t
         → cond t [] (cond (nat_le (e.at + e.len) m) (e ∷ below m cover) (record { at = e.at; len = m - e.at } ∷ [])) ≡ []
     by_start true g = refl
-    by_start false g = let a = h e refl in let b = from_not_le m e.at g in absurd (omega arith)
+    by_start false g = let a = h e refl in let b = leb-false m e.at g in absurd (omega arith)
 
 -- the part of a cover whose first extent begins before the place
 below_first : (m : ℕ) (e : Extent) (cover : List Extent) → e.at < m
@@ -205,7 +183,7 @@ below_first m e cover h = by_start (nat_le m e.at) refl
     by_start : (t : Bool) → nat_le m e.at ≡ t
         → cond t [] (cond (nat_le (e.at + e.len) m) (e ∷ below m cover) (record { at = e.at; len = m - e.at } ∷ []))
         ≡ cond (nat_le (e.at + e.len) m) (e ∷ below m cover) (record { at = e.at; len = m - e.at } ∷ [])
-    by_start true g = let a = from_le m e.at g in absurd (omega arith)
+    by_start true g = let a = leb-true m e.at g in absurd (omega arith)
     by_start false g = refl
 
 below_whole : (m : ℕ) (e : Extent) (cover : List Extent) → e.at < m → e.at + e.len ≤ m → below m (e ∷ cover) ≡ e ∷ below m cover
@@ -215,7 +193,7 @@ below_whole m e cover h k =
   where
     by_end : (t : Bool) → nat_le (e.at + e.len) m ≡ t → cond t (e ∷ below m cover) (record { at = e.at; len = m - e.at } ∷ []) ≡ e ∷ below m cover
     by_end true g = refl
-    by_end false g = let a = from_not_le (e.at + e.len) m g in absurd (omega arith)
+    by_end false g = let a = leb-false (e.at + e.len) m g in absurd (omega arith)
 
 below_cut : (m : ℕ) (e : Extent) (cover : List Extent) → e.at < m → m < e.at + e.len → below m (e ∷ cover) ≡ record { at = e.at; len = m - e.at } ∷ []
 below_cut m e cover h k =
@@ -224,11 +202,8 @@ below_cut m e cover h k =
   where
     by_end : (t : Bool) → nat_le (e.at + e.len) m ≡ t
         → cond t (e ∷ below m cover) (record { at = e.at; len = m - e.at } ∷ []) ≡ record { at = e.at; len = m - e.at } ∷ []
-    by_end true g = let a = from_le (e.at + e.len) m g in absurd (omega arith)
+    by_end true g = let a = leb-true (e.at + e.len) m g in absurd (omega arith)
     by_end false g = refl
-
-two_singles : (e : Extent) (cs ds : List Extent) → cs ≡ ds → is_single (e ∷ cs) ≡ is_single (e ∷ ds)
-two_singles e cs ds h = ap (λ (c : List Extent). is_single (e ∷ c)) h
 
 -- where it ends, and whether it is one extent
 pub counted_below : (m k : ℕ) (e last : Extent) (cover : List Extent) → IsCover (e ∷ cover) → e.at < m → slice_get (e ∷ cover) k ≡ Some last
@@ -240,15 +215,15 @@ counted_below m zero e last cover h l g before after = by_end (nat_le (e.at + e.
     by_end : (t : Bool) → nat_le (e.at + e.len) m ≡ t
         → (end_after 0 (below m (e ∷ cover)) ≡ min (last.at + last.len) m) × (is_single (below m (e ∷ cover)) ≡ true) × (first_at (below m (e ∷ cover)) ≡ e.at)
     by_end true f =
-        let fits = from_le (e.at + e.len) m f in
+        let fits = leb-true (e.at + e.len) m f in
         let whole = below_whole m e cover l fits ∙ ap (λ (c : List Extent). e ∷ c) (none_below m cover after) in
-        let same : e.at + e.len ≡ last.at + last.len = ap (λ (z : Extent). z.at + z.len) (same_some e last g) in
+        let same : e.at + e.len ≡ last.at + last.len = ap (λ (z : Extent). z.at + z.len) (same_Some e last g) in
         let least : e.at + e.len ≡ min (last.at + last.len) m = omega arith in
         (ap (λ (c : List Extent). end_after 0 c) whole ∙ least, ap is_single whole, ap first_at whole)
     by_end false f =
-        let cut = from_not_le (e.at + e.len) m f in
+        let cut = leb-false (e.at + e.len) m f in
         let part = below_cut m e cover l cut in
-        let same : e.at + e.len ≡ last.at + last.len = ap (λ (z : Extent). z.at + z.len) (same_some e last g) in
+        let same : e.at + e.len ≡ last.at + last.len = ap (λ (z : Extent). z.at + z.len) (same_Some e last g) in
         let least : e.at + (m - e.at) ≡ min (last.at + last.len) m = omega arith in
         (ap (λ (c : List Extent). end_after 0 c) part ∙ least, ap is_single part, ap first_at part)
 counted_below m (suc k) e last [] h l g before after = no_none_some last g
@@ -260,7 +235,7 @@ counted_below m (suc k) e last (f ∷ cover) h l g before after =
     let opened = below_first m f cover next in (
       ap (λ (c : List Extent). end_after 0 c) whole
           ∙ (by_more (e.at + e.len) (nat_le (f.at + f.len) m) (below m (f ∷ cover)) opened) ∙ rest.0,
-      ap is_single whole ∙ more_than_one (nat_le (f.at + f.len) m) (below m (f ∷ cover)) opened ∙ sym (eq_false 0 (suc k) (omega arith)),
+      ap is_single whole ∙ more_than_one (nat_le (f.at + f.len) m) (below m (f ∷ cover)) opened ∙ sym (equal_above (suc k) 0 (omega arith)),
       ap first_at whole,
     )
   where

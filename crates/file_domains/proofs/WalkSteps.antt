@@ -1,24 +1,26 @@
 -- One window of a walk.
-use Rattle.std.proofs.Common.{◌≡◌, ℕ, zero, suc, ◌+◌, ◌-◌, ◌*◌, ◌/◌, ◌^◌, ◌<◌, ◌≤◌, refl, sym, ◌∙◌, ap, subst, inl, inr, List, [], ◌∷◌, ◌++◌, length, Bool, true, false, ◌&&◌, cond, min, max, Option, Some, None, slice_get, get_or, arith}
+use Rattle.std.proofs.Common.{◌≡◌, ℕ, zero, suc, ◌+◌, ◌-◌, ◌/◌, ◌^◌, ◌<◌, ◌≤◌, refl, sym, ◌∙◌, ap, subst, inl, inr, List, [], ◌∷◌, length, Bool, true, false, ◌&&◌, cond, min, max, Some, None, slice_get, get_or, arith}
 use Rattle.std.proofs.lemmas.Bool.Decides.{nat_tests}
 use Rattle.std.specs.Prelude.{filter, map, nat_lt, nat_le, ◌==◌}
 use Rattle.std.specs.List.{range_with_len}
+use Rattle.list_laws.proofs.Optional.{no_none_some}
 use Rattle.nc_base.specs.declared.plan.Extent.{Extent}
 use borrow.Author.Tests.{ltb-true, ltb-false}
-use Rattle.overlay_laws.proofs.SaidLaws.{same_some, no_none_some}
 use Rattle.serial_spec.specs.DeviceCalls.{first_of}
 use Rattle.overlay_laws.specs.Hulls.{IsAscending}
 use Rattle.overlay_laws.specs.Entries.{In}
 use Rattle.overlay_laws.specs.Lines.{EndBelow}
-use Rattle.overlay_laws.specs.Walks.{spans, below, above, IsCover, hull_of, end_after, is_single, first_at, told_of, walked, round_end}
-use Rattle.overlay_laws.proofs.WalkLaws.{filter_same, take_first, drop_first, lt_true, lt_false, le_true, le_false, from_le, from_not_le, filter_none, windows_walked}
+use Rattle.overlay_laws.specs.Walks.{spans, below, above, IsCover, end_after, is_single, first_at, told_of, walked, round_end}
+use Rattle.overlay_laws.proofs.WalkLaws.{filter_same, take_first, drop_first, windows_walked}
 use Rattle.overlay_laws.proofs.HullLaws.{filter_short, filter_in, filter_ascends, flat_in, range_high, range_low, in_either}
 use Rattle.overlay_laws.proofs.DomainLaws.{filter_two}
-use Rattle.overlay_laws.proofs.CoverLaws.{spans_below, spans_above, below_told, range_first, past_round, spans_below_none, spans_ascend, spans_past}
+use Rattle.overlay_laws.proofs.CoverLaws.{spans_below, spans_above, below_told, range_first, past_round, spans_below_none, spans_ascend, spans_past, triple_same}
 use Rattle.std.specs.Iterator.{MakesProgress, item_count}
+use Rattle.std.proofs.lemmas.Option.{same_Some, slice_get-get_or}
+use Rattle.std.proofs.lemmas.Bool.{lt-ltb, le-ltb, le-leb, lt-leb, leb-true, leb-false}
 use Rattle.file_domains.specs.declared.walk.Window.{Window}
-use Rattle.file_domains.specs.Rounds.{window_told, windows_of, windows_left, IsWalk, IsLeft}
-use Rattle.file_domains.proofs.CoverParts.{counted_below, ends_before, got_at}
+use Rattle.file_domains.specs.Rounds.{window_told, windows_of}
+use Rattle.file_domains.proofs.CoverParts.{counted_below, ends_before}
 
 -- ---- walks
 
@@ -41,7 +43,7 @@ walked_first stop x ys bytes h e =
     (sym e)
     (ap (λ r. filter (λ y. nat_lt y (stop x)) (x ∷ ys) ∷ r)
     (let dropped : filter (λ y. nat_le (stop x) y) (x ∷ ys) ≡ filter (λ y. nat_le (stop x) y) ys
-    = drop_first x (filter (λ y. nat_le (stop x) y) ys) (nat_le (stop x) x) (le_false (stop x) x h) in
+    = drop_first x (filter (λ y. nat_le (stop x) y) ys) (nat_le (stop x) x) (lt-leb (stop x) x h) in
     let short = filter_short (λ y. nat_le (stop x) y) ys in
     walked_enough stop (length ys) (length (filter (λ y. nat_le (stop x) y) ys)) (filter (λ y. nat_le (stop x) y) ys) short (omega arith)
     ∙ ap (λ (b : List ℕ). walked stop (length b) b) (sym dropped)))
@@ -52,9 +54,9 @@ and_min : (y a b : ℕ) → (nat_lt y a && nat_lt y b) ≡ nat_lt y (min a b)
 and_min y a b = by_first (nat_lt y a) (nat_lt y b) refl refl
   where
     by_first : (s t : Bool) → nat_lt y a ≡ s → nat_lt y b ≡ t → (s && t) ≡ nat_lt y (min a b)
-    by_first true true e f = let p : y < a = ltb-true _ _ e in let q : y < b = ltb-true _ _ f in sym (lt_true y (min a b) (omega arith))
-    by_first true false e f = let q : b ≤ y = ltb-false _ _ f in sym (lt_false y (min a b) (omega arith))
-    by_first false t e f = let p : a ≤ y = ltb-false _ _ e in sym (lt_false y (min a b) (omega arith))
+    by_first true true e f = let p : y < a = ltb-true _ _ e in let q : y < b = ltb-true _ _ f in sym (lt-ltb y (min a b) (omega arith))
+    by_first true false e f = let q : b ≤ y = ltb-false _ _ f in sym (le-ltb y (min a b) (omega arith))
+    by_first false t e f = let p : a ≤ y = ltb-false _ _ e in sym (le-ltb y (min a b) (omega arith))
 
 window_bytes : (re end : ℕ) (xs : List ℕ) → filter (λ y. nat_lt y re) (filter (λ y. nat_lt y end) xs) ≡ filter (λ y. nat_lt y (min re end)) xs
 window_bytes re end xs = filter_two (λ y. nat_lt y (min re end)) (λ y. nat_lt y re) (λ y. nat_lt y end) xs (λ y m. sym (and_min y re end))
@@ -68,12 +70,12 @@ later_test re end from y h = by_end (nat_lt y end) (nat_le re y) refl refl
     by_end false true e f = refl
     by_end false false e f = refl
     by_end true true e f =
-        let q : re ≤ y = from_le re y f in
-        le_true from y (omega arith) ∙ sym (le_true (min re end) y (omega arith))
+        let q : re ≤ y = leb-true re y f in
+        le-leb from y (omega arith) ∙ sym (le-leb (min re end) y (omega arith))
     by_end true false e f =
         let p : y < end = ltb-true _ _ e in
-        let q : y < re = from_not_le re y f in
-        sym (le_false (min re end) y (omega arith))
+        let q : y < re = leb-false re y f in
+        sym (lt-leb (min re end) y (omega arith))
 
 later_bytes : (re end from : ℕ) (xs : List ℕ) → from ≤ min re end
     → filter (λ y. nat_le re y) (filter (λ y. nat_lt y end) (filter (λ y. nat_le from y) xs)) ≡ filter (λ y. nat_lt y end) (filter (λ y. nat_le (min re end) y) xs)
@@ -94,22 +96,19 @@ above_first from e cover h = by_start (nat_le from e.at) (nat_le (e.at + e.len) 
     by_start : (s t : Bool) → nat_le from e.at ≡ s → nat_le (e.at + e.len) from ≡ t
         → cond s (e ∷ cover) (cond t (above from cover) (record { at = from; len = e.at + e.len - from } ∷ cover)) ≡ head_from from e ∷ cover
     by_start true t p q =
-        let low = from_le from e.at p in
+        let low = leb-true from e.at p in
         let begin : e.at ≡ max e.at from = omega arith in
         let long : e.len ≡ e.at + e.len - max e.at from = omega arith in
         λ i. record { at = begin i; len = long i } ∷ cover
-    by_start false true p q = let past = from_le (e.at + e.len) from q in absurd (omega arith)
+    by_start false true p q = let past = leb-true (e.at + e.len) from q in absurd (omega arith)
     by_start false false p q =
-        let low = from_not_le from e.at p in
+        let low = leb-false from e.at p in
         let begin : from ≡ max e.at from = omega arith in
         let long : e.at + e.len - from ≡ e.at + e.len - max e.at from = omega arith in
         λ i. record { at = begin i; len = long i } ∷ cover
 
 head_cover : (from : ℕ) (e : Extent) (cover : List Extent) → IsCover (e ∷ cover) → from < e.at + e.len → IsCover (head_from from e ∷ cover)
 head_cover from e cover h k = let long = h.0 in (omega arith, (λ d m. let gap = h.1 d m in omega arith), h.2)
-
-three : (a b c d : ℕ) (s t : Bool) → a ≡ c → b ≡ d → s ≡ t → ◌≡◌ {A = ℕ × ℕ × Bool} (a, b, s) (c, d, t)
-three a b c d s t p q r = λ i. (p i, q i, r i)
 
 -- what is told of it
 pub first_told : (from stop k : ℕ) (e last : Extent) (cover : List Extent) → IsCover (e ∷ cover) → from < e.at + e.len → max e.at from < stop
@@ -123,7 +122,7 @@ first_told from stop k e last cover h l room at_last before after =
     ap (λ (b : List ℕ). told_of (filter (λ y. nat_lt y stop) b)) (spans_above from (e ∷ cover) h ∙ ap spans (above_first from e cover l))
     ∙ ap told_of (spans_below stop (head_from from e ∷ cover) head)
     ∙ below_told stop (head_from from e) cover head room
-    ∙ three _ _ _ _ _ _ counted.2 (λ i. counted.0 i - counted.2 i) counted.1
+    ∙ triple_same _ _ _ _ _ _ counted.2 (λ i. counted.0 i - counted.2 i) counted.1
   where
     by_count : (k : ℕ) → slice_get (e ∷ cover) k ≡ Some last → ((i : ℕ) (d : Extent) → i ≤ k → slice_get (e ∷ cover) i ≡ Some d → d.at < stop)
         → ((d : Extent) → slice_get cover k ≡ Some d → stop ≤ d.at)
@@ -132,17 +131,17 @@ first_told from stop k e last cover h l room at_last before after =
     by_count zero g b a =
         let r = counted_below stop zero (head_from from e) (head_from from e) cover (head_cover from e cover h l) room refl
         (λ i d p q. by_first i d p q) a in
-        let same : e.at + e.len ≡ last.at + last.len = ap (λ (z : Extent). z.at + z.len) (same_some e last g) in
+        let same : e.at + e.len ≡ last.at + last.len = ap (λ (z : Extent). z.at + z.len) (same_Some e last g) in
         let whole : max e.at from + (e.at + e.len - max e.at from) ≡ last.at + last.len = omega arith in
         (r.0 ∙ ap (λ (n : ℕ). min n stop) whole, r.1, r.2)
       where
         by_first : (i : ℕ) (d : Extent) → i ≤ 0 → slice_get (head_from from e ∷ cover) i ≡ Some d → d.at < stop
-        by_first zero d p q = subst (λ (z : Extent). z.at < stop) (same_some (head_from from e) d q) room
+        by_first zero d p q = subst (λ (z : Extent). z.at < stop) (same_Some (head_from from e) d q) room
         by_first (suc i) d p q = absurd (omega arith)
     by_count (suc k) g b a = counted_below stop (suc k) (head_from from e) last cover (head_cover from e cover h l) room g by_later a
       where
         by_later : (i : ℕ) (d : Extent) → i ≤ suc k → slice_get (head_from from e ∷ cover) i ≡ Some d → d.at < stop
-        by_later zero d p q = subst (λ (z : Extent). z.at < stop) (same_some (head_from from e) d q) room
+        by_later zero d p q = subst (λ (z : Extent). z.at < stop) (same_Some (head_from from e) d q) room
         by_later (suc i) d p q = b (suc i) d p q
 
 -- the bytes of the cover begin with the first one left
@@ -152,7 +151,7 @@ first_byte from end e cover h l room =
     let some = range_first (max e.at from) (e.at + e.len - max e.at from) (spans cover) (omega arith) in (
       filter (λ y. nat_lt y end) some.0,
       ap (λ (b : List ℕ). filter (λ y. nat_lt y end) b) (spans_above from (e ∷ cover) h ∙ ap spans (above_first from e cover l) ∙ some.1)
-          ∙ take_first (max e.at from) (filter (λ y. nat_lt y end) some.0) (nat_lt (max e.at from) end) (lt_true (max e.at from) end room),
+          ∙ take_first (max e.at from) (filter (λ y. nat_lt y end) some.0) (nat_lt (max e.at from) end) (lt-ltb (max e.at from) end room),
     )
 
 -- ---- a step
@@ -211,9 +210,9 @@ pub first_ends : (cover : List Extent) (k : ℕ) (e d : Extent) → IsCover cove
     → e.at + e.len ≤ (get_or cover k d).at + (get_or cover k d).len
 first_ends [] k e d h g l = absurd (omega arith)
 first_ends (c ∷ cover) zero e d h g l =
-    let same : e.at + e.len ≡ c.at + c.len = ap (λ (z : Extent). z.at + z.len) (sym (same_some c e g)) in omega arith
+    let same : e.at + e.len ≡ c.at + c.len = ap (λ (z : Extent). z.at + z.len) (sym (same_Some c e g)) in omega arith
 first_ends (c ∷ cover) (suc k) e d h g l =
-    let gap = ends_before (c ∷ cover) 0 (suc k) e (get_or cover k d) h (omega arith) g (got_at cover k d (omega arith)) in omega arith
+    let gap = ends_before (c ∷ cover) 0 (suc k) e (get_or cover k d) h (omega arith) g (slice_get-get_or cover k d (omega arith)) in omega arith
 
 one_more : (begun : ℕ) → 1 ≤ begun → (begun - 1 == 0) ≡ (begun == 1)
 one_more begun h = grind (arith, nat_tests)
@@ -230,14 +229,14 @@ pub next_window : (first size from end stop top begun last : ℕ) (e d : Extent)
     ∷ told_windows first size (filter (λ y. nat_lt y end) (filter (λ y. nat_le stop y) (spans left)))
 next_window first size from end stop top begun last e d [] left big low h past g room cap is_stop bound before after is_last same = no_none_some e g
 next_window first size from end stop top begun last e d (c ∷ cover) left big low h past g room cap is_stop bound before after is_last same =
-    let first_is : c ≡ e = same_some c e g in
+    let first_is : c ≡ e = same_Some c e g in
     let re : max e.at from < round_end first size (max e.at from) = past_round first size (max e.at from) big in
     let stops : stop ≡ min (round_end first size (max e.at from)) end = omega arith in
     let some : 1 ≤ begun = by_none begun e g before after (omega arith) in
     let index : suc (begun - 1) ≡ begun = omega arith in
     let window = first_window first size from end stop (begun - 1) e (get_or (e ∷ cover) (begun - 1) d) cover left big (omega arith)
     (subst (λ (z : Extent). IsCover (z ∷ cover)) first_is h) (subst (λ (z : Extent). from < z.at + z.len) first_is (past c (inl refl))) room stops
-    (got_at (e ∷ cover) (begun - 1) d (omega arith))
+    (slice_get-get_or (e ∷ cover) (begun - 1) d (omega arith))
     (λ i z l q. before i z (omega arith) (subst (λ (y : Extent). slice_get (y ∷ cover) i ≡ Some z) (sym first_is) q))
     (λ z q. after z (ap (λ (n : ℕ). slice_get (c ∷ cover) n) (sym index) ∙ q))
     (same ∙ ap (λ (y : Extent). filter (λ x. nat_le stop x) (spans (y ∷ cover))) first_is) in
@@ -275,11 +274,11 @@ same_end : (y end top : ℕ) → y < top → nat_lt y (min end top) ≡ nat_lt y
 same_end y end top h = by_test (nat_lt y end) refl
   where
     by_test : (t : Bool) → nat_lt y end ≡ t → nat_lt y (min end top) ≡ t
-    by_test true e = let l : y < end = ltb-true _ _ e in lt_true y (min end top) (omega arith)
-    by_test false e = let l : end ≤ y = ltb-false _ _ e in lt_false y (min end top) (omega arith)
+    by_test true e = let l : y < end = ltb-true _ _ e in lt-ltb y (min end top) (omega arith)
+    by_test false e = let l : end ≤ y = ltb-false _ _ e in le-ltb y (min end top) (omega arith)
 
 same_begin : (y low from : ℕ) → from ≤ y → low ≤ from → nat_le from y ≡ nat_le low y
-same_begin y low from h k = le_true from y h ∙ sym (le_true low y (omega arith))
+same_begin y low from h k = le-leb from y h ∙ sym (le-leb low y (omega arith))
 
 spans_low : (e : Extent) (cover : List Extent) (y : ℕ) → IsCover (e ∷ cover) → In (spans (e ∷ cover)) y → e.at ≤ y
 spans_low e cover y h k =
@@ -309,11 +308,11 @@ begin_windows size low from end top (e ∷ cover) big h ends cap past begins =
   where
     by_low : from ≡ max e.at low → (t : Bool) → nat_le low e.at ≡ t → filter (λ y. nat_le from y) (spans (e ∷ cover)) ≡ filter (λ y. nat_le low y) (spans (e ∷ cover))
     by_low is true f =
-        let l : low ≤ e.at = from_le low e.at f in
+        let l : low ≤ e.at = leb-true low e.at f in
         filter_same (λ y. nat_le from y) (λ y. nat_le low y) (spans (e ∷ cover))
         (λ y m. let at_first = spans_low e cover y h m in same_begin y low from (omega arith) (omega arith))
     by_low is false f =
-        let l : e.at < low = from_not_le low e.at f in
+        let l : e.at < low = leb-false low e.at f in
         let same : from ≡ low = omega arith in
         ap (λ (n : ℕ). filter (λ y. nat_le n y) (spans (e ∷ cover))) same
 
@@ -348,7 +347,7 @@ pub none_left_at : (first size from end : ℕ) (e : Extent) (cover : List Extent
     → told_windows first size (filter (λ y. nat_lt y end) (filter (λ y. nat_le from y) (spans cover))) ≡ []
 none_left_at first size from end e [] h past g room = refl
 none_left_at first size from end e (c ∷ cover) h past g room =
-    none_left first size from end c cover h (past c (inl refl)) (subst (λ (z : Extent). end ≤ max z.at from) (sym (same_some c e g)) room)
+    none_left first size from end c cover h (past c (inl refl)) (subst (λ (z : Extent). end ≤ max z.at from) (sym (same_Some c e g)) room)
 
 -- a window ends past its first byte
 pub stops_past : (first size at end top : ℕ) → 1 ≤ size → at < end → end ≤ top → at < min (min (round_end first size at) top) end

@@ -1,16 +1,16 @@
 -- The boxes of a range, as they are found row by row.
-use Rattle.std.proofs.Common.{◌≡◌, ℕ, zero, suc, ◌+◌, ◌-◌, ◌*◌, ◌/◌, ◌%◌, ◌<◌, ◌≤◌, refl, sym, ◌∙◌, ap, inl, inr, ◌⊎◌, List, [], ◌∷◌, ◌++◌, length, map, replicate, take, drop, Bool, true, false, append_assoc, length-append, arith, Result, Ok, Err}
-use Rattle.std.specs.Prelude.{nat_lt, ◌==◌, OnOk}
+use Rattle.std.proofs.Common.{◌≡◌, ℕ, zero, suc, ◌+◌, ◌-◌, ◌*◌, ◌/◌, ◌%◌, ◌<◌, ◌≤◌, refl, sym, ◌∙◌, ap, inl, inr, ◌⊎◌, List, [], ◌∷◌, ◌++◌, length, map, replicate, take, drop, Bool, true, false, append_assoc, length-append, arith}
+use Rattle.std.specs.Prelude.{nat_lt, ◌==◌}
 use Rattle.std.proofs.Math.Nat.{mul-div_cancel, mul-mod_left, zero-mod}
 use Rattle.std.proofs.lemmas.Bool.{eqb-false}
-use Rattle.std.proofs.lemmas.List.{map-append, append-nil}
+use Rattle.std.proofs.lemmas.List.{map-append, append-nil, length-map}
 use Rattle.std.proofs.Math.Seq.{take_all}
 use Rattle.std.proofs.lemmas.Nat.{div-add-mod', mod_below, div_below}
 use borrow.Author.Tests.{eqb-true, ltb-true, ltb-false}
+use Rattle.list_laws.proofs.Numbers.{some_factor}
 use Rattle.nc_base.specs.declared.request.Part.{Part}
 use Rattle.serial_spec.specs.Layout.{product}
 use Rattle.serial_spec.specs.Fill.{boxes, in_row, whole_rows}
-use Rattle.serial_spec.proofs.ElementLaws.{map_long}
 use Rattle.fill_records.specs.Filling.{at_row, boxes_before}
 
 -- ---- boxes in a row
@@ -99,10 +99,6 @@ found_none row lengths from to old e =
 
 -- ---- what a step of the cutting found
 
-pub on_ok : {A E : Type 0} {P Q : Type 0} (r : Result A E) → (P → Q) → OnOk r P → OnOk r Q
-on_ok (Ok x) f p = f p
-on_ok (Err e) f p = tt
-
 pub found_row : (row below : List ℕ) (i : ℕ) (parts old new : List Part) → below ≡ row ++ i ∷ [] → new ≡ old ++ map (λ p. at_row below p) parts
     → new ≡ old ++ map (λ p. at_row row p) (in_row i parts)
 found_row row below i parts old new e f =
@@ -142,7 +138,7 @@ found_first row lengths counts from to none found result e n s f g =
 -- ---- how many there are
 
 in_row_long : (i : ℕ) (parts : List Part) → length (in_row i parts) ≡ length parts
-in_row_long i parts = map_long (λ (p : Part). let q : Part = record { start = i ∷ p.start; count = 1 ∷ p.count } in q) parts
+in_row_long i parts = length-map parts (λ (p : Part). let q : Part = record { start = i ∷ p.start; count = 1 ∷ p.count } in q)
 
 whole_few : (lengths : List ℕ) (first last : ℕ) → length (whole_rows lengths first last) ≤ 1
 whole_few lengths first last = by_test (nat_lt first last)
@@ -190,10 +186,6 @@ rows_few n lengths from to few first last same before after sum = by_test (from 
 
 -- ---- the bound
 
-some_size : (n size x : ℕ) → x < n * size → 0 < size
-some_size n zero x h = absurd (omega arith)
-some_size n (suc size) x h = omega arith
-
 less_or_same : (a b : ℕ) → a ≤ b → (a ≡ b) ⊎ (a < b)
 less_or_same a b h = by_test (nat_lt a b) refl
   where
@@ -238,7 +230,7 @@ back_few (n ∷ lengths) from h = by_cases (back_few lengths (from % product len
         → (from ≡ n * product lengths) ⊎ (from < n * product lengths) → length (boxes (n ∷ lengths) from (n * product lengths)) ≤ suc (length lengths) + 1
     by_cases ih (inl e) = none_few (n ∷ lengths) from (n * product lengths) (suc (length lengths) + 1) e
     by_cases ih (inr l) =
-        let some = some_size n (product lengths) from l in
+        let some = some_factor n (product lengths) from l in
         let last : n * product lengths / product lengths ≡ n = mul-div_cancel n some in
         let below : from / product lengths < n = div_below from (product lengths) n some l in
         let r = mod_below from (product lengths) some in
@@ -264,7 +256,7 @@ boxes_few (n ∷ lengths) from to h k = by_cases (boxes_few lengths (from % prod
     by_cases : IH → (from ≡ to) ⊎ (from < to) → length (boxes (n ∷ lengths) from to) ≤ 2 * suc (length lengths) + 1
     by_cases ih (inl e) = none_few (n ∷ lengths) from to (2 * suc (length lengths) + 1) e
     by_cases ih (inr l) =
-        let some = some_size n (product lengths) from (omega arith) in
+        let some = some_factor n (product lengths) from (omega arith) in
         let r = mod_below from (product lengths) some in
         let s = mod_below to (product lengths) some in
         rows_few n lengths from to (2 * suc (length lengths) + 1) (length lengths + 1 + 1) (length lengths + 1)
@@ -274,7 +266,7 @@ boxes_few (n ∷ lengths) from to h k = by_cases (boxes_few lengths (from % prod
       where
         same_row : from / product lengths ≡ to / product lengths → length (boxes lengths (from % product lengths) (to % product lengths)) ≤ 2 * suc (length lengths) + 1
         same_row e =
-            let some = some_size n (product lengths) from (omega arith) in
+            let some = some_factor n (product lengths) from (omega arith) in
             let s = mod_below to (product lengths) some in
             let a = div-add-mod' from (product lengths) in
             let b = div-add-mod' to (product lengths) in

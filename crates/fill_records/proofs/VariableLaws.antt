@@ -1,21 +1,21 @@
 -- The fixed variables of a sound header, one after another.
-use Rattle.std.proofs.Common.{◌≡◌, ℕ, zero, suc, ◌+◌, ◌*◌, ◌<◌, ◌≤◌, ◌-◌, refl, sym, ◌∙◌, ap, subst, List, [], ◌∷◌, ◌++◌, length, map, take, length-take, get_or, Bool, true, false, not, cond, Option, Some, arith}
+use Rattle.std.proofs.Common.{◌≡◌, ℕ, zero, suc, ◌+◌, ◌*◌, ◌<◌, ◌≤◌, ◌-◌, refl, sym, ◌∙◌, ap, List, [], ◌∷◌, ◌++◌, length, map, take, length-take, get_or, Bool, true, false, not, cond, Some, arith}
 use Rattle.std.specs.Prelude.{◌==◌, IfSome, slice_get, fold, flat_map}
 use Rattle.std.proofs.lemmas.Grind.{flat_map-append}
 use Rattle.std.proofs.lemmas.List.{append-nil}
 use Rattle.std.proofs.lemmas.List.Elements.{filter-append}
 use Rattle.std.proofs.lemmas.List.Sums.{fold-append}
+use Rattle.serial_spec.proofs.LengthLaws.{size_most}
+use Rattle.serial_spec.proofs.RoomLaws.{greatest_holds, slab_below}
 use Rattle.nc_base.specs.declared.header.Header.{Header}
 use Rattle.nc_base.specs.declared.header.NcType.{NcType}
-use Rattle.nc_base.specs.declared.header.NcType.TheVariants.{Byte, Char, Short, Int, Float, Double, UByte, UShort, UInt, Int64, UInt64}
 use Rattle.nc_base.specs.declared.header.Var.{Var}
 use Rattle.serial_spec.specs.DeviceCalls.{stores}
 use Rattle.serial_spec.specs.ExternalForm.{size_of}
 use Rattle.serial_spec.specs.File.{written}
 use Rattle.serial_spec.specs.Fill.{fill_bytes, fill_var}
-use Rattle.serial_spec.specs.Layout.{greatest, is_record, slab, vsize, end_of, end_of_var, fixed_variables, recsize, last_share}
+use Rattle.serial_spec.specs.Layout.{is_record, slab, vsize, end_of, end_of_var, fixed_variables, recsize, last_share}
 use Rattle.serial_spec.proofs.ElementLaws.{get_map}
-use Rattle.var_layout.proofs.Soundness.{slab_below}
 use Rattle.fill_records.specs.Filling.{repeated, filled_variable, variable_stores}
 use Rattle.fill_records.proofs.WriteLaws.{var_filled}
 
@@ -29,9 +29,6 @@ got {A = A} xs ys k x e h g = got_at xs k x h (g ∙ ap (λ zs. get_or zs k x) e
     got_at (w ∷ zs) zero z l f = ap Some (sym f)
     got_at (w ∷ zs) (suc i) z l f = got_at zs i z (omega arith) f
 
-pub from_some : {A : Type 0} (P : A → Type 0) (o : Option A) (x : A) → o ≡ Some x → IfSome o P → P x
-from_some P o x e h = subst (λ q. IfSome q P) e h
-
 -- the item with a number, and what is known of it
 pub known_at : {A : Type 0} (P : A → Type 0) (xs : List A) (k : ℕ) → k < length xs → IfSome (slice_get xs k) P
     → (x : A) × (take (k + 1) xs ≡ take k xs ++ x ∷ []) × P x
@@ -44,27 +41,9 @@ known_at P (x ∷ xs) (suc k) h p =
 
 -- ---- sizes and ends
 
-size_most : (kind : NcType) → size_of kind ≤ 8
-size_most Byte = omega arith
-size_most Char = omega arith
-size_most Short = omega arith
-size_most Int = omega arith
-size_most Float = omega arith
-size_most Double = omega arith
-size_most UByte = omega arith
-size_most UShort = omega arith
-size_most UInt = omega arith
-size_most Int64 = omega arith
-size_most UInt64 = omega arith
-
 -- the bytes that are taken of an array for the value
 pub room_long : (kind : NcType) (n : ℕ) → n ≡ size_of kind → length {A = ℕ} (take n (0 ∷ 0 ∷ 0 ∷ 0 ∷ 0 ∷ 0 ∷ 0 ∷ 0 ∷ [])) ≡ size_of kind
 room_long kind n e = let most = size_most kind in length-take n (0 ∷ 0 ∷ 0 ∷ 0 ∷ 0 ∷ 0 ∷ 0 ∷ 0 ∷ []) ∙ omega arith
-
-greatest_holds : (ns : List ℕ) (k n : ℕ) → slice_get ns k ≡ Some n → n ≤ greatest ns
-greatest_holds [] k n h = absurd cc
-greatest_holds (m ∷ ns) zero n h = let same : m ≡ n = cc in omega arith
-greatest_holds (m ∷ ns) (suc k) n h = let l = greatest_holds ns k n h in omega arith
 
 pub fixed_end : (header : Header) (first k : ℕ) (v : Var) → slice_get header.vars k ≡ Some v → is_record header v ≡ false → v.begin + slab header v ≤ end_of header first 0
 fixed_end header first k v h e =

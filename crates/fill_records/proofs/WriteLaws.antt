@@ -5,6 +5,7 @@ use Rattle.std.specs.List.{range_with_len}
 use Rattle.std.proofs.lemmas.List.{append-nil, take_at, map-append, drop-drop, take-append-drop, places}
 use Rattle.std.proofs.Math.Seq.{drop-append-add}
 use Rattle.std.proofs.lemmas.List.Folds.{fold-map}
+use Rattle.list_laws.proofs.Maps.{map_map}
 use Rattle.nc_base.specs.declared.header.Header.{Header}
 use Rattle.nc_base.specs.declared.header.Var.{Var}
 use Rattle.serial_spec.specs.ExternalForm.{size_of}
@@ -78,10 +79,6 @@ range_moved b a (suc n) =
     let next : b + (a + 1) ≡ b + a + 1 = omega arith in
     ap (λ ns. (b + a) ∷ ns) (range_moved b (a + 1) n ∙ ap (λ (k : ℕ). range_with_len k n) next)
 
-map_twice : {A B C : Type 0} (f : B → C) (g : A → B) (xs : List A) → map f (map g xs) ≡ map (λ x. f (g x)) xs
-map_twice f g [] = refl
-map_twice f g (x ∷ xs) = ap (λ ys. f (g x) ∷ ys) (map_twice f g xs)
-
 pub map_same : {A B : Type 0} (f g : A → B) → ((x : A) → f x ≡ g x) → (xs : List A) → map f xs ≡ map g xs
 map_same f g h [] = refl
 map_same f g h (x ∷ xs) = λ t. h x t ∷ map_same f g h xs t
@@ -96,8 +93,8 @@ rows_in_order (n ∷ lengths) =
         → (a : ℕ) → map (λ index. row (n ∷ lengths) index) (map (λ c. a ∷ c) (coordinates lengths)) ≡ range_with_len (a * product lengths) (product lengths)
     one_row ih a =
         let first : a * product lengths + 0 ≡ a * product lengths = omega arith in
-        map_twice (λ index. row (n ∷ lengths) index) (λ (c : List ℕ). a ∷ c) (coordinates lengths)
-        ∙ sym (map_twice (λ k. a * product lengths + k) (λ index. row lengths index) (coordinates lengths))
+        map_map (λ index. row (n ∷ lengths) index) (λ (c : List ℕ). a ∷ c) (coordinates lengths)
+        ∙ sym (map_map (λ k. a * product lengths + k) (λ index. row lengths index) (coordinates lengths))
         ∙ ap (λ ks. map (λ k. a * product lengths + k) ks) ih
         ∙ range_moved (a * product lengths) 0 (product lengths)
         ∙ ap (λ (k : ℕ). range_with_len k (product lengths)) first
@@ -151,5 +148,5 @@ var_filled header v value file fixed e long h =
     all_places =
         map_same (λ index. place header v index) (λ index. v.begin + row (inner_lengths header v) index * length value)
         (λ index. place_fixed header v index fixed ∙ ap (λ (n : ℕ). v.begin + row (inner_lengths header v) index * n) (sym long)) (coordinates (inner_lengths header v))
-        ∙ sym (map_twice (λ k. v.begin + k * length value) (λ index. row (inner_lengths header v) index) (coordinates (inner_lengths header v)))
+        ∙ sym (map_map (λ k. v.begin + k * length value) (λ index. row (inner_lengths header v) index) (coordinates (inner_lengths header v)))
         ∙ ap (λ ks. map (λ k. v.begin + k * length value) ks) (rows_in_order (inner_lengths header v))

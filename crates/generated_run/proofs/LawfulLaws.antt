@@ -2,11 +2,11 @@
 use Rattle.std.proofs.Common.{◌≡◌, ℕ, ◌≤◌, List, [], length, map, sum, true, refl, sym, subst, ◌∙◌, le-leb, bytes_eq, arith}
 use Rattle.std.specs.List.{enumerate_from, list_all, range_with_len}
 use Rattle.std.proofs.lemmas.Slice.Eq.{bytes_eq-Decides}
+use Rattle.std.proofs.lemmas.Bool.{and_from}
 use Rattle.nc_base.specs.declared.request.Call.{Call}
 use Rattle.nc_base.specs.declared.script.Script as script_type
 use Rattle.serial_spec.specs.Lawful.{agree, are_different, is_lawful, is_lawful_call, kind_numbers, most_calls, most_values, posted_ids, values_in_call, values_in_script}
 use Rattle.script_spec.specs.Generator.{made_header, made_script}
-use Rattle.script_laws.proofs.ListLaws.{both_true}
 use Rattle.generated_run.specs.Made.{calls_of_rank}
 use Rattle.generated_run.proofs.MadeLaws.{scripted, script_is}
 use Rattle.generated_run.proofs.Ranges.{numbered_pass, range_passes, sum_within}
@@ -45,10 +45,10 @@ few_values seed size s =
 lawful : (seed size : ℕ) → size ≤ 64 → is_lawful (scripted made_header [] (calls_of seed size 0 8)) ≡ true
 unfolding scripted
 lawful seed size s =
-    let calls = both_true _ _ (lawful_calls seed size s) (different_ids seed size) in
-    let few = both_true _ _ calls (le-leb (sum (map (λ own. length own) (calls_of seed size 0 8))) most_calls (few_calls seed size s)) in
-    let values = both_true _ _ few (le-leb (values_in_script (scripted made_header [] (calls_of seed size 0 8))) most_values (few_values seed size s)) in
-    both_true _ _ values (agreed seed size)
+    let calls = and_from _ _ (lawful_calls seed size s) (different_ids seed size) in
+    let few = and_from _ _ calls (le-leb (sum (map (λ own. length own) (calls_of seed size 0 8))) most_calls (few_calls seed size s)) in
+    let values = and_from _ _ few (le-leb (values_in_script (scripted made_header [] (calls_of seed size 0 8))) most_values (few_values seed size s)) in
+    and_from _ _ values (agreed seed size)
 
 pub made_lawful : (seed size : ℕ) → size ≤ 64 → is_lawful (made_script seed size) ≡ true
 unfolding scripted

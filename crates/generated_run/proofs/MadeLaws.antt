@@ -13,11 +13,6 @@ use Rattle.generated_run.specs.Made.{calls_of_rank}
 unfoldable pub scripted : head.Header → List Extra → List (List Call) → script_type.Script
 scripted header extra calls = record { fresh = true; header = header; ranks = 8; hints = default_hints; filled = false; extra = extra; calls = calls }
 
--- its ranks' calls
-pub calls_are : (seed size r : ℕ) → calls_of_rank seed size r ≡ made_calls seed size r
-unfolding calls_of_rank
-calls_are seed size r = refl
-
 pub all_calls_are : (seed size n : ℕ) → map (λ r. calls_of_rank seed size r) (range_with_len 0 n) ≡ map (made_calls seed size) (range_with_len 0 n)
 unfolding calls_of_rank
 all_calls_are seed size n = refl

@@ -1,13 +1,13 @@
 -- Lists made number by number.
-use Rattle.std.proofs.Common.{◌≡◌, ℕ, zero, suc, ◌+◌, ◌*◌, ◌<◌, ◌≤◌, List, [], ◌∷◌, ◌++◌, length, map, sum, Bool, true, false, ◌==◌, refl, sym, ap, ◌∙◌, append_assoc, arith}
+use Rattle.std.proofs.Common.{◌≡◌, ℕ, zero, suc, ◌+◌, ◌*◌, ◌<◌, ◌≤◌, List, [], ◌∷◌, ◌++◌, map, sum, Bool, true, false, ◌==◌, refl, sym, ap, ◌∙◌, append_assoc, arith}
 use Rattle.std.specs.List.{enumerate_from, flat_map, list_all, list_any, range_with_len}
-use Rattle.std.proofs.lemmas.Bool.{ne_eqb}
-use Rattle.std.proofs.lemmas.List.{append-nil, length-append}
+use Rattle.std.proofs.lemmas.Bool.{ne_eqb, and_from, not_from_false, or_from}
+use Rattle.std.proofs.lemmas.List.{append-nil}
 use Rattle.std.proofs.lemmas.List.Concat.{flat_map-append}
 use Rattle.std.proofs.lemmas.List.Folds.{list_all-append}
 use Rattle.std.proofs.lemmas.List.FromFn.{map-range_with_len_more}
 use Rattle.serial_spec.specs.Lawful.{are_different}
-use Rattle.script_laws.proofs.ListLaws.{both_false, both_true, not_false, sum_cons}
+use Rattle.script_laws.proofs.ListLaws.{sum_cons}
 
 -- one item more
 pub next_item : {A : Type 0} (f : ℕ → A) (front now next : List A) (n : ℕ) (x : A)
@@ -56,20 +56,16 @@ all_pieces {A} f front now a b n m from many so_far =
 
 pub range_passes : {A : Type 0} (p : A → Bool) (f : ℕ → A) (a n : ℕ) → ((k : ℕ) → k < a + n → p (f k) ≡ true) → list_all p (map f (range_with_len a n)) ≡ true
 range_passes p f a zero h = refl
-range_passes p f a (suc n) h = both_true _ _ (h a (omega arith)) (range_passes p f (a + 1) n (λ k b. h k (omega arith)))
+range_passes p f a (suc n) h = and_from _ _ (h a (omega arith)) (range_passes p f (a + 1) n (λ k b. h k (omega arith)))
 
 pub pieces_pass : {A : Type 0} (p : A → Bool) (f : ℕ → List A) (a n : ℕ) → ((k : ℕ) → k < a + n → list_all p (f k) ≡ true) → list_all p (flat_map f (range_with_len a n)) ≡ true
 pieces_pass p f a zero h = refl
-pieces_pass p f a (suc n) h = list_all-append p (f a) (flat_map f (range_with_len (a + 1) n)) ∙ both_true _ _ (h a (omega arith)) (pieces_pass p f (a + 1) n (λ k b. h k (omega arith)))
+pieces_pass p f a (suc n) h = list_all-append p (f a) (flat_map f (range_with_len (a + 1) n)) ∙ and_from _ _ (h a (omega arith)) (pieces_pass p f (a + 1) n (λ k b. h k (omega arith)))
 
 pub numbered_pass : {A : Type 0} (p : ℕ × A → Bool) (f : ℕ → A) (a n : ℕ) → ((k : ℕ) → k < a + n → p (k, f k) ≡ true)
     → list_all p (enumerate_from a (map f (range_with_len a n))) ≡ true
 numbered_pass p f a zero h = refl
-numbered_pass p f a (suc n) h = both_true _ _ (h a (omega arith)) (numbered_pass p f (a + 1) n (λ k b. h k (omega arith)))
-
-pub pieces_long : {A : Type 0} (f : ℕ → List A) (m : ℕ) → ((k : ℕ) → length (f k) ≡ m) → (a n : ℕ) → length (flat_map f (range_with_len a n)) ≡ n * m
-pieces_long f m h a zero = omega arith
-pieces_long f m h a (suc n) = omega (arith, length-append (f a) (flat_map f (range_with_len (a + 1) n)), h a, pieces_long f m h (a + 1) n)
+numbered_pass p f a (suc n) h = and_from _ _ (h a (omega arith)) (numbered_pass p f (a + 1) n (λ k b. h k (omega arith)))
 
 pub sum_within : {A : Type 0} (g : A → ℕ) (f : ℕ → A) (m a n : ℕ) → ((k : ℕ) → k < a + n → g (f k) ≤ m) → sum (map g (map f (range_with_len a n))) ≤ n * m
 sum_within g f m a zero h = omega arith
@@ -82,8 +78,8 @@ sum_within g f m a (suc n) h =
 
 later_differ : (m a n : ℕ) → m < a → list_any (λ k. k == m) (range_with_len a n) ≡ false
 later_differ m a zero h = refl
-later_differ m a (suc n) h = both_false _ _ (ne_eqb a m (λ e. omega arith)) (later_differ m (a + 1) n (omega arith))
+later_differ m a (suc n) h = or_from _ _ (ne_eqb a m (λ e. omega arith)) (later_differ m (a + 1) n (omega arith))
 
 pub range_differs : (a n : ℕ) → are_different (range_with_len a n) ≡ true
 range_differs a zero = refl
-range_differs a (suc n) = both_true _ _ (not_false _ (later_differ a (a + 1) n (omega arith))) (range_differs (a + 1) n)
+range_differs a (suc n) = and_from _ _ (not_from_false _ (later_differ a (a + 1) n (omega arith))) (range_differs (a + 1) n)

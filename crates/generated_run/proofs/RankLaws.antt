@@ -6,6 +6,8 @@ use Rattle.std.proofs.lemmas.Int.{ints}
 use Rattle.std.proofs.lemmas.List.{append-nil, length-append}
 use Rattle.std.proofs.lemmas.List.Folds.{list_all-append}
 use Rattle.std.proofs.lemmas.List.FromFn.{length-map-range_with_len}
+use Rattle.std.proofs.lemmas.Bool.{and_from}
+use Rattle.list_laws.proofs.Ranges.{pieces_long}
 use Rattle.nc_base.specs.declared.request.Call.{Call}
 use Rattle.nc_base.specs.declared.request.Call.TheVariants as call
 use Rattle.nc_base.specs.declared.request.Choice.TheVariants.{Every}
@@ -14,9 +16,9 @@ use Rattle.nc_base.specs.declared.request.Values.TheVariants.{Bits, Numbers}
 use Rattle.serial_spec.specs.Limits.{most_elements}
 use Rattle.serial_spec.specs.Lawful.{are_different, are_sizes, is_given, is_lawful_call, is_number, kind_numbers, posted_ids, values_in_call}
 use Rattle.script_spec.specs.Generator.{block, first_row, precip_at, temp_at}
-use Rattle.script_laws.proofs.ListLaws.{both_true, sum_cons}
+use Rattle.script_laws.proofs.ListLaws.{sum_cons}
 use Rattle.generated_run.specs.Made.{calls_of_rank, columns_of, precip_band, region_of_band, temp_band}
-use Rattle.generated_run.proofs.Ranges.{pieces_long, pieces_pass, range_differs, range_passes}
+use Rattle.generated_run.proofs.Ranges.{pieces_pass, range_differs, range_passes}
 
 -- ---- the values of its rows
 
@@ -49,10 +51,10 @@ small_precips seed r t = pass is_number (precip_at seed t) 360 (first_row r) (fi
 -- ---- its regions
 
 given_block : (start count : List ℕ) → are_sizes start ≡ true → are_sizes count ≡ true → is_given (block start count) ≡ true
-given_block start count s c = both_true _ _ (both_true _ _ (both_true _ _ (both_true _ _ (both_true _ _ s c) refl) refl) refl) refl
+given_block start count s c = and_from _ _ (and_from _ _ (and_from _ _ (and_from _ _ (and_from _ _ s c) refl) refl) refl) refl
 
 sizes : (a b c : ℕ) → a < 2 ^ 63 → b < 2 ^ 63 → c < 2 ^ 63 → are_sizes (a ∷ b ∷ c ∷ []) ≡ true
-sizes a b c e f g = both_true _ _ (lt-ltb a (2 ^ 63) e) (both_true _ _ (lt-ltb b (2 ^ 63) f) (both_true _ _ (lt-ltb c (2 ^ 63) g) refl))
+sizes a b c e f g = and_from _ _ (lt-ltb a (2 ^ 63) e) (and_from _ _ (lt-ltb b (2 ^ 63) f) (and_from _ _ (lt-ltb c (2 ^ 63) g) refl))
 
 given_band : (r t : ℕ) → r < 8 → t < 64 → is_given (region_of_band r t) ≡ true
 unfolding region_of_band
@@ -94,16 +96,16 @@ lawful_record seed r t h l =
     let given = given_band r t h l in
     let temps = le-leb (length (temp_band seed r t)) most_elements (omega (arith, few_temps seed r t h)) in
     let precips = le-leb (length (precip_band seed r t)) most_elements (omega (arith, few_precips seed r t h)) in
-    both_true _ _ (both_true _ _ given temps) (both_true _ _ (both_true _ _ given (both_true _ _ precips (small_precips seed r t))) refl)
+    and_from _ _ (and_from _ _ given temps) (and_from _ _ (and_from _ _ given (and_from _ _ precips (small_precips seed r t))) refl)
 
 lawful_reads : (size r : ℕ) → size ≤ 64 → r < 8 → list_all (λ c. is_lawful_call 8 r c) (reads_of size r) ≡ true
-lawful_reads size r s h = let given = given_columns size r s h in both_true _ _ given (both_true _ _ given refl)
+lawful_reads size r s h = let given = given_columns size r s h in and_from _ _ given (and_from _ _ given refl)
 
 pub rank_lawful : (seed size r : ℕ) → size ≤ 64 → r < 8 → list_all (λ c. is_lawful_call 8 r c) (calls_of_rank seed size r) ≡ true
 rank_lawful seed size r s h =
     sym (ap (λ (calls : List Call). list_all (λ c. is_lawful_call 8 r c) calls) (whole_is seed size r))
     ∙ list_all-append (λ c. is_lawful_call 8 r c) (records_of seed r 0 size) (reads_of size r)
-    ∙ both_true _ _ (pieces_pass (λ c. is_lawful_call 8 r c) (λ k. record_of seed r k) 0 size (λ k b. lawful_record seed r k h (omega arith))) (lawful_reads size r s h)
+    ∙ and_from _ _ (pieces_pass (λ c. is_lawful_call 8 r c) (λ k. record_of seed r k) 0 size (λ k b. lawful_record seed r k h (omega arith))) (lawful_reads size r s h)
 
 ids_of : (seed r : ℕ) (others : List Call) (t n : ℕ) → posted_ids (records_of seed r t n ++ others) ≡ range_with_len (2 * t) (2 * n) ++ posted_ids others
 ids_of seed r others t zero = refl

@@ -1,14 +1,11 @@
 -- What clap finds in the words.
-use Rattle.std.proofs.Common.{◌≡◌, ℕ, Bool, true, false, List, [], ◌∷◌, length, Option, Some, None, refl, sym, ap, ◌∙◌, codes, inl, inr, arith}
+use Rattle.std.proofs.Common.{◌≡◌, ℕ, Bool, true, false, List, [], length, Option, Some, None, refl, sym, ap, ◌∙◌, codes}
 use Rattle.std.specs.Prelude.{◌==◌, option_map}
-use Rattle.std.proofs.lemmas.Bool.{ne_eqb}
 use Rattle.clap.specs.Faults.{fault_of, is_simple_and_free}
-use Rattle.clap.specs.Kinds.{HasKind, Kinds}
+use Rattle.clap.specs.Kinds.{Kinds}
 use Rattle.clap.specs.Matches.{first_value, found_of}
 use Rattle.clap.specs.Simple.{App, HasMatchesOf, is_simple, matches_of}
-use Rattle.clap.specs.Values.{kind_of}
 use Rattle.clap.specs.Walk.{rows_of}
-use Rattle.clap.specs.declared.error.Error.{Error}
 use Rattle.clap.specs.declared.error.kind.ErrorKind.TheVariants as kind
 use Rattle.clap.specs.declared.parser.matches.ArgMatches.{ArgMatches}
 use Rattle.clap.specs.declared.parser.matches.Found.{Found}
@@ -48,16 +45,3 @@ parsed app ws m o same none gives reads =
     let faultless : fault_of command ws ≡ [] = sym (ap (λ (a : App). fault_of a ws) same) ∙ none (ap is_simple_and_free same ∙ simple_and_free) in
     let takes : is_parsed ws ≡ true = ap (λ (k : Kinds). length k == 0) faultless in
     ap (λ (x : words.Options). Some x) (reads ∙ ap options_by rows) ∙ sym (ap (found_if ws) takes)
-
-not_empty : (k : Kinds) (e : Error) → (kind_of e ≡ kind.OutOfMemory → ⊥) → HasKind k e → (length k == 0) ≡ false
-not_empty [] e out (inl m) = absurd (out m)
-not_empty [] e out (inr a) = absurd a
-not_empty (x ∷ xs) e out h = ne_eqb (length (x ∷ xs)) 0 (λ n. absurd (omega (arith, n)))
-
--- a parse that fails otherwise than for memory does not take the words
-pub not_parsed : (app : App) (ws : List (List ℕ)) (e : Error) → app ≡ command → (is_simple_and_free app ≡ true → HasKind (fault_of app ws) e)
-    → (kind_of e ≡ kind.OutOfMemory → ⊥) → None ≡ options ws
-not_parsed app ws e same has out =
-    let fault : HasKind (fault_of app ws) e = has (ap is_simple_and_free same ∙ simple_and_free) in
-    let takes : is_parsed ws ≡ false = sym (ap (λ (a : App). length (fault_of a ws) == 0) same) ∙ not_empty (fault_of app ws) e out fault in
-    sym (ap (found_if ws) takes)

@@ -1,14 +1,13 @@
 -- The file of a created dataset.
-use Rattle.std.proofs.Common.{◌≡◌, ℕ, ◌+◌, ◌-◌, ◌≤◌, List, [], ◌++◌, length, true, drop, replicate, Option, ap, ◌∙◌, arith}
+use Rattle.std.proofs.Common.{◌≡◌, ℕ, ◌+◌, ◌-◌, ◌≤◌, List, [], ◌++◌, length, drop, replicate, Option, ap, ◌∙◌, arith}
 use Rattle.std.proofs.lemmas.List.{drop-replicate}
 use Rattle.nc_base.specs.declared.header.Header.{Header}
 use Rattle.nc_outside.specs.Told.{after}
 use Rattle.nc_outside.proofs.ToldLaws.{after-after}
 use Rattle.serial_spec.specs.File.{longer, written}
-use Rattle.serial_spec.specs.HeaderGrammar.{header_len, is_sound, is_writable}
+use Rattle.serial_spec.specs.HeaderGrammar.{header_len}
 use Rattle.serial_spec.specs.Layout.{end_of}
 use Rattle.serial_spec.proofs.FileLaws.{written-front}
-use Rattle.serial_spec.proofs.SpellingLaws.{left}
 
 -- bytes at the front of zeros
 pub front-of-zeros : (bytes : List ℕ) (end : ℕ) → length bytes ≤ end → written (longer [] end) 0 bytes ≡ longer bytes end
@@ -36,6 +35,3 @@ created bytes end size place old emptied grown new long s p e g n =
 -- a file ends behind its header
 pub front_fits : (header : Header) (n : ℕ) → header_len header ≤ end_of header (header_len header) n
 front_fits header n = omega arith
-
-pub sound_written : (header : Header) → is_writable header ≡ true → is_sound header ≡ true
-sound_written header h = left _ _ (left _ _ (left _ _ (left _ _ h)))

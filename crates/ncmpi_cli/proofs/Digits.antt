@@ -6,8 +6,8 @@ use Rattle.std.specs.Result.{result_ok}
 use Rattle.std.specs.Str.Parse.{ParsesUnsigned}
 use Rattle.std.proofs.lemmas.Bool.{le-leb, leb-true, lt-ltb, ltb-true}
 use Rattle.std.proofs.lemmas.Str.Parse.{FoldsDigits, IsDigitsTest, IsNumeralModel, numerals_by_fold, parse_digits}
+use Rattle.list_laws.proofs.Truth.{and_first, and_second}
 use Rattle.script_spec.specs.ScriptWords.{below, digits_value, is_digit, is_digits, natural_of}
-use Rattle.serial_spec.proofs.SpellingLaws.{left, right}
 
 abbrev AreDigits : List ℕ → Type 0
 AreDigits ds = list_all is_digit ds ≡ true
@@ -18,7 +18,7 @@ value_after n ds = fold (λ m d. 10 * m + (d - 48)) n ds
 tells_digits : IsDigitsTest AreDigits
 tells_digits = record {
   empty = refl;
-  parts = λ c cs e. let c_is = left (is_digit c) (list_all is_digit cs) e in ((leb-true 48 c (left (nat_le 48 c) (nat_le c 57) c_is), leb-true c 57 (right (nat_le 48 c) (nat_le c 57) c_is)), right (is_digit c) (list_all is_digit cs) e);
+  parts = λ c cs e. let c_is = and_first (is_digit c) (list_all is_digit cs) e in ((leb-true 48 c (and_first (nat_le 48 c) (nat_le c 57) c_is), leb-true c 57 (and_second (nat_le 48 c) (nat_le c 57) c_is)), and_second (is_digit c) (list_all is_digit cs) e);
   more = λ c cs k e i. (le-leb 48 c k.0 i && le-leb c 57 k.1 i) && e i;
 }
 
@@ -42,11 +42,7 @@ by_value (Err e) k n some h = by_test (nat_lt n (2 ^ 64)) refl
 -- what a parse gives of 1 to 20 digits
 pub natural : {E : Type 0} (ds : List ℕ) (r : Result ℕ E) → is_digits ds ≡ true → ParsesUnsigned 64 10 ds r → result_ok r ≡ below (2 ^ 64) (natural_of ds)
 natural ds r e h =
-    let digits : AreDigits ds = right _ _ e in
-    let some : 0 < length ds = ltb-true 0 (length ds) (left _ _ (left _ _ e)) in
+    let digits : AreDigits ds = and_second _ _ e in
+    let some : 0 < length ds = ltb-true 0 (length ds) (and_first _ _ (and_first _ _ e)) in
     by_value r (length ds) (digits_value ds) some (parse_digits numerals 64 ds r h digits)
     ∙ ap (λ (b : Bool). below (2 ^ 64) (if b then Some (digits_value ds) else None)) (sym e)
-
--- and of another text
-pub no_natural : (ds : List ℕ) → is_digits ds ≡ false → None ≡ below (2 ^ 64) (natural_of ds)
-no_natural ds e = ap (λ (b : Bool). below (2 ^ 64) (if b then Some (digits_value ds) else None)) (sym e)

@@ -1,13 +1,11 @@
 -- The front of a file that is opened, and the file made longer.
-use Rattle.std.proofs.Common.{◌≡◌, ℕ, ◌^◌, ◌≤◌, ◌<◌, List, [], ◌∷◌, ◌++◌, length, take, drop, min, Option, Some, None, refl, sym, ap, inl, inr, ◌⊎◌, subst, ◌∙◌, arith}
+use Rattle.std.proofs.Common.{◌≡◌, ℕ, ◌^◌, ◌≤◌, ◌<◌, List, [], ◌++◌, length, take, drop, min, Option, Some, None, refl, sym, ap, inl, inr, ◌⊎◌, subst, ◌∙◌, arith}
 use Rattle.std.specs.Prelude.{IfSome, Result, Ok, Err}
 use Rattle.std.specs.Result.{IsErrAnd}
 use Rattle.std.proofs.lemmas.Bool.{cases_lt}
 use Rattle.nc_base.specs.declared.step.DiskCall.{DiskCall}
 use Rattle.nc_outside.specs.Told.{after, with_end}
 use Rattle.serial_spec.specs.DeviceCalls.{head_load}
-use Rattle.serial_spec.specs.File.{longer}
-use Rattle.serial_spec.proofs.FileLaws.{longer-enough}
 use Rattle.std.proofs.lemmas.List.{take-append-drop, take_all}
 use Rattle.nc_base.specs.declared.errors.HeaderErr.{HeaderErr}
 use Rattle.ncmpi_cli.specs.Headline as headline
@@ -21,11 +19,6 @@ use Rattle.serial_spec.specs.HeaderGrammar.{first_check, HasFault, Spells}
 use Rattle.serial_spec.proofs.FaultLaws.{fault_only}
 use Rattle.serial_spec.proofs.OnceLaws.{spells_once}
 use Rattle.cdf_header.specs.Decoding.{BeginsWith}
-
--- a file that is long enough stays
-pub kept_long : (held : Option (List ℕ)) (len end : ℕ) → IfSome held (λ bytes. length bytes ≡ len) → end ≤ len → held ≡ after (λ file. longer file end) held
-kept_long None len end told h = refl
-kept_long (Some file) len end told h = ap (λ (t : List ℕ). Some t) (sym (longer-enough file end (omega (arith, told, h))))
 
 -- ---- a header that stands at a front, and a fault, exclude each other
 
@@ -62,12 +55,6 @@ front_is bytes n e = by_size (cases_lt (2 ^ 20) (length bytes))
     by_size (inr h) =
         let own : n ≡ length bytes = omega (arith, e, h) in
         ap (λ (k : ℕ). take k bytes) own ∙ take_all (length bytes) bytes (omega arith) ∙ sym (take_all (2 ^ 20) bytes h)
-
--- nothing is the front of an empty file
-pub none_front : (held : Option (List ℕ)) (len : ℕ) → IfSome held (λ bytes. length bytes ≡ len) → min len (2 ^ 20) ≡ 0 → IfSome held (λ file. [] ≡ headline.front file)
-none_front None len told e = tt
-none_front (Some []) len told e = refl
-none_front (Some (b ∷ bytes)) len told e = absurd (omega (arith, told, e))
 
 -- what is read of a file that is told
 pub read_front : (held : Option (List ℕ)) (len n : ℕ) (read : List ℕ) → IfSome held (λ bytes. length bytes ≡ len) → n ≡ min len (2 ^ 20)

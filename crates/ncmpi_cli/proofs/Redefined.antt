@@ -1,6 +1,7 @@
 -- The header and the file of a redefinition.
-use Rattle.std.proofs.Common.{◌≡◌, ℕ, ◌+◌, ◌-◌, ◌≤◌, List, [], ◌∷◌, ◌++◌, length, take, drop, replicate, fold, zip, Some, None, refl, ap, ◌∙◌, arith}
+use Rattle.std.proofs.Common.{◌≡◌, ℕ, ◌+◌, ◌-◌, ◌≤◌, List, [], ◌∷◌, ◌++◌, length, take, drop, replicate, fold, zip, refl, ap, ◌∙◌, arith}
 use Rattle.std.proofs.lemmas.List.{length-append, length-drop, length-replicate, length-take}
+use Rattle.redef_mover.proofs.AppliedLaws.{one_keeps}
 use Rattle.nc_base.specs.declared.header.Header.{Header}
 use Rattle.nc_base.specs.declared.header.Var.{Var}
 use Rattle.nc_base.specs.declared.script.Extra.{Extra}
@@ -16,15 +17,9 @@ use Rattle.redef_laws.specs.Shifted.{new_end}
 
 -- ---- the record count stays
 
-extra_kept : (header : Header) (e : Extra) → (with_extra header e).records ≡ header.records
-extra_kept header (extra.Dim d) = refl
-extra_kept header (extra.Var kind name dims) = refl
-extra_kept header (extra.Att None a) = refl
-extra_kept header (extra.Att (Some owner) a) = refl
-
 added_kept : (extras : List Extra) (header : Header) → (fold with_extra header extras).records ≡ header.records
 added_kept [] header = refl
-added_kept (e ∷ extras) header = added_kept extras (with_extra header e) ∙ extra_kept header e
+added_kept (e ∷ extras) header = added_kept extras (with_extra header e) ∙ one_keeps header e
 
 pub records_kept : (old new : Header) (extras : List Extra) → new ≡ redefined_header old extras → new.records ≡ old.records
 records_kept old new extras e = ap (λ (h : Header). h.records) e ∙ added_kept extras old

@@ -1,24 +1,19 @@
 -- A call more of a rank.
-use Rattle.std.proofs.Common.{◌≡◌, ◌∙◌, ◌<◌, ℕ, ◌+◌, List, [], ◌∷◌, ◌++◌, Bool, false, ◌==◌, cond, length, take, get_or, Option, Some, None, append-nil, ap, sym, refl, zero, suc, arith}
+use Rattle.std.proofs.Common.{◌≡◌, ◌∙◌, ◌<◌, ℕ, ◌+◌, List, [], ◌∷◌, ◌++◌, false, ◌==◌, cond, length, take, get_or, Some, None, append-nil, ap, sym, refl, zero, suc, arith}
 use Rattle.std.proofs.lemmas.List.{take_more}
 use Rattle.std.specs.List.{list_any}
+use Rattle.script_spec.proofs.TextLaws.{one_posted, none_posted}
 use Rattle.nc_base.specs.declared.step.MeetKind.{MeetKind}
 use Rattle.serial_spec.specs.History.{kinds, kind_of_call}
 use Rattle.std.proofs.lemmas.List.Elements.{filter_map-append}
 use Rattle.nc_base.specs.declared.request.Call.{Call}
 use Rattle.script_spec.specs.ScriptCalls.{posted, id_of_post, is_posted, calls_of}
 
-one_more : (c : Call) (id : ℕ) → id_of_post c ≡ Some id → posted (c ∷ []) ≡ id ∷ []
-one_more c id h = rw h refl
-
-none_more : (c : Call) → id_of_post c ≡ None → posted (c ∷ []) ≡ []
-none_more c h = rw h refl
-
 pub posted_more : (own : List Call) (c : Call) (id : ℕ) → id_of_post c ≡ Some id → posted (own ++ c ∷ []) ≡ posted own ++ id ∷ []
-posted_more own c id h = filter_map-append id_of_post own (c ∷ []) ∙ ap (λ (more : List ℕ). posted own ++ more) (one_more c id h)
+posted_more own c id h = filter_map-append id_of_post own (c ∷ []) ∙ ap (λ (more : List ℕ). posted own ++ more) (one_posted c id h)
 
 pub posted_same : (own : List Call) (c : Call) → id_of_post c ≡ None → posted (own ++ c ∷ []) ≡ posted own
-posted_same own c h = filter_map-append id_of_post own (c ∷ []) ∙ (ap (λ (more : List ℕ). posted own ++ more) (none_more c h) ∙ append-nil (posted own))
+posted_same own c h = filter_map-append id_of_post own (c ∷ []) ∙ (ap (λ (more : List ℕ). posted own ++ more) (none_posted c h) ∙ append-nil (posted own))
 
 pub posted_grown : (own : List Call) (c : Call) (id : ℕ) (keys new : List ℕ) → keys ≡ posted own → new ≡ cond (list_any (λ other. id == other) keys) keys (keys ++ id ∷ [])
     → is_posted id (posted own) ≡ false → id_of_post c ≡ Some id → new ≡ posted (own ++ c ∷ [])

@@ -1,19 +1,15 @@
 -- The first line of a text.
-use Rattle.std.proofs.Common.{◌≡◌, ◌≢◌, ℕ, zero, suc, ◌+◌, ◌<◌, ◌≤◌, List, [], ◌∷◌, ◌++◌, length, take, drop, Bool, true, false, not, Option, Some, None, refl, sym, ap, ◌∙◌, arith, position, cond, ◌==◌}
-use Rattle.std.proofs.lemmas.Grind.{common_steps}
+use Rattle.std.proofs.Common.{◌≡◌, ◌≢◌, ℕ, suc, ◌+◌, ◌<◌, ◌≤◌, List, [], ◌∷◌, length, take, drop, Bool, true, false, not, Some, None, refl, ap, ◌∙◌, arith, position, cond}
 use Rattle.std.proofs.lemmas.List.Splits.{slice_split_first, length-slice_split}
 use Rattle.std.proofs.lemmas.List.Sums.{prefix_len-le-length, count_by-le-length}
+use Rattle.std.specs.List.{position_or_len, slice_split, onto_first, before_first, after_first}
 use Rattle.std.proofs.lemmas.List.FromFn.{length-enumerate_from}
-use Rattle.std.specs.List.{position_or_len, prefix_len, slice_split, onto_first, before_first, after_first, enumerate_from}
+use Rattle.script_spec.proofs.TextLaws.{first_line_kept}
 use Rattle.script_spec.specs.ScriptWords.{text_lines, is_newline, without_empty_end, is_comma}
 
 -- what `position` found
 pub found_at : {X : Type 0} (p : X → Bool) (xs : List X) (n : ℕ) → position p xs ≡ Some n → (position_or_len p xs ≡ n) × (n < length xs)
 found_at p xs n h = grind (arith, prefix_len-le-length (λ x. not (p x)) xs)
-
-kept : (x : List ℕ) (zs : List (List ℕ)) → 0 < length zs → without_empty_end (x ∷ zs) ≡ x ∷ without_empty_end zs
-kept x [] h = absurd (omega arith)
-kept x (z ∷ zs) h = refl
 
 pub lines_cut : (text : List ℕ) (n : ℕ) → position is_newline text ≡ Some n → text_lines text ≡ take n text ∷ text_lines (drop (n + 1) text)
 lines_cut text n h =
@@ -21,7 +17,7 @@ lines_cut text n h =
     let parts : slice_split is_newline text ≡ before_first is_newline text ∷ slice_split is_newline (after_first is_newline text) =
     slice_split_first is_newline text 0 (omega arith) in
     let more : 0 < length (slice_split is_newline (after_first is_newline text)) = omega (arith, length-slice_split is_newline (after_first is_newline text)) in
-    let first = ap without_empty_end parts ∙ kept (before_first is_newline text) (slice_split is_newline (after_first is_newline text)) more in
+    let first = ap without_empty_end parts ∙ first_line_kept (before_first is_newline text) (slice_split is_newline (after_first is_newline text)) more in
     first ∙ ap (λ (k : ℕ). take k text ∷ text_lines (drop (k + 1) text)) at.0
 
 longer_part : {X : Type 0} (x : X) (xs : List X) (n : ℕ) (parts : List (List X)) (b : Bool) → cond (not b) (1 + n) 0 ≡ suc (length xs) → (n ≡ length xs → parts ≡ xs ∷ [])
@@ -66,5 +62,5 @@ fewer (x ∷ y ∷ more) = omega (arith, fewer (y ∷ more))
 pub few_lines : (text : List ℕ) → length (text_lines text) ≤ length text + 1
 few_lines text = omega (arith, fewer (slice_split is_newline text), length-slice_split is_newline text, count_by-le-length is_newline text)
 
-pub numbered : {A : Type 0} (n : ℕ) (xs : List A) → length (enumerate_from n xs) ≡ length xs
-numbered n xs = length-enumerate_from n xs
+-- what the count of lines goes by
+pub ruleset numbered = (few_lines, length-enumerate_from)

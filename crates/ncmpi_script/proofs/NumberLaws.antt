@@ -1,57 +1,27 @@
 -- The value of digits, from left to right.
-use Rattle.std.proofs.Common.{◌≡◌, ℕ, zero, suc, ◌+◌, ◌-◌, ◌*◌, ◌^◌, ◌≤◌, ◌<◌, List, [], ◌∷◌, ◌++◌, length, take, get_or, Bool, true, false, fold, Option, Some, None, option_map, drop, drop-cons, add-one, refl, sym, ap, ◌∙◌, arith, ◌&&◌, nat_le}
+use Rattle.std.proofs.Common.{◌≡◌, ℕ, zero, suc, ◌+◌, ◌-◌, ◌*◌, ◌^◌, ◌≤◌, ◌<◌, List, [], ◌∷◌, length, take, get_or, true, fold, Option, Some, None, option_map, drop, drop-cons, add-one, refl, ap, ◌∙◌, arith}
 use Rattle.std.proofs.lemmas.List.Sums.{fold_push}
 use Rattle.std.proofs.lemmas.List.{take_more}
-use Rattle.std.proofs.lemmas.Grind.{common_steps}
 use Rattle.std.specs.List.{list_all}
-use native.Mathlib.Numerals.{unary_clauses}
+use Rattle.std.proofs.lemmas.Bool.{and_parts}
+use Rattle.script_spec.proofs.NumeralLaws.{digit_bounds, sixteens-le, no_sum, sixteens}
 use Rattle.script_spec.specs.ScriptWords.{is_digit, digits_value, hex_sum, hex_value}
-
-abbrev pub tens : ℕ → ℕ
-tens zero = 1
-tens (suc n) = 10 * tens n
-
-tens-le : (i k j : ℕ) → k + i ≡ j → tens i ≤ tens j
-tens-le i zero j e = let same : i ≡ j = omega arith in rw same (omega arith)
-tens-le i (suc k) j e = let more : suc (k + i) ≡ j = omega arith in rw (← more) (omega (arith, tens-le i k (k + i) refl))
-
-pub tens-fits : (i : ℕ) → i ≤ 20 → tens i ≤ 10 ^ 20
-tens-fits i h = tens-le i (20 - i) 20 (omega arith)
-
-and_both : (a b : Bool) → (a && b) ≡ true → (a ≡ true) × (b ≡ true)
-and_both true b h = (refl, h)
-and_both false b h = absurd (cc)
-
-digit_bounds : (d : ℕ) → is_digit d ≡ true → (48 ≤ d) × (d ≤ 57)
-digit_bounds d h = grind (arith, common_steps)
 
 pub digit_at : (ds : List ℕ) (i d : ℕ) → list_all is_digit ds ≡ true → i < length ds → (48 ≤ get_or ds i d) × (get_or ds i d ≤ 57)
 digit_at [] i d all h = absurd (omega arith)
-digit_at (x ∷ ds) zero d all h = digit_bounds x (and_both (is_digit x) (list_all is_digit ds) all).0
-digit_at (x ∷ ds) (suc i) d all h = digit_at ds i d (and_both (is_digit x) (list_all is_digit ds) all).1 (omega arith)
+digit_at (x ∷ ds) zero d all h = digit_bounds x (and_parts (is_digit x) (list_all is_digit ds) all).0
+digit_at (x ∷ ds) (suc i) d all h = digit_at ds i d (and_parts (is_digit x) (list_all is_digit ds) all).1 (omega arith)
 
 pub value_more : (ds : List ℕ) (i d : ℕ) → i < length ds → digits_value (take (i + 1) ds) ≡ 10 * digits_value (take i ds) + (get_or ds i d - 48)
 value_more ds i d h = ap digits_value (take_more ds i d h) ∙ fold_push (λ n x. 10 * n + (x - 48)) 0 (take i ds) (get_or ds i d)
 
 -- ---- hexadecimal digits
 
-abbrev pub sixteens : ℕ → ℕ
-sixteens zero = 1
-sixteens (suc n) = 16 * sixteens n
-
-sixteens-le : (i k j : ℕ) → k + i ≡ j → sixteens i ≤ sixteens j
-sixteens-le i zero j e = let same : i ≡ j = omega arith in rw same (omega arith)
-sixteens-le i (suc k) j e = let more : suc (k + i) ≡ j = omega arith in rw (← more) (omega (arith, sixteens-le i k (k + i) refl))
-
 pub sixteens-fits : (i : ℕ) → i ≤ 16 → sixteens i ≤ 2 ^ 64
 sixteens-fits i h = sixteens-le i (16 - i) 16 (omega arith)
 
 pub hex_more : (hs : List ℕ) (i d n : ℕ) → i < length hs → fold hex_sum (Some n) (drop i hs) ≡ fold hex_sum (hex_sum (Some n) (get_or hs i d)) (drop (i + 1) hs)
 hex_more hs i d n h = rw (add-one, drop-cons hs i d) refl
-
-pub no_sum : (hs : List ℕ) → fold hex_sum None hs ≡ None
-no_sum [] = refl
-no_sum (h ∷ hs) = no_sum hs
 
 pub sixteens-more : (i : ℕ) → i < 16 → 16 * sixteens i ≤ 2 ^ 64
 sixteens-more i h = sixteens-fits (suc i) (omega arith)

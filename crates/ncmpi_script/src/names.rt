@@ -36,7 +36,7 @@ impl<'a> Names<'a> {
     }
 
     /// The place of a name.
-    #[tactic(auto, using(crate::proofs::NameLaws::position_map))]
+    #[tactic(auto, using(list_laws::proofs::Maps::position_map))]
     pub fn find(&self, name: &'a [u8]) -> Option<usize>
         ensures value { result ≡ position (bytes_eq name.now) self.now }
         ensures bound { IfSome result (λ k. k < length self.now) }

@@ -1,17 +1,16 @@
 -- The claims of a heap, as entries.
-use Rattle.std.proofs.Common.{◌≡◌, ℕ, zero, suc, ◌+◌, ◌-◌, ◌<◌, ◌≤◌, ◌⊎◌, refl, sym, ◌∙◌, ap, subst, inl, inr, List, [], ◌∷◌, ◌++◌, map, take, drop, get_or, length, min, Bool, true, false, Option, Some, None, slice_get, nat_cmp, is_lt, Bor, ◌^◌, arith}
-use Rattle.std.specs.Prelude.{nat_lt, ◌==◌}
+use Rattle.std.proofs.Common.{◌≡◌, ℕ, zero, suc, ◌+◌, ◌-◌, ◌<◌, ◌≤◌, refl, sym, ◌∙◌, ap, subst, inl, inr, List, [], ◌∷◌, ◌++◌, take, drop, get_or, length, Bool, true, false, Option, Some, None, slice_get, nat_cmp, is_lt, Bor, ◌^◌, arith}
+use Rattle.std.specs.Prelude.{nat_lt}
 use Rattle.std.specs.BinaryHeap.{IsHeap, IsUpperBound, PopsGreatest}
 use Rattle.std.specs.Slice.{IsItemAt}
 use Rattle.std.specs.Option.{option_copied}
 use Rattle.std.specs.Prelude.{IfSome, IfNone, MatchOption}
-use Rattle.overlay_laws.proofs.WalkLaws.{lt_true}
 use Rattle.std.specs.List.Sorted.{IsPermutation}
 use Rattle.std.specs.Ordering.{ordering_then}
 use Rattle.std.specs.declared.cmp.Ordering.{Ordering}
-use Rattle.std.specs.declared.cmp.Ordering.TheVariants.{Less, Equal, Greater}
+use Rattle.std.specs.declared.cmp.Ordering.TheVariants.{Less, Equal}
 use Rattle.std.proofs.lemmas.Bool.Decides.{nat_tests}
-use borrow.Author.Tests.{ltb-true, ltb-false, eqb-true}
+use borrow.Author.Tests.{ltb-true, ltb-false}
 use Rattle.nc_base.specs.declared.plan.Owned.{Owned}
 use Rattle.overlay_laws.specs.Entries.{In}
 use Rattle.overlay_laws.proofs.EntryLaws.{same_permuted}
@@ -22,6 +21,7 @@ use Rattle.overlap_report.proofs.SweepSteps.{swept_empty, swept_without, swept_p
 use Rattle.overlap_report.proofs.OriginSteps.{resolved_by}
 use Rattle.overlap_report.proofs.KeySteps.{IsNext, in_extents}
 use Rattle.std.proofs.lemmas.List.{take_all}
+use Rattle.std.proofs.lemmas.Bool.{lt-ltb}
 use Rattle.nc_base.specs.declared.plan.Extent.{Extent}
 use Rattle.overlay_laws.specs.Lines.{extents, IsByPlace, EndBelow}
 use Rattle.overlay_laws.specs.Origins.{origins, IsOnceEach, IsResolved}
@@ -100,7 +100,7 @@ top_told [] (Some x) heap item greatest = cc (item.0)
 top_told (c ∷ cs) None heap item greatest = absurd (no_item (length cs) item.0)
   where
     no_item : (n : ℕ) → false ≡ nat_lt 0 (suc n) → ⊥
-    no_item n e = (let yes : nat_lt 0 (suc n) ≡ true = lt_true 0 (suc n) (omega arith) in cc)
+    no_item n e = (let yes : nat_lt 0 (suc n) ≡ true = lt-ltb 0 (suc n) (omega arith) in cc)
 top_told (c ∷ cs) (Some x) heap item greatest = (ap Some (sym item.1), last_of_all x.now (c ∷ cs) (greatest heap))
 
 pub ended_fit : (cs ds : List Claim) (t : Claim) (p : ℕ) → IsPermutation cs (t ∷ ds) → AreFit p (entries_of cs) → AreFit p (entries_of ds)
@@ -165,11 +165,6 @@ pub at_dropped : (list : List Owned) (i : ℕ) (d : Owned) → i < length list �
 at_dropped [] i d h = absurd (omega arith)
 at_dropped (o ∷ list) zero d h = inl refl
 at_dropped (o ∷ list) (suc i) d h = at_dropped list i d (omega arith)
-
-in_dropped : (i : ℕ) (list : List Owned) (o : Owned) → In (drop i list) o → In list o
-in_dropped zero list o h = h
-in_dropped (suc i) [] o h = h
-in_dropped (suc i) (p ∷ list) o h = inr (in_dropped i list o h)
 
 pub later_begin : (list : List Owned) (i : ℕ) (d o : Owned) → i < length list → IsByPlace (extents list) → In (drop (suc i) list) o → (get_or list i d).extent.at ≤ o.extent.at
 later_begin [] i d o h sorted m = absurd (omega arith)

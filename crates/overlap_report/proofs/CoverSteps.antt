@@ -1,8 +1,8 @@
 -- Extents in the order of their places, joined where they touch.
-use Rattle.std.proofs.Common.{◌≡◌, ℕ, zero, suc, ◌+◌, ◌-◌, ◌<◌, ◌≤◌, ◌⊎◌, refl, sym, ◌∙◌, ap, subst, inl, inr, List, [], ◌∷◌, ◌++◌, length, drop, get_or, Bool, true, false, cond, max, min, append_assoc, arith}
-use Rattle.std.specs.Prelude.{nat_lt, ◌==◌, flat_map}
+use Rattle.std.proofs.Common.{◌≡◌, ℕ, zero, suc, ◌+◌, ◌-◌, ◌<◌, ◌≤◌, ◌⊎◌, refl, sym, ◌∙◌, ap, subst, inl, inr, List, [], ◌∷◌, ◌++◌, length, drop, get_or, Bool, true, false, cond, max, arith}
+use Rattle.std.specs.Prelude.{nat_lt, ◌==◌}
 use Rattle.std.proofs.lemmas.Grind.{flat_map-append}
-use Rattle.std.proofs.lemmas.List.{drop_more, append-nil}
+use Rattle.std.proofs.lemmas.List.{append-nil}
 use Rattle.std.proofs.Math.ListN.{drop_of_length-le}
 use Rattle.std.specs.List.{range_with_len}
 use borrow.Author.Tests.{ltb-true, ltb-false, eqb-true}
@@ -12,7 +12,6 @@ use Rattle.overlay_laws.specs.Entries.{In, HaveSame, ranges}
 use Rattle.overlay_laws.specs.Lines.{extents, IsByPlace, EndBelow}
 use Rattle.overlay_laws.specs.Walks.{IsCover, spans}
 use Rattle.overlay_laws.proofs.HullLaws.{in_either, in_left, in_right, in_range, range_low, range_high}
-use Rattle.overlay_laws.proofs.WalkLaws.{lt_true, lt_false, eq_true, eq_false}
 use Rattle.overlap_report.specs.Sorted.{run}
 
 -- the runs of the extents, where one from a place to an end has begun
@@ -183,62 +182,6 @@ joined_all at end x (e ∷ es) sorted low m =
 pub spans_extents : (list : List Owned) → spans (extents list) ≡ ranges list
 spans_extents [] = refl
 spans_extents (o ∷ list) = ap (λ (r : List ℕ). range_with_len o.extent.at o.extent.len ++ r) (spans_extents list)
-
-next_entry : (list : List Owned) (i : ℕ) (d : Owned) → i < length list → extents (drop i list) ≡ (get_or list i d).extent ∷ extents (drop (i + 1) list)
-next_entry list i d h = ap extents (drop_more list i d h)
-
-pub step_empty : (list : List Owned) (i at end : ℕ) (o : Owned) (done all : List Extent) → i < length list → o ≡ get_or list i o → o.extent.len ≡ 0
-    → done ++ joined_from at end (extents (drop i list)) ≡ all → done ++ joined_from at end (extents (drop (i + 1) list)) ≡ all
-step_empty list i at end o done all h is empty e =
-    let there = next_entry list i o h in
-    ap (λ (es : List Extent). done ++ es)
-    (sym (ap (λ (es : List Extent). joined_from at end es) (there ∙ ap (λ (z : Owned). z.extent ∷ extents (drop (i + 1) list)) (sym is))
-    ∙ by_test (o.extent.len == 0) (eq_true o.extent.len 0 empty)))
-    ∙ e
-  where
-    by_test : (t : Bool) → t ≡ true
-        → cond t (joined_from at end (extents (drop (i + 1) list)))
-        (cond (nat_lt end o.extent.at) (run at end ++ joined_from o.extent.at (max end (o.extent.at + o.extent.len)) (extents (drop (i + 1) list))) (joined_from at (max end (o.extent.at + o.extent.len)) (extents (drop (i + 1) list))))
-        ≡ joined_from at end (extents (drop (i + 1) list))
-    by_test true f = refl
-    by_test false f = cc
-
-pub step_touch : (list : List Owned) (i at end : ℕ) (o : Owned) (done all : List Extent) → i < length list → o ≡ get_or list i o → 1 ≤ o.extent.len → o.extent.at ≤ end
-    → done ++ joined_from at end (extents (drop i list)) ≡ all → done ++ joined_from at (max end (o.extent.at + o.extent.len)) (extents (drop (i + 1) list)) ≡ all
-step_touch list i at end o done all h is some touch e =
-    let there = next_entry list i o h in
-    ap (λ (es : List Extent). done ++ es)
-    (sym (ap (λ (es : List Extent). joined_from at end es) (there ∙ ap (λ (z : Owned). z.extent ∷ extents (drop (i + 1) list)) (sym is))
-    ∙ by_test (o.extent.len == 0) (nat_lt end o.extent.at) (eq_false 0 o.extent.len some) (lt_false end o.extent.at touch)))
-    ∙ e
-  where
-    by_test : (s t : Bool) → s ≡ false → t ≡ false
-        → cond s (joined_from at end (extents (drop (i + 1) list)))
-        (cond t (run at end ++ joined_from o.extent.at (max end (o.extent.at + o.extent.len)) (extents (drop (i + 1) list))) (joined_from at (max end (o.extent.at + o.extent.len)) (extents (drop (i + 1) list))))
-        ≡ joined_from at (max end (o.extent.at + o.extent.len)) (extents (drop (i + 1) list))
-    by_test true t f g = cc
-    by_test false true f g = cc
-    by_test false false f g = refl
-
-pub step_gap : (list : List Owned) (i at end : ℕ) (o : Owned) (done all more : List Extent) → i < length list → o ≡ get_or list i o → 1 ≤ o.extent.len → end < o.extent.at
-    → more ≡ done ++ run at end
-    → done ++ joined_from at end (extents (drop i list)) ≡ all → more ++ joined_from o.extent.at (max end (o.extent.at + o.extent.len)) (extents (drop (i + 1) list)) ≡ all
-step_gap list i at end o done all more h is some gap added e =
-    let there = next_entry list i o h in
-    ap (λ (es : List Extent). es ++ joined_from o.extent.at (max end (o.extent.at + o.extent.len)) (extents (drop (i + 1) list))) added
-    ∙ append_assoc done (run at end) (joined_from o.extent.at (max end (o.extent.at + o.extent.len)) (extents (drop (i + 1) list)))
-    ∙ ap (λ (es : List Extent). done ++ es)
-    (sym (ap (λ (es : List Extent). joined_from at end es) (there ∙ ap (λ (z : Owned). z.extent ∷ extents (drop (i + 1) list)) (sym is))
-    ∙ by_test (o.extent.len == 0) (nat_lt end o.extent.at) (eq_false 0 o.extent.len some) (lt_true end o.extent.at gap)))
-    ∙ e
-  where
-    by_test : (s t : Bool) → s ≡ false → t ≡ true
-        → cond s (joined_from at end (extents (drop (i + 1) list)))
-        (cond t (run at end ++ joined_from o.extent.at (max end (o.extent.at + o.extent.len)) (extents (drop (i + 1) list))) (joined_from at (max end (o.extent.at + o.extent.len)) (extents (drop (i + 1) list))))
-        ≡ run at end ++ joined_from o.extent.at (max end (o.extent.at + o.extent.len)) (extents (drop (i + 1) list))
-    by_test true t f g = cc
-    by_test false false f g = cc
-    by_test false true f g = refl
 
 pub last_run : (list : List Owned) (i at end : ℕ) (done all more : List Extent) → length list ≤ i → more ≡ done ++ run at end
     → done ++ joined_from at end (extents (drop i list)) ≡ all → more ≡ all

@@ -1,8 +1,10 @@
 -- Requests that are the same or not, and entries among the first of a list.
-use Rattle.std.proofs.Common.{◌≡◌, ℕ, zero, suc, ◌+◌, ◌-◌, ◌<◌, ◌≤◌, ◌⊎◌, refl, sym, ◌∙◌, ap, subst, inl, inr, List, [], ◌∷◌, ◌++◌, length, take, drop, get_or, Bool, true, false, cond, ◌&&◌, ◌||◌, arith}
+use Rattle.std.proofs.Common.{◌≡◌, ℕ, zero, suc, ◌+◌, ◌-◌, ◌<◌, ◌≤◌, ◌⊎◌, refl, sym, ◌∙◌, ap, subst, inl, inr, List, [], ◌∷◌, ◌++◌, length, take, get_or, Bool, true, false, arith}
 use Rattle.std.proofs.lemmas.Bool.Decides.{nat_tests}
 use Rattle.std.proofs.lemmas.List.{take_more, take_all, map-append}
-use Rattle.std.specs.Prelude.{nat_lt, ◌==◌}
+use Rattle.overlay_laws.proofs.Members.{entry_in}
+use Rattle.serial_spec.proofs.PairLaws.{key_itself}
+use Rattle.overlay_laws.proofs.WalkLaws.{no_both}
 use Rattle.nc_base.specs.declared.plan.Extent.{Extent}
 use Rattle.nc_base.specs.declared.plan.Owned.{Owned}
 use Rattle.serial_spec.specs.SharedByte.{Key, same_key, key_below}
@@ -10,15 +12,8 @@ use Rattle.overlay_laws.specs.Entries.{In}
 use Rattle.overlay_laws.specs.Lines.{extents, IsByPlace, EndBelow}
 use Rattle.overlay_laws.proofs.HullLaws.{in_either, in_left, in_right}
 use Rattle.overlay_laws.proofs.HolderLaws.{same_keys, keys_same}
-use Rattle.overlap_report.specs.Sharing.{key_of, Covers}
 
 -- ---- keys
-
-pub not_both : {A : Type 0} (t : Bool) → t ≡ true → t ≡ false → A
-not_both t h k = cc
-
-pub key_itself : (a : Key) → same_key a a ≡ true
-key_itself a = keys_same a a refl refl
 
 pub key_back : (a b : Key) → same_key a b ≡ true → same_key b a ≡ true
 key_back a b h = let e = same_keys a b h in keys_same b a (sym e.0) (sym e.1)
@@ -31,26 +26,20 @@ key_apart a b r h k = by_test (same_key a b) refl
   where
     by_test : (t : Bool) → same_key a b ≡ t → same_key a b ≡ false
     by_test false e = e
-    by_test true e = not_both (same_key b r) (key_meet b r a (key_back a b e) (key_back a r h)) k
+    by_test true e = no_both (same_key b r) (key_meet b r a (key_back a b e) (key_back a r h)) k
 
 pub key_apart_back : (a b r : Key) → same_key a r ≡ false → same_key b r ≡ true → same_key a b ≡ false
 key_apart_back a b r h k = by_test (same_key a b) refl
   where
     by_test : (t : Bool) → same_key a b ≡ t → same_key a b ≡ false
     by_test false e = e
-    by_test true e = not_both (same_key a r) (key_meet a r b e (key_back b r k)) h
-
-pub key_equal : (a b : Key) → same_key a b ≡ true → a ≡ b
-key_equal a b h = let e = same_keys a b h in λ i. (e.0 i, e.1 i)
+    by_test true e = no_both (same_key a r) (key_meet a r b e (key_back b r k)) h
 
 pub equal_key : (a b : Key) → a ≡ b → same_key a b ≡ true
 equal_key a b e = subst (λ (k : Key). same_key a k ≡ true) e (key_itself a)
 
 pub not_below_itself : (a : Key) → key_below a a ≡ false
 not_below_itself a = grind (arith, nat_tests)
-
-pub below_through : (a b c : Key) → key_below a b ≡ true → key_below b c ≡ true → key_below a c ≡ true
-below_through a b c h k = grind (arith, nat_tests)
 
 pub below_or_above : (a b : Key) → same_key a b ≡ false → key_below a b ≡ false → key_below b a ≡ true
 below_or_above a b h k = grind (arith, nat_tests)
@@ -61,17 +50,6 @@ pub in_extents : (list : List Owned) (o : Owned) → In list o → In (extents l
 in_extents [] o h = absurd h
 in_extents (p ∷ list) o (inl h) = inl (ap (λ (z : Owned). z.extent) h)
 in_extents (p ∷ list) o (inr h) = inr (in_extents list o h)
-
-pub in_at : {X : Type 0} (xs : List X) (i : ℕ) (d : X) → i < length xs → In xs (get_or xs i d)
-in_at [] i d h = absurd (omega arith)
-in_at (x ∷ xs) zero d h = inl refl
-in_at (x ∷ xs) (suc i) d h = inr (in_at xs i d (omega arith))
-
-pub in_taken : {X : Type 0} (i : ℕ) (xs : List X) (e : X) → In (take i xs) e → In xs e
-in_taken zero xs e h = absurd h
-in_taken (suc i) [] e h = h
-in_taken (suc i) (x ∷ xs) e (inl h) = inl h
-in_taken (suc i) (x ∷ xs) e (inr h) = inr (in_taken i xs e h)
 
 -- one more entry
 pub record IsNext (seen more : List Owned) (o : Owned) : Type 0 where
@@ -99,7 +77,7 @@ pub before_next : (list : List Owned) (i : ℕ) (o p : Owned) → i < length lis
 before_next [] i o p h is sorted m = absurd (omega arith)
 before_next (a ∷ list) zero o p h is sorted m = absurd m
 before_next (a ∷ list) (suc i) o p h is sorted (inl m) =
-    let there : In list o = subst (λ (z : Owned). In list z) (sym is) (in_at list i o (omega arith)) in
+    let there : In list o = subst (λ (z : Owned). In list z) (sym is) (entry_in list i o (omega arith)) in
     subst (λ (z : Owned). z.extent.at ≤ o.extent.at) m (sorted.0 o.extent (in_extents list o there))
 before_next (a ∷ list) (suc i) o p h is sorted (inr m) = before_next list i o p (omega arith) is sorted.1 m
 

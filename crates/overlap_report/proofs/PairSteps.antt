@@ -1,15 +1,15 @@
 -- The two least requests of the entries so far that hold a byte.
-use Rattle.std.proofs.Common.{◌≡◌, ℕ, ◌<◌, ◌≤◌, ◌⊎◌, refl, sym, ◌∙◌, ap, subst, inl, inr, List, length, take, Bool, true, false, cond}
+use Rattle.std.proofs.Common.{◌≡◌, ℕ, ◌≤◌, ◌⊎◌, refl, sym, ◌∙◌, ap, subst, inl, inr, List, length, take, Bool, true, false, cond}
 use Rattle.std.proofs.lemmas.List.{take_all}
+use Rattle.serial_spec.proofs.PairLaws.{key_equal, below_through}
 use Rattle.nc_base.specs.declared.plan.Owned.{Owned}
 use Rattle.serial_spec.specs.SharedByte.{Key, same_key, key_below}
-use Rattle.overlay_laws.specs.Entries.{In}
 use Rattle.overlap_report.specs.declared.holders.Request.{Request}
 use Rattle.overlap_report.specs.declared.holders.Least.{Least}
 use Rattle.overlap_report.specs.declared.holders.Least.TheVariants.{Nobody, One, Two}
-use Rattle.overlap_report.specs.Sharing.{key_of, Covers, IsClearAt, HasHolder, ArePairAt}
+use Rattle.overlap_report.specs.Sharing.{key_of, Covers, IsClearAt, HasHolder}
 use Rattle.overlap_report.specs.Holding.{key, with_key, AreLeast}
-use Rattle.overlap_report.proofs.KeySteps.{not_both, key_equal, equal_key, below_through, below_or_above, key_back, IsNext}
+use Rattle.overlap_report.proofs.KeySteps.{equal_key, below_or_above, IsNext}
 
 kept : (seen more : List Owned) (o : Owned) (k : Key) (x : ℕ) → IsNext seen more o → HasHolder seen k x → HasHolder more k x
 kept seen more o k x next h = record { holder = h.holder; is_one = next.keeps h.holder h.is_one; covers = h.covers; key = h.key }

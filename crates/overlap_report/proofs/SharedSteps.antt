@@ -1,21 +1,23 @@
 -- How far the entries so far reach, and the first byte that two requests hold.
-use Rattle.std.proofs.Common.{◌≡◌, ℕ, zero, suc, ◌+◌, ◌-◌, ◌<◌, ◌≤◌, ◌⊎◌, refl, sym, ◌∙◌, ap, subst, inl, inr, List, [], ◌∷◌, length, take, get_or, Bool, true, false, cond, max, Option, Some, None, arith}
+use Rattle.std.proofs.Common.{◌≡◌, ℕ, ◌+◌, ◌-◌, ◌<◌, ◌≤◌, ◌⊎◌, refl, sym, ◌∙◌, ap, subst, inl, inr, List, length, take, get_or, Bool, true, false, cond, max, Option, Some, None, arith}
 use Rattle.std.specs.Prelude.{nat_lt, MatchOption}
 use Rattle.std.specs.List.{range_with_len}
 use Rattle.std.proofs.lemmas.List.{take_all}
 use borrow.Author.Tests.{ltb-true, ltb-false}
+use Rattle.overlay_laws.proofs.Members.{entry_in, in_taken}
+use Rattle.overlay_laws.proofs.WalkLaws.{no_both}
 use Rattle.nc_base.specs.declared.plan.Owned.{Owned}
 use Rattle.nc_base.specs.declared.answer.Pair.{Pair}
-use Rattle.serial_spec.specs.SharedByte.{Key, same_key, key_below, Holds, holdings_of_entries, shared_pair_of, IsSharedPair, first_end, second_end}
-use Rattle.serial_spec.proofs.PairLaws.{pair_found, pair_only}
+use Rattle.serial_spec.specs.SharedByte.{Key, same_key, key_below, Holds, holdings_of_entries, shared_pair_of, first_end, second_end}
+use Rattle.serial_spec.proofs.PairLaws.{pair_found, pair_only, key_itself, key_equal}
 use Rattle.overlay_laws.specs.Entries.{In}
 use Rattle.overlay_laws.specs.Lines.{extents, IsByPlace}
 use Rattle.overlay_laws.proofs.HullLaws.{in_range, range_low, range_high}
-use Rattle.overlay_laws.proofs.HolderLaws.{holds_by, holder_of, IsHolder}
+use Rattle.overlay_laws.proofs.HolderLaws.{holds_by, holder_of}
 use Rattle.overlap_report.specs.declared.shared.Reach.{Reach}
 use Rattle.overlap_report.specs.Sharing.{key_of, Covers, IsClearAt, AreTwo, IsFirst, HasHolder, ArePairAt}
 use Rattle.overlap_report.specs.Reaching.{same_as, with_entry}
-use Rattle.overlap_report.proofs.KeySteps.{not_both, key_itself, key_back, key_meet, key_apart, key_apart_back, key_equal, equal_key, not_below_itself, IsNext, next_taken, before_next, at_or_before, in_taken, in_at}
+use Rattle.overlap_report.proofs.KeySteps.{key_back, key_meet, key_apart, key_apart_back, equal_key, not_below_itself, IsNext, before_next, at_or_before}
 
 -- an entry that ends there, of the request or not
 pub record EndsAt (seen : List Owned) (r : Reach) (n : ℕ) (same : Bool) : Type 0 where
@@ -30,15 +32,6 @@ pub record Reaches (r : Reach) (seen : List Owned) : Type 0 where
   pub end_of : 0 < r.end → EndsAt seen r r.end true
   pub other_of : 0 < r.other → EndsAt seen r r.other false
   pub clear : (x : ℕ) → IsClearAt seen x
-
-pub nothing_reached : (list : List Owned) → Reaches (record { end = 0; rank = 0; request = 0; other = 0 }) (take 0 list)
-nothing_reached list = record {
-  most = λ o m l. absurd m;
-  others = λ o m l e. absurd m;
-  end_of = λ l. absurd (omega arith);
-  other_of = λ l. absurd (omega arith);
-  clear = λ x o p m n c d. absurd m;
-}
 
 -- ---- one more entry
 
@@ -95,7 +88,7 @@ reach_next seen more r o next long free h = by_same (same_as r o) refl free
       ];
       others = λ p m l f. elim (next.splits p m) [
         | inl a ↦ h.others p a l f
-        | inr a ↦ not_both (same_as r o) e (subst (λ (z : Owned). same_as r z ≡ false) a f)
+        | inr a ↦ no_both (same_as r o) e (subst (λ (z : Owned). same_as r z ≡ false) a f)
       ];
       end_of = λ l. by_end (nat_lt r.end (o.extent.at + o.extent.len)) refl;
       other_of = λ l. moved seen more r (record r { end = max r.end (o.extent.at + o.extent.len) }) o r.other r.other false next refl refl refl (h.other_of l);
@@ -118,7 +111,7 @@ reach_next seen more r o next long free h = by_same (same_as r o) refl free
       ];
       others = λ p m l f. elim (next.splits p m) [
         | inl a ↦ h.most p a l
-        | inr a ↦ not_both (same_key (key_of p) (key_of o)) (equal_key (key_of p) (key_of o) (ap key_of a)) f
+        | inr a ↦ no_both (same_key (key_of p) (key_of o)) (equal_key (key_of p) (key_of o) (ap key_of a)) f
       ];
       end_of = λ l. record { entry = o; is_one = next.has; ends = refl; of_it = key_itself (key_of o) };
       other_of = λ l. (let q = h.end_of l in
@@ -160,7 +153,7 @@ pub first_found : (list : List Owned) (i : ℕ) (r : Reach) (o : Owned) → i < 
 first_found list i r o room is sorted some meets h = (by_same (same_as r o) refl meets, λ y l. clear_below y l)
   where
     here : In list o
-    here = subst (λ (z : Owned). In list z) (sym is) (in_at list i o room)
+    here = subst (λ (z : Owned). In list z) (sym is) (entry_in list i o room)
 
     two : (n : ℕ) (same : Bool) → EndsAt (take i list) r n same → o.extent.at < n → ((q : Owned) → same_as r q ≡ same → same_key (key_of q) (key_of o) ≡ false) → AreTwo list o.extent.at
     two n same e past apart =
@@ -221,7 +214,7 @@ no_pair list clear = by_pair (shared_pair_of (holdings_of_entries list)) refl
     by_pair (Some p) e =
         let found = pair_found (holdings_of_entries list) p e in
         let same = unshared list p.at (clear p.at) (first_end p) (second_end p) (of_holds list (first_end p) p.at found.first) (of_holds list (second_end p) p.at found.second) in
-        not_both (key_below (second_end p) (second_end p))
+        no_both (key_below (second_end p) (second_end p))
         (subst (λ (k : Key). key_below k (second_end p) ≡ true) same found.in_order) (not_below_itself (second_end p))
 
 pub one_pair : (list : List Owned) (p : Pair) (x : ℕ) → p.at ≡ x → ((y : ℕ) → y < x → IsClearAt list y) → ArePairAt list (first_end p) (second_end p) x
@@ -239,7 +232,7 @@ one_pair list p x e clear h =
     by_key a k = subst (λ (b : Key). (b ≡ first_end p) ⊎ (b ≡ second_end p) ⊎ (key_below (second_end p) b ≡ true)) k.key (h.least k.holder k.is_one k.covers)
 
 pub two_differ : {A : Type 0} (list : List Owned) (x : ℕ) → AreTwo list x → IsClearAt list x → A
-two_differ list x h clear = not_both (same_key (key_of h.one) (key_of h.other)) (clear h.one h.other h.one_in h.other_in h.one_covers h.other_covers) h.differ
+two_differ list x h clear = no_both (same_key (key_of h.one) (key_of h.other)) (clear h.one h.other h.one_in h.other_in h.one_covers h.other_covers) h.differ
 
 pub found_pair : (list : List Owned) (x : ℕ) (o : Option Pair) → IsFirst list x
     → MatchOption o (IsClearAt list x) (λ p. (p.at ≡ x) × ArePairAt list (first_end p) (second_end p) x) → o ≡ shared_pair_of (holdings_of_entries list)

@@ -1,5 +1,5 @@
 -- One step of the sweep.
-use Rattle.std.proofs.Common.{◌≡◌, ℕ, zero, suc, ◌+◌, ◌-◌, ◌^◌, ◌<◌, ◌≤◌, ◌⊎◌, refl, sym, ◌∙◌, ap, subst, inl, inr, List, [], ◌∷◌, ◌++◌, map, min, Bool, true, false, arith}
+use Rattle.std.proofs.Common.{◌≡◌, ℕ, ◌+◌, ◌-◌, ◌<◌, ◌≤◌, refl, sym, ap, subst, inl, inr, List, [], ◌∷◌, ◌++◌, Bool, true, false, arith}
 use Rattle.std.specs.Prelude.{nat_lt}
 use borrow.Author.Tests.{ltb-true, ltb-false}
 use Rattle.nc_base.specs.declared.plan.Extent.{Extent}
@@ -9,7 +9,7 @@ use Rattle.overlay_laws.specs.Lines.{extents, IsInLine}
 use Rattle.overlay_laws.proofs.HullLaws.{in_either, in_left, in_right}
 use Rattle.overlap_report.specs.Parts.{IsPartOf, IsPartOfOne}
 use Rattle.overlap_report.specs.Sharing.{Covers}
-use Rattle.overlap_report.specs.Sweep.{part_of, AreFit, StandsBy, Winner, Swept}
+use Rattle.overlap_report.specs.Sweep.{part_of, StandsBy, Winner, Swept}
 use Rattle.overlap_report.proofs.KeySteps.{IsNext}
 
 -- ---- nothing goes on
@@ -164,15 +164,3 @@ swept_more seen more out pool next o is_next there back s = record {
             let ends = (s.low z m).0 in let high = c.1 in absurd (omega arith))
       ];
     }
-
-pub nothing_swept : (seen : List Owned) → ((o : Owned) → In seen o → ⊥) → Swept seen [] [] 0
-nothing_swept seen none = record {
-  won = λ o y m c. absurd m;
-  served = λ q y m l c. absurd (none q m);
-  alive = λ o m l. absurd (none o m);
-  pooled = λ o m. absurd m;
-  low = λ o m. absurd m;
-  line = tt;
-  parts = λ o m. absurd m;
-  begun = λ o m. absurd (none o m);
-}

@@ -4,13 +4,17 @@ use Rattle.std.proofs.lemmas.List.{length-append}
 use Rattle.std.proofs.lemmas.Nat.{mod_below, div-add-mod'}
 use Rattle.std.specs.Prelude.{filter, map, nat_lt, nat_le, ◌==◌}
 use Rattle.std.specs.List.{range_with_len}
+use Rattle.std.proofs.lemmas.List.FromFn.{length-range_with_len}
+use Rattle.std.proofs.lemmas.Bool.{lt-ltb, le-ltb, le-leb, lt-leb, leb-true, leb-false}
+use Rattle.list_laws.proofs.Truth.{equal_below, equal_true}
+use Rattle.list_laws.proofs.Ranges.{range_append}
 use Rattle.nc_base.specs.declared.plan.Extent.{Extent}
 use Rattle.serial_spec.specs.DeviceCalls.{first_of, last_of, hull_len, windows, sieving_windows, in_order}
 use Rattle.overlay_laws.specs.Entries.{In, HaveSame}
 use Rattle.overlay_laws.specs.Hulls.{IsAscending}
 use Rattle.overlay_laws.specs.Walks.{walked, round_end, spans, below, above, IsCover, end_after, is_single, first_at, hull_of, extents_walked, told_of}
 use Rattle.overlay_laws.proofs.HullLaws.{range_low, range_high, in_either, in_in_order, in_order_in, in_order_ascends}
-use Rattle.overlay_laws.proofs.WalkLaws.{filter_none, filter_all, filter_joined, lt_true, lt_false, le_true, le_false, from_le, from_not_le, eq_true, eq_false_below, drop_first, windows_walked, sieved_walked}
+use Rattle.overlay_laws.proofs.WalkLaws.{filter_none, filter_all, filter_joined, drop_first, windows_walked, sieved_walked}
 
 -- ---- bytes of a cover
 
@@ -22,33 +26,25 @@ spans_past (e ∷ cover) n y h k =
       | inr g ↦ spans_past cover n y (λ d l. h d (inr l)) g
     ]
 
-pub range_split : (a m n : ℕ) → range_with_len a (m + n) ≡ range_with_len a m ++ range_with_len (a + m) n
-range_split a zero n = let e : a ≡ a + 0 = omega arith in let f : 0 + n ≡ n = omega arith in ap (λ (k : ℕ). range_with_len a k) f ∙ ap (λ (k : ℕ). range_with_len k n) e
-range_split a (suc m) n =
-    let e : a + 1 + m ≡ a + suc m = omega arith in
-    let f : suc m + n ≡ suc (m + n) = omega arith in
-    ap (λ (k : ℕ). range_with_len a k) f
-    ∙ ap (λ r. a ∷ r) (range_split (a + 1) m n ∙ ap (λ (k : ℕ). range_with_len (a + 1) m ++ range_with_len k n) e)
-
 -- ---- the part of a range before a place, and from it on
 
 range_below_all : (stop a n : ℕ) → a + n ≤ stop → filter (λ y. nat_lt y stop) (range_with_len a n) ≡ range_with_len a n
-range_below_all stop a n h = filter_all (λ y. nat_lt y stop) (range_with_len a n) (λ y k. let l = range_high a n y k in lt_true y stop (omega arith))
+range_below_all stop a n h = filter_all (λ y. nat_lt y stop) (range_with_len a n) (λ y k. let l = range_high a n y k in lt-ltb y stop (omega arith))
 
 range_below_none : (stop a n : ℕ) → stop ≤ a → filter (λ y. nat_lt y stop) (range_with_len a n) ≡ []
-range_below_none stop a n h = filter_none (λ y. nat_lt y stop) (range_with_len a n) (λ y k. let l = range_low a n y k in lt_false y stop (omega arith))
+range_below_none stop a n h = filter_none (λ y. nat_lt y stop) (range_with_len a n) (λ y k. let l = range_low a n y k in le-ltb y stop (omega arith))
 
 range_above_all : (stop a n : ℕ) → stop ≤ a → filter (λ y. nat_le stop y) (range_with_len a n) ≡ range_with_len a n
-range_above_all stop a n h = filter_all (λ y. nat_le stop y) (range_with_len a n) (λ y k. let l = range_low a n y k in le_true stop y (omega arith))
+range_above_all stop a n h = filter_all (λ y. nat_le stop y) (range_with_len a n) (λ y k. let l = range_low a n y k in le-leb stop y (omega arith))
 
 pub range_above_none : (stop a n : ℕ) → a + n ≤ stop → filter (λ y. nat_le stop y) (range_with_len a n) ≡ []
-range_above_none stop a n h = filter_none (λ y. nat_le stop y) (range_with_len a n) (λ y k. let l = range_high a n y k in le_false stop y (omega arith))
+range_above_none stop a n h = filter_none (λ y. nat_le stop y) (range_with_len a n) (λ y k. let l = range_high a n y k in lt-leb stop y (omega arith))
 
 cut_range : (stop a n : ℕ) → a < stop → stop < a + n → range_with_len a n ≡ range_with_len a (stop - a) ++ range_with_len stop (a + n - stop)
 cut_range stop a n h k =
     let e : n ≡ (stop - a) + (a + n - stop) = omega arith in
     let f : a + (stop - a) ≡ stop = omega arith in
-    ap (λ (m : ℕ). range_with_len a m) e ∙ range_split a (stop - a) (a + n - stop) ∙ ap (λ (m : ℕ). range_with_len a (stop - a) ++ range_with_len m (a + n - stop)) f
+    ap (λ (m : ℕ). range_with_len a m) e ∙ range_append a (stop - a) (a + n - stop) ∙ ap (λ (m : ℕ). range_with_len a (stop - a) ++ range_with_len m (a + n - stop)) f
 
 pub no_more : (xs : List ℕ) → xs ++ [] ≡ xs
 no_more [] = refl
@@ -96,10 +92,10 @@ spans_below stop (e ∷ cover) h = by_start (spans_below stop cover h.2) (nat_le
         → filter (λ y. nat_lt y stop) (spans (e ∷ cover)) ≡ spans (cond t (e ∷ below stop cover) (record { at = e.at; len = stop - e.at } ∷ []))
     by_end ih l true g =
         filter_joined (λ y. nat_lt y stop) (range_with_len e.at e.len) (spans cover)
-        ∙ ap (λ r. r ++ filter (λ y. nat_lt y stop) (spans cover)) (range_below_all stop e.at e.len (from_le (e.at + e.len) stop g))
+        ∙ ap (λ r. r ++ filter (λ y. nat_lt y stop) (spans cover)) (range_below_all stop e.at e.len (leb-true (e.at + e.len) stop g))
         ∙ ap (λ r. range_with_len e.at e.len ++ r) ih
     by_end ih l false g =
-        let m : stop < e.at + e.len = from_not_le (e.at + e.len) stop g in
+        let m : stop < e.at + e.len = leb-false (e.at + e.len) stop g in
         filter_joined (λ y. nat_lt y stop) (range_with_len e.at e.len) (spans cover)
         ∙ ap (λ r. r ++ filter (λ y. nat_lt y stop) (spans cover)) (range_below_cut stop e.at e.len l m)
         ∙ ap (λ r. range_with_len e.at (stop - e.at) ++ r) (rest_none m)
@@ -108,13 +104,13 @@ spans_below stop (e ∷ cover) h = by_start (spans_below stop cover h.2) (nat_le
         → filter (λ y. nat_lt y stop) (spans (e ∷ cover))
         ≡ spans (cond t [] (cond (nat_le (e.at + e.len) stop) (e ∷ below stop cover) (record { at = e.at; len = stop - e.at } ∷ [])))
     by_start ih true g =
-        let l : stop ≤ e.at = from_le stop e.at g in
+        let l : stop ≤ e.at = leb-true stop e.at g in
         spans_below_none stop (e ∷ cover) (before l)
       where
         before : stop ≤ e.at → (d : Extent) → In (e ∷ cover) d → stop ≤ d.at
         before l d (inl k) = subst (λ (z : Extent). stop ≤ z.at) k l
         before l d (inr k) = let m = h.1 d k in omega arith
-    by_start ih false g = by_end ih (from_not_le stop e.at g) (nat_le (e.at + e.len) stop) refl
+    by_start ih false g = by_end ih (leb-false stop e.at g) (nat_le (e.at + e.len) stop) refl
 
 pub spans_above : (stop : ℕ) (cover : List Extent) → IsCover cover → filter (λ y. nat_le stop y) (spans cover) ≡ spans (above stop cover)
 spans_above stop [] h = refl
@@ -124,10 +120,10 @@ spans_above stop (e ∷ cover) h = by_start (spans_above stop cover h.2) (nat_le
         → filter (λ y. nat_le stop y) (spans (e ∷ cover)) ≡ spans (cond t (above stop cover) (record { at = stop; len = e.at + e.len - stop } ∷ cover))
     by_end ih l true g =
         filter_joined (λ y. nat_le stop y) (range_with_len e.at e.len) (spans cover)
-        ∙ ap (λ r. r ++ filter (λ y. nat_le stop y) (spans cover)) (range_above_none stop e.at e.len (from_le (e.at + e.len) stop g))
+        ∙ ap (λ r. r ++ filter (λ y. nat_le stop y) (spans cover)) (range_above_none stop e.at e.len (leb-true (e.at + e.len) stop g))
         ∙ ih
     by_end ih l false g =
-        let m : stop < e.at + e.len = from_not_le (e.at + e.len) stop g in
+        let m : stop < e.at + e.len = leb-false (e.at + e.len) stop g in
         filter_joined (λ y. nat_le stop y) (range_with_len e.at e.len) (spans cover)
         ∙ ap (λ r. r ++ filter (λ y. nat_le stop y) (spans cover)) (range_above_cut stop e.at e.len l m)
         ∙ ap (λ r. range_with_len stop (e.at + e.len - stop) ++ r) (spans_above_all stop cover (λ d k. let b = h.1 d k in omega arith))
@@ -136,13 +132,13 @@ spans_above stop (e ∷ cover) h = by_start (spans_above stop cover h.2) (nat_le
         → filter (λ y. nat_le stop y) (spans (e ∷ cover))
         ≡ spans (cond t (e ∷ cover) (cond (nat_le (e.at + e.len) stop) (above stop cover) (record { at = stop; len = e.at + e.len - stop } ∷ cover)))
     by_start ih true g =
-        let l : stop ≤ e.at = from_le stop e.at g in
+        let l : stop ≤ e.at = leb-true stop e.at g in
         spans_above_all stop (e ∷ cover) (before l)
       where
         before : stop ≤ e.at → (d : Extent) → In (e ∷ cover) d → stop ≤ d.at
         before l d (inl k) = subst (λ (z : Extent). stop ≤ z.at) k l
         before l d (inr k) = let m = h.1 d k in omega arith
-    by_start ih false g = by_end ih (from_not_le stop e.at g) (nat_le (e.at + e.len) stop) refl
+    by_start ih false g = by_end ih (leb-false stop e.at g) (nat_le (e.at + e.len) stop) refl
 
 -- ---- both parts are covers
 
@@ -172,7 +168,7 @@ below_cover stop (e ∷ cover) h = by_start (below_cover stop cover h.2) (nat_le
     by_start : IsCover (below stop cover) → (t : Bool) → nat_le stop e.at ≡ t
         → IsCover (cond t [] (cond (nat_le (e.at + e.len) stop) (e ∷ below stop cover) (record { at = e.at; len = stop - e.at } ∷ [])))
     by_start ih true g = tt
-    by_start ih false g = by_end ih (from_not_le stop e.at g) (nat_le (e.at + e.len) stop)
+    by_start ih false g = by_end ih (leb-false stop e.at g) (nat_le (e.at + e.len) stop)
 
 pub above_cover : (stop : ℕ) (cover : List Extent) → IsCover cover → IsCover (above stop cover)
 above_cover stop [] h = tt
@@ -182,19 +178,15 @@ above_cover stop (e ∷ cover) h = by_start (above_cover stop cover h.2) (nat_le
         → IsCover (cond t (above stop cover) (record { at = stop; len = e.at + e.len - stop } ∷ cover))
     by_end ih l true g = ih
     by_end ih l false g =
-        let m : stop < e.at + e.len = from_not_le (e.at + e.len) stop g in
+        let m : stop < e.at + e.len = leb-false (e.at + e.len) stop g in
         (omega arith, (λ d k. let b = h.1 d k in omega arith), h.2)
 
     by_start : IsCover (above stop cover) → (t : Bool) → nat_le stop e.at ≡ t
         → IsCover (cond t (e ∷ cover) (cond (nat_le (e.at + e.len) stop) (above stop cover) (record { at = stop; len = e.at + e.len - stop } ∷ cover)))
     by_start ih true g = h
-    by_start ih false g = by_end ih (from_not_le stop e.at g) (nat_le (e.at + e.len) stop) refl
+    by_start ih false g = by_end ih (leb-false stop e.at g) (nat_le (e.at + e.len) stop) refl
 
 -- ---- the hull
-
-pub range_long : (a n : ℕ) → length (range_with_len a n) ≡ n
-range_long a zero = refl
-range_long a (suc n) = ap suc (range_long (a + 1) n)
 
 pub last_joined : (xs ys : List ℕ) → last_of (xs ++ ys) ≡ max (last_of xs) (last_of ys)
 last_joined [] ys = omega arith
@@ -210,7 +202,7 @@ end_of_cover : (e : Extent) (cover : List Extent) → IsCover (e ∷ cover)
     → (last_of (spans (e ∷ cover)) + 1 ≡ end_after (e.at + e.len) cover) × (e.at + length (spans (e ∷ cover)) ≤ end_after (e.at + e.len) cover)
 end_of_cover e [] h =
     let a = last_of_range e.at e.len h.0 in
-    let b : length (range_with_len e.at e.len) ≡ e.len = range_long e.at e.len in
+    let b : length (range_with_len e.at e.len) ≡ e.len = length-range_with_len e.at e.len in
     let c : length (range_with_len e.at e.len ++ []) ≡ length (range_with_len e.at e.len) = ap (λ (xs : List ℕ). length xs) (no_more (range_with_len e.at e.len)) in
     let d : last_of (range_with_len e.at e.len ++ []) ≡ last_of (range_with_len e.at e.len) = ap (λ (xs : List ℕ). last_of xs) (no_more (range_with_len e.at e.len)) in
     (omega arith, omega arith)
@@ -223,7 +215,7 @@ end_of_cover e (f ∷ cover) h =
     let whole = last_joined (range_with_len e.at e.len) (spans (f ∷ cover)) in
     let most : f.at ≤ last_of (spans (f ∷ cover)) = first_in f cover h.2 in
     let long = length-append (range_with_len e.at e.len) (spans (f ∷ cover)) in
-    let b : length (range_with_len e.at e.len) ≡ e.len = range_long e.at e.len in
+    let b : length (range_with_len e.at e.len) ≡ e.len = length-range_with_len e.at e.len in
     (omega arith, omega arith)
   where
     first_in : (f : Extent) (cover : List Extent) → IsCover (f ∷ cover) → f.at ≤ last_of (spans (f ∷ cover))
@@ -233,8 +225,8 @@ first_of_range : (a n : ℕ) (rest : List ℕ) → 1 ≤ n → first_of (range_w
 first_of_range a zero rest h = absurd (omega arith)
 first_of_range a (suc n) rest h = refl
 
-three : (a b c d : ℕ) (s t : Bool) → a ≡ c → b ≡ d → s ≡ t → ◌≡◌ {A = ℕ × ℕ × Bool} (a, b, s) (c, d, t)
-three a b c d s t p q r = λ i. (p i, q i, r i)
+pub triple_same : (a b c d : ℕ) (s t : Bool) → a ≡ c → b ≡ d → s ≡ t → ◌≡◌ {A = ℕ × ℕ × Bool} (a, b, s) (c, d, t)
+triple_same a b c d s t p q r = λ i. (p i, q i, r i)
 
 -- the hull of the bytes of a cover: its first byte, its length, and whether it has no hole
 pub hull_told : (e : Extent) (cover : List Extent) → IsCover (e ∷ cover) → told_of (spans (e ∷ cover)) ≡ hull_of (e ∷ cover)
@@ -242,7 +234,7 @@ hull_told e cover h =
     let first : first_of (spans (e ∷ cover)) ≡ e.at = first_of_range e.at e.len (spans cover) h.0 in
     let r = end_of_cover e cover h in
     let ends = r.0 in
-    three (first_of (spans (e ∷ cover))) (hull_len (spans (e ∷ cover))) e.at (end_after (e.at + e.len) cover - e.at)
+    triple_same (first_of (spans (e ∷ cover))) (hull_len (spans (e ∷ cover))) e.at (end_after (e.at + e.len) cover - e.at)
     (length (spans (e ∷ cover)) == hull_len (spans (e ∷ cover))) (is_single (e ∷ cover)) first (omega arith)
     (by_rest e cover h first ends)
   where
@@ -250,31 +242,18 @@ hull_told e cover h =
         → last_of (spans (e ∷ cover)) + 1 ≡ end_after (e.at + e.len) cover
         → (length (spans (e ∷ cover)) == hull_len (spans (e ∷ cover))) ≡ is_single (e ∷ cover)
     by_rest e [] h first ends =
-        let b : length (range_with_len e.at e.len) ≡ e.len = range_long e.at e.len in
+        let b : length (range_with_len e.at e.len) ≡ e.len = length-range_with_len e.at e.len in
         let c : length (range_with_len e.at e.len ++ []) ≡ length (range_with_len e.at e.len) = ap (λ (xs : List ℕ). length xs) (no_more (range_with_len e.at e.len)) in
-        eq_true (length (spans (e ∷ []))) (hull_len (spans (e ∷ []))) (omega arith)
+        equal_true (length (spans (e ∷ []))) (hull_len (spans (e ∷ []))) (omega arith)
     by_rest e (f ∷ cover) h first ends =
         let r = end_of_cover f cover h.2 in
         let fits = r.1 in
         let gap = h.1 f (inl refl) in
         let long = length-append (range_with_len e.at e.len) (spans (f ∷ cover)) in
-        let b : length (range_with_len e.at e.len) ≡ e.len = range_long e.at e.len in
-        eq_false_below (length (spans (e ∷ f ∷ cover))) (hull_len (spans (e ∷ f ∷ cover))) (omega arith)
+        let b : length (range_with_len e.at e.len) ≡ e.len = length-range_with_len e.at e.len in
+        equal_below (length (spans (e ∷ f ∷ cover))) (hull_len (spans (e ∷ f ∷ cover))) (omega arith)
 
 -- ---- the walk
-
-spans_none : (cover : List Extent) → IsCover cover → length cover ≤ length (spans cover)
-spans_none [] h = omega arith
-spans_none (e ∷ cover) h =
-    let l = h.0 in
-    let r = spans_none cover h.2 in
-    let long = length-append (range_with_len e.at e.len) (spans cover) in
-    let b : length (range_with_len e.at e.len) ≡ e.len = range_long e.at e.len in
-    omega arith
-
-none_told : (stop : ℕ → ℕ) (fuel : ℕ) → extents_walked stop fuel [] ≡ []
-none_told stop zero = refl
-none_told stop (suc fuel) = refl
 
 -- the window that begins at a place, told: its extents are not none, since it ends past that place
 pub below_told : (stop : ℕ) (e : Extent) (cover : List Extent) → IsCover (e ∷ cover) → e.at < stop
@@ -287,7 +266,7 @@ below_told stop e cover h l = by_start (below_cover stop (e ∷ cover) h) (nat_l
     by_end false k = hull_told (record { at = e.at; len = stop - e.at }) [] k
 
     by_start : IsCover (below stop (e ∷ cover)) → (t : Bool) → nat_le stop e.at ≡ t → told_of (spans (below stop (e ∷ cover))) ≡ hull_of (below stop (e ∷ cover))
-    by_start k true g = let m : stop ≤ e.at = from_le stop e.at g in absurd (omega arith)
+    by_start k true g = let m : stop ≤ e.at = leb-true stop e.at g in absurd (omega arith)
     by_start k false g =
         subst (λ (c : List Extent). told_of (spans c) ≡ hull_of c) (sym (opened g))
         (by_end (nat_le (e.at + e.len) stop) (subst (λ (c : List Extent). IsCover c) (opened g) k))
@@ -305,7 +284,7 @@ walked_by : (stop : ℕ → ℕ) (fuel x : ℕ) (ys xs : List ℕ) → x < stop 
 walked_by stop fuel x ys xs h e =
     subst (λ (l : List ℕ). walked stop (suc fuel) l ≡ filter (λ y. nat_lt y (stop x)) l ∷ walked stop fuel (filter (λ y. nat_le (stop x) y) l)) (sym e)
     (ap (λ r. filter (λ y. nat_lt y (stop x)) (x ∷ ys) ∷ walked stop fuel r)
-    (sym (drop_first x (filter (λ y. nat_le (stop x) y) ys) (nat_le (stop x) x) (le_false (stop x) x h))))
+    (sym (drop_first x (filter (λ y. nat_le (stop x) y) ys) (nat_le (stop x) x) (lt-leb (stop x) x h))))
 
 -- the windows of the bytes, told, are those of the extents
 pub extents_told : (stop : ℕ → ℕ) (fuel : ℕ) (cover : List Extent) → ((x : ℕ) → x < stop x) → IsCover cover

@@ -2,11 +2,13 @@
 use Rattle.std.proofs.Common.{◌≡◌, ℕ, ◌+◌, ◌-◌, ◌*◌, ◌/◌, ◌<◌, ◌≤◌, refl, sym, ◌∙◌, ap, inl, inr, List, [], ◌∷◌, Bool, true, false, ◌&&◌, cond, arith}
 use Rattle.std.proofs.lemmas.Nat.{div_below, le-div}
 use Rattle.std.specs.Prelude.{filter, nat_lt, nat_le, ◌==◌}
+use Rattle.std.proofs.lemmas.Bool.{leb-true, leb-false}
 use borrow.Author.Tests.{ltb-true, ltb-false}
+use Rattle.list_laws.proofs.Truth.{equal_above, equal_below, equal_true}
 use Rattle.nc_base.specs.declared.plan.Extent.{Extent}
 use Rattle.overlay_laws.specs.Entries.{In}
 use Rattle.overlay_laws.specs.Walks.{spans, below, above, IsCover}
-use Rattle.overlay_laws.proofs.WalkLaws.{drop_first, take_first, from_le, from_not_le, eq_true, eq_false, eq_false_below}
+use Rattle.overlay_laws.proofs.WalkLaws.{drop_first, take_first}
 use Rattle.overlay_laws.proofs.CoverLaws.{spans_below, spans_above, above_cover}
 
 two_by : {X : Type 0} (t u v : X → Bool) (y : X) (ys : List X) (b c : Bool) → u y ≡ b → v y ≡ c → t y ≡ (b && c) → filter u (filter v ys) ≡ filter t ys
@@ -25,21 +27,21 @@ in_domain low s a y h l = by_end (nat_lt y (low + (a + 1) * s)) refl
   where
     by_start : (t : Bool) → nat_le (low + a * s) y ≡ t → y < low + (a + 1) * s → ((y - low) / s == a) ≡ t
     by_start true e k =
-        let from = from_le (low + a * s) y e in
+        let from = leb-true (low + a * s) y e in
         let most = div_below (y - low) s (a + 1) (omega arith) (omega arith) in
         let least = le-div a (y - low) s (omega arith) (omega arith) in
-        eq_true ((y - low) / s) a (omega arith)
+        equal_true ((y - low) / s) a (omega arith)
     by_start false e k =
-        let before = from_not_le (low + a * s) y e in
+        let before = leb-false (low + a * s) y e in
         let most = div_below (y - low) s a (omega arith) (omega arith) in
-        eq_false_below ((y - low) / s) a most
+        equal_below ((y - low) / s) a most
 
     by_end : (t : Bool) → nat_lt y (low + (a + 1) * s) ≡ t → ((y - low) / s == a) ≡ (t && nat_le (low + a * s) y)
     by_end true e = by_start (nat_le (low + a * s) y) refl (ltb-true _ _ e)
     by_end false e =
         let past : low + (a + 1) * s ≤ y = ltb-false _ _ e in
         let least = le-div (a + 1) (y - low) s (omega arith) (omega arith) in
-        eq_false a ((y - low) / s) (omega arith)
+        equal_above ((y - low) / s) a (omega arith)
 
 pub domain_cut : (low s a : ℕ) (cover : List Extent) → 1 ≤ s → IsCover cover → ((x : ℕ) → In (spans cover) x → low ≤ x)
     → filter (λ x. (x - low) / s == a) (spans cover) ≡ spans (below (low + (a + 1) * s) (above (low + a * s) cover))

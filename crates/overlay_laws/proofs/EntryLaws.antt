@@ -1,83 +1,28 @@
 -- The puts of a step are cells; sorted entries say what the puts say; the entries of a get collect its bytes.
 use Rattle.std.proofs.Common.{◌≡◌, ℕ, zero, suc, ◌+◌, ◌-◌, ◌<◌, ◌≤◌, refl, sym, ◌∙◌, ap, subst, inl, inr, ◌⊎◌, List, [], ◌∷◌, ◌++◌, length, take, drop, Bool, true, false, Option, Some, None, arith}
-use Rattle.std.proofs.lemmas.Grind.{common_steps, flat_map-append, fold-append}
+use Rattle.std.proofs.lemmas.Grind.{common_steps, flat_map-append}
 use Rattle.std.proofs.lemmas.List.{length-append, get_or_past}
 use borrow.Author.Tests.{ltb-true, ltb-false}
 use Rattle.std.proofs.lemmas.List.Sorted.{Contains-permutation, IsPermutation-sym}
 use Rattle.std.specs.List.Sorted.{IsPermutation}
 use Rattle.std.specs.Prelude.{fold, flat_map, nat_lt, map, zip, slice_get}
 use Rattle.std.specs.List.{enumerate_from, range_with_len, slice_index_or, Contains}
+use Rattle.std.proofs.lemmas.List.FromFn.{length-range_with_len}
+use Rattle.std.proofs.lemmas.Option.{same_Some}
+use Rattle.serial_spec.proofs.SaidLaws.{puts_are_cells, range_and_rest, puts_say, said_past, said_inside, cells_said}
 use Rattle.nc_base.specs.declared.header.Header.{Header}
 use Rattle.nc_base.specs.declared.header.Var.{Var}
 use Rattle.nc_base.specs.declared.plan.Post.{Post}
 use Rattle.nc_base.specs.declared.plan.Owned.{Owned}
-use Rattle.serial_spec.specs.File.{at, read, written}
+use Rattle.serial_spec.specs.File.{at, read}
 use Rattle.serial_spec.specs.ExternalForm.{size_of}
 use Rattle.serial_spec.specs.Request.{cells, places}
 use Rattle.serial_spec.specs.SharedByte.{Puts, bytes_of, bytes_of_some}
-use Rattle.serial_spec.specs.FileStep.{Setting, put_post, put_some, get_post, get_some}
+use Rattle.serial_spec.specs.FileStep.{Setting, put_post, get_post, get_some}
 use Rattle.serial_spec.specs.Said.{byte_or, said_at, Says, IsOneValued, Cell, write_cells, said_by, IsWithin}
 use Rattle.serial_spec.specs.SharedByte.{said_by_puts}
-use Rattle.overlay_laws.specs.Entries.{cells_of_some, cells_of, cells_of_puts, Source, cell_of, ranges, IsRun, IsGathered, got_cell, IsRunFrom, In, HaveSame}
-use Rattle.overlay_laws.proofs.SaidLaws.{same_some, said_past, said_in_any_order, same_said, said_inside, cells_said, cells_long, same_file}
-
--- ---- a put is cells
-
-put_is_cells : (s : Setting) (v : Option Var) (post : Post) (file : List ℕ) → put_some s v post file ≡ write_cells file (cells_of_some s.header v post)
-put_is_cells s None post file = refl
-put_is_cells s (Some v) post file = refl
-
--- the model's step, as cells
-pub puts_are_cells : (s : Setting) (puts : Puts) (file : List ℕ) → fold (put_post s) file puts ≡ write_cells file (cells_of_puts s.header puts)
-puts_are_cells s [] file = refl
-puts_are_cells s (p ∷ puts) file =
-    puts_are_cells s puts (put_post s file p)
-    ∙ ap (λ f. write_cells f (cells_of_puts s.header puts)) (put_is_cells s (slice_get s.header.vars p.1.var) p.1 file)
-    ∙ sym (fold-append (λ f cell. written f cell.0 cell.1) file (cells_of s.header p.1) (cells_of_puts s.header puts))
-
--- ---- what cells of elements say
-
-zip_nothing : (s : List ℕ) → [] ≡ zip {K = ℕ} {X = ℕ} s []
-zip_nothing [] = refl
-zip_nothing (y ∷ s) = refl
-
-pub zip_append : (r s b : List ℕ) → zip (r ++ s) b ≡ zip r (take (length r) b) ++ zip s (drop (length r) b)
-zip_append [] s b = refl
-zip_append (x ∷ r) s [] = zip_nothing s
-zip_append (x ∷ r) s (v ∷ b) = ap (λ ps. (x, v) ∷ ps) (zip_append r s b)
-
-range_long : (p n : ℕ) → length (range_with_len p n) ≡ n
-range_long p zero = refl
-range_long p (suc n) = ap suc (range_long (p + 1) n)
-
--- bytes from a place on
-zip_range : (p n : ℕ) (b : List ℕ) → enumerate_from p (take n b) ≡ zip (range_with_len p n) (take n b)
-zip_range p zero b = refl
-zip_range p (suc n) [] = refl
-zip_range p (suc n) (v ∷ b) = ap (λ ps. (p, v) ∷ ps) (zip_range (p + 1) n b)
-
-range_and_rest : (p n : ℕ) (rest b : List ℕ) → zip (range_with_len p n ++ rest) b ≡ enumerate_from p (take n b) ++ zip rest (drop n b)
-range_and_rest p n rest b =
-    zip_append (range_with_len p n) rest b
-    ∙ ap (λ m. zip (range_with_len p n) (take m b) ++ zip rest (drop m b)) (range_long p n)
-    ∙ ap (λ ps. ps ++ zip rest (drop n b)) (sym (zip_range p n b))
-
-pub cells_say : (size : ℕ) (ps bytes : List ℕ) → said_by (cells size ps bytes) ≡ zip (flat_map (λ x. range_with_len x size) ps) bytes
-cells_say size [] bytes = refl
-cells_say size (p ∷ ps) bytes =
-    ap (λ rest. enumerate_from p (take size bytes) ++ rest) (cells_say size ps (drop size bytes))
-    ∙ sym (range_and_rest p size (flat_map (λ x. range_with_len x size) ps) bytes)
-
-post_says : (header : Header) (v : Option Var) (post : Post) → said_by (cells_of_some header v post) ≡ zip (bytes_of_some header v post) post.bytes
-post_says header None post = refl
-post_says header (Some v) post = cells_say (size_of v.kind) (places header v post.region) post.bytes
-
-pub puts_say : (header : Header) (puts : Puts) → said_by (cells_of_puts header puts) ≡ said_by_puts header puts
-puts_say header [] = refl
-puts_say header (p ∷ puts) =
-    flat_map-append (λ cell. enumerate_from cell.0 cell.1) (cells_of header p.1) (cells_of_puts header puts)
-    ∙ ap (λ rest. said_by (cells_of header p.1) ++ rest) (puts_say header puts)
-    ∙ ap (λ first. first ++ said_by_puts header puts) (post_says header (slice_get header.vars p.1.var) p.1)
+use Rattle.overlay_laws.specs.Entries.{cells_of_puts, Source, cell_of, ranges, IsRun, IsGathered, got_cell, IsRunFrom, In, HaveSame}
+use Rattle.overlay_laws.proofs.SaidLaws.{said_in_any_order, same_said, cells_long, same_file}
 
 -- ---- entries in order
 
@@ -236,7 +181,7 @@ map_joined : (f : ℕ → ℕ) (xs ys : List ℕ) → map f (xs ++ ys) ≡ map f
 map_joined f [] ys = refl
 map_joined f (x ∷ xs) ys = ap (λ rest. f x ∷ rest) (map_joined f xs ys)
 
-enumerate_joined : (n m : ℕ) (xs ys : List ℕ) → n + length xs ≡ m → enumerate_from n (xs ++ ys) ≡ enumerate_from n xs ++ enumerate_from m ys
+pub enumerate_joined : (n m : ℕ) (xs ys : List ℕ) → n + length xs ≡ m → enumerate_from n (xs ++ ys) ≡ enumerate_from n xs ++ enumerate_from m ys
 enumerate_joined n m [] ys e = let f : n ≡ m = omega arith in ap (λ k. enumerate_from k ys) f
 enumerate_joined n m (x ∷ xs) ys e = ap (λ rest. (n, x) ∷ rest) (enumerate_joined (n + 1) m xs ys (omega arith))
 
@@ -250,9 +195,9 @@ run_got file from (o ∷ os) h =
     ∙ ap (λ xs. enumerate_from from xs) (sym (map_joined (λ i. at file i) (range_with_len o.extent.at o.extent.len) (ranges os)))
   where
     long : from + length (read file o.extent.at o.extent.len) ≡ from + o.extent.len
-    long = ap (λ (n : ℕ). from + n) (map_long (λ i. at file i) (range_with_len o.extent.at o.extent.len) ∙ range_long o.extent.at o.extent.len)
+    long = ap (λ (n : ℕ). from + n) (map_long (λ i. at file i) (range_with_len o.extent.at o.extent.len) ∙ length-range_with_len o.extent.at o.extent.len)
 
-says_place : (n : ℕ) (b : List ℕ) (x v : ℕ) → Says (enumerate_from n b) x v → (n ≤ x) × (slice_get b (x - n) ≡ Some v)
+pub says_place : (n : ℕ) (b : List ℕ) (x v : ℕ) → Says (enumerate_from n b) x v → (n ≤ x) × (slice_get b (x - n) ≡ Some v)
 says_place n [] x v h = absurd h
 says_place n (w ∷ b) x v (inl h) =
     let same : n ≡ x = h.0 in
@@ -265,7 +210,7 @@ says_place n (w ∷ b) x v (inr h) =
     (omega arith, ap (λ (k : ℕ). slice_get (w ∷ b) k) next ∙ r.1)
 
 run_once : (n : ℕ) (b : List ℕ) → IsOneValued (enumerate_from n b)
-run_once n b x v w h k = same_some v w (sym (says_place n b x v h).1 ∙ (says_place n b x w k).1)
+run_once n b x v w h k = same_Some v w (sym (says_place n b x v h).1 ∙ (says_place n b x w k).1)
 
 run_within : (file : List ℕ) (from n : ℕ) (os : List Owned) → IsRunFrom from os → from + length (ranges os) ≤ n → IsWithin (map (λ o. got_cell file o) os) n
 run_within file from n [] h k = tt
@@ -273,7 +218,7 @@ run_within file from n (o ∷ os) h k =
     let same : o.from ≡ from = h.0 in
     let joined : length (range_with_len o.extent.at o.extent.len ++ ranges os) ≡ length (range_with_len o.extent.at o.extent.len) + length (ranges os)
     = length-append (range_with_len o.extent.at o.extent.len) (ranges os) in
-    let long : length (range_with_len o.extent.at o.extent.len) ≡ o.extent.len = range_long o.extent.at o.extent.len in
+    let long : length (range_with_len o.extent.at o.extent.len) ≡ o.extent.len = length-range_with_len o.extent.at o.extent.len in
     let bytes : length (read file o.extent.at o.extent.len) ≡ length (range_with_len o.extent.at o.extent.len)
     = map_long (λ i. at file i) (range_with_len o.extent.at o.extent.len) in
     (omega arith, run_within file (from + o.extent.len) n os h.1 (omega arith))

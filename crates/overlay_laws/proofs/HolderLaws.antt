@@ -1,34 +1,21 @@
 -- Entries and the puts that they were gathered from hold the same bytes for the same requests.
-use Rattle.std.proofs.Common.{◌≡◌, ℕ, refl, sym, ◌∙◌, ap, subst, inl, inr, List, [], ◌∷◌, Bool, true, false, ◌&&◌, arith}
+use Rattle.std.proofs.Common.{◌≡◌, ℕ, refl, sym, ◌∙◌, ap, subst, inl, inr, List, [], ◌∷◌, true, ◌&&◌, arith}
 use Rattle.std.proofs.lemmas.Bool.Decides.{nat_tests}
 use Rattle.std.specs.Prelude.{flat_map, map, ◌==◌}
 use Rattle.std.specs.List.{list_any, range_with_len}
+use Rattle.std.proofs.lemmas.Bool.{and_from, or_left, or_right, or_cases}
 use borrow.Author.Tests.{eqb-true}
+use Rattle.list_laws.proofs.Truth.{and_first, and_second, no_false}
 use Rattle.nc_base.specs.declared.header.Header.{Header}
 use Rattle.nc_base.specs.declared.plan.Post.{Post}
 use Rattle.nc_base.specs.declared.plan.Owned.{Owned}
 use Rattle.serial_spec.specs.SharedByte.{Puts, Key, bytes_of, holdings, holdings_of_entries, same_key, Holds, shared_pair, shared_pair_of}
 use Rattle.serial_spec.proofs.PairLaws.{same_pair}
 use Rattle.overlay_laws.specs.Entries.{Source, AreOf, IsGathered, In, HaveSame}
-use Rattle.overlay_laws.proofs.HullLaws.{or_left, or_right, or_split, any_in, in_any, in_left, in_right, in_either, in_flat, flat_in}
-
-and_left : (a b : Bool) → (a && b) ≡ true → a ≡ true
-and_left true b h = refl
-and_left false b h = cc
-
-and_right : (a b : Bool) → (a && b) ≡ true → b ≡ true
-and_right true b h = h
-and_right false b h = cc
-
-both_true : (a b : Bool) → a ≡ true → b ≡ true → (a && b) ≡ true
-both_true true b h k = k
-both_true false b h k = h
-
-no_false : {A : Type 0} → false ≡ true → A
-no_false h = cc
+use Rattle.overlay_laws.proofs.HullLaws.{any_in, in_any, in_left, in_right, in_either, in_flat, flat_in}
 
 pub same_keys : (a b : Key) → same_key a b ≡ true → (a.0 ≡ b.0) × (a.1 ≡ b.1)
-same_keys a b h = (eqb-true _ _ (and_left _ _ h), eqb-true _ _ (and_right _ _ h))
+same_keys a b h = (eqb-true _ _ (and_first _ _ h), eqb-true _ _ (and_second _ _ h))
 
 pub keys_same : (a b : Key) → a.0 ≡ b.0 → a.1 ≡ b.1 → same_key a b ≡ true
 keys_same a b h k = grind (arith, nat_tests)
@@ -40,7 +27,7 @@ holds_by key bytes [] k x o h e f m = absurd h
 holds_by {X} key bytes (y ∷ ys) k x o (inl g) e f m =
     or_left (same_key (key y) k && list_any (λ z. z == x) (bytes y)) _
     (subst (λ (z : X). (same_key (key z) k && list_any (λ u. u == x) (bytes z)) ≡ true) (sym g)
-    (both_true (same_key (key o) k) (list_any (λ u. u == x) (bytes o)) (keys_same (key o) k e f) (in_any (bytes o) x m)))
+    (and_from (same_key (key o) k) (list_any (λ u. u == x) (bytes o)) (keys_same (key o) k e f) (in_any (bytes o) x m)))
 holds_by key bytes (y ∷ ys) k x o (inr h) e f m =
     or_right (same_key (key y) k && list_any (λ z. z == x) (bytes y)) _ (holds_by key bytes ys k x o h e f m)
 
@@ -55,9 +42,9 @@ pub holder_of : {X : Type 0} (key : X → Key) (bytes : X → List ℕ) (xs : Li
     → IsHolder key bytes xs k x
 holder_of key bytes [] k x h = no_false h
 holder_of key bytes (y ∷ ys) k x h =
-    elim (or_split (same_key (key y) k && list_any (λ z. z == x) (bytes y)) _ h) [
-      | inl g ↦ (let e = same_keys (key y) k (and_left _ _ g) in
-          record { holder = y; is_one = inl refl; rank = e.0; request = e.1; has = any_in (bytes y) x (and_right (same_key (key y) k) _ g) })
+    elim (or_cases (same_key (key y) k && list_any (λ z. z == x) (bytes y)) _ h) [
+      | inl g ↦ (let e = same_keys (key y) k (and_first _ _ g) in
+          record { holder = y; is_one = inl refl; rank = e.0; request = e.1; has = any_in (bytes y) x (and_second (same_key (key y) k) _ g) })
       | inr g ↦ (let r = holder_of key bytes ys k x g in
           record { holder = r.holder; is_one = inr r.is_one; rank = r.rank; request = r.request; has = r.has })
     ]

@@ -1,11 +1,15 @@
 -- The windows of the device calls have every covered byte, so that hulls written over them are the step.
-use Rattle.std.proofs.Common.{◌≡◌, ℕ, zero, suc, ◌+◌, ◌-◌, ◌*◌, ◌/◌, ◌%◌, ◌<◌, ◌≤◌, refl, sym, ◌∙◌, ap, subst, inl, inr, ◌⊎◌, List, [], ◌∷◌, ◌++◌, length, Bool, true, false, not, ◌||◌, cond, min, max, arith}
+use Rattle.std.proofs.Common.{◌≡◌, ℕ, zero, suc, ◌+◌, ◌-◌, ◌*◌, ◌/◌, ◌%◌, ◌<◌, ◌≤◌, refl, sym, ◌∙◌, ap, subst, inl, inr, ◌⊎◌, List, [], ◌∷◌, ◌++◌, length, Bool, true, false, not, cond, min, max, arith}
 use Rattle.std.proofs.lemmas.Bool.Decides.{nat_tests}
 use Rattle.std.proofs.lemmas.Nat.{div_below, le-div, mod_below, div-add-mod', mul-le}
 use Rattle.std.proofs.Math.Nat.{mul_comm}
 use Rattle.std.specs.Prelude.{fold, flat_map, filter, map, zip, nat_lt, nat_le, ◌==◌}
 use Rattle.std.specs.List.{range_with_len, list_any}
+use Rattle.std.proofs.lemmas.Bool.{or_left, or_right, or_cases}
 use borrow.Author.Tests.{ltb-false, eqb-true}
+use Rattle.overlay_laws.proofs.Members.{in_filter, in_map}
+use Rattle.list_laws.proofs.Truth.{no_false, equal_true}
+use Rattle.serial_spec.proofs.SaidLaws.{puts_are_cells, puts_say}
 use Rattle.nc_base.specs.declared.header.Header.{Header}
 use Rattle.nc_base.specs.declared.script.Hints.{Hints}
 use Rattle.serial_spec.specs.Layout.{greatest}
@@ -18,26 +22,10 @@ use Rattle.serial_spec.specs.SharedByte.{said_by_puts}
 use Rattle.overlay_laws.specs.Entries.{In, cells_of_puts}
 use Rattle.overlay_laws.specs.Hulls.{hulls, IsAscending, written_over, AreHints}
 use Rattle.overlay_laws.proofs.SaidLaws.{said_is, same_said}
-use Rattle.overlay_laws.proofs.EntryLaws.{says_cases, puts_are_cells, puts_say}
+use Rattle.overlay_laws.proofs.EntryLaws.{says_cases}
 use Rattle.overlay_laws.proofs.WindowLaws.{windows_done}
 
 -- ---- members of lists
-
-no_false : {A : Type 0} → false ≡ true → A
-no_false h = cc
-
-keep_in : {X : Type 0} (t : X → Bool) (y x : X) (rest : List X) (b : Bool) → t y ≡ b → In rest x → In (cond b (y ∷ rest) rest) x
-keep_in t y x rest true e h = inr h
-keep_in t y x rest false e h = h
-
-keep_first : {X : Type 0} (y : X) (rest : List X) (b : Bool) → b ≡ true → In (cond b (y ∷ rest) rest) y
-keep_first y rest true e = inl refl
-keep_first y rest false e = no_false e
-
-in_filter : {X : Type 0} (t : X → Bool) (xs : List X) (x : X) → In xs x → t x ≡ true → In (filter t xs) x
-in_filter t [] x h e = absurd h
-in_filter {X} t (y ∷ ys) x (inl g) e = subst (λ (z : X). In (filter t (y ∷ ys)) z) g (keep_first y (filter t ys) (t y) (ap t g ∙ e))
-in_filter t (y ∷ ys) x (inr h) e = keep_in t y x (filter t ys) (t y) refl (in_filter t ys x h e)
 
 kept_in : {X : Type 0} (t : X → Bool) (y x : X) (ys rest : List X) (b : Bool) → t y ≡ b → (In rest x → In ys x × (t x ≡ true))
     → In (cond b (y ∷ rest) rest) x → In (y ∷ ys) x × (t x ≡ true)
@@ -48,11 +36,6 @@ kept_in t y x ys rest false e ih h = let r = ih h in (inr r.0, r.1)
 pub filter_in : {X : Type 0} (t : X → Bool) (xs : List X) (x : X) → In (filter t xs) x → In xs x × (t x ≡ true)
 filter_in t [] x h = absurd h
 filter_in t (y ∷ ys) x h = kept_in t y x ys (filter t ys) (t y) refl (filter_in t ys x) h
-
-in_map : {X Y : Type 0} (f : X → Y) (xs : List X) (x : X) → In xs x → In (map f xs) (f x)
-in_map f [] x h = absurd h
-in_map f (y ∷ ys) x (inl e) = inl (ap f e)
-in_map f (y ∷ ys) x (inr h) = inr (in_map f ys x h)
 
 map_in : {X Y : Type 0} (f : X → Y) (xs : List X) (y : Y) → In (map f xs) y → (x : X) × (f x ≡ y)
 map_in f [] y h = absurd h
@@ -104,28 +87,13 @@ range_high a zero x h = absurd h
 range_high a (suc n) x (inl e) = omega arith
 range_high a (suc n) x (inr h) = let l = range_high (a + 1) n x h in omega arith
 
-pub or_left : (a b : Bool) → a ≡ true → (a || b) ≡ true
-or_left true b h = refl
-or_left false b h = cc
-
-pub or_right : (a b : Bool) → b ≡ true → (a || b) ≡ true
-or_right true b h = refl
-or_right false b h = h
-
-pub or_split : (a b : Bool) → (a || b) ≡ true → (a ≡ true) ⊎ (b ≡ true)
-or_split true b h = inl refl
-or_split false b h = inr h
-
 pub any_in : (xs : List ℕ) (x : ℕ) → list_any (λ z. z == x) xs ≡ true → In xs x
 any_in [] x h = no_false h
-any_in (y ∷ ys) x h = elim (or_split (y == x) _ h) [ inl e ↦ inl (eqb-true _ _ e) | inr g ↦ inr (any_in ys x g) ]
-
-itself : (x y : ℕ) → y ≡ x → (y == x) ≡ true
-itself x y e = grind (arith, nat_tests)
+any_in (y ∷ ys) x h = elim (or_cases (y == x) _ h) [ inl e ↦ inl (eqb-true _ _ e) | inr g ↦ inr (any_in ys x g) ]
 
 pub in_any : (xs : List ℕ) (x : ℕ) → In xs x → list_any (λ z. z == x) xs ≡ true
 in_any [] x h = absurd h
-in_any (y ∷ ys) x (inl e) = or_left (y == x) _ (itself x y e)
+in_any (y ∷ ys) x (inl e) = or_left (y == x) _ (equal_true y x e)
 in_any (y ∷ ys) x (inr h) = or_right (y == x) _ (in_any ys x h)
 
 -- ---- ascending lists
@@ -156,7 +124,7 @@ pub last_below : (xs : List ℕ) (n : ℕ) → 1 ≤ n → ((x : ℕ) → In xs 
 last_below [] n l h = omega arith
 last_below (y ∷ ys) n l h = let a = h y (inl refl) in let b = last_below ys n l (λ x k. h x (inr k)) in omega arith
 
-first_last : (xs : List ℕ) → first_of xs ≤ last_of xs + 1
+pub first_last : (xs : List ℕ) → first_of xs ≤ last_of xs + 1
 first_last [] = omega arith
 first_last (y ∷ ys) = omega arith
 
@@ -216,7 +184,7 @@ window_hull ws x h = has_hull ws h.window x h.is_one h.has h.ascends
 
 -- ---- division
 
-ceil_covers : (n k : ℕ) → 1 ≤ k → n ≤ (n + (k - 1)) / k * k
+pub ceil_covers : (n k : ℕ) → 1 ≤ k → n ≤ (n + (k - 1)) / k * k
 ceil_covers n k h =
     let whole = div-add-mod' (n + (k - 1)) k in
     let part = mod_below (n + (k - 1)) k (omega arith) in
@@ -232,7 +200,7 @@ windows_have buffer bytes x h asc k =
     let lo = first_of bytes in
     let high = last_most bytes x k in
     let grows = div_grows (x - lo) (last_of bytes - lo) buffer h (omega arith) in
-    let found = in_filter (λ y. (y - lo) / buffer == (x - lo) / buffer) bytes x k (itself ((x - lo) / buffer) ((x - lo) / buffer) refl) in
+    let found = in_filter (λ y. (y - lo) / buffer == (x - lo) / buffer) bytes x k (equal_true ((x - lo) / buffer) ((x - lo) / buffer) refl) in
     record {
       window = filter (λ y. (y - lo) / buffer == (x - lo) / buffer) bytes;
       is_one = in_filter (λ w. not (is_empty w)) (map (λ j. filter (λ y. (y - lo) / buffer == j) bytes) (range_with_len 0 ((last_of bytes - lo) / buffer + 1)))
@@ -270,7 +238,7 @@ domains_have nodes unit bytes x h u asc k =
     record {
       window = filter (λ y. (y - low) / s == (x - low) / s) bytes;
       is_one = in_map (λ a. filter (λ y. (y - low) / s == a) bytes) (range_with_len 0 nodes) ((x - low) / s) (in_range 0 nodes ((x - low) / s) (omega arith) (omega arith));
-      has = in_filter (λ y. (y - low) / s == (x - low) / s) bytes x k (itself ((x - low) / s) ((x - low) / s) refl);
+      has = in_filter (λ y. (y - low) / s == (x - low) / s) bytes x k (equal_true ((x - low) / s) ((x - low) / s) refl);
       ascends = filter_ascends (λ y. (y - low) / s == (x - low) / s) bytes asc;
     }
 

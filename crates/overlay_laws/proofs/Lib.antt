@@ -1,3 +1,4 @@
+pub mod Members
 pub mod SaidLaws
 pub mod WindowLaws
 pub mod EntryLaws

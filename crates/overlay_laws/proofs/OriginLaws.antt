@@ -3,16 +3,19 @@ use Rattle.std.proofs.Common.{◌≡◌, ℕ, zero, suc, ◌+◌, ◌<◌, ◌�
 use Rattle.std.proofs.lemmas.List.{drop_more}
 use Rattle.std.specs.Prelude.{fold, flat_map, map, option_map, ◌==◌}
 use Rattle.std.specs.List.{enumerate_from, range_with_len}
+use Rattle.list_laws.proofs.Optional.{no_none_some}
+use Rattle.serial_spec.proofs.SaidLaws.{puts_are_cells, puts_say, one_hit}
 use Rattle.nc_base.specs.declared.plan.Owned.{Owned}
 use Rattle.serial_spec.specs.File.{at}
 use Rattle.serial_spec.specs.SharedByte.{Puts}
 use Rattle.serial_spec.specs.FileStep.{Setting, put_post}
 use Rattle.std.specs.Option.{option_or}
+use Rattle.std.proofs.lemmas.Option.{same_Some}
 use Rattle.serial_spec.specs.Said.{one_says, said_at, Says, IsOneValued, write_cells, said_by, IsWithin}
 use Rattle.overlay_laws.specs.Entries.{cells_of_puts, Source, cell_of, IsGathered, In, HaveSame}
 use Rattle.overlay_laws.specs.Origins.{Origin, origins_of, origins, byte_at, AreFound, AtMost, IsGreatest, IsResolved, IsOnceEach, IsInOrder}
-use Rattle.overlay_laws.proofs.SaidLaws.{no_none_some, same_some, one_hit, said_is, says_some, one_said, same_said}
-use Rattle.overlay_laws.proofs.EntryLaws.{says_cases, says_moved, puts_are_cells, puts_say, gathered_says}
+use Rattle.overlay_laws.proofs.SaidLaws.{said_is, says_some, one_said, same_said}
+use Rattle.overlay_laws.proofs.EntryLaws.{says_cases, says_moved, gathered_says}
 
 -- ---- bytes by their origins
 
@@ -37,7 +40,7 @@ said_mapped f (p ∷ ps) x =
     ∙ ap (λ q. option_or (option_map f (said_at ps x)) q) (one_mapped f p.0 p.1 x)
     ∙ else_mapped f (said_at ps x) (one_says p.0 p.1 x)
 
-slice_step : (b : List ℕ) (from n : ℕ) → from < length b → take (suc n) (drop from b) ≡ at b from ∷ take n (drop (from + 1) b)
+pub slice_step : (b : List ℕ) (from n : ℕ) → from < length b → take (suc n) (drop from b) ≡ at b from ∷ take n (drop (from + 1) b)
 slice_step b from n h = ap (λ (xs : List ℕ). take (suc n) xs) (drop_more b from 0 h)
 
 cell_origins : (source : Source) (r k p from n : ℕ) → from + n ≤ length (source r k)
@@ -75,7 +78,7 @@ last_is_greatest [] h x a b e k = absurd k
 last_is_greatest (p ∷ ps) h x a b e k = by_rest (λ g l. last_is_greatest ps h.1 x a b g l) (said_at ps x) refl k e
   where
     by_one : (t : Bool) → (p.0 == x) ≡ t → one_says p.0 p.1 x ≡ Some a → p.1 ≡ a
-    by_one true g l = same_some p.1 a (sym (one_hit p.0 x p.1 g) ∙ l)
+    by_one true g l = same_Some p.1 a (sym (one_hit p.0 x p.1 g) ∙ l)
     by_one false g l = no_none_some a (sym (miss g) ∙ l)
       where
         miss : (p.0 == x) ≡ false → one_says p.0 p.1 x ≡ None
@@ -142,7 +145,7 @@ origins_in_order (o ∷ os) h =
 
 -- ---- a resolved list
 
-origins_moved : (xs ys : List Owned) → ((o : Owned) → In xs o → In ys o) → (x : ℕ) (a : Origin) → Says (origins xs) x a → Says (origins ys) x a
+pub origins_moved : (xs ys : List Owned) → ((o : Owned) → In xs o → In ys o) → (x : ℕ) (a : Origin) → Says (origins xs) x a → Says (origins ys) x a
 origins_moved xs ys p x a h = says_moved origins_of xs ys x a p h
 
 pub resolved_says : (ordered list result : List Owned) → HaveSame ordered list → IsInOrder ordered → IsOnceEach (origins ordered) → IsResolved list result

@@ -1,10 +1,11 @@
 -- Windows that are each read, overlaid and written, one after another.
 use Rattle.std.proofs.Common.{◌≡◌, ℕ, zero, suc, ◌+◌, ◌-◌, ◌<◌, ◌≤◌, None, refl, sym, ◌∙◌, ap, subst, List, [], ◌∷◌, length, Some, arith}
 use Rattle.std.specs.Prelude.{fold, map}
+use Rattle.serial_spec.proofs.CellLaws.{read_long}
 use Rattle.serial_spec.specs.File.{at, read, written}
 use Rattle.serial_spec.specs.Said.{Cell, write_cells, IsWithin, IsFrom, moved_down, said_at, said_by}
-use Rattle.overlay_laws.specs.Windows.{clips, IsInOne, HasEach, HasPlace, read_overlaid, all_read_overlaid}
-use Rattle.overlay_laws.proofs.SaidLaws.{cells_long, no_none_some}
+use Rattle.overlay_laws.specs.Windows.{clips, IsInOne, HasEach, read_overlaid, all_read_overlaid}
+use Rattle.overlay_laws.proofs.SaidLaws.{cells_long}
 use Rattle.overlay_laws.proofs.WindowLaws.{clips_within, clips_from, within_more, window_done, windows_done}
 
 read_at : (file : List ℕ) (x n i : ℕ) → i < n → at (read file x n) i ≡ at file (x + i)
@@ -17,18 +18,11 @@ kept_read file buf lo n x e h k =
     let place : lo + (x - lo) ≡ x = omega arith in
     ap (λ (b : List ℕ). at b (x - lo)) e ∙ read_at file lo n (x - lo) (omega arith) ∙ ap (λ (i : ℕ). at file i) place
 
-pub kept_full : (file buf : List ℕ) (cells : List Cell) (lo x : ℕ) → HasPlace cells x → said_at (said_by cells) x ≡ None → at buf (x - lo) ≡ at file x
-kept_full file buf cells lo x h e = no_none_some h.0 (sym e ∙ h.1)
-
 pub window_answer : (file buf : List ℕ) (n lo : ℕ) (cells : List Cell) → length buf ≡ n → lo + n ≤ length file → IsFrom lo cells → IsWithin cells (lo + n)
     → ((x : ℕ) → lo ≤ x → x < lo + n → said_at (said_by cells) x ≡ None → at buf (x - lo) ≡ at file x)
     → written file lo (write_cells buf (moved_down lo cells)) ≡ write_cells file cells
 window_answer file buf n lo cells e room low high kept =
     window_done file buf lo cells (omega arith) low (subst (λ (k : ℕ). IsWithin cells (lo + k)) (sym e) high) (λ x h k g. kept x h (omega arith) g)
-
-pub read_long : (file : List ℕ) (x n : ℕ) → length (read file x n) ≡ n
-read_long file x zero = refl
-read_long file x (suc n) = ap suc (read_long file (x + 1) n)
 
 one_read : (file : List ℕ) (cells : List Cell) (w : ℕ × ℕ) → w.0 ≤ w.1 → w.1 ≤ length file
     → read_overlaid file cells w ≡ write_cells file (clips w.0 w.1 cells)

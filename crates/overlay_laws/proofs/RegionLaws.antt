@@ -1,8 +1,11 @@
 -- The elements of a region have different indices, so those of a sound header's variable lie apart.
-use Rattle.std.proofs.Common.{◌≡◌, ℕ, zero, suc, ◌+◌, ◌-◌, ◌*◌, ◌<◌, ◌≤◌, refl, sym, ◌∙◌, ap, subst, inl, inr, ◌⊎◌, List, [], ◌∷◌, ◌++◌, length, get_or, drop, true, Some, ◌/◌, arith}
-use Rattle.std.proofs.Math.Nat.{mul-div_cancel}
+use Rattle.std.proofs.Common.{◌≡◌, ℕ, zero, suc, ◌+◌, ◌-◌, ◌*◌, ◌<◌, ◌≤◌, refl, sym, ◌∙◌, ap, subst, inl, inr, ◌⊎◌, List, [], ◌∷◌, ◌++◌, length, get_or, drop, true, Some, arith}
 use Rattle.std.specs.Prelude.{flat_map, map, slice_get}
 use Rattle.std.specs.List.{range_with_len}
+use Rattle.std.proofs.lemmas.List.{length-map}
+use Rattle.std.proofs.lemmas.Option.{same_Some}
+use Rattle.list_laws.proofs.Optional.{no_none_some}
+use Rattle.list_laws.proofs.Numbers.{same_factor}
 use Rattle.nc_base.specs.declared.header.Header.{Header}
 use Rattle.nc_base.specs.declared.header.Var.{Var}
 use Rattle.nc_base.specs.declared.request.Region.{Region}
@@ -14,7 +17,6 @@ use Rattle.serial_spec.specs.Request.{coordinates, index_at, elements, places}
 use Rattle.serial_spec.proofs.ElementLaws.{length-coordinates}
 use Rattle.serial_spec.proofs.ApartLaws.{elements_apart}
 use Rattle.overlay_laws.specs.Steps.{LieApart, HaveStrides}
-use Rattle.overlay_laws.proofs.SaidLaws.{no_none_some, same_some}
 
 split_at : {A : Type 0} (xs ys : List A) (m : ℕ) (c : A) → slice_get (xs ++ ys) m ≡ Some c
     → (slice_get xs m ≡ Some c) ⊎ ((length xs ≤ m) × (slice_get ys (m - length xs) ≡ Some c))
@@ -29,12 +31,8 @@ split_at {A} (x ∷ xs) ys (suc m) c h = by_rest (split_at xs ys m c h)
 
 map_at : {A B : Type 0} (f : A → B) (xs : List A) (m : ℕ) (c : B) → slice_get (map f xs) m ≡ Some c → (d : A) × (slice_get xs m ≡ Some d) × (f d ≡ c)
 map_at f [] m c h = no_none_some c h
-map_at f (x ∷ xs) zero c h = (x, refl, same_some (f x) c h)
+map_at f (x ∷ xs) zero c h = (x, refl, same_Some (f x) c h)
 map_at f (x ∷ xs) (suc m) c h = map_at f xs m c h
-
-map_long : {A B : Type 0} (f : A → B) (xs : List A) → length (map f xs) ≡ length xs
-map_long f [] = refl
-map_long f (x ∷ xs) = ap suc (map_long f xs)
 
 record BlockAt (inner : List (List ℕ)) (a n m : ℕ) (c : List ℕ) : Type 0 where
   block : ℕ
@@ -64,7 +62,7 @@ block_at inner a (suc n) m c h =
         record { block = 0; place = m; rest = r.0; below = omega arith; is_place = omega arith; is_rest = r.1; whole = ap (λ (k : ℕ). k ∷ r.0) first ∙ r.2 }
     by_side ih (inr g) =
         let r = ih g.1 in
-        let long = map_long (λ d. a ∷ d) inner in
+        let long = length-map inner (λ d. a ∷ d) in
         let fits = g.0 in
         let there = r.is_place in
         let low = r.below in
@@ -81,7 +79,7 @@ block_at inner a (suc n) m c h =
 
 -- the number of a region's element is its row-major number
 pub coordinate_row : (counts : List ℕ) (m : ℕ) (c : List ℕ) → slice_get (coordinates counts) m ≡ Some c → IsIndex counts c × (m ≡ row counts c)
-coordinate_row [] zero c h = let e : [] ≡ c = same_some [] c h in (subst (λ (x : List ℕ). IsIndex [] x) e tt, ap (λ (x : List ℕ). row [] x) e)
+coordinate_row [] zero c h = let e : [] ≡ c = same_Some [] c h in (subst (λ (x : List ℕ). IsIndex [] x) e tt, ap (λ (x : List ℕ). row [] x) e)
 coordinate_row [] (suc m) c h = no_none_some c h
 coordinate_row (n ∷ counts) m c h =
     let b = block_at (coordinates counts) 0 n m c h in
@@ -92,9 +90,6 @@ coordinate_row (n ∷ counts) m c h =
       b.is_place ∙ ap (λ (k : ℕ). b.block * k + b.place) (length-coordinates counts) ∙ ap (λ (k : ℕ). b.block * product counts + k) r.1
           ∙ ap (λ (x : List ℕ). row (n ∷ counts) x) whole,
     )
-
-same_factor : (x y t : ℕ) → 1 ≤ t → x * t ≡ y * t → x ≡ y
-same_factor x y t h f = sym (mul-div_cancel x {n = t} h) ∙ ap (λ (k : ℕ). k / t) f ∙ mul-div_cancel y {n = t} h
 
 times_once : (s t x y : ℕ) → 1 ≤ t → s + x * t ≡ s + y * t → x ≡ y
 times_once s t x y h e = let f : x * t ≡ y * t = omega arith in same_factor x y t h f

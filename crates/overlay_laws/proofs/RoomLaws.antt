@@ -1,13 +1,13 @@
 -- Where every covered byte lies below n, so does every cell of the puts and of their entries.
-use Rattle.std.proofs.Common.{ℕ, ◌+◌, ◌-◌, ◌<◌, ◌≤◌, List, [], ◌∷◌, length, take, drop, Option, Some, None, arith}
-use Rattle.std.proofs.lemmas.Grind.{common_steps}
+use Rattle.std.proofs.Common.{ℕ, ◌+◌, ◌-◌, ◌<◌, ◌≤◌, List, [], ◌∷◌, drop, Option, Some, None, arith}
 use Rattle.std.specs.Prelude.{flat_map, slice_get}
 use Rattle.std.specs.List.{range_with_len}
+use Rattle.list_laws.proofs.Places.{take_at_most}
+use Rattle.serial_spec.proofs.LengthLaws.{size_pos}
 use Rattle.nc_base.specs.declared.header.Header.{Header}
 use Rattle.nc_base.specs.declared.header.Var.{Var}
 use Rattle.nc_base.specs.declared.plan.Post.{Post}
 use Rattle.nc_base.specs.declared.plan.Owned.{Owned}
-use Rattle.nc_base.specs.declared.header.NcType.{NcType}
 use Rattle.nc_base.specs.declared.header.NcType.TheVariants as kind
 use Rattle.serial_spec.specs.ExternalForm.{size_of}
 use Rattle.serial_spec.specs.Request.{cells, places}
@@ -21,34 +21,18 @@ use Rattle.overlay_laws.proofs.WindowLaws.{append_within}
 use Rattle.overlay_laws.proofs.EntryLaws.{within_each}
 use Rattle.overlay_laws.proofs.HolderLaws.{to_put}
 
-size_pos : (k : NcType) → 1 ≤ size_of k
-size_pos kind.Byte = omega arith
-size_pos kind.Char = omega arith
-size_pos kind.Short = omega arith
-size_pos kind.Int = omega arith
-size_pos kind.Float = omega arith
-size_pos kind.Double = omega arith
-size_pos kind.UByte = omega arith
-size_pos kind.UShort = omega arith
-size_pos kind.UInt = omega arith
-size_pos kind.Int64 = omega arith
-size_pos kind.UInt64 = omega arith
-
-take_short : (n : ℕ) (b : List ℕ) → length (take n b) ≤ n
-take_short n b = grind (arith, common_steps)
-
-cells_room : (size : ℕ) (ps bytes : List ℕ) (n : ℕ) → 1 ≤ size → ((x : ℕ) → In (flat_map (λ p. range_with_len p size) ps) x → x < n) → IsWithin (cells size ps bytes) n
+pub cells_room : (size : ℕ) (ps bytes : List ℕ) (n : ℕ) → 1 ≤ size → ((x : ℕ) → In (flat_map (λ p. range_with_len p size) ps) x → x < n) → IsWithin (cells size ps bytes) n
 cells_room size [] bytes n h below = tt
 cells_room size (p ∷ ps) bytes n h below =
     let last = below (p + (size - 1)) (in_left (range_with_len p size) (flat_map (λ q. range_with_len q size) ps) (p + (size - 1)) (in_range p size (p + (size - 1)) (omega arith) (omega arith))) in
-    let short = take_short size bytes in
+    let short = take_at_most size bytes in
     (omega arith, cells_room size ps (drop size bytes) n h (λ x k. below x (in_right (range_with_len p size) (flat_map (λ q. range_with_len q size) ps) x k)))
 
-post_room : (header : Header) (v : Option Var) (post : Post) (n : ℕ) → ((x : ℕ) → In (bytes_of_some header v post) x → x < n) → IsWithin (cells_of_some header v post) n
+pub post_room : (header : Header) (v : Option Var) (post : Post) (n : ℕ) → ((x : ℕ) → In (bytes_of_some header v post) x → x < n) → IsWithin (cells_of_some header v post) n
 post_room header None post n below = tt
 post_room header (Some v) post n below = cells_room (size_of v.kind) (places header v post.region) post.bytes n (size_pos v.kind) below
 
-puts_room : (header : Header) (puts : Puts) (n : ℕ) → ((x : ℕ) → In (covered header puts) x → x < n) → IsWithin (cells_of_puts header puts) n
+pub puts_room : (header : Header) (puts : Puts) (n : ℕ) → ((x : ℕ) → In (covered header puts) x → x < n) → IsWithin (cells_of_puts header puts) n
 puts_room header [] n below = tt
 puts_room header (p ∷ puts) n below =
     append_within (cells_of header p.1) (cells_of_puts header puts) n
@@ -67,7 +51,7 @@ has_room s source puts ess list n one g same some below = (
       let p = to_put s.header source puts ess o (o.extent.at + (o.extent.len - 1)) g (same.1 o k)
       (in_range o.extent.at o.extent.len (o.extent.at + (o.extent.len - 1)) (omega arith) (omega arith)) in
       let last = below (o.extent.at + (o.extent.len - 1)) (in_flat (λ q. bytes_of s.header q.1) puts p.put (o.extent.at + (o.extent.len - 1)) p.is_one p.has) in
-      let short = take_short o.extent.len (drop o.from (source o.rank o.slot)) in
+      let short = take_at_most o.extent.len (drop o.from (source o.rank o.slot)) in
       omega arith),
   below,
 )

@@ -1,45 +1,31 @@
 -- Puts of which no two requests share a byte, and no request holds one twice, say one thing of each place.
-use Rattle.std.proofs.Common.{◌≡◌, ℕ, zero, suc, refl, sym, ◌∙◌, ap, subst, inl, inr, List, [], ◌∷◌, Bool, true, false, ◌&&◌, ◌||◌, Option, Some, None, arith}
-use Rattle.std.proofs.lemmas.Bool.Decides.{nat_tests}
-use Rattle.std.proofs.lemmas.Option.{slice_get-map}
+use Rattle.std.proofs.Common.{◌≡◌, ℕ, zero, suc, refl, sym, ◌∙◌, ap, subst, inl, inr, List, [], ◌∷◌, true, ◌&&◌, Option, Some, None}
+use Rattle.std.proofs.lemmas.Option.{slice_get-map, same_Some}
 use Rattle.std.specs.Prelude.{zip, slice_get, option_map, ◌==◌}
 use Rattle.std.specs.List.{list_any}
+use Rattle.std.proofs.lemmas.Bool.{or_left, or_right, and_from}
+use Rattle.list_laws.proofs.Truth.{equal_true}
+use Rattle.list_laws.proofs.Optional.{no_none_some}
 use Rattle.nc_base.specs.declared.header.Header.{Header}
 use Rattle.nc_base.specs.declared.plan.Post.{Post}
 use Rattle.serial_spec.specs.SharedByte.{Puts, Key, Holding, bytes_of, holdings, same_key, has_byte, Holds, IsUnshared, shared_pair}
-use Rattle.serial_spec.proofs.PairLaws.{pair_none}
+use Rattle.serial_spec.proofs.PairLaws.{pair_none, key_itself}
 use Rattle.serial_spec.specs.Said.{Says, IsOneValued}
 use Rattle.serial_spec.specs.SharedByte.{said_by_puts, IsOwnOnce}
 use Rattle.overlay_laws.specs.Entries.{HaveOwnKeys, IsOnce}
-use Rattle.overlay_laws.proofs.SaidLaws.{no_none_some, same_some, same_hit}
 use Rattle.overlay_laws.proofs.EntryLaws.{says_cases}
-
-or_left : (a b : Bool) → a ≡ true → (a || b) ≡ true
-or_left true b h = refl
-or_left false b h = cc
-
-or_right : (a b : Bool) → b ≡ true → (a || b) ≡ true
-or_right true b h = refl
-or_right false b h = h
-
-both_true : (a b : Bool) → a ≡ true → b ≡ true → (a && b) ≡ true
-both_true true b h k = k
-both_true false b h k = h
-
-itself : (a : Key) → same_key a a ≡ true
-itself a = grind (arith, nat_tests)
 
 has_at : (xs : List ℕ) (k x : ℕ) → slice_get xs k ≡ Some x → list_any (λ y. y == x) xs ≡ true
 has_at [] k x h = no_none_some x h
-has_at (y ∷ xs) zero x h = or_left (y == x) _ (same_hit y x (same_some y x h))
+has_at (y ∷ xs) zero x h = or_left (y == x) _ (equal_true y x (same_Some y x h))
 has_at (y ∷ xs) (suc k) x h = or_right (y == x) _ (has_at xs k x h)
 
 holds_at : (held : List Holding) (i k x : ℕ) (h : Holding) → slice_get held i ≡ Some h → slice_get h.1 k ≡ Some x → Holds held h.0 x
 holds_at [] i k x h e f = no_none_some h e
 holds_at (g ∷ held) zero k x h e f =
-    let same : g ≡ h = same_some g h e in
+    let same : g ≡ h = same_Some g h e in
     or_left (same_key g.0 h.0 && has_byte x g) _
-    (subst (λ (z : Holding). (same_key z.0 h.0 && has_byte x z) ≡ true) (sym same) (both_true (same_key h.0 h.0) (has_byte x h) (itself h.0) (has_at h.1 k x f)))
+    (subst (λ (z : Holding). (same_key z.0 h.0 && has_byte x z) ≡ true) (sym same) (and_from (same_key h.0 h.0) (has_byte x h) (key_itself h.0) (has_at h.1 k x f)))
 holds_at (g ∷ held) (suc i) k x h e f = or_right (same_key g.0 h.0 && has_byte x g) _ (holds_at held i k x h e f)
 
 zip_at : (xs b : List ℕ) (x v : ℕ) → Says (zip xs b) x v → (k : ℕ) × (slice_get xs k ≡ Some x) × (slice_get b k ≡ Some v)
@@ -82,8 +68,8 @@ unshared_once header puts apart own x v w hv hw =
     (holds_at (holdings header puts) b.number b.place x ((b.put.0, b.put.1.id), bytes_of header b.put.1) hb b.is_place) in
     let same = own a.number b.number ((a.put.0, a.put.1.id), bytes_of header a.put.1) ((b.put.0, b.put.1.id), bytes_of header b.put.1)
     a.place b.place x ha hb keys a.is_place b.is_place in
-    let put : a.put ≡ b.put = same_some a.put b.put (sym a.is_put ∙ ap (λ (n : ℕ). slice_get puts n) same.0 ∙ b.is_put) in
-    same_some v w (sym a.is_byte ∙ ap (λ (p : ℕ × Post). slice_get p.1.bytes a.place) put ∙ ap (λ (n : ℕ). slice_get b.put.1.bytes n) same.1 ∙ b.is_byte)
+    let put : a.put ≡ b.put = same_Some a.put b.put (sym a.is_put ∙ ap (λ (n : ℕ). slice_get puts n) same.0 ∙ b.is_put) in
+    same_Some v w (sym a.is_byte ∙ ap (λ (p : ℕ × Post). slice_get p.1.bytes a.place) put ∙ ap (λ (n : ℕ). slice_get b.put.1.bytes n) same.1 ∙ b.is_byte)
 
 pub no_pair_once : (header : Header) (puts : Puts) → shared_pair header puts ≡ None → IsOwnOnce (holdings header puts)
     → IsOneValued (said_by_puts header puts)
@@ -93,7 +79,7 @@ no_pair_once header puts none own = unshared_once header puts (pair_none (holdin
 
 some_of : (puts : Puts) (f : ℕ × Post → Holding) (i : ℕ) (g : Holding) (o : Option (ℕ × Post)) → option_map f o ≡ Some g → (p : ℕ × Post) × (o ≡ Some p) × (f p ≡ g)
 some_of puts f i g None e = no_none_some g e
-some_of puts f i g (Some p) e = (p, refl, same_some (f p) g e)
+some_of puts f i g (Some p) e = (p, refl, same_Some (f p) g e)
 
 put_at : (header : Header) (puts : Puts) (i : ℕ) (g : Holding) → slice_get (holdings header puts) i ≡ Some g
     → (p : ℕ × Post) × (slice_get puts i ≡ Some p) × (((p.0, p.1.id), bytes_of header p.1) ≡ g)
@@ -110,7 +96,7 @@ own_once header puts keys once i j g h k l x e f key a b =
     let rank : p.0.0 ≡ q.0.0 = ap (λ (z : Holding). z.0.0) p.2 ∙ ap (λ (z : Key). z.0) key ∙ sym (ap (λ (z : Holding). z.0.0) q.2) in
     let id : p.0.1.id ≡ q.0.1.id = ap (λ (z : Holding). z.0.1) p.2 ∙ ap (λ (z : Key). z.1) key ∙ sym (ap (λ (z : Holding). z.0.1) q.2) in
     let same : i ≡ j = keys i j p.0 q.0 p.1 q.1 rank id in
-    let one : p.0 ≡ q.0 = same_some p.0 q.0 (sym p.1 ∙ ap (λ (n : ℕ). slice_get puts n) same ∙ q.1) in (
+    let one : p.0 ≡ q.0 = same_Some p.0 q.0 (sym p.1 ∙ ap (λ (n : ℕ). slice_get puts n) same ∙ q.1) in (
       same,
       once i p.0 p.1 k l x (ap (λ (z : Holding). slice_get z.1 k) p.2 ∙ a)
           (ap (λ (z : ℕ × Post). slice_get (bytes_of header z.1) l) one ∙ ap (λ (z : Holding). slice_get z.1 l) q.2 ∙ b),

@@ -5,11 +5,14 @@ use Rattle.std.proofs.lemmas.List.{get_or-take, get_or-drop}
 use Rattle.std.specs.Prelude.{fold, flat_map, nat_lt, map}
 use Rattle.std.specs.List.{enumerate_from}
 use borrow.Author.Tests.{ltb-true, ltb-false}
+use Rattle.serial_spec.proofs.FileLaws.{at-written_before, at-written_after, length-written_inside}
+use Rattle.serial_spec.proofs.SaidLaws.{said_below, said_past, said_inside, at-written_inside, said_append, cells_said}
+use Rattle.list_laws.proofs.Optional.{no_none_some, neither_some, second_counts, first_counts}
 use Rattle.serial_spec.specs.File.{at, written}
 use Rattle.std.specs.Option.{option_or}
 use Rattle.serial_spec.specs.Said.{said_at, byte_or, Cell, write_cells, said_by, IsWithin, IsFrom, moved_down}
 use Rattle.overlay_laws.specs.Windows.{IsPart, AreParts, SomeSays, clip, clips, IsInOne, HasEach}
-use Rattle.overlay_laws.proofs.SaidLaws.{no_none_some, both_none, first_counts, second_counts, said_below, said_past, said_inside, said_append, write_before, write_after, write_inside, write_long, cells_said, cells_long, same_file, same_said}
+use Rattle.overlay_laws.proofs.SaidLaws.{cells_long, same_file, same_said}
 
 -- ---- cells seen from a place on
 
@@ -56,14 +59,14 @@ none_below lo [] x h k = refl
 none_below lo (c ∷ cells) x h k =
     let a : lo ≤ c.0 = h.0 in
     said_append (enumerate_from c.0 c.1) (said_by cells) x
-    ∙ both_none (said_at (said_by cells) x) _ (none_below lo cells x h.1 k) (said_below c.0 c.1 x (omega arith))
+    ∙ neither_some (said_at (said_by cells) x) _ (none_below lo cells x h.1 k) (said_below c.0 c.1 x (omega arith))
 
 pub none_past : (n : ℕ) (cells : List Cell) (x : ℕ) → IsWithin cells n → n ≤ x → said_at (said_by cells) x ≡ None
 none_past n [] x h k = refl
 none_past n (c ∷ cells) x h k =
     let a : c.0 + length c.1 ≤ n = h.0 in
     said_append (enumerate_from c.0 c.1) (said_by cells) x
-    ∙ both_none (said_at (said_by cells) x) _ (none_past n cells x h.1 k) (said_past c.0 c.1 x (omega arith))
+    ∙ neither_some (said_at (said_by cells) x) _ (none_past n cells x h.1 k) (said_past c.0 c.1 x (omega arith))
 
 -- ---- one window
 
@@ -74,7 +77,7 @@ window_by : (file buf inner : List ℕ) (lo : ℕ) (pieces : List Cell) → leng
     → written file lo inner ≡ write_cells file pieces
 window_by file buf inner lo pieces long inside room low high kept =
     same_file (written file lo inner) (write_cells file pieces)
-    (write_long file inner lo (omega arith) ∙ sym (cells_long pieces file (within_more pieces (lo + length buf) (length file) room high)))
+    (length-written_inside file lo inner (omega arith) ∙ sym (cells_long pieces file (within_more pieces (lo + length buf) (length file) room high)))
     (λ x. by_front x (nat_lt x lo) refl)
   where
     unsaid : (x : ℕ) → said_at (said_by pieces) x ≡ None → at file x ≡ at (write_cells file pieces) x
@@ -88,16 +91,16 @@ window_by file buf inner lo pieces long inside room low high kept =
     by_back : (x : ℕ) (t : Bool) → nat_lt x (lo + length inner) ≡ t → lo ≤ x → at (written file lo inner) x ≡ at (write_cells file pieces) x
     by_back x true e g =
         let l : x < lo + length inner = ltb-true _ _ e in
-        write_inside file inner lo x g l ∙ inside x
+        at-written_inside file inner lo x g l ∙ inside x
         ∙ ap (λ (o : Option ℕ). byte_or o (at buf (x - lo))) (moved_said lo pieces x low g)
         ∙ over x (said_at (said_by pieces) x) refl g (omega arith)
         ∙ sym (cells_said pieces file x)
     by_back x false e g =
         let l : lo + length inner ≤ x = ltb-false _ _ e in
-        write_after file inner lo x l ∙ unsaid x (none_past (lo + length buf) pieces x high (omega arith))
+        at-written_after file inner lo x l ∙ unsaid x (none_past (lo + length buf) pieces x high (omega arith))
 
     by_front : (x : ℕ) (t : Bool) → nat_lt x lo ≡ t → at (written file lo inner) x ≡ at (write_cells file pieces) x
-    by_front x true e = let l : x < lo = ltb-true _ _ e in write_before file inner lo x l ∙ unsaid x (none_below lo pieces x low l)
+    by_front x true e = let l : x < lo = ltb-true _ _ e in at-written_before file inner lo x l ∙ unsaid x (none_below lo pieces x low l)
     by_front x false e = by_back x (nat_lt x (lo + length inner)) refl (ltb-false _ _ e)
 
 -- A buffer that has the file's bytes wherever no piece has the place, overlaid and written, writes the pieces.
@@ -116,10 +119,10 @@ write_joined [] file = refl
 write_joined (cells ∷ lists) file =
     write_joined lists (write_cells file cells) ∙ sym (fold-append (λ f cell. written f cell.0 cell.1) file cells (flat_map (λ c. c) lists))
 
-said_by_joined : (a b : List Cell) → said_by (a ++ b) ≡ said_by a ++ said_by b
+pub said_by_joined : (a b : List Cell) → said_by (a ++ b) ≡ said_by a ++ said_by b
 said_by_joined a b = flat_map-append (λ cell. enumerate_from cell.0 cell.1) a b
 
-said_joined : (a b : List Cell) (x : ℕ) → said_at (said_by (a ++ b)) x ≡ option_or (said_at (said_by b) x) (said_at (said_by a) x)
+pub said_joined : (a b : List Cell) (x : ℕ) → said_at (said_by (a ++ b)) x ≡ option_or (said_at (said_by b) x) (said_at (said_by a) x)
 said_joined a b x = ap (λ ps. said_at ps x) (said_by_joined a b) ∙ said_append (said_by a) (said_by b) x
 
 parts_only : (whole : List (ℕ × ℕ)) (lists : List (List Cell)) → AreParts whole lists → (x v : ℕ)

@@ -36,7 +36,7 @@ ghost use Rattle.overlay_laws.specs.Parts.{joined, written_parts};
 
 /// Cells that are written one after another leave at each place what the last of them that has the place says, else the
 /// old byte; cells that say the same of each place make the same file.
-#[tactic(auto, using(crate::proofs::SaidLaws::cells_said, crate::proofs::SaidLaws::cells_long, crate::proofs::SaidLaws::same_said, crate::proofs::SaidLaws::same_file))]
+#[tactic(auto, using(serial_spec::proofs::SaidLaws::cells_said, crate::proofs::SaidLaws::cells_long, crate::proofs::SaidLaws::same_said, crate::proofs::SaidLaws::same_file))]
 pub fn cells_law()
     ensures byte { (cells : List Cell) (file : List ℕ) (x : ℕ) → at (write_cells file cells) x ≡ byte_or (said_at (said_by cells) x) (at file x) }
     ensures len { (cells : List Cell) (file : List ℕ) → IsWithin cells (length file) → length (write_cells file cells) ≡ length file }

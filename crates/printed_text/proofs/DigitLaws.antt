@@ -1,18 +1,14 @@
 -- Digits, looked up by names and ids.
-use Rattle.std.proofs.Common.{◌≡◌, ◌≤◌, ℕ, List, length, Bool, true, false, cond, Option, Some, None, refl, ap, ◌∙◌, arith}
+use Rattle.std.proofs.Common.{◌≡◌, ℕ, List, length, Bool, true, false, cond, Option, Some, None, refl, ap, ◌∙◌}
 use Rattle.std.specs.Prelude.{unwrap_or, option_map, nat_lt, bytes_eq, find, position, slice_get}
 use Rattle.std.specs.List.{position_or_len}
-use Rattle.std.proofs.lemmas.Bool.Decides.{nat_tests}
 use Rattle.std.proofs.lemmas.List.Folds.{find_at}
 use Rattle.std.proofs.lemmas.Option.{slice_get_past}
+use Rattle.std.proofs.lemmas.Bool.{ltb-false}
 use Rattle.nc_base.specs.declared.header.Header.{Header}
 use Rattle.nc_base.specs.declared.header.Var.{Var}
-use Rattle.nc_base.specs.declared.request.Call.{Call}
-use Rattle.script_spec.specs.Texts.{digits_of, digits_of_name, digits_of_var, item_digits, posted_name, posts_id}
-use Rattle.printed_text.specs.Digits.{named_digits, posted_digits}
-
-not_below : (a b : ℕ) → nat_lt a b ≡ false → b ≤ a
-not_below a b h = grind (arith, nat_tests)
+use Rattle.script_spec.specs.Texts.{digits_of, digits_of_name, digits_of_var}
+use Rattle.printed_text.specs.Digits.{named_digits}
 
 -- of the first variable that a test passes
 named_by : (header : Header) (p : Var → Bool) → unwrap_or (option_map (λ v. digits_of v.kind) (find p header.vars)) 16 ≡ digits_of_var header (position p header.vars)
@@ -30,16 +26,7 @@ named_by header p =
     by_test true e = told (slice_get header.vars (position_or_len p header.vars))
     by_test false e =
         ap (λ (o : Option Var). unwrap_or (option_map (λ v. digits_of v.kind) o) 16)
-        (slice_get_past header.vars (position_or_len p header.vars) (not_below (position_or_len p header.vars) (length header.vars) e))
+        (slice_get_past header.vars (position_or_len p header.vars) (ltb-false (position_or_len p header.vars) (length header.vars) e))
 
 pub digits_named : (header : Header) (name : List ℕ) → unwrap_or (named_digits header.vars name) 16 ≡ digits_of_name header name
 digits_named header name = named_by header (λ v. bytes_eq v.name name)
-
--- of the first post that has the id
-pub digits_posted : (header : Header) (calls : List Call) (id : ℕ) → unwrap_or (posted_digits header calls id) 16 ≡ item_digits header calls id
-digits_posted header calls id = told (find (posts_id id) calls)
-  where
-    told : (o : Option Call) → unwrap_or (option_map (λ c. digits_of_name header (posted_name c)) o) 16
-        ≡ elim o [ None ↦ 16 | Some c ↦ digits_of_name header (posted_name c) ]
-    told None = refl
-    told (Some c) = refl

@@ -5,11 +5,12 @@ use Rattle.std.proofs.lemmas.List.{append-nil, append_assoc}
 use Rattle.std.proofs.lemmas.List.Concat.{flat_map-append}
 use Rattle.std.proofs.lemmas.List.Elements.{filter_more}
 use Rattle.std.proofs.lemmas.Option.{slice_get-get_or}
+use Rattle.serial_spec.proofs.RoomLaws.{slab_below}
 use Rattle.nc_base.specs.declared.header.Header.{Header}
 use Rattle.nc_base.specs.declared.header.Var.{Var}
 use Rattle.serial_spec.specs.HeaderGrammar.{is_sound}
 use Rattle.serial_spec.specs.Layout.{slab, vsize}
-use Rattle.var_layout.proofs.Soundness.{var_kept, slab_below}
+use Rattle.var_layout.proofs.Soundness.{var_kept}
 
 -- a variable of a sound header ends within a file
 pub var_ends : (header : Header) (vars : List Var) (k : ℕ) (v : Var) → is_sound header ≡ true → vars ≡ header.vars → k < length vars → v ≡ get_or vars k v

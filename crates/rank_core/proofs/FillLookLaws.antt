@@ -1,11 +1,12 @@
 -- The posts that fill a share of a record are puts that a step takes, and hold no byte twice.
-use Rattle.std.proofs.Common.{◌≡◌, ℕ, zero, suc, ◌+◌, ◌-◌, ◌*◌, ◌<◌, ◌≤◌, refl, sym, ap, subst, ◌∙◌, inl, inr, ◌⊎◌, List, [], ◌∷◌, length, map, replicate, Bool, true, false, not, cond, ltb, leb, eqb, ◌&&◌, ◌||◌, Option, None, Some, add-one, arith}
-use Rattle.std.specs.Prelude.{find, flat_map, slice_get, slice_index, bytes_eq}
+use Rattle.std.proofs.Common.{◌≡◌, ℕ, zero, suc, ◌+◌, ◌-◌, ◌*◌, ◌<◌, ◌≤◌, refl, sym, ap, subst, ◌∙◌, List, [], ◌∷◌, length, map, replicate, Bool, true, false, not, cond, ltb, leb, eqb, ◌&&◌, ◌||◌, Option, None, Some, add-one, arith}
+use Rattle.std.specs.Prelude.{find, flat_map, slice_get, slice_index}
 use Rattle.std.specs.Int.{Width, byte_len, to_be_bytes, w8, w16, w32, w64, w128}
 use Rattle.std.specs.List.{list_all, list_any, range_with_len}
-use Rattle.std.proofs.lemmas.Bool.{and_from, and_left, and_parts, and_right, cases_lt, eq-eqb, eqb-true, le-ltb, leb-false, leb-true, lt-leb, ne_eqb, not_from_true, or_from, or_parts}
+use Rattle.std.proofs.lemmas.Bool.{and_from, and_left, and_parts, and_right, eq-eqb, eqb-true, le-ltb, leb-false, leb-true, lt-leb, ne_eqb, not_from_true, or_from, or_parts}
 use Rattle.std.proofs.lemmas.List.{length-map, length-replicate}
-use Rattle.nc_base.specs.declared.answer.Code.{Code}
+use Rattle.overlay_laws.proofs.Members.{each_in, map_in}
+use Rattle.list_laws.proofs.Ranges.{pieces_long}
 use Rattle.nc_base.specs.declared.answer.Code.TheVariants as code
 use Rattle.nc_base.specs.declared.header.Attr.{Attr}
 use Rattle.nc_base.specs.declared.header.Header.{Header}
@@ -17,16 +18,15 @@ use Rattle.nc_base.specs.declared.request.Part.{Part}
 use Rattle.nc_base.specs.declared.request.Region.{Region}
 use Rattle.fill_records.proofs.CutLaws.{boxes_few}
 use Rattle.overlay_laws.specs.Entries.{In}
-use Rattle.serial_spec.specs.ExternalForm.{class_of, code_of, ext, size_of, width_of}
+use Rattle.serial_spec.specs.ExternalForm.{code_of, ext, size_of, width_of}
 use Rattle.serial_spec.specs.Fill.{boxes, default_fill, fill_bytes, is_fill_value, share_begin}
-use Rattle.serial_spec.specs.HeaderGrammar.{counts_are_small, first_check, header_len, is_sound, is_version, number_of}
+use Rattle.serial_spec.specs.HeaderGrammar.{header_len, is_sound}
 use Rattle.serial_spec.specs.Layout.{end_of, inner_lengths, is_record, lengths, length_of, product, starts_with_zero, without_record}
 use Rattle.serial_spec.specs.Limits.{file_limit, most_elements, record_limit}
 use Rattle.serial_spec.specs.RankMachine as machine
 use Rattle.serial_spec.specs.RankMachine.{box_post, box_region, fills, find_var, is_record_past, look_fill}
 use Rattle.serial_spec.specs.Records.{records_of}
-use Rattle.serial_spec.specs.RegionCheck.{bad_edge, bad_start, bound, bounds, check_var, first_code, is_past, is_too_large, last_position, other_shape, some_edge, some_start}
-use Rattle.serial_spec.proofs.ElementLaws.{block_long}
+use Rattle.serial_spec.specs.RegionCheck.{bad_edge, bad_start, bound, bounds, check_var, first_code, is_too_large, other_shape, some_edge, some_start}
 use Rattle.serial_spec.proofs.RoomLaws.{end_grows}
 use Rattle.rank_core.specs.declared.looking.Look.{Look}
 use Rattle.rank_core.specs.Looked.{as_look, posts_of, posts_looked, ArePutsLooked}
@@ -35,7 +35,7 @@ use Rattle.rank_core.specs.Targets.{IsSmall}
 use Rattle.rank_core.proofs.FillLaws.{record_outcome, share_grows, share_within}
 use Rattle.rank_core.proofs.FillPostLaws.{boxes_fit, boxes_once, boxes_small, separate_boxes, Fits, FitsPart}
 use Rattle.rank_core.proofs.LookLaws.{alike, no_puts, put_right, puts_looked, ArePuts}
-use Rattle.rank_core.proofs.SeparateLaws.{all_in, map_from, own_once, AreSeparate, IsPostOf}
+use Rattle.rank_core.proofs.SeparateLaws.{own_once, AreSeparate, IsPostOf}
 
 -- ---- starts and ends within the lengths
 
@@ -145,14 +145,14 @@ module _ (header : Header) (v : Var) (number : ℕ) (is : is_record header v ≡
 
 -- ---- its bytes
 
-be_long : (w : Width) (n : ℕ) → length (to_be_bytes w n) ≡ byte_len w
+pub be_long : (w : Width) (n : ℕ) → length (to_be_bytes w n) ≡ byte_len w
 be_long w8 n = refl
 be_long w16 n = refl
 be_long w32 n = refl
 be_long w64 n = refl
 be_long w128 n = refl
 
-found_long : (kind : NcType) (attrs : List Attr) → length {A = ℕ} (elim (find (is_fill_value kind) attrs) [ None ↦ ext kind (default_fill kind) | Some a ↦ a.bytes ]) ≡ size_of kind
+pub found_long : (kind : NcType) (attrs : List Attr) → length {A = ℕ} (elim (find (is_fill_value kind) attrs) [ None ↦ ext kind (default_fill kind) | Some a ↦ a.bytes ]) ≡ size_of kind
 found_long kind [] = be_long (width_of kind) (code_of (width_of kind) (default_fill kind))
 found_long kind (a ∷ attrs) = by_test (is_fill_value kind a) refl (found_long kind attrs)
   where
@@ -161,9 +161,9 @@ found_long kind (a ∷ attrs) = by_test (is_fill_value kind a) refl (found_long 
     by_test true e h = eqb-true (length a.bytes) (size_of kind) (and_parts _ _ e).1
     by_test false e h = h
 
-box_bytes_long : (v : Var) (p : Part) → length (flat_map (λ m. fill_bytes v) (range_with_len 0 (product p.count))) ≡ product (1 ∷ p.count) * size_of v.kind
+pub box_bytes_long : (v : Var) (p : Part) → length (flat_map (λ m. fill_bytes v) (range_with_len 0 (product p.count))) ≡ product (1 ∷ p.count) * size_of v.kind
 box_bytes_long v p =
-    let all = block_long (λ m. fill_bytes v) (size_of v.kind) (λ m. found_long v.kind v.attrs) 0 (product p.count) in
+    let all = pieces_long (λ m. fill_bytes v) (size_of v.kind) (λ m. found_long v.kind v.attrs) 0 (product p.count) in
     let one : product (1 ∷ p.count) ≡ product p.count = omega arith in
     all ∙ ap (λ (n : ℕ). n * size_of v.kind) (sym one)
 
@@ -178,7 +178,7 @@ all_at test [] k v h e = absurd cc
 all_at test (w ∷ vs) zero v h e = let same : w ≡ v = cc in ap test (sym same) ∙ (and_parts (test w) (list_all test vs) h).0
 all_at test (w ∷ vs) (suc k) v h e = all_at test vs k v (and_parts (test w) (list_all test vs) h).1 e
 
-few_dims : (header : Header) (k : ℕ) (v : Var) → is_sound header ≡ true → slice_get header.vars k ≡ Some v → length v.dims ≤ 32
+pub few_dims : (header : Header) (k : ℕ) (v : Var) → is_sound header ≡ true → slice_get header.vars k ≡ Some v → length v.dims ≤ 32
 few_dims header k v sound there =
     let three = and_parts _ _ sound in
     let two = and_parts _ _ three.0 in
@@ -208,17 +208,17 @@ module _ (header : Header) (k : ℕ) (v : Var) (number : ℕ) (sound : is_sound 
     accepted : (p : Part) → In parts p → check_var header v (box_region number p) 0 Put ≡ code.Ok
     accepted p i =
         box_accepted header v number is past p
-        (all_in (FitsPart (inner_lengths header v)) parts p (boxes_fit (inner_lengths header v) from to grows within) i)
-        (all_in IsSmall parts p (boxes_small header number (inner_lengths header v) from to grows within fit) i)
+        (each_in (FitsPart (inner_lengths header v)) parts p (boxes_fit (inner_lengths header v) from to grows within) i)
+        (each_in IsSmall parts p (boxes_small header number (inner_lengths header v) from to grows within fit) i)
 
     put_of : (q : Post) → In (map (box_post k v number) parts) q → IsPut header 0 q
     put_of q i =
-        let p = map_from (box_post k v number) parts q i in
+        let p = map_in (box_post k v number) parts q i in
         subst (IsPut header 0) p.2
         (put_right header k v 0 there 0 (box_region number p.0) (flat_map (λ m. fill_bytes v) (range_with_len 0 (product p.0.count))) (accepted p.0 p.1) (box_bytes_long v p.0))
 
     post_of : (q : Post) → In (map (box_post k v number) parts) q → IsPostOf header k v 0 q
-    post_of q i = let p = map_from (box_post k v number) parts q i in subst (IsPostOf header k v 0) p.2 (record { var = refl; accepted = accepted p.0 p.1 })
+    post_of q i = let p = map_in (box_post k v number) parts q i in subst (IsPostOf header k v 0) p.2 (record { var = refl; accepted = accepted p.0 p.1 })
 
     boxes_right : Right header (fills k v number parts)
     boxes_right =

@@ -1,30 +1,33 @@
 -- The boxes of a share of a record are regions of the variable, no two of which share an element.
-use Rattle.std.proofs.Common.{◌≡◌, ℕ, zero, suc, ◌+◌, ◌-◌, ◌*◌, ◌/◌, ◌%◌, ◌<◌, ◌≤◌, refl, sym, ap, subst, ◌∙◌, inl, inr, ◌⊎◌, List, [], ◌∷◌, ◌++◌, length, map, take, drop, replicate, min, Bool, true, false, cond, ltb, eqb, ◌||◌, Some, None, add-one, arith}
+use Rattle.std.proofs.Common.{◌≡◌, ℕ, zero, suc, ◌+◌, ◌-◌, ◌*◌, ◌/◌, ◌%◌, ◌<◌, ◌≤◌, refl, sym, ap, subst, ◌∙◌, inl, inr, ◌⊎◌, List, [], ◌∷◌, ◌++◌, length, map, take, drop, replicate, Bool, true, false, ltb, eqb, ◌||◌, Some, add-one, arith}
 use Rattle.std.specs.Prelude.{flat_map, slice_get, nat_lt}
 use Rattle.std.specs.List.{range_with_len, AllByRecursion}
 use Rattle.std.proofs.Math.Nat.{mul-div_cancel, mul-le-mul_left}
 use Rattle.std.proofs.lemmas.Bool.{cases_lt, eqb-true, ltb-false, ltb-true, or_parts}
 use Rattle.std.proofs.lemmas.List.{length-append, length-take, length-map}
-use Rattle.std.proofs.lemmas.Nat.{div-add-mod', div_below, mod_below}
+use Rattle.std.proofs.lemmas.Nat.{div-add-mod', mod_below}
 use Rattle.std.proofs.lemmas.Option.{slice_get_within}
+use Rattle.overlay_laws.proofs.Members.{in_map, each_in, map_in}
+use Rattle.var_layout.proofs.ElementPlaces.{same_len}
+use Rattle.list_laws.proofs.Each.{each_append}
 use Rattle.nc_base.specs.declared.header.Header.{Header}
 use Rattle.nc_base.specs.declared.request.Part.{Part}
 use Rattle.nc_base.specs.declared.request.Region.{Region}
 use Rattle.fill_records.proofs.CutLaws.{no_boxes}
 use Rattle.overlay_laws.specs.Entries.{In}
-use Rattle.overlay_laws.proofs.HullLaws.{div_grows, flat_in, in_flat, in_left, in_right}
+use Rattle.overlay_laws.proofs.HullLaws.{div_grows, flat_in, in_flat}
 use Rattle.overlay_laws.proofs.RegionLaws.{coordinate_row}
-use Rattle.serial_spec.specs.Fill.{box_indices, boxes, in_row, shifted, whole_rows, AreBoxes}
+use Rattle.serial_spec.specs.Fill.{box_indices, boxes, in_row, shifted, whole_rows}
 use Rattle.serial_spec.specs.Layout.{product}
 use Rattle.serial_spec.specs.Limits.{most_elements}
 use Rattle.serial_spec.specs.Place.{row, IsIndex}
 use Rattle.serial_spec.specs.RankMachine.{box_region, is_record_past}
 use Rattle.serial_spec.specs.Request.{coordinates, elements, index_at}
-use Rattle.serial_spec.proofs.AcceptLaws.{all_joined, coordinates_all}
+use Rattle.serial_spec.proofs.AcceptLaws.{coordinates_all}
 use Rattle.serial_spec.proofs.BoxLaws.{boxes_right}
 use Rattle.serial_spec.proofs.ElementLaws.{get_left, get_right, length-coordinates}
 use Rattle.rank_core.specs.Targets.{IsSmall}
-use Rattle.rank_core.proofs.SeparateLaws.{all_in, map_from, AreSeparate, ShareNone}
+use Rattle.rank_core.proofs.SeparateLaws.{AreSeparate}
 
 -- ---- how many elements they have
 
@@ -117,10 +120,10 @@ rows_of n lengths from to ih l k =
     (λ e. let same = ap (λ (q : ℕ). q * product lengths) (eqb-true (from / product lengths) (to / product lengths) e) in
     row_fits n lengths (from / size) (boxes lengths (from % size) (to % size)) first
     (ih (from % size) (to % size) (omega (arith, front, back, same, l)) (omega (arith, high))))
-    (all_joined (FitsPart (n ∷ lengths)) (whole_rows lengths (from / size) (to / size)) (in_row (to / size) (boxes lengths 0 (to % size)))
+    (each_append (FitsPart (n ∷ lengths)) (whole_rows lengths (from / size) (to / size)) (in_row (to / size) (boxes lengths 0 (to % size)))
     (rows_fit n lengths (from / size) (to / size) whole) last)
-    (all_joined (FitsPart (n ∷ lengths)) (in_row (from / size) (boxes lengths (from % size) size) ++ whole_rows lengths (from / size + 1) (to / size)) (in_row (to / size) (boxes lengths 0 (to % size)))
-    (all_joined (FitsPart (n ∷ lengths)) (in_row (from / size) (boxes lengths (from % size) size)) (whole_rows lengths (from / size + 1) (to / size))
+    (each_append (FitsPart (n ∷ lengths)) (in_row (from / size) (boxes lengths (from % size) size) ++ whole_rows lengths (from / size + 1) (to / size)) (in_row (to / size) (boxes lengths 0 (to % size)))
+    (each_append (FitsPart (n ∷ lengths)) (in_row (from / size) (boxes lengths (from % size) size)) (whole_rows lengths (from / size + 1) (to / size))
     (row_fits n lengths (from / size) (boxes lengths (from % size) size) first (ih (from % size) size (omega (arith, low)) (omega arith)))
     (rows_fit n lengths (from / size + 1) (to / size) whole)) last)
 
@@ -183,12 +186,6 @@ later_once xs ys once i j a e f =
 
 -- ---- the indices of a box in a record
 
-index_long : (counts c : List ℕ) → IsIndex counts c → length c ≡ length counts
-index_long [] [] h = refl
-index_long [] (i ∷ c) h = absurd h
-index_long (n ∷ counts) [] h = absurd h
-index_long (n ∷ counts) (i ∷ c) h = ap suc (index_long counts c h.1)
-
 shifted_is : (starts c : List ℕ) (k : ℕ) → length c ≤ k → index_at starts (replicate k 1) c ≡ shifted starts c
 shifted_is [] c k h = refl
 shifted_is (s ∷ starts) [] zero h = refl
@@ -198,11 +195,6 @@ shifted_is (s ∷ starts) (i ∷ c) (suc k) h =
     let e : s + i * 1 ≡ s + i = omega arith in
     (λ j. e j ∷ shifted_is starts c k (omega arith) j)
 
-in_map : {A B : Type 0} (f : A → B) (xs : List A) (x : A) → In xs x → In (map f xs) (f x)
-in_map f [] x h = absurd h
-in_map f (y ∷ ys) x (inl e) = inl (ap f e)
-in_map f (y ∷ ys) x (inr h) = inr (in_map f ys x h)
-
 record InRecord (number : ℕ) (p : Part) (a : List ℕ) : Type 0 where
   index : List ℕ
   is_one : In (box_indices p) index
@@ -210,11 +202,11 @@ record InRecord (number : ℕ) (p : Part) (a : List ℕ) : Type 0 where
 
 box_element : (number : ℕ) (p : Part) (a : List ℕ) → In (elements (box_region number p)) a → InRecord number p a
 box_element number p a h =
-    let c = map_from (λ c. index_at (number ∷ p.start) (replicate (length p.count + 1) 1) c) (coordinates (1 ∷ p.count)) a h in
+    let c = map_in (λ c. index_at (number ∷ p.start) (replicate (length p.count + 1) 1) c) (coordinates (1 ∷ p.count)) a h in
     let i = flat_in (λ i. map (λ d. i ∷ d) (coordinates p.count)) (range_with_len 0 1) c.0 c.1 in
-    let d = map_from (λ d. i.0 ∷ d) (coordinates p.count) c.0 i.2 in
+    let d = map_in (λ d. i.0 ∷ d) (coordinates p.count) c.0 i.2 in
     let zero_is : 0 ≡ i.0 = only i.0 i.1 in
-    let long = index_long p.count d.0 (all_in (IsIndex p.count) (coordinates p.count) d.0 (coordinates_all p.count) d.1) in
+    let long = same_len p.count d.0 (each_in (IsIndex p.count) (coordinates p.count) d.0 (coordinates_all p.count) d.1) in
     let ones : ◌≡◌ {A = List ℕ} (replicate (length p.count + 1) 1) (1 ∷ replicate (length p.count) 1) = ap (λ (n : ℕ). replicate n 1) (add-one (length p.count)) in
     let first : number + 0 * 1 ≡ number = omega arith in
     record {
@@ -235,7 +227,7 @@ pub separate_boxes : (number : ℕ) (parts : List Part) → StandOnce (flat_map 
 separate_boxes number [] once = tt
 separate_boxes number (p ∷ parts) once = (
   λ h i a j k.
-      let q = map_from (box_region number) parts h i in
+      let q = map_in (box_region number) parts h i in
       let x = box_element number p a j in
       let y = box_element number q.0 a (subst (λ (g : Region). In (elements g) a) (sym q.2) k) in
       let same = same_rest number x.index y.index a x.is y.is in

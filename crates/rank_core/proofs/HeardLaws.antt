@@ -1,6 +1,6 @@
 -- The values of the gets, added one after another by the ids of their requests.
-use Rattle.std.proofs.Common.{◌≡◌, ℕ, zero, suc, ◌+◌, ◌<◌, ◌≤◌, ◌∙◌, ap, sym, refl, subst, inl, inr, ◌⊎◌, List, [], ◌∷◌, ◌++◌, map, length, get_or, drop, zip, Bool, true, false, cond, eqb, Option, Some, None, arith}
-use Rattle.std.specs.Prelude.{filter_map, option_map, slice_get}
+use Rattle.std.proofs.Common.{◌≡◌, ℕ, ◌+◌, ◌<◌, ◌∙◌, ap, sym, refl, List, [], ◌∷◌, map, length, get_or, drop, zip, Bool, true, false, cond, eqb, Option, Some, None, arith}
+use Rattle.std.specs.Prelude.{option_map, slice_get}
 use Rattle.std.specs.List.{cons_option}
 use Rattle.std.proofs.lemmas.Bool.{eqb-true}
 use Rattle.std.proofs.lemmas.List.{append_assoc, drop_more, get_or-map, length-map}
@@ -101,10 +101,6 @@ pub added_next : (m : ℕ → Option Values) (id q : ℕ) (v : Values) (rest : L
     → followed (m q) (values_for ((id, v) ∷ rest) q) ≡ followed (added m id v q) (values_for rest q)
 added_next m id q v rest h = added_is m id q v rest h (eqb id q) refl
 
-pub followed_none : (m : Option Values) → followed m None ≡ m
-followed_none None = refl
-followed_none (Some v) = refl
-
 -- ---- the values of one get
 
 one_more : {Y : Type 0} (o : Option Y) (y : Y) (rest : List Y) → cons_option o [] ≡ y ∷ [] → cons_option o rest ≡ y ∷ rest
@@ -166,11 +162,6 @@ shape_next header gets m g v here one h e q w p true t f k i =
 pub shapes_next : (header : Header) (gets : List Post) (m : ℕ → Option Values) (g : Post) (v : Values) → In gets g → ((p q : Post) → In gets p → In gets q → p.id ≡ q.id → p.var ≡ q.var)
     → HaveShapes header gets m → shape v ≡ shape_at header g.var → HaveShapes header gets (added m g.id v)
 shapes_next header gets m g v here one h e q w p f k i = shape_next header gets m g v here one h e q w p (eqb g.id q) refl f k i
-
-pub in_at : {A : Type 0} (xs : List A) (i : ℕ) (x : A) → i < length xs → x ≡ get_or xs i x → In xs x
-in_at [] i x l e = absurd (omega arith)
-in_at (y ∷ xs) zero x l e = inl (sym e)
-in_at (y ∷ xs) (suc i) x l e = inr (in_at xs i x (omega arith) e)
 
 pub zip_next : (gets : List Post) (got : List (List ℕ)) (i : ℕ) (g : Post) (b : List ℕ) → i < length gets → i < length got → g ≡ get_or gets i g → b ≡ get_or got i b
     → zip (drop i gets) (drop i got) ≡ (g, b) ∷ zip (drop (i + 1) gets) (drop (i + 1) got)

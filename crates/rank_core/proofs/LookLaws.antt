@@ -1,9 +1,11 @@
 -- Every post that a call comes to is of an accepted region; those of a put have their bytes, and hold none twice.
-use Rattle.std.proofs.Common.{◌≡◌, ℕ, zero, suc, ◌+◌, ◌*◌, ◌<◌, ◌≤◌, refl, sym, ap, subst, ◌∙◌, inl, inr, ◌⊎◌, List, [], ◌∷◌, length, map, max, Bool, true, false, not, cond, leb, ltb, ◌&&◌, Option, Some, None, IfSome, arith}
-use Rattle.std.specs.Prelude.{filter, slice_get, sum_by}
+use Rattle.std.proofs.Common.{◌≡◌, ℕ, suc, ◌+◌, ◌*◌, ◌<◌, ◌≤◌, refl, sym, ap, subst, ◌∙◌, inl, inr, ◌⊎◌, List, [], ◌∷◌, length, map, max, Bool, true, false, not, cond, ltb, ◌&&◌, Option, Some, None, IfSome, arith}
+use Rattle.std.specs.Prelude.{filter, slice_get}
 use Rattle.std.proofs.lemmas.Bool.{cases_lt, le-leb, le-ltb, lt-leb, lt-ltb, ltb-false}
 use Rattle.std.proofs.lemmas.List.{length-map}
 use Rattle.std.proofs.lemmas.List.Sums.{sum_by-cons}
+use Rattle.list_laws.proofs.Maps.{filter_at_most}
+use Rattle.vara_extents.proofs.PartLaws.{ok_both}
 use Rattle.nc_base.specs.declared.answer.Code.{Code}
 use Rattle.nc_base.specs.declared.answer.Code.TheVariants as code
 use Rattle.nc_base.specs.declared.header.Header.{Header}
@@ -23,8 +25,8 @@ use Rattle.serial_spec.specs.HeaderGrammar.{is_sound}
 use Rattle.serial_spec.specs.Layout.{product}
 use Rattle.serial_spec.specs.Limits.{most_elements}
 use Rattle.serial_spec.specs.RankMachine as machine
-use Rattle.serial_spec.specs.RankMachine.{data_bytes, data_code, direction_of, find_var, is_varn, kind_code, look_at, look_parts, look_region, part_posts, parts_code, values_bytes, values_code}
-use Rattle.serial_spec.specs.RegionCheck.{check, check_parts, check_some, check_var, elements_of_all, first_refusal, has_element, is_ok_code, is_put, part_region, part_regions, share_element, widen}
+use Rattle.serial_spec.specs.RankMachine.{data_bytes, data_code, direction_of, find_var, is_varn, kind_code, look_at, look_parts, look_region, part_posts, parts_code, values_bytes}
+use Rattle.serial_spec.specs.RegionCheck.{check_parts, check_some, check_var, elements_of_all, first_refusal, has_element, is_ok_code, is_put, part_region, part_regions, share_element, widen}
 use Rattle.serial_spec.specs.Request.{count_of}
 use Rattle.serial_spec.specs.SharedByte.{holdings, IsOwnOnce}
 use Rattle.vara_extents.specs.Parts.{refusal_of}
@@ -33,7 +35,7 @@ use Rattle.rank_core.specs.declared.looking.Look.TheVariants.{Asks, Empty, Refus
 use Rattle.rank_core.specs.Looked.{as_look, posts_of, posts_looked, some_unfit, AreLooked, ArePutsLooked, HasValues}
 use Rattle.rank_core.specs.Offered.{IsGet, IsPut}
 use Rattle.rank_core.proofs.OutcomeLaws.{outcome, outcome_posts}
-use Rattle.rank_core.proofs.SeparateLaws.{own_once, separate_from_parts, AreSeparate, IsPostOf, ShareNone}
+use Rattle.rank_core.proofs.SeparateLaws.{own_once, separate_from_parts, AreSeparate, IsPostOf}
 use Rattle.rank_core.proofs.ValueLaws.{length-packed_bytes, length-values_bytes}
 
 -- ---- what the check of many regions says
@@ -54,10 +56,6 @@ few_passed refused put share h = absurd cc
 many_refused : (refused : Code) (put share : Bool) → pick refused false put share true ≡ code.Ok → ⊥
 many_refused code.Ok put share h = cc
 many_refused refused put share h = cc
-
-ok_both : (c rest : Code) → cond (is_ok_code c) rest c ≡ code.Ok → (c ≡ code.Ok) × (rest ≡ code.Ok)
-ok_both code.Ok rest h = (refl, h)
-ok_both _ rest h = absurd cc
 
 each_in : {A : Type 0} (f : A → Code) (xs : List A) (x : A) → first_refusal (map f xs) ≡ code.Ok → In xs x → f x ≡ code.Ok
 each_in f [] x h i = absurd i
@@ -109,14 +107,6 @@ regions_of_parts id var kind values k (g ∷ regions) = ap (λ (l : List Region)
 pub length-part_posts : (id var : ℕ) (kind : NcType) (values : Option Values) (k : ℕ) (regions : List Region) → length (part_posts id var kind values k regions) ≡ length regions
 length-part_posts id var kind values k [] = refl
 length-part_posts id var kind values k (g ∷ regions) = ap suc (length-part_posts id var kind values (k + product g.count) regions)
-
-length-filter-le : {A : Type 0} (test : A → Bool) (xs : List A) → length (filter test xs) ≤ length xs
-length-filter-le test [] = omega arith
-length-filter-le {A} test (x ∷ xs) = by_test (test x) (length-filter-le test xs)
-  where
-    by_test : (b : Bool) → length (filter test xs) ≤ length xs → length (cond b (x ∷ filter test xs) (filter test xs)) ≤ suc (length xs)
-    by_test true h = omega arith
-    by_test false h = omega arith
 
 sum_by-filter-le : (gs : List Region) → elements_of_all (filter has_element gs) ≤ elements_of_all gs
 sum_by-filter-le [] = omega arith
@@ -252,7 +242,7 @@ module _ (header : Header) (known id : ℕ) (given : Given) (values : Option Val
         let parts = part_regions v given in
         let asked = filter has_element parts in
         let long = length-part_posts id k v.kind values 0 asked in
-        let fewer = length-filter-le has_element parts in
+        let fewer = filter_at_most has_element parts in
         let all = length-map given.parts (part_region v) in
         outcome_right (check_parts header v parts known (direction_of values)) (ltb 0 (length asked)) (part_posts id k v.kind values 0 asked)
         (parts_code v.kind (elements_of_all asked) values)

@@ -1,8 +1,7 @@
 -- A region that a check accepts has its positions in memory within the limits.
-use Rattle.std.proofs.Common.{◌≡◌, ℕ, zero, suc, ◌+◌, ◌-◌, ◌*◌, ◌<◌, ◌≤◌, refl, sym, ap, subst, ◌∙◌, inl, inr, ◌⊎◌, List, [], ◌∷◌, length, map, zip, Bool, true, false, not, cond, ltb, leb, eqb, ◌&&◌, ◌||◌, max, arith}
-use Rattle.std.specs.Prelude.{sum_by}
+use Rattle.std.proofs.Common.{◌≡◌, ℕ, zero, suc, ◌+◌, ◌-◌, ◌*◌, ◌<◌, ◌≤◌, refl, sym, ap, subst, ◌∙◌, inl, inr, ◌⊎◌, List, [], ◌∷◌, length, map, zip, Bool, true, false, not, cond, ltb, leb, eqb, ◌&&◌, ◌||◌, arith}
 use Rattle.std.specs.List.{range_with_len, list_any, AllByRecursion}
-use Rattle.std.proofs.lemmas.Bool.{or_parts, and_parts, and_cases, not-false, ltb-false, leb-false, eqb-true, lt-ltb, ne_eqb, cases_lt}
+use Rattle.std.proofs.lemmas.Bool.{or_parts, and_parts, not-false, ltb-false, leb-false, eqb-true, lt-ltb, ne_eqb, cases_lt}
 use Rattle.std.proofs.lemmas.List.Sums.{sum_by-cons}
 use Rattle.std.proofs.Math.Nat.{mul-le-mul_left}
 use Rattle.nc_base.specs.declared.answer.Code.TheVariants as code
@@ -16,7 +15,7 @@ use Rattle.serial_spec.specs.Limits.{file_limit, most_elements, record_limit}
 use Rattle.serial_spec.specs.Place.{IsIndex}
 use Rattle.serial_spec.specs.Records.{records_of}
 use Rattle.serial_spec.specs.RegionCheck.{check_var, is_too_large, last_position, other_shape}
-use Rattle.serial_spec.specs.Request.{coordinates, position_at, positions, reach}
+use Rattle.serial_spec.specs.Request.{coordinates, position_at, reach}
 use Rattle.serial_spec.proofs.AcceptLaws.{coordinates_all}
 use Rattle.imap_extents.specs.Mapped.{IsMapped}
 use Rattle.imap_extents.proofs.PositionLaws.{no_coordinates}
@@ -124,6 +123,3 @@ accepted_mapped header v g known direction h =
     let all = passed header v g known direction h in
     let s = small header v g all.large in
     record { shape = shape_of (length v.dims) g all.shape; few = s.few; near = near_of g s g.packed refl }
-
-pub accepted_few : (header : Header) (v : Var) (g : Region) (known : ℕ) (direction : Direction) → check_var header v g known direction ≡ code.Ok → product g.count ≤ most_elements
-accepted_few header v g known direction h = (small header v g (passed header v g known direction h).large).few

@@ -1,12 +1,12 @@
 -- Names in order: what a search finds is the first of a name.
-use Rattle.std.proofs.Common.{◌≡◌, ℕ, suc, ◌+◌, ◌<◌, ◌≤◌, refl, sym, ap, subst, ◌∙◌, inl, inr, ◌⊎◌, List, [], ◌∷◌, length, map, get_or, Bool, true, false, not, cond, ltb, eqb, Option, Some, None, arith}
+use Rattle.std.proofs.Common.{◌≡◌, ℕ, ◌<◌, ◌≤◌, refl, sym, ap, ◌∙◌, inl, inr, ◌⊎◌, List, [], length, get_or, Bool, true, false, cond, ltb, eqb, Some, None, arith}
 use Rattle.std.specs.Prelude.{position, bytes_eq}
 use Rattle.std.specs.Cmp.{nat_cmp_total, on_total, then_total, IsStrictWeakOrder, IsTotalOrder}
 use Rattle.std.specs.Cmp.Lexicographic.{nat_list_cmp_total, slice_cmp}
 use Rattle.std.specs.declared.cmp.Ordering.{Ordering}
 use Rattle.std.specs.declared.cmp.Ordering.TheVariants.{Equal, Greater, Less}
-use Rattle.std.specs.List.{position_or_len, range_with_len, AllWithin, Contains}
-use Rattle.std.specs.List.Sorted.{IsPartitionedBy, IsPartitionPoint, IsPermutation}
+use Rattle.std.specs.List.{range_with_len}
+use Rattle.std.specs.List.Sorted.{IsPartitionedBy, IsPartitionPoint}
 use Rattle.std.specs.Ordering.{is_eq, is_lt, nat_cmp, ordering_reverse, ordering_then}
 use Rattle.std.proofs.lemmas.Bool.{both_ways, cases_lt, cases_Bool, cond-false, cond-true, false_from_ne_true, le-ltb, lt-ltb}
 use Rattle.std.proofs.lemmas.List.{get_or_default}
@@ -70,17 +70,6 @@ pub position_none : {A : Type 0} (p : A → Bool) (xs : List A) (d : A) → ((k 
 position_none p xs d none =
     let first = position_or_len_is p xs (length xs) d (omega arith) none (λ m. absurd (omega arith)) in
     sym (ap (λ (k : ℕ). cond (ltb k (length xs)) (Some k) None) first ∙ cond-false (ltb (length xs) (length xs)) (Some (length xs)) None (le-ltb (length xs) (length xs) (omega arith)))
-
-pub position-map : {A B : Type 0} (f : A → B) (p : B → Bool) (xs : List A) → position p (map f xs) ≡ position (λ x. p (f x)) xs
-position-map f p xs = λ i. cond (ltb (same f p xs i) (long f xs i)) (Some (same f p xs i)) None
-  where
-    same : {A B : Type 0} (f : A → B) (p : B → Bool) (xs : List A) → position_or_len p (map f xs) ≡ position_or_len (λ x. p (f x)) xs
-    same f p [] = refl
-    same f p (x ∷ xs) = ap (λ (k : ℕ). cond (not (p (f x))) (1 + k) 0) (same f p xs)
-
-    long : {A B : Type 0} (f : A → B) (xs : List A) → length (map f xs) ≡ length xs
-    long f [] = refl
-    long f (x ∷ xs) = ap suc (long f xs)
 
 -- ---- a search
 

@@ -1,5 +1,5 @@
 -- What a call comes to: by its check, by whether it has an element, and by its values.
-use Rattle.std.proofs.Common.{◌≡◌, ℕ, ◌<◌, refl, sym, ap, subst, ◌∙◌, inl, inr, ◌⊎◌, List, [], ◌∷◌, length, Bool, true, false, ◌&&◌, ltb, Option, Some, Result, Ok, Err, IfOk, arith}
+use Rattle.std.proofs.Common.{◌≡◌, ℕ, refl, sym, ap, subst, ◌∙◌, inl, inr, ◌⊎◌, List, [], ◌∷◌, length, Bool, true, false, ◌&&◌, ltb, Option, Some, Result, Ok, Err}
 use Rattle.nc_base.specs.declared.answer.CallErr.{CallErr}
 use Rattle.nc_base.specs.declared.answer.CallErr.TheVariants as refusal
 use Rattle.nc_base.specs.declared.answer.Code.{Code}
@@ -66,10 +66,6 @@ pub settled_is : (r : Result (List Post) CallErr) (m l : machine.Look) → Comes
 settled_is (Ok posts) m l h e = let f : look_of posts ≡ l = cc in sym f ∙ h
 settled_is (Err (refusal.Code c)) m l h e = let f : machine.Refused c ≡ l = cc in sym f ∙ h
 settled_is (Err refusal.Memory) m l h e = absurd cc
-
--- at the exit of a `?`
-pub wants_memory : (m : machine.Look) (r : Result (List Post) CallErr) (e : CallErr) → r ≡ Err e → e ≡ refusal.Memory → ComesTo m r
-wants_memory m r e is memory = subst (λ (x : Result (List Post) CallErr). ComesTo m x) (sym (is ∙ ap (λ (d : CallErr). Err d) memory)) tt
 
 pub is_refused : (m : machine.Look) (r : Result (List Post) CallErr) (e : CallErr) (c : Code) → r ≡ Err e → e ≡ refusal.Code c → machine.Refused c ≡ m → ComesTo m r
 is_refused m r e c is code right = subst (λ (x : Result (List Post) CallErr). ComesTo m x) (sym (is ∙ ap (λ (d : CallErr). Err d) code)) right

@@ -1,17 +1,12 @@
 -- Requests under different ids, none of which holds a byte twice.
-use Rattle.std.proofs.Common.{◌≡◌, ℕ, zero, suc, ◌+◌, ◌-◌, ◌<◌, ◌≤◌, ◌∙◌, ap, sym, refl, subst, inl, inr, ◌⊎◌, List, [], ◌∷◌, ◌++◌, map, length, Option, Some, None, arith}
+use Rattle.std.proofs.Common.{◌≡◌, ℕ, zero, suc, ◌+◌, ◌∙◌, ap, sym, refl, inl, inr, ◌⊎◌, List, [], ◌∷◌, ◌++◌, map, length, Some, arith}
 use Rattle.std.specs.Prelude.{slice_get}
-use Rattle.std.proofs.lemmas.List.{map-append}
+use Rattle.std.proofs.lemmas.Option.{same_Some}
+use Rattle.list_laws.proofs.Optional.{no_none_some}
 use Rattle.nc_base.specs.declared.header.Header.{Header}
 use Rattle.nc_base.specs.declared.plan.Post.{Post}
 use Rattle.overlay_laws.specs.Entries.{In}
 use Rattle.serial_spec.specs.SharedByte.{Holding, Key, holdings, bytes_of, IsOwnOnce}
-
-pub none_some : {A B : Type 0} (x : A) → None ≡ Some x → B
-none_some x e = cc
-
-same : {A : Type 0} (x y : A) → Some x ≡ Some y → x ≡ y
-same x y e = cc
 
 -- an index of a list that is joined from two
 joined_at : {A : Type 0} (xs ys : List A) (i : ℕ) (x : A) → slice_get (xs ++ ys) i ≡ Some x
@@ -44,7 +39,7 @@ own_append xs ys a b apart i j g h k l x ei ej keys ek el = by_sides (joined_at 
         let m = r.0 in (omega arith, r.1)
 
 pub own_none : IsOwnOnce []
-own_none i j g h k l x ei ej keys ek el = none_some g ei
+own_none i j g h k l x ei ej keys ek el = no_none_some g ei
 
 -- what the posts hold, under a rank
 abbrev pub held_by : Header → ℕ → List Post → List Holding
@@ -57,8 +52,8 @@ held_append header rank (p ∷ ps) qs = ap (λ (l : List Holding). ((rank, p.id)
 -- a holding is that of a post
 pub held_at : (header : Header) (rank : ℕ) (ps : List Post) (i : ℕ) (h : Holding) → slice_get (held_by header rank ps) i ≡ Some h
     → (p : Post) × In ps p × (h.0 ≡ (rank, p.id))
-held_at header rank [] i h e = none_some h e
-held_at header rank (p ∷ ps) zero h e = let g = same _ h e in (p, inl refl, sym (ap (λ (x : Holding). x.0) g))
+held_at header rank [] i h e = no_none_some h e
+held_at header rank (p ∷ ps) zero h e = let g = same_Some _ h e in (p, inl refl, sym (ap (λ (x : Holding). x.0) g))
 held_at header rank (p ∷ ps) (suc i) h e = let r = held_at header rank ps i h e in (r.0, inr r.1, r.2)
 
 -- posts whose ids differ are under different keys

@@ -1,28 +1,26 @@
 -- What is kept of the requests of a rank.
-use Rattle.std.proofs.Common.{◌≡◌, ℕ, ◌+◌, ◌≤◌, ◌∙◌, ap, sym, refl, subst, inl, inr, ◌⊎◌, List, [], ◌∷◌, ◌++◌, map, sum, length, Bool, true, false, cond, eqb, ◌||◌, ◌&&◌, Option, Some, None, arith}
+use Rattle.std.proofs.Common.{◌≡◌, ℕ, ◌+◌, ◌≤◌, ◌∙◌, ap, sym, refl, subst, inl, inr, List, [], ◌∷◌, ◌++◌, map, sum, length, Bool, true, false, cond, eqb, Option, Some, None, arith}
 use Rattle.std.specs.Prelude.{filter, flat_map, find, option_map}
-use Rattle.std.proofs.lemmas.Bool.{or_parts, eq-eqb, eqb-true, eqb-false, ne_eqb, cond-true, cond-false, and_parts}
+use Rattle.std.proofs.lemmas.Bool.{or_parts, eqb-false, ne_eqb, cond-false}
 use Rattle.std.proofs.lemmas.List.{length-append}
-use Rattle.std.proofs.lemmas.List.Sums.{sum-map, sum_by-cons, sum_by_push}
+use Rattle.std.proofs.lemmas.List.Sums.{sum-map, sum_by-cons}
 use Rattle.nc_base.specs.declared.header.Header.{Header}
 use Rattle.nc_base.specs.declared.plan.Post.{Post}
 use Rattle.nc_base.specs.declared.answer.Item.{Item}
-use Rattle.nc_base.specs.declared.plan.Batch.{Batch}
 use Rattle.nc_base.specs.declared.request.Choice.{Choice}
-use Rattle.nc_base.specs.declared.request.PostKind.{PostKind}
 use Rattle.nc_base.specs.declared.request.PostKind.TheVariants.{Iput, Iget, Bput}
 use Rattle.nc_base.specs.declared.request.Direction.{Direction}
 use Rattle.nc_base.specs.declared.request.Direction.TheVariants as way
 use Rattle.overlay_laws.specs.Entries.{In}
-use Rattle.overlay_laws.proofs.HullLaws.{filter_in, flat_in, in_either}
+use Rattle.overlay_laws.proofs.HullLaws.{filter_in, flat_in}
 use Rattle.serial_spec.specs.RankMachine as machine
-use Rattle.serial_spec.specs.RankMachine.{Posted, Status, NullRequest, Waiting, Gone, is_waiting, is_chosen, named, chosen, batch_chosen, without_chosen, puts_in, gets_in, status_of, with_posted, item_code, items_from, items_of, has_id}
+use Rattle.serial_spec.specs.RankMachine.{Posted, Status, NullRequest, Waiting, Gone, named, puts_in, gets_in, status_of, item_code, items_from, items_of, has_id}
 use Rattle.serial_spec.specs.RegionCheck.{is_ok_code}
 use Rattle.serial_spec.specs.SharedByte.{IsOwnOnce}
 use Rattle.request_queue.proofs.PostedLaws.{not_posted, has_posted, status_of-push}
 use Rattle.rank_core.specs.Offered.{IsPut, IsGet}
-use Rattle.run_laws.specs.Requests.{posts_of_status, posts_held}
-use Rattle.rank_core.specs.Requests.{AreGets, ArePuts, AreTowards, HaveId, IsRequest, AreRequests, AreOnce, direction_of_kind}
+use Rattle.run_laws.specs.Requests.{posts_of_status}
+use Rattle.rank_core.specs.Requests.{AreGets, ArePuts, AreTowards, IsRequest, AreRequests, AreOnce, direction_of_kind}
 use Rattle.rank_core.proofs.KnownLaws.{get_more, put_more}
 use Rattle.rank_core.proofs.OwnLaws.{own_append, own_none, held_by, held_append, keys_apart}
 
@@ -209,12 +207,6 @@ held_posts ps = sum (map (λ (p : Posted). posts_of_status p.status) ps)
 first_held : (p : Posted) (ps : List Posted) → held_posts (p ∷ ps) ≡ posts_of_status p.status + held_posts ps
 first_held p ps = sum-map (λ (q : Posted). posts_of_status q.status) (p ∷ ps) ∙ sum_by-cons (λ (q : Posted). posts_of_status q.status) p ps
     ∙ ap (λ (n : ℕ). posts_of_status p.status + n) (sym (sum-map (λ (q : Posted). posts_of_status q.status) ps))
-
-pub held_push : (ps : List Posted) (id : ℕ) (s : Status) → held_posts (ps ++ record { id = id; status = s } ∷ []) ≡ held_posts ps + posts_of_status s
-held_push ps id s =
-    sum-map (λ (q : Posted). posts_of_status q.status) (ps ++ record { id = id; status = s } ∷ [])
-    ∙ sum_by_push (λ (q : Posted). posts_of_status q.status) ps (record { id = id; status = s })
-    ∙ ap (λ (n : ℕ). n + posts_of_status s) (sym (sum-map (λ (q : Posted). posts_of_status q.status) ps))
 
 gone_fewer : (p : Posted) (b : Bool) → posts_of_status (cond b (record p { status = Gone }) p).status ≤ posts_of_status p.status
 gone_fewer p true = omega arith

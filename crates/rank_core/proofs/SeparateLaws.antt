@@ -1,9 +1,10 @@
 -- Posts of one variable, no two of which share an element, hold no byte twice.
-use Rattle.std.proofs.Common.{◌≡◌, ℕ, zero, suc, ◌+◌, ◌<◌, ◌≤◌, refl, sym, ap, subst, ◌∙◌, inl, inr, ◌⊎◌, List, [], ◌∷◌, length, map, Bool, true, false, cond, ◌||◌, Option, Some, None, arith}
+use Rattle.std.proofs.Common.{◌≡◌, ℕ, zero, suc, ◌+◌, ◌<◌, ◌≤◌, refl, sym, ap, subst, ◌∙◌, inl, inr, ◌⊎◌, List, [], ◌∷◌, map, Bool, true, false, cond, Option, Some, arith}
 use Rattle.std.specs.Prelude.{filter, flat_map, slice_get, bytes_eq}
-use Rattle.std.specs.List.{list_any, range_with_len, AllByRecursion}
+use Rattle.std.specs.List.{list_any, range_with_len}
 use Rattle.std.proofs.lemmas.Bool.{both_ways, cases_order, or_left, or_parts, or_right}
 use Rattle.std.proofs.lemmas.Slice.Eq.{bytes_eq-Decides}
+use Rattle.overlay_laws.proofs.Members.{each_in, map_in, at_in}
 use Rattle.nc_base.specs.declared.answer.Code.TheVariants as code
 use Rattle.nc_base.specs.declared.header.Header.{Header}
 use Rattle.nc_base.specs.declared.header.Var.{Var}
@@ -16,7 +17,7 @@ use Rattle.serial_spec.specs.ExternalForm.{size_of}
 use Rattle.serial_spec.specs.HeaderGrammar.{is_sound}
 use Rattle.serial_spec.specs.Place.{place, AreApart, IsElement, IsElementBelow}
 use Rattle.serial_spec.specs.Records.{records_of}
-use Rattle.serial_spec.specs.RegionCheck.{check, check_some, check_var, has_element, has_index, share_element}
+use Rattle.serial_spec.specs.RegionCheck.{check_some, check_var, has_element, has_index, share_element}
 use Rattle.serial_spec.specs.Request.{elements, places}
 use Rattle.serial_spec.specs.SharedByte.{bytes_of, bytes_of_some, holdings, Holding, IsOwnOnce}
 use Rattle.serial_spec.proofs.AcceptLaws.{accepted_elements}
@@ -25,25 +26,10 @@ use Rattle.vara_extents.proofs.OnceLaws.{post_once}
 
 -- ---- members
 
-pub all_in : {A : Type 0} (P : A → Type 0) (xs : List A) (x : A) → AllByRecursion P xs → In xs x → P x
-all_in P [] x h i = absurd i
-all_in P (y ∷ ys) x h (inl e) = subst P e h.0
-all_in P (y ∷ ys) x h (inr i) = all_in P ys x h.1 i
-
-pub map_from : {A B : Type 0} (f : A → B) (xs : List A) (y : B) → In (map f xs) y → (x : A) × In xs x × (f x ≡ y)
-map_from f [] y h = absurd h
-map_from f (x ∷ xs) y (inl e) = (x, inl refl, e)
-map_from f (x ∷ xs) y (inr h) = let r = map_from f xs y h in (r.0, inr r.1, r.2)
-
 some_in : {A : Type 0} (test : A → Bool) (xs : List A) (x : A) → In xs x → test x ≡ true → list_any test xs ≡ true
 some_in test [] x h e = absurd h
 some_in test (y ∷ ys) x (inl f) e = or_left (test y) (list_any test ys) (ap test f ∙ e)
 some_in test (y ∷ ys) x (inr h) e = or_right (test y) (list_any test ys) (some_in test ys x h e)
-
-pub at_in : {A : Type 0} (xs : List A) (k : ℕ) (x : A) → slice_get xs k ≡ Some x → In xs x
-at_in [] k x h = absurd cc
-at_in (y ∷ ys) zero x h = inl cc
-at_in (y ∷ ys) (suc k) x h = inr (at_in ys k x h)
 
 -- ---- regions and posts, no two of which share an element
 
@@ -100,7 +86,7 @@ record ElementAt (header : Header) (v : Var) (g : Region) (x : ℕ) : Type 0 whe
 element_at : (header : Header) (v : Var) (g : Region) (x : ℕ) → In (flat_map (λ y. range_with_len y (size_of v.kind)) (places header v g)) x → ElementAt header v g x
 element_at header v g x h =
     let p = flat_in (λ y. range_with_len y (size_of v.kind)) (places header v g) x h in
-    let a = map_from (λ index. place header v index) (elements g) p.0 p.1 in
+    let a = map_in (λ index. place header v index) (elements g) p.0 p.1 in
     record {
       index = a.0;
       is_one = a.1;
@@ -114,7 +100,7 @@ clash a b s x h i j k (inr l) = omega arith
 
 module _ (header : Header) (k : ℕ) (v : Var) (known : ℕ) (sound : is_sound header ≡ true) (there : slice_get header.vars k ≡ Some v) where
   element : (g : Region) (a : List ℕ) → check_var header v g known Put ≡ code.Ok → In (elements g) a → IsElement header v a
-  element g a ok i = (all_in (IsElementBelow header v (records_of header v g)) (elements g) a (accepted_elements header k v g known Put sound there ok) i).0
+  element g a ok i = (each_in (IsElementBelow header v (records_of header v g)) (elements g) a (accepted_elements header k v g known Put sound there ok) i).0
 
   no_common : (g h : Region) (x : ℕ) → check_var header v g known Put ≡ code.Ok → check_var header v h known Put ≡ code.Ok → ShareNone g h
       → In (flat_map (λ y. range_with_len y (size_of v.kind)) (places header v g)) x → In (flat_map (λ y. range_with_len y (size_of v.kind)) (places header v h)) x → ⊥

@@ -1,14 +1,15 @@
 -- The values of a put and their bytes, one after another and part by part.
-use Rattle.std.proofs.Common.{◌≡◌, ℕ, zero, suc, ◌+◌, ◌-◌, ◌*◌, ◌<◌, ◌≤◌, refl, sym, ap, subst, ◌∙◌, inl, inr, ◌⊎◌, List, [], ◌∷◌, ◌++◌, length, map, append-nil, append_assoc, Bool, true, false, not, cond, leb, ltb, ◌||◌, Option, Some, None, is_none, arith}
-use Rattle.std.specs.Prelude.{flat_map, sum_by}
+use Rattle.std.proofs.Common.{◌≡◌, ℕ, zero, suc, ◌+◌, ◌-◌, ◌*◌, ◌<◌, ◌≤◌, refl, sym, ap, ◌∙◌, List, [], ◌∷◌, ◌++◌, length, map, append-nil, Bool, true, false, not, cond, leb, ltb, ◌||◌, Option, Some, None, is_none, arith}
+use Rattle.std.specs.Prelude.{flat_map}
 use Rattle.std.specs.Int.{Width, byte_len, to_be_bytes, w8, w16, w32, w64, w128}
 use Rattle.std.specs.List.{list_any, range_with_len}
 use Rattle.std.proofs.lemmas.Bool.{le-ltb, or_parts, or_from, or_left, or_right, lt-leb}
 use Rattle.std.proofs.lemmas.List.{length-append}
 use Rattle.std.proofs.lemmas.List.Concat.{flat_map-append}
-use Rattle.std.proofs.lemmas.List.Folds.{list_any-append}
+use Rattle.std.proofs.lemmas.List.Folds.{list_any-append, or-false}
 use Rattle.std.proofs.lemmas.List.FromFn.{length-range_with_len}
 use Rattle.std.proofs.lemmas.List.Sums.{sum_by-cons}
+use Rattle.list_laws.proofs.Ranges.{range_append}
 use Rattle.nc_base.specs.declared.answer.CallErr.{CallErr}
 use Rattle.nc_base.specs.declared.answer.CallErr.TheVariants as refusal
 use Rattle.nc_base.specs.declared.answer.Code.{Code}
@@ -88,30 +89,18 @@ values_more kind values k n j h =
     ∙ flat_map-append f (range_with_len k n) (j ∷ [])
     ∙ ap (λ (l : List ℕ). flat_map f (range_with_len k n) ++ l) (append-nil (f j))
 
-or_false : (b : Bool) → (b || false) ≡ b
-or_false true = refl
-or_false false = refl
-
 pub unfit_more : (kind : NcType) (values : Values) (k n j : ℕ) → k + n ≡ j
     → some_unfit kind (Some values) k (n + 1) ≡ (some_unfit kind (Some values) k n || unfit_at kind values j)
 unfit_more kind values k n j h =
     let test = λ (m : ℕ). unfit_at kind values m in
     ap (λ (l : List ℕ). list_any test l) (range_more k n j h)
     ∙ list_any-append test (range_with_len k n) (j ∷ [])
-    ∙ ap (λ (b : Bool). list_any test (range_with_len k n) || b) (or_false (test j))
+    ∙ ap (λ (b : Bool). list_any test (range_with_len k n) || b) (or-false (test j))
 
 pub still_fit : (a b c : Bool) → c ≡ (a || b) → a ≡ false → b ≡ false → c ≡ false
 still_fit a b c e f g = e ∙ or_from a b f g
 
 -- ---- more of them
-
-range_append : (a n m : ℕ) → range_with_len a (n + m) ≡ range_with_len a n ++ range_with_len (a + n) m
-range_append a zero m = let e : zero + m ≡ m = omega arith in let f : a ≡ a + zero = omega arith in (λ i. range_with_len (f i) (e i))
-range_append a (suc n) m =
-    let e : suc n + m ≡ suc (n + m) = omega arith in
-    let f : a + 1 + n ≡ a + suc n = omega arith in
-    ap (λ (k : ℕ). range_with_len a k) e
-    ∙ ap (λ (l : List ℕ). a ∷ l) (range_append (a + 1) n m ∙ ap (λ (k : ℕ). range_with_len (a + 1) n ++ range_with_len k m) f)
 
 pub unfit_append : (kind : NcType) (values : Option Values) (k n m j : ℕ) → k + n ≡ j
     → some_unfit kind values k (n + m) ≡ (some_unfit kind values k n || some_unfit kind values j m)
@@ -192,7 +181,3 @@ pub parts_code-has_values : (kind : NcType) (values : Option Values) (n : ℕ) �
 parts_code-has_values kind None n h = refl
 parts_code-has_values kind (Some values) n h =
     code_of_values (kind_code (class_of kind) values) (ltb (count_of values) n) (some_unfit kind (Some values) 0 n) h.0 (le-ltb (count_of values) n h.1)
-
-pub has_fewer : (kind : NcType) (values : Option Values) (m n : ℕ) → m ≤ n → HasValues kind values n → HasValues kind values m
-has_fewer kind None m n h v = v
-has_fewer kind (Some values) m n h v = (v.0, omega (arith, h, v.1))

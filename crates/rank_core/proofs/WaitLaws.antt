@@ -1,5 +1,5 @@
 -- A rank that offers waits for the reply, and keeps the gets of the offer; one that answers waits for none.
-use Rattle.std.proofs.Common.{◌≡◌, ℕ, sym, refl, List, [], ◌∷◌, Bool, true, false, cond, Option, Some, None}
+use Rattle.std.proofs.Common.{◌≡◌, ℕ, refl, List, [], Bool, true, false, cond, Some, None}
 use Rattle.nc_base.specs.declared.header.Header.{Header}
 use Rattle.nc_base.specs.declared.answer.Answer.{Answer}
 use Rattle.nc_base.specs.declared.answer.Code.{Code}
@@ -9,17 +9,14 @@ use Rattle.nc_base.specs.declared.plan.Batch.{Batch}
 use Rattle.nc_base.specs.declared.plan.Post.{Post}
 use Rattle.nc_base.specs.declared.request.Call.{Call}
 use Rattle.nc_base.specs.declared.request.Call.TheVariants as call
-use Rattle.nc_base.specs.declared.request.Choice.{Choice}
 use Rattle.nc_base.specs.declared.request.PostKind.{PostKind}
 use Rattle.nc_base.specs.declared.step.OfferKind.{OfferKind}
 use Rattle.nc_base.specs.declared.step.OfferKind.TheVariants as offer
 use Rattle.nc_base.specs.declared.step.MeetKind.TheVariants as meets
 use Rattle.nc_base.specs.declared.step.Want.{Want}
 use Rattle.serial_spec.specs.RankMachine as machine
-use Rattle.serial_spec.specs.RankMachine.{Rank, Look, Refused, Empty, Asks, offers, answers, answer, posts, post_after, without_chosen, chosen, batch_chosen, buffer_code, bytes_in, attach_code, detach_code, blocks, fills_record, batch_of, code_of_look, posts_of, no_posts, items_of, dim_answer, dim_at, find_dim, waits, look, look_fill, values_of_post, status_of, NullRequest, Waiting}
+use Rattle.serial_spec.specs.RankMachine.{Rank, Look, Refused, Empty, Asks, offers, answers, answer, posts, post_after, without_chosen, chosen, batch_chosen, buffer_code, bytes_in, attach_code, detach_code, batch_of, code_of_look, posts_of, no_posts, items_of, look, look_fill, values_of_post}
 use Rattle.serial_spec.specs.RegionCheck.{is_ok_code}
-use Rattle.std.proofs.lemmas.Bool.{ne_eqb}
-use Rattle.request_queue.proofs.PostedLaws.{status_of-push}
 use Rattle.rank_core.specs.Ranked.{WaitsFor}
 
 abbrev DoesWait : Rank × Want → Type 0
@@ -73,13 +70,3 @@ step_waits header r (call.InqDim name) h = h
 step_waits header r (call.FillRec name number share others) h =
     either r.independent _ _ (offers_wait r (offer.Meet meets.Put) no_posts code.EIndep [] true r.independent)
     (offers_wait r (offer.Meet meets.Put) (record { puts = posts_of (look_fill header name number share others); gets = [] }) (code_of_look (look_fill header name number share others)) [] true r.independent)
-
--- a post leaves other ids as new as they were
-pub others_new : (r : Rank) (id k : ℕ) (kind : PostKind) (l : Look) → (k ≡ id → ⊥) → status_of r.posted k ≡ None → status_of (posts r id kind l).0.posted k ≡ None
-others_new r id k kind (Refused c) n h = h
-others_new r id k kind Empty n h = status_of-push r.posted (record { id = id; status = NullRequest }) k (ne_eqb id k (λ e. n (sym e))) h
-others_new r id k kind (Asks asked) n h = by_code (buffer_code r kind (bytes_in asked))
-  where
-    by_code : (c : Code) → status_of (post_after r id kind asked c).0.posted k ≡ None
-    by_code code.Ok = status_of-push r.posted (record { id = id; status = Waiting kind asked }) k (ne_eqb id k (λ e. n (sym e))) h
-    by_code c = h

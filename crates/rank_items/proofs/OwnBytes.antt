@@ -1,14 +1,15 @@
 -- A byte of a put is one of one of its elements, and elements of different variable or index share none.
-use Rattle.std.proofs.Common.{◌≡◌, ℕ, zero, suc, ◌+◌, ◌*◌, ◌/◌, ◌%◌, ◌<◌, ◌≤◌, refl, sym, ◌∙◌, ap, subst, inl, inr, ◌⊎◌, List, [], ◌∷◌, length, map, true, Option, Some, None, arith}
+use Rattle.std.proofs.Common.{◌≡◌, ℕ, zero, suc, ◌+◌, ◌*◌, ◌/◌, ◌%◌, ◌<◌, ◌≤◌, refl, sym, ◌∙◌, ap, inl, inr, ◌⊎◌, List, [], ◌∷◌, map, true, Option, Some, None, arith}
 use Rattle.std.specs.Prelude.{slice_get, flat_map}
 use Rattle.std.specs.List.{range_with_len}
 use Rattle.std.proofs.lemmas.Bool.{cases_eq}
 use Rattle.std.proofs.lemmas.Nat.{div-add-mod', mod_below}
 use Rattle.std.proofs.lemmas.Option.{slice_get_within, same_Some}
+use Rattle.std.proofs.lemmas.List.FromFn.{length-range_with_len}
+use Rattle.serial_spec.proofs.LengthLaws.{size_pos}
 use Rattle.nc_base.specs.declared.header.Header.{Header}
 use Rattle.nc_base.specs.declared.header.Var.{Var}
 use Rattle.nc_base.specs.declared.plan.Post.{Post}
-use Rattle.nc_base.specs.declared.request.Region.{Region}
 use Rattle.serial_spec.specs.ExternalForm.{size_of}
 use Rattle.serial_spec.specs.HeaderGrammar.{is_sound}
 use Rattle.serial_spec.specs.Layout.{product}
@@ -16,22 +17,12 @@ use Rattle.serial_spec.specs.Place.{place, AreApart, IsElement}
 use Rattle.serial_spec.specs.Request.{elements, places}
 use Rattle.serial_spec.specs.SharedByte.{bytes_of, bytes_of_some, holdings, Holding, IsOwnOnce}
 use Rattle.serial_spec.proofs.ApartLaws.{elements_apart}
-use Rattle.var_layout.proofs.ElementPlaces.{size_pos}
 use Rattle.vara_extents.specs.Accepted.{IsAccepted}
 use Rattle.vara_extents.specs.Numbered.{index_of}
 use Rattle.vara_extents.proofs.NumberLaws.{element_at, length-places, place_at}
-use Rattle.vara_extents.proofs.OnceLaws.{in_block}
+use Rattle.vara_extents.proofs.OnceLaws.{in_block, range_at}
 use Rattle.vara_extents.proofs.PlaceLaws.{accepted_place}
 use Rattle.rank_items.specs.Own.{HasOwnElements}
-
-range_long : (a n : ℕ) → length (range_with_len a n) ≡ n
-range_long a zero = refl
-range_long a (suc n) = ap suc (range_long (a + 1) n)
-
-range_at : (a n r b : ℕ) → slice_get (range_with_len a n) r ≡ Some b → b ≡ a + r
-range_at a zero r b e = absurd cc
-range_at a (suc n) zero b e = let same : a ≡ b = cc in omega arith
-range_at a (suc n) (suc r) b e = let later = range_at (a + 1) n r b e in omega arith
 
 -- byte k of a post is byte r of its element n
 record IsByte (header : Header) (post : Post) (k x : ℕ) : Type 0 where
@@ -54,7 +45,7 @@ is_byte header post k x sound ok e = by_var (slice_get header.vars post.var) ref
         let size = size_of v.kind in
         let some : 1 ≤ size_of v.kind = size_pos v.kind in
         let g = post.region in
-        let block = in_block (λ y. range_with_len y size) size (λ y. range_long y size) (places header v g) (k / size) (k % size) x (mod_below k size some)
+        let block = in_block (λ y. range_with_len y size) size (λ y. length-range_with_len y size) (places header v g) (k / size) (k % size) x (mod_below k size some)
         (ap (λ (m : ℕ). slice_get (flat_map (λ y. range_with_len y size) (places header v g)) m) (div-add-mod' k size) ∙ e_at v f) in
         let below : k / size < product g.count = number v block.0 block.1 in
         let placed = accepted_place header post.var v g (k / size) sound f ok below in

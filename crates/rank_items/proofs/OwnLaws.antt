@@ -1,9 +1,10 @@
 -- An element that stood twice would hold its first byte twice.
-use Rattle.std.proofs.Common.{◌≡◌, ℕ, zero, suc, ◌+◌, ◌*◌, ◌<◌, ◌≤◌, ◌⊎◌, inl, inr, refl, sym, ap, ◌∙◌, List, [], ◌∷◌, length, map, true, Option, Some, None, arith}
+use Rattle.std.proofs.Common.{◌≡◌, ℕ, zero, suc, ◌*◌, ◌≤◌, refl, sym, ap, ◌∙◌, List, [], ◌∷◌, map, true, Option, Some, None, arith}
 use Rattle.std.specs.Prelude.{slice_get, flat_map, is_some}
 use Rattle.std.specs.List.{range_with_len}
-use Rattle.std.proofs.lemmas.Bool.{cases_lt}
-use Rattle.std.proofs.Math.Nat.{mul-lt-mul_of_pos_right}
+use Rattle.std.proofs.lemmas.List.FromFn.{length-range_with_len}
+use Rattle.serial_spec.proofs.LengthLaws.{size_pos}
+use Rattle.list_laws.proofs.Numbers.{same_factor}
 use Rattle.nc_base.specs.declared.header.Header.{Header}
 use Rattle.nc_base.specs.declared.header.Var.{Var}
 use Rattle.nc_base.specs.declared.plan.Post.{Post}
@@ -12,14 +13,9 @@ use Rattle.serial_spec.specs.Place.{place}
 use Rattle.serial_spec.specs.Request.{elements, places}
 use Rattle.serial_spec.specs.SharedByte.{bytes_of, bytes_of_some, holdings, Holding, IsOwnOnce}
 use Rattle.serial_spec.proofs.ElementLaws.{get_left, get_map, get_right}
-use Rattle.var_layout.proofs.ElementPlaces.{size_pos}
 use Rattle.rank_items.specs.Own.{HasOwnElements}
 
 -- ---- blocks of one length
-
-range_long : (a n : ℕ) → length (range_with_len a n) ≡ n
-range_long a zero = refl
-range_long a (suc n) = ap suc (range_long (a + 1) n)
 
 range_first : (a n : ℕ) → 1 ≤ n → slice_get (range_with_len a n) 0 ≡ Some a
 range_first a zero h = absurd (omega arith)
@@ -32,17 +28,9 @@ block_first n h (y ∷ xs) zero m x f e =
     let here : y ≡ x = cc in
     let none : m ≡ 0 = omega arith in
     ap (λ (j : ℕ). slice_get (flat_map (λ z. range_with_len z n) (y ∷ xs)) j) none
-    ∙ get_left (range_with_len y n) (flat_map (λ z. range_with_len z n) xs) 0 (omega (arith, range_long y n)) ∙ range_first y n h ∙ ap (λ (z : ℕ). Some z) here
+    ∙ get_left (range_with_len y n) (flat_map (λ z. range_with_len z n) xs) 0 (omega (arith, length-range_with_len y n)) ∙ range_first y n h ∙ ap (λ (z : ℕ). Some z) here
 block_first n h (y ∷ xs) (suc k) m x f e =
-    get_right (range_with_len y n) (flat_map (λ z. range_with_len z n) xs) (k * n) m (omega (arith, range_long y n)) ∙ block_first n h xs k (k * n) x refl e
-
-same_factor : (i j t : ℕ) → 1 ≤ t → i * t ≡ j * t → i ≡ j
-same_factor i j t h e = by_order (cases_lt i j) (cases_lt j i)
-  where
-    by_order : (i < j) ⊎ (j ≤ i) → (j < i) ⊎ (i ≤ j) → i ≡ j
-    by_order (inl l) m = let less = mul-lt-mul_of_pos_right {m = i} {n = j} {k = t} l (omega arith) in absurd (omega arith)
-    by_order (inr l) (inl m) = let less = mul-lt-mul_of_pos_right {m = j} {n = i} {k = t} m (omega arith) in absurd (omega arith)
-    by_order (inr l) (inr m) = omega arith
+    get_right (range_with_len y n) (flat_map (λ z. range_with_len z n) xs) (k * n) m (omega (arith, length-range_with_len y n)) ∙ block_first n h xs k (k * n) x refl e
 
 -- ---- the first byte of an element
 

@@ -1,20 +1,20 @@
 -- The variables of a redefined header stand apart.
-use Rattle.std.proofs.Common.{◌≡◌, ℕ, suc, ◌+◌, ◌-◌, ◌<◌, ◌≤◌, max, List, [], ◌∷◌, length, Bool, true, false, cond, ◌&&◌, Some, None, refl, sym, ap, ◌∙◌, inl, inr, arith}
+use Rattle.std.proofs.Common.{◌≡◌, ℕ, ◌+◌, ◌-◌, ◌<◌, ◌≤◌, max, List, length, Bool, true, false, ◌&&◌, Some, None, refl, sym, ap, ◌∙◌, inl, inr, arith}
 use Rattle.std.specs.Prelude.{nat_lt, slice_get}
-use Rattle.std.specs.Option.{option_or}
 use Rattle.std.proofs.lemmas.Bool.Decides.{nat_tests}
+use Rattle.std.proofs.lemmas.Bool.{ltb-true, ltb-false}
+use Rattle.serial_spec.proofs.RoomLaws.{slab_below}
+use Rattle.list_laws.proofs.Each.{each_at}
 use Rattle.nc_base.specs.declared.header.Header.{Header}
 use Rattle.nc_base.specs.declared.header.Var.{Var}
 use Rattle.nc_base.specs.declared.script.Extra.{Extra}
-use Rattle.serial_spec.specs.Layout.{is_record, slab, vsize, recsize, share, sharing, sharing_with, sharing_from}
+use Rattle.serial_spec.specs.Layout.{is_record, slab, vsize, recsize, share, sharing}
 use Rattle.serial_spec.specs.HeaderGrammar.{header_len, is_sound}
 use Rattle.serial_spec.specs.Place.{AreApart}
 use Rattle.serial_spec.specs.Redefinition.{added, fixed_order, begins_by_number, begin_of_number, redefined_header}
-use Rattle.var_layout.proofs.Soundness.{slab_below}
 use Rattle.var_layout.proofs.CreatedFiles.{at_begin}
-use Rattle.var_layout.proofs.LaidOut.{shares_by}
-use Rattle.redef_laws.proofs.FieldLaws.{lt_told, not_lt_told}
-use Rattle.redef_laws.proofs.GrownLaws.{IsFitVar, IsFit, each_at}
+use Rattle.var_layout.proofs.LaidOut.{shares_by, fixed_then_record, record_then_fixed, no_sharing_from}
+use Rattle.redef_laws.proofs.GrownLaws.{IsFitVar, IsFit}
 use Rattle.redef_laws.proofs.RebegunLaws.{rebegun, rebegun_at, rebegun_recsize, rebegun_len}
 use Rattle.redef_laws.proofs.BeginLaws.{at_number, found_is, front_grows, vsizes}
 use Rattle.redef_laws.proofs.PlaceLaws.{new_records, old_first, first_place, old_place_of, new_from, first_up, in_old, fixed_place, fixed_places_apart, old_place, new_place, new_places_apart, any_place, begin_is, old_first_low}
@@ -86,8 +86,8 @@ pub record_low : (header : Header) (n k : ℕ) (v : Var) (b : ℕ) → slice_get
 record_low header n k v b g e at = by_number (nat_lt k n) refl
   where
     by_number : (t : Bool) → nat_lt k n ≡ t → first_place header n ≤ b
-    by_number true l = let is = old_at header n k v b g e (lt_told k n l) at in omega arith
-    by_number false l = let new = new_at header n k v b g e (not_lt_told k n l) at in let low = new.low in omega arith
+    by_number true l = let is = old_at header n k v b g e (ltb-true k n l) at in omega arith
+    by_number false l = let new = new_at header n k v b g e (ltb-false k n l) at in let low = new.low in omega arith
 
 -- ---- two record variables
 
@@ -153,9 +153,9 @@ records_two : (old : Header) (extras : List Extra) (i j : ℕ) (v w : Var) (b c 
 records_two old extras i j v w b c sound l g f d e at at' = by_numbers (nat_lt i (length old.vars)) (nat_lt j (length old.vars)) refl refl
   where
     by_numbers : (s t : Bool) → nat_lt i (length old.vars) ≡ s → nat_lt j (length old.vars) ≡ t → Ordered (added old extras) v b w c
-    by_numbers true true x y = old_two old extras i j v w b c sound l (lt_told j (length old.vars) y) g f d e at at'
-    by_numbers true false x y = old_then_new old extras i j v w b c sound (lt_told i (length old.vars) x) (not_lt_told j (length old.vars) y) g f d e at at'
-    by_numbers false t x y = both_new (added old extras) (length old.vars) i j v w b c l (not_lt_told i (length old.vars) x) g f d e at at'
+    by_numbers true true x y = old_two old extras i j v w b c sound l (ltb-true j (length old.vars) y) g f d e at at'
+    by_numbers true false x y = old_then_new old extras i j v w b c sound (ltb-true i (length old.vars) x) (ltb-false j (length old.vars) y) g f d e at at'
+    by_numbers false t x y = both_new (added old extras) (length old.vars) i j v w b c l (ltb-false i (length old.vars) x) g f d e at at'
 
 -- ---- any two variables
 
@@ -166,12 +166,6 @@ fixed_apart a n b m size (inr h) = both_false (nat_lt (max a b) (a + n)) (let e 
     both_false : (t : Bool) → nat_lt (max a b) (b + m) ≡ false → (t && nat_lt (max a b) (b + m)) ≡ false
     both_false true e = e
     both_false false e = refl
-
-fixed_then_record : (a n b m size : ℕ) → a + n ≤ b → shares_by false true a n b m size ≡ false
-fixed_then_record a n b m size h = let e : nat_lt b (a + n) ≡ false = grind (arith, nat_tests) in e
-
-record_then_fixed : (a n b m size : ℕ) → b + m ≤ a → shares_by true false a n b m size ≡ false
-record_then_fixed a n b m size h = let e : nat_lt a (b + m) ≡ false = grind (arith, nat_tests) in e
 
 two_apart : (old : Header) (extras : List Extra) (i j : ℕ) (v w : Var) (b c : ℕ) → is_sound old ≡ true → IsFit (added old extras) → i < j
     → slice_get (added old extras).vars i ≡ Some v → slice_get (added old extras).vars j ≡ Some w
@@ -196,22 +190,6 @@ two_apart old extras i j v w b c sound fit l g f at at' true true d e =
     (slab_some header w (each_at (IsFitVar header.version header.dims) header.vars j w fit.vars f)) (records_two old extras i j v w b c sound l g f d e at at')
 
 -- ---- the whole header
-
-no_sharing_with : (header : Header) (v : Var) (k m : ℕ) (ws : List Var) → ((j : ℕ) (w : Var) → slice_get ws j ≡ Some w → share header v w ≡ false) → sharing_with header v k m ws ≡ None
-no_sharing_with header v k m [] h = refl
-no_sharing_with header v k m (w ∷ ws) h =
-    ap (λ (t : Bool). cond t (Some (k, m)) (sharing_with header v k (suc m) ws)) (h 0 w refl) ∙ no_sharing_with header v k (suc m) ws (λ j x g. h (suc j) x g)
-
-no_sharing_from : (header : Header) (first k : ℕ) (vs : List Var) → ((i : ℕ) (v : Var) → slice_get vs i ≡ Some v → first ≤ v.begin)
-    → ((i j : ℕ) (v w : Var) → i < j → slice_get vs i ≡ Some v → slice_get vs j ≡ Some w → share header v w ≡ false) → sharing_from header first k vs ≡ None
-no_sharing_from header first k [] low h = refl
-no_sharing_from header first k (v ∷ vs) low h =
-    ap (λ (t : Bool). cond t (Some (k, k)) (option_or (sharing_with header v k (suc k) vs) (sharing_from header first (suc k) vs))) (past v (low 0 v refl))
-    ∙ ap (λ o. option_or o (sharing_from header first (suc k) vs)) (no_sharing_with header v k (suc k) vs (λ j w g. h 0 (suc j) v w (omega arith) refl g))
-    ∙ no_sharing_from header first (suc k) vs (λ i w g. low (suc i) w g) (λ i j x y l g f. h (suc i) (suc j) x y (omega arith) g f)
-  where
-    past : (x : Var) → first ≤ x.begin → nat_lt x.begin first ≡ false
-    past x l = grind (arith, nat_tests)
 
 -- a variable of the new header, its begin being what is found
 pub record IsPlaced (header : Header) (n k : ℕ) (x v : Var) : Type 0 where

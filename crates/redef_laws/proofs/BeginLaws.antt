@@ -4,28 +4,20 @@
 --     Numbers vars list      each variable of the list stands with its number
 --     fixed_begin, map_begin, record_begin      what is found for a variable of the list
 --     fixed_apart, record_apart                 two variables of the list stand apart
-use Rattle.std.proofs.Common.{◌≡◌, ℕ, zero, suc, ◌+◌, ◌≤◌, List, [], ◌∷◌, ◌++◌, map, Bool, true, false, cond, Option, Some, None, refl, sym, ap, subst, ◌∙◌, inl, inr, ◌⊎◌, arith}
+use Rattle.std.proofs.Common.{◌≡◌, ℕ, zero, suc, ◌+◌, ◌≤◌, List, [], ◌∷◌, map, Bool, true, false, cond, Option, Some, None, refl, sym, ap, subst, ◌∙◌, inl, inr, ◌⊎◌, arith}
 use Rattle.std.specs.Prelude.{nat_le, ◌==◌, filter, find, sum_by, slice_get}
 use Rattle.std.specs.List.{enumerate_from, AllByRecursion}
 use Rattle.std.proofs.lemmas.List.Sums.{sum_by-cons}
+use Rattle.std.proofs.lemmas.Bool.{leb-true, eqb-true, ne_eqb}
+use Rattle.list_laws.proofs.Truth.{equal_true}
 use Rattle.nc_base.specs.declared.header.Header.{Header}
 use Rattle.nc_base.specs.declared.header.Var.{Var}
 use Rattle.serial_spec.specs.Layout.{slab, vsize, round_up}
 use Rattle.serial_spec.specs.Place.{AreApart}
 use Rattle.serial_spec.specs.Redefinition.{Numbered, inserted, by_begin, begin_at, fixed_begins, front_after, record_begins}
 use Rattle.overlay_laws.specs.Entries.{In}
-use Rattle.redef_laws.proofs.FieldLaws.{eq_told, eq_test, not_eq_test, le_told}
 
 -- ---- members and numbers
-
-pub in_filter : {A : Type 0} (p : A → Bool) (xs : List A) (x : A) → In xs x → p x ≡ true → In (filter p xs) x
-in_filter p [] x h e = absurd h
-in_filter {A} p (y ∷ xs) x (inl same) e = subst (λ (t : Bool). In (cond t (y ∷ filter p xs) (filter p xs)) x) (sym (ap p same ∙ e)) (inl same)
-in_filter p (y ∷ xs) x (inr h) e = by_test (p y) (in_filter p xs x h e)
-  where
-    by_test : (t : Bool) → In (filter p xs) x → In (cond t (y ∷ filter p xs) (filter p xs)) x
-    by_test true rest = inr rest
-    by_test false rest = rest
 
 pub in_numbered : (n : ℕ) (vs : List Var) (k : ℕ) (v : Var) → slice_get vs k ≡ Some v → In (enumerate_from n vs) (n + k, v)
 in_numbered n [] k v h = absurd cc
@@ -52,10 +44,6 @@ each_filtered p (x ∷ xs) = by_test (p x) refl (each_filtered p xs)
     by_test : (t : Bool) → p x ≡ t → AllByRecursion (λ y. p y ≡ true) (filter p xs) → AllByRecursion (λ y. p y ≡ true) (cond t (x ∷ filter p xs) (filter p xs))
     by_test true e rest = (e, rest)
     by_test false e rest = rest
-
-pub each_append : {A : Type 0} (P : A → Type 0) (xs ys : List A) → AllByRecursion P xs → AllByRecursion P ys → AllByRecursion P (xs ++ ys)
-each_append P [] ys h g = g
-each_append P (x ∷ xs) ys h g = (h.0, each_append P xs ys h.1 g)
 
 each_inserted : (P : Numbered → Type 0) (v : Numbered) (vs : List Numbered) → P v → AllByRecursion P vs → AllByRecursion P (inserted v vs)
 each_inserted P v [] p h = (p, tt)
@@ -110,30 +98,30 @@ same_begin : (x y : ℕ × ℕ) → Some x ≡ Some y → x.1 ≡ y.1
 same_begin x y e = let same : x ≡ y = cc in ap (λ (p : ℕ × ℕ). p.1) same
 
 not_head : (p : Numbered) (k : ℕ) (v : Var) → (p.0 == k) ≡ false → p ≡ (k, v) → ⊥
-not_head p k v e h = let yes = eq_test p.0 k (ap (λ (q : Numbered). q.0) h) in absurd cc
+not_head p k v e h = let yes = equal_true p.0 k (ap (λ (q : Numbered). q.0) h) in absurd cc
 
 in_tail : (p : Numbered) (list : List Numbered) (k : ℕ) (v : Var) → (p.0 == k) ≡ false → In (p ∷ list) (k, v) → In list (k, v)
 in_tail p list k v e (inl h) = absurd (not_head p k v e h)
 in_tail p list k v e (inr h) = h
 
 found_if : (m k b : ℕ) (rest : List (ℕ × ℕ)) → (m == k) ≡ true → at_number ((m, b) ∷ rest) k ≡ Some (k, b)
-found_if m k b rest e = let same = eq_told m k e in ap (λ (t : Bool). cond t (Some (m, b)) (at_number rest k)) e ∙ ap (λ (n : ℕ). Some (n, b)) same
+found_if m k b rest e = let same = eqb-true m k e in ap (λ (t : Bool). cond t (Some (m, b)) (at_number rest k)) e ∙ ap (λ (n : ℕ). Some (n, b)) same
 
 pub found_on : (m k b : ℕ) (rest : List (ℕ × ℕ)) → (m == k) ≡ false → at_number ((m, b) ∷ rest) k ≡ at_number rest k
 found_on m k b rest e = ap (λ (t : Bool). cond t (Some (m, b)) (at_number rest k)) e
 
 -- ---- fixed variables
 
-pub begin_up : (front : ℕ) (v : Var) → front ≤ begin_at front v
-begin_up front v = by_test (nat_le front v.begin) refl
+pub begin_past : (front : ℕ) (v : Var) → front ≤ begin_at front v
+begin_past front v = by_test (nat_le front v.begin) refl
   where
     by_test : (t : Bool) → nat_le front v.begin ≡ t → front ≤ cond t v.begin (round_up 4 front)
-    by_test true e = le_told front v.begin e
+    by_test true e = leb-true front v.begin e
     by_test false e = omega arith
 
 pub front_grows : (header : Header) (front : ℕ) (list : List Numbered) → front ≤ front_after header front list
 front_grows header front [] = omega arith
-front_grows header front (p ∷ list) = let one = begin_up front p.1 in let rest = front_grows header (begin_at front p.1 + slab header p.1) list in omega arith
+front_grows header front (p ∷ list) = let one = begin_past front p.1 in let rest = front_grows header (begin_at front p.1 + slab header p.1) list in omega arith
 
 pub record IsFixedBegin (header : Header) (front : ℕ) (list : List Numbered) (k : ℕ) (v : Var) (b : ℕ) : Type 0 where
   pub at : at_number (fixed_begins header front list) k ≡ Some (k, b)
@@ -149,19 +137,19 @@ fixed_begin header vars front (p ∷ list) k v all g h =
     by_test : (In list (k, v) → (b : ℕ) × IsFixedBegin header (begin_at front p.1 + slab header p.1) list k v b)
         → (t : Bool) → (p.0 == k) ≡ t → (b : ℕ) × IsFixedBegin header front (p ∷ list) k v b
     by_test rest true e =
-        let same : p.1 ≡ v = same_var vars k p.0 v p.1 g all.0 (eq_told p.0 k e) in
+        let same : p.1 ≡ v = same_var vars k p.0 v p.1 g all.0 (eqb-true p.0 k e) in
         let own = ap (λ (w : Var). slab header w) same in
         let grows = front_grows header (begin_at front p.1 + slab header p.1) list in (
           begin_at front p.1,
           record {
             at = found_if p.0 k (begin_at front p.1) (fixed_begins header (begin_at front p.1 + slab header p.1) list) e;
-            low = begin_up front p.1;
+            low = begin_past front p.1;
             high = omega arith;
           },
         )
     by_test rest false e =
         let later = rest (in_tail p list k v e h) in
-        let one = begin_up front p.1 in
+        let one = begin_past front p.1 in
         let low = later.1.low in (
           later.0,
           record {
@@ -201,13 +189,13 @@ fixed_apart header vars front (p ∷ list) k m v w b c all g f h i other e d =
     by_tests : (In list (k, v) → In list (m, w) → at_number (fixed_begins header (begin_at front p.1 + slab header p.1) list) k ≡ Some (k, b)
         → at_number (fixed_begins header (begin_at front p.1 + slab header p.1) list) m ≡ Some (m, c) → AreApart b (slab header v) c (slab header w))
         → (s t : Bool) → (p.0 == k) ≡ s → (p.0 == m) ≡ t → AreApart b (slab header v) c (slab header w)
-    by_tests rest true true x y = absurd (other (sym (eq_told p.0 k x) ∙ eq_told p.0 m y))
+    by_tests rest true true x y = absurd (other (sym (eqb-true p.0 k x) ∙ eqb-true p.0 m y))
     by_tests rest true false x y =
         inl (lower m v w b c f (in_tail p list m w y i) (tail_begin p (begin_at front p.1) m c (fixed_begins header (begin_at front p.1 + slab header p.1) list) y d)
-        (same_var vars k p.0 v p.1 g all.0 (eq_told p.0 k x)) (head_begin p (begin_at front p.1) k b (fixed_begins header (begin_at front p.1 + slab header p.1) list) x e))
+        (same_var vars k p.0 v p.1 g all.0 (eqb-true p.0 k x)) (head_begin p (begin_at front p.1) k b (fixed_begins header (begin_at front p.1 + slab header p.1) list) x e))
     by_tests rest false true x y =
         inr (lower k w v c b g (in_tail p list k v x h) (tail_begin p (begin_at front p.1) k b (fixed_begins header (begin_at front p.1 + slab header p.1) list) x e)
-        (same_var vars m p.0 w p.1 f all.0 (eq_told p.0 m y)) (head_begin p (begin_at front p.1) m c (fixed_begins header (begin_at front p.1 + slab header p.1) list) y d))
+        (same_var vars m p.0 w p.1 f all.0 (eqb-true p.0 m y)) (head_begin p (begin_at front p.1) m c (fixed_begins header (begin_at front p.1 + slab header p.1) list) y d))
     by_tests rest false false x y =
         rest (in_tail p list k v x h) (in_tail p list m w y i) (tail_begin p (begin_at front p.1) k b (fixed_begins header (begin_at front p.1 + slab header p.1) list) x e)
         (tail_begin p (begin_at front p.1) m c (fixed_begins header (begin_at front p.1 + slab header p.1) list) y d)
@@ -219,7 +207,7 @@ HasNone k list = AllByRecursion (λ p. p.0 ≡ k → ⊥) list
 pub fixed_none : (header : Header) (front : ℕ) (list : List Numbered) (k : ℕ) → HasNone k list → at_number (fixed_begins header front list) k ≡ None
 fixed_none header front [] k none = refl
 fixed_none header front (p ∷ list) k none =
-    found_on p.0 k (begin_at front p.1) (fixed_begins header (begin_at front p.1 + slab header p.1) list) (not_eq_test p.0 k none.0)
+    found_on p.0 k (begin_at front p.1) (fixed_begins header (begin_at front p.1 + slab header p.1) list) (ne_eqb p.0 k none.0)
     ∙ fixed_none header (begin_at front p.1 + slab header p.1) list k none.1
 
 -- ---- old record variables
@@ -234,12 +222,12 @@ map_begin f vars (p ∷ list) k v all g h = by_test (λ i. map_begin f vars list
   where
     by_test : (In list (k, v) → at_number (mapped_begins f list) k ≡ Some (k, f v)) → (t : Bool) → (p.0 == k) ≡ t → at_number (mapped_begins f (p ∷ list)) k ≡ Some (k, f v)
     by_test rest true e =
-        found_if p.0 k (f p.1) (mapped_begins f list) e ∙ ap (λ (w : Var). Some (k, f w)) (same_var vars k p.0 v p.1 g all.0 (eq_told p.0 k e))
+        found_if p.0 k (f p.1) (mapped_begins f list) e ∙ ap (λ (w : Var). Some (k, f w)) (same_var vars k p.0 v p.1 g all.0 (eqb-true p.0 k e))
     by_test rest false e = found_on p.0 k (f p.1) (mapped_begins f list) e ∙ rest (in_tail p list k v e h)
 
 pub map_none : (f : Var → ℕ) (list : List Numbered) (k : ℕ) → HasNone k list → at_number (mapped_begins f list) k ≡ None
 map_none f [] k none = refl
-map_none f (p ∷ list) k none = found_on p.0 k (f p.1) (mapped_begins f list) (not_eq_test p.0 k none.0) ∙ map_none f list k none.1
+map_none f (p ∷ list) k none = found_on p.0 k (f p.1) (mapped_begins f list) (ne_eqb p.0 k none.0) ∙ map_none f list k none.1
 
 -- ---- new record variables
 
@@ -260,7 +248,7 @@ record_begin header vars from (p ∷ list) k v all g h =
     by_test : (In list (k, v) → (b : ℕ) × IsRecordBegin header (from + vsize header p.1) list k v b)
         → (t : Bool) → (p.0 == k) ≡ t → vsizes header (p ∷ list) ≡ vsize header p.1 + vsizes header list → (b : ℕ) × IsRecordBegin header from (p ∷ list) k v b
     by_test rest true e s =
-        let same : p.1 ≡ v = same_var vars k p.0 v p.1 g all.0 (eq_told p.0 k e) in
+        let same : p.1 ≡ v = same_var vars k p.0 v p.1 g all.0 (eqb-true p.0 k e) in
         let own = ap (λ (w : Var). vsize header w) same in
         (from, record { at = found_if p.0 k from (record_begins header (from + vsize header p.1) list) e; low = omega arith; high = omega arith })
     by_test rest false e s =
@@ -295,13 +283,13 @@ record_apart header vars from (p ∷ list) k m v w b c all g f h i other e d =
     by_tests : (In list (k, v) → In list (m, w) → at_number (record_begins header (from + vsize header p.1) list) k ≡ Some (k, b)
         → at_number (record_begins header (from + vsize header p.1) list) m ≡ Some (m, c) → AreApart b (vsize header v) c (vsize header w))
         → (s t : Bool) → (p.0 == k) ≡ s → (p.0 == m) ≡ t → AreApart b (vsize header v) c (vsize header w)
-    by_tests rest true true x y = absurd (other (sym (eq_told p.0 k x) ∙ eq_told p.0 m y))
+    by_tests rest true true x y = absurd (other (sym (eqb-true p.0 k x) ∙ eqb-true p.0 m y))
     by_tests rest true false x y =
         inl (lower m v w b c f (in_tail p list m w y i) (tail_begin p from m c (record_begins header (from + vsize header p.1) list) y d)
-        (same_var vars k p.0 v p.1 g all.0 (eq_told p.0 k x)) (head_begin p from k b (record_begins header (from + vsize header p.1) list) x e))
+        (same_var vars k p.0 v p.1 g all.0 (eqb-true p.0 k x)) (head_begin p from k b (record_begins header (from + vsize header p.1) list) x e))
     by_tests rest false true x y =
         inr (lower k w v c b g (in_tail p list k v x h) (tail_begin p from k b (record_begins header (from + vsize header p.1) list) x e)
-        (same_var vars m p.0 w p.1 f all.0 (eq_told p.0 m y)) (head_begin p from m c (record_begins header (from + vsize header p.1) list) y d))
+        (same_var vars m p.0 w p.1 f all.0 (eqb-true p.0 m y)) (head_begin p from m c (record_begins header (from + vsize header p.1) list) y d))
     by_tests rest false false x y =
         rest (in_tail p list k v x h) (in_tail p list m w y i) (tail_begin p from k b (record_begins header (from + vsize header p.1) list) x e)
         (tail_begin p from m c (record_begins header (from + vsize header p.1) list) y d)

@@ -2,10 +2,10 @@
 use Rattle.std.proofs.Common.{◌≡◌, ℕ, ◌+◌, ◌<◌, ◌≤◌, refl, subst, inl, inr, List, [], ◌∷◌, ◌++◌, Bool, true, false, cond, arith}
 use borrow.Author.Tests.{ltb-true, ltb-false}
 use Rattle.std.specs.Prelude.{nat_lt, nat_le}
+use Rattle.std.proofs.lemmas.Bool.{leb-true, leb-false}
 use Rattle.serial_spec.specs.DeviceCalls.{Slab}
 use Rattle.overlay_laws.specs.Entries.{In}
 use Rattle.overlay_laws.proofs.HullLaws.{in_either}
-use Rattle.overlay_laws.proofs.WalkLaws.{from_le, from_not_le}
 use Rattle.redef_laws.specs.Rising.{put_in, lowest_first, IsRisen}
 use Rattle.redef_laws.specs.Shifted.{AreShifted}
 
@@ -20,10 +20,6 @@ AreDistinct [] = Unit {0}
 AreDistinct (s ∷ ss) = ((t : Slab) → In ss t → s.from ≡ t.from → ⊥) × AreDistinct ss
 
 -- ---- chains
-
--- the first slab lies from these places on, and holds a byte
-Begins : ℕ → ℕ → Slab → Type 0
-Begins a b s = (0 < s.len) × (a ≤ s.from) × (b ≤ s.to) × (s.from ≤ s.to)
 
 risen_from : (old_first first end a b : ℕ) (all ss : List Slab) → AreShifted old_first first end all → ((s : Slab) → In ss s → In all s)
     → Ascends ss → ((s : Slab) → In ss s → (a ≤ s.from) × (b ≤ s.to)) → IsRisen a b ss
@@ -110,8 +106,8 @@ put_ascends s (u ∷ ss) h k = by_test (nat_le s.from u.from) refl (put_ascends 
     under t l (inr g) = h.0 t g
 
     by_test : (b : Bool) → nat_le s.from u.from ≡ b → Ascends (put_in s ss) → Ascends (cond b (s ∷ u ∷ ss) (u ∷ put_in s ss))
-    by_test true e rest = ((λ t g. over t (below s.from u.from (from_le s.from u.from e) (k u (inl refl))) g), h)
-    by_test false e rest = ((λ t g. under t (from_not_le s.from u.from e) (put_members s ss t g)), rest)
+    by_test true e rest = ((λ t g. over t (below s.from u.from (leb-true s.from u.from e) (k u (inl refl))) g), h)
+    by_test false e rest = ((λ t g. under t (leb-false s.from u.from e) (put_members s ss t g)), rest)
 
 pub lowest_ascends : (ss : List Slab) → AreDistinct ss → Ascends (lowest_first ss)
 lowest_ascends [] h = tt

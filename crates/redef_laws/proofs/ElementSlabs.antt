@@ -5,6 +5,7 @@ use Rattle.std.proofs.lemmas.Nat.{row_fits, div-add-mod', div_below, mod_below}
 use Rattle.std.proofs.lemmas.Bool.Decides.{nat_tests}
 use Rattle.std.specs.Prelude.{zip, slice_get, MatchBool, ◌==◌}
 use Rattle.std.specs.List.{range_with_len}
+use Rattle.list_laws.proofs.Numbers.{some_factor}
 use Rattle.nc_base.specs.declared.header.Header.{Header}
 use Rattle.nc_base.specs.declared.header.Var.{Var}
 use Rattle.serial_spec.specs.DeviceCalls.{Slab, slabs, slabs_of}
@@ -19,7 +20,7 @@ use Rattle.serial_spec.proofs.RoomLaws.{known_of, index_is_element}
 use Rattle.overlay_laws.specs.Entries.{In}
 use Rattle.overlay_laws.proofs.HullLaws.{in_flat, flat_in, in_range, range_high}
 use Rattle.redef_laws.specs.Rising.{first_slab, in_record}
-use Rattle.redef_laws.proofs.Members.{in_map, map_in, in_zip, zip_in}
+use Rattle.overlay_laws.proofs.Members.{in_map, map_in, in_zip, zip_in}
 
 -- ---- the slabs of one variable
 
@@ -132,14 +133,10 @@ element_in_slab old new sound keeps from to size (k, v, w, index, h, g, i, f, t,
 
 -- ---- each number below the product is that of an index
 
-some_right : (n p q : ℕ) → q < n * p → 0 < p
-some_right n zero q h = absurd (omega arith)
-some_right n (suc p) q h = omega arith
-
 pub index_of_row : (lens : List ℕ) (q : ℕ) → q < product lens → (index : List ℕ) × IsIndex lens index × (row lens index ≡ q)
 index_of_row [] q h = ([], tt, omega arith)
 index_of_row (n ∷ lens) q h =
-    let some = some_right n (product lens) q h in
+    let some = some_factor n (product lens) q h in
     let rest = index_of_row lens (q % product lens) (mod_below q (product lens) some) in (
       (q / product lens) ∷ rest.0,
       (div_below q (product lens) n some h, rest.1),
@@ -192,7 +189,7 @@ fixed_bytes : (old new : Header) (k : ℕ) (v w : Var) → slice_get old.vars k 
     → is_record old v ≡ false → HasBytes old new (first_slab old (v, w))
 fixed_bytes old new k v w h g a e d l =
     let size = size_of v.kind in
-    let some : 0 < size = some_right (product (inner_lengths old v)) size d l in
+    let some : 0 < size = some_factor (product (inner_lengths old v)) size d l in
     let found = index_of_row (inner_lengths old v) (d / size) (div_below d size (product (inner_lengths old v)) some l) in
     let one = fixed_place (lengths old v) v.begin (recsize old) size found.0 e in
     let two = new_place old new v w found.0 a ∙ fixed_place (lengths old v) w.begin (recsize new) size found.0 e in
@@ -212,7 +209,7 @@ record_bytes : (old new : Header) (k : ℕ) (v w : Var) (r : ℕ) → slice_get 
     → is_record old v ≡ true → r < old.records → HasBytes old new (in_record (recsize old) (recsize new) r (first_slab old (v, w)))
 record_bytes old new k v w r h g a e b d l =
     let size = size_of v.kind in
-    let some : 0 < size = some_right (product (inner_lengths old v)) size d l in
+    let some : 0 < size = some_factor (product (inner_lengths old v)) size d l in
     let found = index_of_row (inner_lengths old v) (d / size) (div_below d size (product (inner_lengths old v)) some l) in
     let index : List ℕ = r ∷ found.0 in
     let one = record_place (lengths old v) v.begin (recsize old) size index e in

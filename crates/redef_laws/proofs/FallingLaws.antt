@@ -2,10 +2,10 @@
 use Rattle.std.proofs.Common.{◌≡◌, ℕ, ◌<◌, refl, sym, ◌∙◌, ap, subst, inl, inr, ◌⊎◌, List, [], ◌∷◌, ◌++◌, reverse, Bool, true, false, cond, arith}
 use Rattle.std.proofs.lemmas.Grind.{reverse_onto}
 use Rattle.std.specs.Prelude.{filter, nat_le}
+use Rattle.std.proofs.lemmas.Bool.{leb-true, leb-false}
 use Rattle.serial_spec.specs.DeviceCalls.{Slab, placed_slab, highest_first}
 use Rattle.overlay_laws.specs.Entries.{In, HaveSame}
 use Rattle.overlay_laws.proofs.HullLaws.{filter_in, in_left, in_right, in_either}
-use Rattle.overlay_laws.proofs.WalkLaws.{from_le, from_not_le}
 use Rattle.redef_laws.specs.Rising.{changes, IsRisen}
 use Rattle.redef_laws.proofs.ChainLaws.{Ascends, AreDistinct, below, risen_ascends, ascends_distinct}
 use Rattle.redef_laws.proofs.SumLaws.{HaveSameSums, sums_members, sums_back, sums_distinct}
@@ -121,8 +121,8 @@ placed_descends s (u ∷ ss) h k = by_test (nat_le u.from s.from) refl (placed_d
     under t l (inr m) = h.0 t m
 
     by_test : (b : Bool) → nat_le u.from s.from ≡ b → Descends (placed_slab s ss) → Descends (cond b (s ∷ u ∷ ss) (u ∷ placed_slab s ss))
-    by_test true e rest = ((λ t m. over t (below u.from s.from (from_le u.from s.from e) (λ f. k u (inl refl) (sym f))) m), h)
-    by_test false e rest = ((λ t m. under t (from_not_le u.from s.from e) (placed_in s ss t m)), rest)
+    by_test true e rest = ((λ t m. over t (below u.from s.from (leb-true u.from s.from e) (λ f. k u (inl refl) (sym f))) m), h)
+    by_test false e rest = ((λ t m. under t (leb-false u.from s.from e) (placed_in s ss t m)), rest)
 
 highest_descends : (ss : List Slab) → AreDistinct ss → Descends (highest_first ss)
 highest_descends [] h = tt

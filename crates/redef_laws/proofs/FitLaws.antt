@@ -1,10 +1,13 @@
 -- A header that can be redefined has the facts that extras keep, and so has the new header.
-use Rattle.std.proofs.Common.{◌≡◌, ℕ, ◌+◌, ◌*◌, ◌<◌, ◌≤◌, List, [], ◌∷◌, length, drop, Bool, true, false, cond, ◌||◌, Option, Some, None, refl, sym, ap, ◌∙◌, arith}
+use Rattle.std.proofs.Common.{◌≡◌, ℕ, ◌+◌, ◌*◌, ◌<◌, ◌≤◌, List, [], ◌∷◌, length, drop, Bool, true, false, cond, ◌||◌, Some, None, refl, sym, ap, ◌∙◌, arith}
 use Rattle.std.specs.Prelude.{not, nat_le, ◌==◌, count_by, position, option_map, is_none}
 use Rattle.std.specs.List.{list_all, position_from, AllByRecursion}
-use Rattle.std.specs.Option.{option_or}
 use Rattle.std.proofs.lemmas.Iterator.Adapters.{position_from-zero}
 use Rattle.std.proofs.lemmas.List.Sums.{length-filter}
+use Rattle.std.proofs.lemmas.Bool.{or_parts, not-false, leb-true, ltb-false, leb-false, eqb-true}
+use Rattle.list_laws.proofs.Each.{passes_each, fails_each, each_weaker}
+use Rattle.list_laws.proofs.Truth.{and_first, and_second}
+use Rattle.list_laws.proofs.Optional.{both_none, none_of_test, none_before_map, neither_some}
 use Rattle.nc_base.specs.declared.header.Header.{Header}
 use Rattle.nc_base.specs.declared.header.Dim.{Dim}
 use Rattle.nc_base.specs.declared.header.Attr.{Attr}
@@ -15,11 +18,7 @@ use Rattle.serial_spec.specs.ExternalForm.{size_of}
 use Rattle.serial_spec.specs.Layout.{sharing}
 use Rattle.serial_spec.specs.HeaderGrammar.{is_sound, first_check, first_with, fault_if, two_record_dims, record_later, is_record_id, bad_id, is_too_large, all_ones, measure, counts_are_small, is_version, header_len, fits_count, is_writable_dim, is_writable_attr, is_writable_list}
 use Rattle.serial_spec.specs.Redefinition.{is_redefinable, is_redefinable_var}
-use Rattle.serial_spec.proofs.ApartLaws.{neither, no_some}
-use Rattle.serial_spec.proofs.RoomLaws.{unmapped}
 use Rattle.cdf_header.proofs.Pieces.{no_fault}
-use Rattle.var_layout.proofs.Soundness.{and_left, and_right}
-use Rattle.redef_laws.proofs.FieldLaws.{or_none, not_false, le_told, not_lt_told, not_le_told, eq_told, passes_each, fails_each, each_then}
 use Rattle.redef_laws.proofs.GrownLaws.{IsTyped, HasFitLength, IsFitVar, IsFit, is_record_dim}
 
 -- ---- the checks of a sound header
@@ -36,33 +35,30 @@ pub record IsChecked (header : Header) : Type 0 where
 
 pub checked : (header : Header) → is_sound header ≡ true → IsChecked header
 checked header h =
-    let checks : first_check header ≡ None = no_some _ (and_right _ _ h) in
-    let a = neither (fault_if (two_record_dims header) fault.TwoRecordDims) _ checks in
-    let b = neither (first_with (record_later header) (λ k. fault.RecordDimNotFirst k) header.vars) _ a.1 in
-    let c = neither (first_with (bad_id header) (λ k. fault.BadDimId k) header.vars) _ b.1 in
-    let d = neither (fault_if (header.records == all_ones header.version) fault.Streaming) _ c.1 in
-    let e = neither (fault_if (is_too_large header) fault.TooLarge) _ d.1 in
-    let large = or_none (not (is_none (measure header))) (nat_le (record_limit header.version) header.records) (no_fault (is_too_large header) fault.TooLarge e.0) in
+    let checks : first_check header ≡ None = none_of_test _ (and_second _ _ h) in
+    let a = both_none (fault_if (two_record_dims header) fault.TwoRecordDims) _ checks in
+    let b = both_none (first_with (record_later header) (λ k. fault.RecordDimNotFirst k) header.vars) _ a.1 in
+    let c = both_none (first_with (bad_id header) (λ k. fault.BadDimId k) header.vars) _ b.1 in
+    let d = both_none (fault_if (header.records == all_ones header.version) fault.Streaming) _ c.1 in
+    let e = both_none (fault_if (is_too_large header) fault.TooLarge) _ d.1 in
+    let large = or_parts (not (is_none (measure header))) (nat_le (record_limit header.version) header.records) (no_fault (is_too_large header) fault.TooLarge e.0) in
     record {
       one_record = no_fault (two_record_dims header) fault.TwoRecordDims a.0;
-      first = unmapped (λ k. fault.RecordDimNotFirst k) _ b.0;
-      ids = unmapped (λ k. fault.BadDimId k) _ c.0;
+      first = none_before_map (λ k. fault.RecordDimNotFirst k) _ b.0;
+      ids = none_before_map (λ k. fault.BadDimId k) _ c.0;
       counted = no_fault (header.records == all_ones header.version) fault.Streaming d.0;
-      measured = no_some (measure header) (not_false _ large.0);
+      measured = none_of_test (measure header) (not-false _ large.0);
       few = large.1;
-      apart = unmapped (λ p. fault.Shared p.0 p.1) _ e.1;
+      apart = none_before_map (λ p. fault.Shared p.0 p.1) _ e.1;
     }
-
-none_both : {A : Type 0} (a b : Option A) → a ≡ None → b ≡ None → option_or a b ≡ None
-none_both a b e f = ap (λ o. option_or o b) e ∙ f
 
 pub passes_checks : (header : Header) → IsChecked header → first_check header ≡ None
 passes_checks header c =
-    none_both _ _ (ap (λ (t : Bool). fault_if t fault.TwoRecordDims) c.one_record)
-    (none_both _ _ (ap (λ o. option_map (λ k. fault.RecordDimNotFirst k) o) c.first)
-    (none_both _ _ (ap (λ o. option_map (λ k. fault.BadDimId k) o) c.ids)
-    (none_both _ _ (ap (λ (t : Bool). fault_if t fault.Streaming) c.counted)
-    (none_both _ _ (ap (λ (t : Bool). fault_if t fault.TooLarge) small)
+    neither_some _ _ (ap (λ (t : Bool). fault_if t fault.TwoRecordDims) c.one_record)
+    (neither_some _ _ (ap (λ o. option_map (λ k. fault.RecordDimNotFirst k) o) c.first)
+    (neither_some _ _ (ap (λ o. option_map (λ k. fault.BadDimId k) o) c.ids)
+    (neither_some _ _ (ap (λ (t : Bool). fault_if t fault.Streaming) c.counted)
+    (neither_some _ _ (ap (λ (t : Bool). fault_if t fault.TooLarge) small)
     (ap (λ o. option_map (λ p. fault.Shared p.0 p.1) o) c.apart)))))
   where
     small : is_too_large header ≡ false
@@ -101,20 +97,20 @@ pub record IsOpened (old : Header) : Type 0 where
 fit_attr : (version : ℕ) (a : Attr) → is_writable_attr version a ≡ true → IsTyped version a
 fit_attr version a h =
     record {
-      kind = and_right (fits_count version (length a.name)) _ (and_left _ _ (and_left _ _ h));
-      whole = eq_told (length a.bytes) (a.count * size_of a.kind) (and_right _ _ h);
+      kind = and_second (fits_count version (length a.name)) _ (and_first _ _ (and_first _ _ h));
+      whole = eqb-true (length a.bytes) (a.count * size_of a.kind) (and_second _ _ h);
     }
 
 fit_attrs : (version : ℕ) (attrs : List Attr) → is_writable_list version (is_writable_attr version) attrs ≡ true → AllByRecursion (IsTyped version) attrs
 fit_attrs version attrs h =
-    each_then (λ a. is_writable_attr version a ≡ true) (IsTyped version) (fit_attr version) attrs
-    (passes_each (is_writable_attr version) attrs (and_right (fits_count version (length attrs)) _ h))
+    each_weaker (λ a. is_writable_attr version a ≡ true) (IsTyped version) (fit_attr version) attrs
+    (passes_each (is_writable_attr version) attrs (and_second (fits_count version (length attrs)) _ h))
 
 fit_dim : (version : ℕ) (d : Dim) → is_writable_dim version d ≡ true → HasFitLength version d
 fit_dim version d h =
     record {
-      fits = and_right (fits_count version (length d.name)) _ (and_left _ _ h);
-      small = le_told d.len file_limit (and_right _ _ h);
+      fits = and_second (fits_count version (length d.name)) _ (and_first _ _ h);
+      small = leb-true d.len file_limit (and_second _ _ h);
     }
 
 -- of a variable, what the tests of its number of ids, of the ids, of the record dimension and of its parts tell
@@ -126,15 +122,15 @@ record IsToldVar (header : Header) (v : Var) : Type 0 where
 
 fit_var : (header : Header) (v : Var) → IsToldVar header v → IsFitVar header.version header.dims v
 fit_var header v t =
-    let h4 = and_left _ _ t.parts in
+    let h4 = and_first _ _ t.parts in
     record {
-      few = le_told (length v.dims) 32 t.few;
+      few = leb-true (length v.dims) 32 t.few;
       known =
-          each_then (λ id. nat_le (length header.dims) id ≡ false) (λ id. id < length header.dims) (λ id e. not_le_told (length header.dims) id e) v.dims
+          each_weaker (λ id. nat_le (length header.dims) id ≡ false) (λ id. id < length header.dims) (λ id e. leb-false (length header.dims) id e) v.dims
           (fails_each (λ id. nat_le (length header.dims) id) v.dims t.ids);
       later = fails_each (λ id. is_record_id header id) (drop 1 v.dims) t.later;
-      known_type = and_right _ _ h4;
-      typed = fit_attrs header.version v.attrs (and_right _ _ (and_left _ _ h4));
+      known_type = and_second _ _ h4;
+      typed = fit_attrs header.version v.attrs (and_second _ _ (and_first _ _ h4));
     }
 
 told_vars : (header : Header) (vs : List Var) → AllByRecursion (λ (v : Var). nat_le (length v.dims) most_dims_of_var ≡ true) vs → AllByRecursion (λ v. bad_id header v ≡ false) vs
@@ -146,34 +142,34 @@ told_vars header (v ∷ vs) a b c d =
 
 pub opened_old : (old : Header) → is_redefinable old ≡ true → IsOpened old
 opened_old old h =
-    let h4 = and_left _ _ h in
-    let h3 = and_left _ _ h4 in
-    let h2 = and_left _ _ h3 in
-    let sound = and_left (is_sound old) _ h2 in
+    let h4 = and_first _ _ h in
+    let h3 = and_first _ _ h4 in
+    let h2 = and_first _ _ h3 in
+    let sound = and_first (is_sound old) _ h2 in
     let c = checked old sound in
-    let counts = and_right (is_version old.version) (counts_are_small old) (and_left _ _ (and_left _ _ sound)) in
-    let limits = and_left _ (list_all (λ (v : Var). nat_le (length v.dims) most_dims_of_var) old.vars) counts in
-    let dims : AllByRecursion (λ d. is_writable_dim old.version d ≡ true) old.dims = passes_each (is_writable_dim old.version) old.dims (and_right (fits_count old.version (length old.dims)) _ (and_right _ _ h3)) in
-    let one = not_lt_told 1 (count_by (λ (d : Dim). d.len == 0) old.dims) c.one_record in
+    let counts = and_second (is_version old.version) (counts_are_small old) (and_first _ _ (and_first _ _ sound)) in
+    let limits = and_first _ (list_all (λ (v : Var). nat_le (length v.dims) most_dims_of_var) old.vars) counts in
+    let dims : AllByRecursion (λ d. is_writable_dim old.version d ≡ true) old.dims = passes_each (is_writable_dim old.version) old.dims (and_second (fits_count old.version (length old.dims)) _ (and_second _ _ h3)) in
+    let one = ltb-false 1 (count_by (λ (d : Dim). d.len == 0) old.dims) c.one_record in
     let same = length-filter is_record_dim old.dims in
     record {
       sound = sound;
-      version = and_left (is_version old.version) _ (and_left _ _ (and_left _ _ sound));
-      records = and_right (is_sound old) _ h2;
+      version = and_first (is_version old.version) _ (and_first _ _ (and_first _ _ sound));
+      records = and_second (is_sound old) _ h2;
       fit = record {
-        few_dims = le_told (length old.dims) 1024 (and_left (nat_le (length old.dims) most_dims) _ limits);
-        few_vars = le_told (length old.vars) 8192 (and_right (nat_le (length old.dims) most_dims) _ limits);
-        lengths = each_then (λ d. is_writable_dim old.version d ≡ true) (HasFitLength old.version) (fit_dim old.version) old.dims dims;
+        few_dims = leb-true (length old.dims) 1024 (and_first (nat_le (length old.dims) most_dims) _ limits);
+        few_vars = leb-true (length old.vars) 8192 (and_second (nat_le (length old.dims) most_dims) _ limits);
+        lengths = each_weaker (λ d. is_writable_dim old.version d ≡ true) (HasFitLength old.version) (fit_dim old.version) old.dims dims;
         one_record = at_most_one _ _ one same;
-        attrs = fit_attrs old.version old.attrs (and_right _ _ h4);
+        attrs = fit_attrs old.version old.attrs (and_second _ _ h4);
         vars =
-            told_vars old old.vars (passes_each (λ (v : Var). nat_le (length v.dims) most_dims_of_var) old.vars (and_right _ _ counts))
+            told_vars old old.vars (passes_each (λ (v : Var). nat_le (length v.dims) most_dims_of_var) old.vars (and_second _ _ counts))
             (none_found (bad_id old) old.vars c.ids) (none_found (record_later old) old.vars c.first)
-            (passes_each (is_redefinable_var old) old.vars (and_right (fits_count old.version (length old.vars)) _ (and_right _ _ h)));
+            (passes_each (is_redefinable_var old) old.vars (and_second (fits_count old.version (length old.vars)) _ (and_second _ _ h)));
       };
       dim_names =
-          each_then (λ d. is_writable_dim old.version d ≡ true) (λ d. fits_count old.version (length d.name) ≡ true)
-          (λ d e. and_left (fits_count old.version (length d.name)) _ (and_left _ _ e)) old.dims dims;
+          each_weaker (λ d. is_writable_dim old.version d ≡ true) (λ d. fits_count old.version (length d.name) ≡ true)
+          (λ d e. and_first (fits_count old.version (length d.name)) _ (and_first _ _ e)) old.dims dims;
     }
   where
     at_most_one : (n m : ℕ) → n ≤ 1 → m ≡ n → m ≤ 1

@@ -3,13 +3,16 @@ use Rattle.std.proofs.Common.{◌≡◌, ℕ, zero, suc, ◌+◌, ◌-◌, ◌*�
 use Rattle.std.proofs.lemmas.Nat.{div_below}
 use Rattle.std.specs.Prelude.{filter, map, flat_map, nat_le, nat_lt, ◌==◌}
 use Rattle.std.specs.List.{range_with_len, list_any}
+use Rattle.std.proofs.lemmas.List.FromFn.{length-range_with_len}
+use Rattle.std.proofs.lemmas.Bool.{or_left, or_right, or_cases, lt-ltb, le-ltb, le-leb, lt-leb}
+use Rattle.list_laws.proofs.Truth.{equal_above, equal_true}
+use Rattle.list_laws.proofs.Ranges.{range_append}
 use Rattle.nc_base.specs.declared.step.DiskCall.{DiskCall}
 use Rattle.nc_base.specs.declared.step.DiskCall.TheVariants.{Store}
 use Rattle.serial_spec.specs.DeviceCalls.{Slab, run_before, runs, stores, first_of, window_count}
 use Rattle.overlay_laws.specs.Entries.{In, HaveSame}
-use Rattle.overlay_laws.proofs.HullLaws.{range_low, range_high, or_left, or_right, or_split, in_either}
-use Rattle.overlay_laws.proofs.WalkLaws.{filter_same, filter_none, filter_all, filter_joined, eq_true, eq_false, lt_true, lt_false, le_true, le_false}
-use Rattle.overlay_laws.proofs.CoverLaws.{range_split, range_long}
+use Rattle.overlay_laws.proofs.HullLaws.{range_low, range_high, in_either}
+use Rattle.overlay_laws.proofs.WalkLaws.{filter_same, filter_none, filter_all, filter_joined}
 use Rattle.redef_laws.specs.Rising.{gaps, IsRisen}
 use Rattle.redef_laws.proofs.ChainLaws.{risen_past}
 
@@ -28,17 +31,17 @@ gap_bytes g = range_with_len g.0 g.1
 -- ---- the bare bytes are those of the gaps
 
 covered_inside : (x : ℕ) (s : Slab) → s.to ≤ x → x < s.to + s.len → covers x s ≡ true
-covered_inside x s h k = ap (λ b. b && nat_lt x (s.to + s.len)) (le_true s.to x h) ∙ lt_true x (s.to + s.len) k
+covered_inside x s h k = ap (λ b. b && nat_lt x (s.to + s.len)) (le-leb s.to x h) ∙ lt-ltb x (s.to + s.len) k
 
 uncovered_before : (x : ℕ) (s : Slab) → x < s.to → covers x s ≡ false
-uncovered_before x s h = ap (λ b. b && nat_lt x (s.to + s.len)) (le_false s.to x h)
+uncovered_before x s h = ap (λ b. b && nat_lt x (s.to + s.len)) (lt-leb s.to x h)
 
 and_false : (a b : Bool) → b ≡ false → (a && b) ≡ false
 and_false true b h = h
 and_false false b h = refl
 
 uncovered_past : (x : ℕ) (s : Slab) → s.to + s.len ≤ x → covers x s ≡ false
-uncovered_past x s h = and_false (nat_le s.to x) (nat_lt x (s.to + s.len)) (lt_false x (s.to + s.len) h)
+uncovered_past x s h = and_false (nat_le s.to x) (nat_lt x (s.to + s.len)) (le-ltb x (s.to + s.len) h)
 
 bare_before : (a b x : ℕ) (ss : List Slab) → IsRisen a b ss → x < b → is_bare ss x ≡ true
 bare_before a b x ss h k = ap not (none_covers ss (λ s g. uncovered_before x s (let r = risen_past a b ss s h g in let l = r.1 in omega arith)))
@@ -48,7 +51,7 @@ bare_before a b x ss h k = ap not (none_covers ss (λ s g. uncovered_before x s 
     none_covers (t ∷ ts) m = ap (λ c. c || list_any (λ s. covers x s) ts) (m t (inl refl)) ∙ none_covers ts (λ s g. m s (inr g))
 
 three_parts : (a m n k : ℕ) → range_with_len a (m + (n + k)) ≡ range_with_len a m ++ (range_with_len (a + m) n ++ range_with_len (a + m + n) k)
-three_parts a m n k = range_split a m (n + k) ∙ ap (λ r. range_with_len a m ++ r) (range_split (a + m) n k)
+three_parts a m n k = range_append a m (n + k) ∙ ap (λ r. range_with_len a m ++ r) (range_append (a + m) n k)
 
 -- all slabs end before `end`
 abbrev pub EndsBy : ℕ → List Slab → Type 0
@@ -113,10 +116,10 @@ run_starts x ((y ∷ ys) ∷ others) = by_test (y == x + 1)
     by_test false = ([], (y ∷ ys) ∷ others, refl)
 
 run_apart : (x y : ℕ) (ys : List ℕ) (others : List (List ℕ)) → x + 1 < y → run_before x ((y ∷ ys) ∷ others) ≡ (x ∷ []) ∷ (y ∷ ys) ∷ others
-run_apart x y ys others h = ap (λ b. cond b ((x ∷ y ∷ ys) ∷ others) ((x ∷ []) ∷ (y ∷ ys) ∷ others)) (eq_false (x + 1) y h)
+run_apart x y ys others h = ap (λ b. cond b ((x ∷ y ∷ ys) ∷ others) ((x ∷ []) ∷ (y ∷ ys) ∷ others)) (equal_above y (x + 1) h)
 
 run_next : (x : ℕ) (ys : List ℕ) (others : List (List ℕ)) → run_before x (((x + 1) ∷ ys) ∷ others) ≡ (x ∷ (x + 1) ∷ ys) ∷ others
-run_next x ys others = ap (λ b. cond b ((x ∷ (x + 1) ∷ ys) ∷ others) ((x ∷ []) ∷ ((x + 1) ∷ ys) ∷ others)) (eq_true (x + 1) (x + 1) refl)
+run_next x ys others = ap (λ b. cond b ((x ∷ (x + 1) ∷ ys) ∷ others) ((x ∷ []) ∷ ((x + 1) ∷ ys) ∷ others)) (equal_true (x + 1) (x + 1) refl)
 
 -- a number that none follows at once is a run
 run_alone : (x : ℕ) (rest : List ℕ) → ((y : ℕ) → In rest y → x + 1 < y) → run_before x (runs rest) ≡ (x ∷ []) ∷ runs rest
@@ -180,7 +183,7 @@ stores_of_gaps z at ((from, zero) ∷ gs) h k =
     stores_of_gaps z (from + 0 + 1) gs h k.1 ∙ ap (λ c. c ++ flat_map (gap_stores z) gs) (sym (stores_none z from h))
 stores_of_gaps z at ((from, suc n) ∷ gs) h k =
     ap (flat_map (run_stores z)) (run_of_range from n (flat_map gap_bytes gs) (λ y m. let l = gap_bytes_past (from + suc n + 1) gs y k.1 m in omega arith))
-    ∙ ap (λ len. stores z from len ++ flat_map (run_stores z) (runs (flat_map gap_bytes gs))) (range_long from (suc n))
+    ∙ ap (λ len. stores z from len ++ flat_map (run_stores z) (runs (flat_map gap_bytes gs))) (length-range_with_len from (suc n))
     ∙ ap (λ c. stores z from (suc n) ++ c) (stores_of_gaps z (from + suc n + 1) gs h k.1)
 
 -- ---- lists with the same members
@@ -193,7 +196,7 @@ any_member t (u ∷ ss) s (inr h) k = or_right (t u) (list_any t ss) (any_member
 any_found : (t : Slab → Bool) (ss : List Slab) → list_any t ss ≡ true → (s : Slab) × In ss s × (t s ≡ true)
 any_found t [] h = cc
 any_found t (u ∷ ss) h =
-    elim (or_split (t u) (list_any t ss) h) [
+    elim (or_cases (t u) (list_any t ss) h) [
       | inl e ↦ (u, inl refl, e)
       | inr k ↦ (let r = any_found t ss k in (r.0, inr r.1, r.2))
     ]

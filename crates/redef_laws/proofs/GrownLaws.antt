@@ -1,10 +1,14 @@
 -- What a header keeps while extras are added to it.
-use Rattle.std.proofs.Common.{◌≡◌, ℕ, zero, suc, ◌+◌, ◌*◌, ◌^◌, ◌<◌, ◌≤◌, List, [], ◌∷◌, ◌++◌, length, drop, map, Bool, true, false, cond, ◌&&◌, ◌||◌, Option, Some, None, refl, sym, ap, subst, ◌∙◌, arith, length-append}
+use Rattle.std.proofs.Common.{◌≡◌, ℕ, suc, ◌+◌, ◌*◌, ◌^◌, ◌<◌, ◌≤◌, List, [], ◌∷◌, ◌++◌, length, drop, map, Bool, true, false, cond, ◌&&◌, ◌||◌, Option, Some, None, refl, sym, ap, subst, ◌∙◌, arith, length-append}
 use Rattle.std.specs.Prelude.{not, nat_lt, nat_le, ◌==◌, is_none, unwrap_or, filter, slice_get, bytes_eq}
 use Rattle.std.specs.List.{list_any, list_all, position_from, AllByRecursion}
 use Rattle.std.proofs.lemmas.Iterator.Adapters.{position_from-zero}
 use Rattle.std.proofs.lemmas.List.{length-map}
 use Rattle.std.proofs.lemmas.List.Elements.{filter-append}
+use Rattle.std.proofs.lemmas.Bool.{le-leb, leb-true, ltb-true, ltb-false, leb-false, eqb-true}
+use Rattle.std.proofs.lemmas.Option.{slice_get_within}
+use Rattle.list_laws.proofs.Each.{fails_each, each_weaker, each_push, each_later, each_at, each_map}
+use Rattle.list_laws.proofs.Truth.{and_first, and_second}
 use Rattle.nc_base.specs.declared.header.Header.{Header}
 use Rattle.nc_base.specs.declared.header.Dim.{Dim}
 use Rattle.nc_base.specs.declared.header.Attr.{Attr}
@@ -22,8 +26,7 @@ use Rattle.serial_spec.specs.RankMachine.{find_dim}
 use Rattle.serial_spec.specs.Lawful.{is_lawful_extra, is_whole_extra}
 use Rattle.serial_spec.specs.Redefinition.{with_attr, with_extra, added, dim_id, is_taken, is_unknown, has_bad_shape, is_one_too_many, has_bad_kind, extra_fault, extras_from}
 use Rattle.serial_spec.proofs.ElementLaws.{get_left}
-use Rattle.var_layout.proofs.Soundness.{and_left, and_right}
-use Rattle.redef_laws.proofs.FieldLaws.{not_both, lt_told, le_told, not_lt_told, not_le_told, le_test, eq_told, each_then, each_both, fails_each, count_fits}
+use Rattle.redef_laws.proofs.FieldLaws.{not_both, each_both, count_fits}
 
 -- ---- the facts
 
@@ -63,23 +66,6 @@ pub record IsFit (h : Header) : Type 0 where
 
 -- ---- lists
 
-pub each_push : {A : Type 0} (P : A → Type 0) (xs : List A) (y : A) → AllByRecursion P xs → P y → AllByRecursion P (xs ++ y ∷ [])
-each_push P [] y h p = (p, tt)
-each_push P (x ∷ xs) y h p = (h.0, each_push P xs y h.1 p)
-
-pub each_later : {A : Type 0} (P : A → Type 0) (xs : List A) → AllByRecursion P xs → AllByRecursion P (drop 1 xs)
-each_later P [] h = tt
-each_later P (x ∷ xs) h = h.1
-
-pub each_at : {A : Type 0} (P : A → Type 0) (xs : List A) (k : ℕ) (x : A) → AllByRecursion P xs → slice_get xs k ≡ Some x → P x
-each_at P [] k x h g = absurd cc
-each_at P (y ∷ xs) zero x h g = let same : y ≡ x = cc in subst P same h.0
-each_at P (y ∷ xs) (suc k) x h g = each_at P xs k x h.1 g
-
-each_mapped : {A B : Type 0} (P : B → Type 0) (f : A → B) (xs : List A) → AllByRecursion (λ x. P (f x)) xs → AllByRecursion P (map f xs)
-each_mapped P f [] h = tt
-each_mapped P f (x ∷ xs) h = (h.0, each_mapped P f xs h.1)
-
 -- where the first item is that passes
 record IsFirst {A : Type 0} (test : A → Bool) (xs : List A) (n k : ℕ) : Type 0 where
   at : ℕ
@@ -99,11 +85,6 @@ first_at {A} test n k (x ∷ xs) h = by_test (first_at test (n + 1) k xs) (test 
         let rest = later g in
         let place = rest.place in
         record { at = suc rest.at; place = omega arith; item = rest.item; there = rest.there; passes = rest.passes }
-
-within : {A : Type 0} (xs : List A) (k : ℕ) (x : A) → slice_get xs k ≡ Some x → k < length xs
-within [] k x h = absurd cc
-within (y ∷ xs) zero x h = omega arith
-within (y ∷ xs) (suc k) x h = let l = within xs k x h in omega arith
 
 -- ---- no fault of one extra
 
@@ -137,7 +118,7 @@ fit_with_dim version dims d ids kind attrs fit =
     let long = length-append dims (d ∷ []) in
     record {
       few = fit.few;
-      known = each_then (λ id. id < length dims) (λ id. id < length (dims ++ d ∷ [])) (λ id l. omega arith) ids fit.known;
+      known = each_weaker (λ id. id < length dims) (λ id. id < length (dims ++ d ∷ [])) (λ id l. omega arith) ids fit.known;
       later =
           each_both (λ id. id < length dims) (λ id. is_record_at dims id ≡ false) (λ id. is_record_at (dims ++ d ∷ []) id ≡ false)
           (λ id l e. more_dims dims d id l ∙ e) (drop 1 ids) (each_later (λ id. id < length dims) ids fit.known) fit.later;
@@ -171,16 +152,16 @@ one_record_still dims d l h =
 
 length_fits : (version : ℕ) (d : Dim) → nat_lt d.len (2 ^ 62) ≡ true → (not (version == 5) && nat_le (2 ^ 31) d.len) ≡ false → HasFitLength version d
 length_fits version d lawful h =
-    let small : d.len < 2 ^ 62 = lt_told d.len (2 ^ 62) lawful in
+    let small : d.len < 2 ^ 62 = ltb-true d.len (2 ^ 62) lawful in
     record {
-      fits = count_fits version d.len small (λ e. not_le_told (2 ^ 31) d.len (not_both (not (version == 5)) _ h (ap (λ (t : Bool). not t) e)));
+      fits = count_fits version d.len small (λ e. leb-false (2 ^ 31) d.len (not_both (not (version == 5)) _ h (ap (λ (t : Bool). not t) e)));
       small = omega arith;
     }
 
 with_dim : (h : Header) (d : Dim) → IsFit h → HasNoFault h (extra.Dim d) → is_lawful_extra (extra.Dim d) ≡ true → IsFit (with_extra h (extra.Dim d))
 with_dim h d fit none lawful =
     let long = length-append h.dims (d ∷ []) in
-    let room = not_le_told most_dims (length h.dims) none.room in
+    let room = leb-false most_dims (length h.dims) none.room in
     record {
       few_dims = omega arith;
       few_vars = fit.few_vars;
@@ -188,7 +169,7 @@ with_dim h d fit none lawful =
       one_record = one_record_still h.dims d fit.one_record none.shape;
       attrs = fit.attrs;
       vars =
-          each_then (IsFitVar h.version h.dims) (IsFitVar h.version (h.dims ++ d ∷ []))
+          each_weaker (IsFitVar h.version h.dims) (IsFitVar h.version (h.dims ++ d ∷ []))
           (λ v f. fit_with_dim h.version h.dims d v.dims v.kind v.attrs f) h.vars fit.vars;
     }
 
@@ -211,8 +192,8 @@ known_dim h name e = by_found (find_dim h name) refl e
 
 ids_known : (h : Header) (names : List (List ℕ)) → AllByRecursion (λ n. is_none (find_dim h n) ≡ false) names → AllByRecursion (λ n. dim_id h n < length h.dims) names
 ids_known h names all =
-    each_then (λ n. is_none (find_dim h n) ≡ false) (λ n. dim_id h n < length h.dims)
-    (λ n e. let found = known_dim h n e in within h.dims (dim_id h n) found.dim found.there) names all
+    each_weaker (λ n. is_none (find_dim h n) ≡ false) (λ n. dim_id h n < length h.dims)
+    (λ n e. let found = known_dim h n e in slice_get_within h.dims (dim_id h n) found.dim found.there) names all
 
 later_mapped : {A B : Type 0} (P : B → Type 0) (f : A → B) (xs : List A) → AllByRecursion P (map f (drop 1 xs)) → AllByRecursion P (drop 1 (map f xs))
 later_mapped P f [] h = tt
@@ -221,17 +202,17 @@ later_mapped P f (x ∷ xs) h = h
 fit_new_var : (h : Header) (kind : NcType) (name : List ℕ) (names : List (List ℕ)) → HasNoFault h (extra.Var kind name names) → is_lawful_extra (extra.Var kind name names) ≡ true
     → IsFitShape h.version h.dims (map (dim_id h) names) kind []
 fit_new_var h kind name names none lawful =
-    let few : length names ≤ 32 = le_told (length names) 32 lawful in
+    let few : length names ≤ 32 = leb-true (length names) 32 lawful in
     let long = length-map names (dim_id h) in
     let there = fails_each (λ n. is_none (find_dim h n)) names none.known in
     record {
       few = omega arith;
-      known = each_mapped (λ id. id < length h.dims) (dim_id h) names (ids_known h names there);
+      known = each_map (λ id. id < length h.dims) (dim_id h) names (ids_known h names there);
       later =
           later_mapped (λ id. is_record_at h.dims id ≡ false) (dim_id h) names
-          (each_mapped (λ id. is_record_at h.dims id ≡ false) (dim_id h) (drop 1 names)
+          (each_map (λ id. is_record_at h.dims id ≡ false) (dim_id h) (drop 1 names)
           (fails_each (λ n. is_record_id h (dim_id h n)) (drop 1 names) none.shape));
-      known_type = le_test _ _ (not_lt_told _ _ none.kind);
+      known_type = le-leb _ _ (ltb-false _ _ none.kind);
       typed = tt;
     }
 
@@ -240,7 +221,7 @@ with_var : (h : Header) (kind : NcType) (name : List ℕ) (names : List (List �
 with_var h kind name names fit none lawful =
     let v = new_var in
     let long = length-append h.vars (v ∷ []) in
-    let room = not_le_told most_vars (length h.vars) none.room in
+    let room = leb-false most_vars (length h.vars) none.room in
     record {
       few_dims = fit.few_dims;
       few_vars = omega arith;
@@ -256,7 +237,7 @@ with_var h kind name names fit none lawful =
 -- ---- one more attribute
 
 typed : (h : Header) (owner : Option (List ℕ)) (a : Attr) → HasNoFault h (extra.Att owner a) → is_whole_extra (extra.Att owner a) ≡ true → IsTyped h.version a
-typed h owner a none whole = record { kind = le_test _ _ (not_lt_told _ _ none.kind); whole = eq_told (length a.bytes) (a.count * size_of a.kind) whole }
+typed h owner a none whole = record { kind = le-leb _ _ (ltb-false _ _ none.kind); whole = eqb-true (length a.bytes) (a.count * size_of a.kind) whole }
 
 pub attr_pushed : (P : Var → Type 0) (name : List ℕ) (a : Attr) (vs : List Var) → ((v : Var) → P v → P (record v { attrs = v.attrs ++ a ∷ [] }))
     → AllByRecursion P vs → AllByRecursion P (with_attr name a vs)
@@ -327,8 +308,8 @@ all_more h k [] fit none lawful whole = fit
 all_more h k (e ∷ extras) fit none lawful whole =
     let first = no_first h k e extras none in
     all_more (with_extra h e) (suc k) extras
-    (one_more h e fit (no_fault_of h k e first.0) (and_left (is_lawful_extra e) _ lawful) (and_left (is_whole_extra e) _ whole))
-    first.1 (and_right (is_lawful_extra e) _ lawful) (and_right (is_whole_extra e) _ whole)
+    (one_more h e fit (no_fault_of h k e first.0) (and_first (is_lawful_extra e) _ lawful) (and_first (is_whole_extra e) _ whole))
+    first.1 (and_second (is_lawful_extra e) _ lawful) (and_second (is_whole_extra e) _ whole)
 
 pub record HasVersionOf (old new : Header) : Type 0 where
   pub version : new.version ≡ old.version

@@ -5,6 +5,8 @@ use Rattle.std.specs.List.{enumerate_from}
 use Rattle.std.proofs.lemmas.Bool.Decides.{nat_tests}
 use Rattle.std.proofs.lemmas.List.Sums.{sum_by-cons}
 use Rattle.std.proofs.lemmas.List.Filters.{sum_by-filter_both}
+use Rattle.std.proofs.lemmas.Bool.{lt-ltb}
+use Rattle.list_laws.proofs.Places.{entry_below}
 use Rattle.nc_base.specs.declared.header.Header.{Header}
 use Rattle.nc_base.specs.declared.header.Attr.{Attr}
 use Rattle.nc_base.specs.declared.header.Var.{Var}
@@ -15,19 +17,13 @@ use Rattle.serial_spec.specs.ExternalForm.{size_of}
 use Rattle.serial_spec.specs.Layout.{product, lengths, starts_with_zero, without_record, is_record, round_up, slab, vsize, recsize, record_share, record_variables}
 use Rattle.serial_spec.specs.HeaderGrammar.{is_sound}
 use Rattle.serial_spec.specs.Redefinition.{Numbered, with_attr, with_extra, added, records_in, old_of, begins_by_number}
-use Rattle.serial_spec.proofs.AddedLaws.{redefined_keeps}
+use Rattle.serial_spec.proofs.AddedLaws.{redefined_keeps, in_front}
 use Rattle.var_layout.proofs.Soundness.{recsize_below}
-use Rattle.redef_laws.proofs.FieldLaws.{lt_test}
 use Rattle.redef_laws.proofs.RebegunLaws.{rebegun_at}
 use Rattle.redef_laws.proofs.BeginLaws.{vsizes}
 use Rattle.redef_laws.proofs.PlaceLaws.{numbered, old_records, new_records}
 
 -- ---- begins
-
-in_front : (vs ws : List Var) (k : ℕ) (v : Var) → slice_get vs k ≡ Some v → slice_get (vs ++ ws) k ≡ Some v
-in_front [] ws k v h = absurd cc
-in_front (x ∷ vs) ws zero v h = h
-in_front (x ∷ vs) ws (suc k) v h = in_front vs ws k v h
 
 abbrev BeginsAt : List Var → ℕ → ℕ → Type 0
 BeginsAt vs k b = (w : Var) × (slice_get vs k ≡ Some w) × (w.begin ≡ b)
@@ -89,16 +85,11 @@ kept_var old extras k v sound g =
       },
     )
 
-pub item_at : {A : Type 0} (xs : List A) (k : ℕ) → k < length xs → (x : A) × (slice_get xs k ≡ Some x)
-item_at [] k h = absurd (omega arith)
-item_at (x ∷ xs) zero h = (x, refl)
-item_at (x ∷ xs) (suc k) h = item_at xs k (omega arith)
-
 -- the old variable of a number
 pub old_var : (old : Header) (extras : List Extra) (k : ℕ) (w : Var) → is_sound old ≡ true → k < length old.vars → slice_get (added old extras).vars k ≡ Some w
     → (v : Var) × (slice_get old.vars k ≡ Some v) × IsKept old (added old extras) v w
 old_var old extras k w sound l g =
-    let found = item_at old.vars k l in
+    let found = entry_below old.vars k l in
     let kept = kept_var old extras k found.0 sound found.1 in
     let same = one_var (added old extras) k kept.0 w kept.1 g in
     (found.0, found.1, subst (λ (x : Var). IsKept old (added old extras) found.0 x) same kept.2)
@@ -131,7 +122,7 @@ old_sizes old header n a (o ∷ os) (w ∷ vs) e kept =
     by_kind (is_record header w) refl (old_sizes old header n (a + 1) os vs (omega arith) (λ k v g. kept (suc k) v g))
   where
     inside : nat_lt a n ≡ true
-    inside = lt_test a n (omega arith)
+    inside = lt-ltb a n (omega arith)
 
     own : IsKept old header o w
     own = let found = kept 0 o refl in first found.0 found.1 found.2

@@ -10,7 +10,6 @@ pub mod KeptLaws
 pub mod SharingLaws
 pub mod ApartLaws
 pub mod WrittenLaws
-pub mod Members
 pub mod SoundVars
 pub mod RecordSizes
 pub mod Ordered

@@ -1,8 +1,9 @@
 -- A file in which each slab stands at its new place is the redefined one: the redefined file is such a file, and there is no other.
-use Rattle.std.proofs.Common.{◌≡◌, ℕ, ◌+◌, ◌-◌, ◌<◌, ◌≤◌, refl, sym, ◌∙◌, ap, subst, inl, inr, ◌⊎◌, List, [], ◌∷◌, get_or, Bool, true, false, ◌&&◌, arith}
+use Rattle.std.proofs.Common.{◌≡◌, ℕ, ◌+◌, ◌-◌, ◌<◌, ◌≤◌, refl, sym, ◌∙◌, ap, subst, inl, inr, ◌⊎◌, List, [], ◌∷◌, get_or, true, arith}
 use Rattle.std.proofs.lemmas.Bool.{cases_lt}
 use Rattle.std.proofs.lemmas.Grind.{same_number_lists}
 use Rattle.std.proofs.lemmas.List.{get_or-take}
+use Rattle.list_laws.proofs.Truth.{and_first}
 use Rattle.nc_base.specs.declared.header.Header.{Header}
 use Rattle.nc_base.specs.declared.script.Extra.{Extra}
 use Rattle.serial_spec.specs.DeviceCalls.{Slab, slabs}
@@ -100,12 +101,8 @@ redefined_moved old new file left sound keeps r = record { long = r.long; head =
 
 -- ---- the law
 
-both_left : (a b : Bool) → (a && b) ≡ true → a ≡ true
-both_left true b h = refl
-both_left false b h = h
-
 pub writable_is_sound : (header : Header) → is_writable header ≡ true → is_sound header ≡ true
-writable_is_sound header h = both_left _ _ (both_left _ _ (both_left _ _ (both_left _ _ h)))
+writable_is_sound header h = and_first _ _ (and_first _ _ (and_first _ _ (and_first _ _ h)))
 
 pub moved_is_redefined : (old new : Header) (extras : List Extra) (file left : List ℕ) → is_sound new ≡ true → IsApplied old extras new → IsMoved old new file left
     → left ≡ redefined file old new
@@ -114,7 +111,7 @@ moved_is_redefined old new extras file left sound a m =
     (redefined_moved old new file (redefined file old new) old_sound keeps (redefined_is file old new sound keeps))
   where
     old_sound : is_sound old ≡ true
-    old_sound = both_left _ _ (both_left _ _ (both_left _ _ (both_left _ _ a.redefinable)))
+    old_sound = and_first _ _ (and_first _ _ (and_first _ _ (and_first _ _ a.redefinable)))
 
     keeps : KeepsVars old new
     keeps = subst (KeepsVars old) (sym a.made) (redefined_keeps old extras old_sound)

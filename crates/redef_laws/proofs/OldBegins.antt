@@ -1,15 +1,15 @@
 -- Where old variables begin that share no byte: fixed variables apart and below the records, record variables within one record.
-use Rattle.std.proofs.Common.{◌≡◌, ℕ, suc, ◌+◌, ◌<◌, ◌≤◌, refl, sym, ◌∙◌, ap, inl, inr, ◌⊎◌, List, [], ◌∷◌, Bool, true, false, true≢false, cond, ◌&&◌, ◌||◌, None, max, arith}
+use Rattle.std.proofs.Common.{◌≡◌, ℕ, suc, ◌+◌, ◌<◌, ◌≤◌, sym, ◌∙◌, ap, inl, inr, ◌⊎◌, List, [], ◌∷◌, Bool, true, false, true≢false, cond, ◌&&◌, None, max, arith}
 use Rattle.std.specs.Prelude.{filter, zip, nat_lt, nat_le}
+use Rattle.std.proofs.lemmas.Bool.{lt-ltb, or_parts}
 use borrow.Author.Tests.{ltb-false}
+use Rattle.list_laws.proofs.Optional.{told_else, both_none}
 use Rattle.nc_base.specs.declared.header.Header.{Header}
 use Rattle.nc_base.specs.declared.header.Var.{Var}
 use Rattle.serial_spec.specs.Layout.{is_record, recsize, slab, meet, share, records_meet, sharing_with, sharing_from}
-use Rattle.serial_spec.proofs.ApartLaws.{not_shared, neither}
 use Rattle.overlay_laws.specs.Entries.{In}
 use Rattle.overlay_laws.proofs.HullLaws.{filter_in}
-use Rattle.overlay_laws.proofs.WalkLaws.{lt_true}
-use Rattle.redef_laws.proofs.Members.{zip_left}
+use Rattle.overlay_laws.proofs.Members.{zip_left}
 
 -- any two places of the list have variables that share none
 abbrev pub ShareNone : Header → List (Var × Var) → Type 0
@@ -18,14 +18,14 @@ ShareNone old (p ∷ ps) = ((q : Var × Var) → In ps q → share old p.0 q.0 �
 
 none_with : (old : Header) (v : Var) (k m : ℕ) (ws : List Var) (w : Var) → sharing_with old v k m ws ≡ None → In ws w → share old v w ≡ false
 none_with old v k m [] w h g = absurd g
-none_with old v k m (x ∷ ws) w h (inl e) = sym (ap (share old v) e) ∙ (not_shared (share old v x) (k, m) (sharing_with old v k (suc m) ws) h).0
-none_with old v k m (x ∷ ws) w h (inr g) = none_with old v k (suc m) ws w (not_shared (share old v x) (k, m) (sharing_with old v k (suc m) ws) h).1 g
+none_with old v k m (x ∷ ws) w h (inl e) = sym (ap (share old v) e) ∙ (told_else (share old v x) (k, m) (sharing_with old v k (suc m) ws) h).0
+none_with old v k m (x ∷ ws) w h (inr g) = none_with old v k (suc m) ws w (told_else (share old v x) (k, m) (sharing_with old v k (suc m) ws) h).1 g
 
 pub zip_shares_none : (old : Header) (first k : ℕ) (vs ws : List Var) → sharing_from old first k vs ≡ None → ShareNone old (zip vs ws)
 zip_shares_none old first k [] ws h = tt
 zip_shares_none old first k (v ∷ vs) [] h = tt
 zip_shares_none old first k (v ∷ vs) (w ∷ ws) h =
-    let rest = neither (sharing_with old v k (suc k) vs) (sharing_from old first (suc k) vs) (not_shared (nat_lt v.begin first) (k, k) _ h).1 in
+    let rest = both_none (sharing_with old v k (suc k) vs) (sharing_from old first (suc k) vs) (told_else (nat_lt v.begin first) (k, k) _ h).1 in
     ((λ q m. none_with old v k (suc k) vs q.0 rest.0 (zip_left vs ws q m)), zip_shares_none old first (suc k) vs ws rest.1)
 
 pub filter_shares_none : (old : Header) (t : Var × Var → Bool) (ps : List (Var × Var)) → ShareNone old ps → ShareNone old (filter t ps)
@@ -47,10 +47,6 @@ either_way old (x ∷ ps) p q h (inr m) (inr n) = either_way old ps p q h.1 m n
 
 -- ---- what that says of begins
 
-either_false : (a b : Bool) → (a || b) ≡ false → (a ≡ false) × (b ≡ false)
-either_false true b h = cc
-either_false false b h = (refl, h)
-
 abbrev share_by : Header → Var → Var → Bool → Bool → Bool
 share_by old v w a b =
     cond a (cond b (cond (nat_le v.begin w.begin) (records_meet old v w) (records_meet old w v)) (nat_lt v.begin (w.begin + slab old w)))
@@ -64,7 +60,7 @@ pub fixed_begins_differ : (old : Header) (v w : Var) → is_record old v ≡ fal
 fixed_begins_differ old v w e f h k g same = true≢false (sym both_lie ∙ sym (share_known old v w false false e f) ∙ g)
   where
     both_lie : meet v.begin (slab old v) w.begin (slab old w) ≡ true
-    both_lie = λ i. lt_true (max v.begin w.begin) (v.begin + slab old v) (omega arith) i && lt_true (max v.begin w.begin) (w.begin + slab old w) (omega arith) i
+    both_lie = λ i. lt-ltb (max v.begin w.begin) (v.begin + slab old v) (omega arith) i && lt-ltb (max v.begin w.begin) (w.begin + slab old w) (omega arith) i
 
 pub fixed_below_record : (old : Header) (v w : Var) → is_record old v ≡ false → is_record old w ≡ true
     → (share old v w ≡ false) ⊎ (share old w v ≡ false) → v.begin + slab old v ≤ w.begin
@@ -77,7 +73,7 @@ Follows old v w = (v.begin + slab old v ≤ w.begin) × (w.begin + slab old w �
 
 follows : (old : Header) (v w : Var) → records_meet old v w ≡ false → Follows old v w
 follows old v w h =
-    let r = either_false (nat_lt w.begin (v.begin + slab old v)) (nat_lt (v.begin + recsize old) (w.begin + slab old w)) h in
+    let r = or_parts (nat_lt w.begin (v.begin + slab old v)) (nat_lt (v.begin + recsize old) (w.begin + slab old w)) h in
     (ltb-false _ _ r.0, ltb-false _ _ r.1)
 
 pub records_follow : (old : Header) (v w : Var) → is_record old v ≡ true → is_record old w ≡ true → share old v w ≡ false

@@ -2,10 +2,14 @@
 use Rattle.std.proofs.Common.{◌≡◌, ℕ, ◌+◌, ◌-◌, ◌*◌, ◌^◌, ◌<◌, List, [], ◌∷◌, ◌++◌, length, take, drop, Bool, true, false, cond, ◌&&◌, Option, Some, None, refl, sym, ap, subst, ◌∙◌, inl, inr, arith, append_assoc, length-append}
 use Rattle.std.specs.Prelude.{nat_le, ◌==◌}
 use Rattle.std.specs.List.{list_all, AllByRecursion}
-use Rattle.std.specs.Int.{Width, w32, w64, byte_len, to_be_bytes, from_be_bytes}
-use Rattle.std.proofs.Math.Seq.{drop-append_seam, take-append_seam}
-use Rattle.std.proofs.lemmas.List.{drop-drop, take-append-drop}
-use Rattle.std.proofs.lemmas.Nat.{from_be_bytes-to_be_bytes_4, from_be_bytes-to_be_bytes_8}
+use Rattle.std.specs.Int.{Width, w32, w64, byte_len, to_be_bytes}
+use Rattle.std.proofs.Math.Seq.{take-append_seam}
+use Rattle.std.proofs.lemmas.List.{take-append-drop}
+use Rattle.std.proofs.lemmas.Bool.{and_from, or_parts, lt-ltb, le-leb, ltb-false}
+use Rattle.serial_spec.proofs.LengthLaws.{width_long}
+use Rattle.cdf_header.proofs.Walks.{drop_on, back_4, back_8}
+use Rattle.list_laws.proofs.Each.{each_passes, passes_each}
+use Rattle.list_laws.proofs.Truth.{and_first, and_second, equal_true}
 use Rattle.nc_base.specs.declared.header.Header.{Header}
 use Rattle.nc_base.specs.declared.header.Dim.{Dim}
 use Rattle.nc_base.specs.declared.header.Attr.{Attr}
@@ -19,16 +23,14 @@ use Rattle.serial_spec.specs.HeaderGrammar.{Joined, ◌▹◌, Exactly, Each, Nu
 use Rattle.serial_spec.specs.Redefinition.{is_redefinable, is_redefinable_var}
 use Rattle.serial_spec.proofs.FaultLaws.{EndsWrong, ends_later, fault_only}
 use Rattle.cdf_header.specs.Decoding.{BeginsWith}
-use Rattle.cdf_header.proofs.Pieces.{right_number, no_fault, either}
-use Rattle.var_layout.proofs.Soundness.{and_left, and_right}
-use Rattle.var_layout.proofs.LaidOut.{all_true}
+use Rattle.cdf_header.proofs.Pieces.{right_number, no_fault}
 use Rattle.redef_laws.proofs.FitLaws.{checked}
-use Rattle.redef_laws.proofs.FieldLaws.{lt_test, le_test, not_lt_told, eq_test, each_passes, passes_each, each_both}
+use Rattle.redef_laws.proofs.FieldLaws.{each_both}
 
 -- ---- what is spelled fits its field
 
 number_fits : (w : Width) (n : ℕ) (bytes : List ℕ) → Number w n bytes → fits_field w n ≡ true
-number_fits w n bytes h = lt_test (2 * n) (256 ^ byte_len w) h.0
+number_fits w n bytes h = lt-ltb (2 * n) (256 ^ byte_len w) h.0
 
 name_fits : (version : ℕ) (text bytes : List ℕ) → NameOf version text bytes → fits_count version (length text) ≡ true
 name_fits version text bytes h = number_fits (count_width version) (length text) h.front h.first
@@ -36,26 +38,26 @@ name_fits version text bytes h = number_fits (count_width version) (length text)
 each_fits : {A : Type 0} (P : A → List ℕ → Type 0) (test : A → Bool) → ((x : A) (bytes : List ℕ) → P x bytes → test x ≡ true)
     → (xs : List A) (bytes : List ℕ) → Each P xs bytes → list_all test xs ≡ true
 each_fits P test f [] bytes h = refl
-each_fits P test f (x ∷ xs) bytes h = all_true (test x) (list_all test xs) (f x h.front h.first) (each_fits P test f xs h.rest h.second)
+each_fits P test f (x ∷ xs) bytes h = and_from (test x) (list_all test xs) (f x h.front h.first) (each_fits P test f xs h.rest h.second)
 
 list_fits : {A : Type 0} (version t : ℕ) (P : A → List ℕ → Type 0) (test : A → Bool) → ((x : A) (bytes : List ℕ) → P x bytes → test x ≡ true)
     → (xs : List A) (bytes : List ℕ) → ListOf version t P xs bytes → is_writable_list version test xs ≡ true
-list_fits {A} version t P test f xs bytes (inl (e, g)) = subst (λ (ys : List A). is_writable_list version test ys ≡ true) (sym e) (all_true (fits_count version 0) true (none (version == 5)) refl)
+list_fits {A} version t P test f xs bytes (inl (e, g)) = subst (λ (ys : List A). is_writable_list version test ys ≡ true) (sym e) (and_from (fits_count version 0) true (none (version == 5)) refl)
   where
     none : (u : Bool) → fits_field (cond u w64 w32) 0 ≡ true
     none true = refl
     none false = refl
 list_fits version t P test f xs bytes (inr h) =
-    all_true (fits_count version (length xs)) (list_all test xs) (number_fits (count_width version) (length xs) h.first.rest h.first.second) (each_fits P test f xs h.rest h.second)
+    and_from (fits_count version (length xs)) (list_all test xs) (number_fits (count_width version) (length xs) h.first.rest h.first.second) (each_fits P test f xs h.rest h.second)
 
 attr_fits : (version : ℕ) (a : Attr) (bytes : List ℕ) → AttributeOf version a bytes → is_writable_attr version a ≡ true
 attr_fits version a bytes (whole, h) =
     let named = h.first.first in
-    all_true (fits_count version (length a.name) && is_type version a.kind && fits_count version a.count) _
-    (all_true (fits_count version (length a.name) && is_type version a.kind) _
-    (all_true (fits_count version (length a.name)) (is_type version a.kind) (name_fits version a.name named.front named.first) named.second.0)
+    and_from (fits_count version (length a.name) && is_type version a.kind && fits_count version a.count) _
+    (and_from (fits_count version (length a.name) && is_type version a.kind) _
+    (and_from (fits_count version (length a.name)) (is_type version a.kind) (name_fits version a.name named.front named.first) named.second.0)
     (number_fits (count_width version) a.count h.first.rest h.first.second))
-    (eq_test (length a.bytes) (a.count * size_of a.kind) whole)
+    (equal_true (length a.bytes) (a.count * size_of a.kind) whole)
 
 var_fits : (header : Header) (v : Var) (bytes : List ℕ) → VariableOf header.version v bytes → is_redefinable_var header v ≡ true
 var_fits header v bytes h =
@@ -67,11 +69,11 @@ var_fits header v bytes h =
     let names = fits_count version (length v.name) in
     let dims = is_writable_list version (λ id. fits_count version id) v.dims in
     let attrs = is_writable_list version (is_writable_attr version) v.attrs in
-    all_true (names && dims && attrs && is_type version v.kind) _
-    (all_true (names && dims && attrs) _
-    (all_true (names && dims) _
-    (all_true names _ (name_fits version v.name counted.front counted.first)
-    (all_true (fits_count version (length v.dims)) _ (number_fits (count_width version) (length v.dims) counted.rest counted.second)
+    and_from (names && dims && attrs && is_type version v.kind) _
+    (and_from (names && dims && attrs) _
+    (and_from (names && dims) _
+    (and_from names _ (name_fits version v.name counted.front counted.first)
+    (and_from (fits_count version (length v.dims)) _ (number_fits (count_width version) (length v.dims) counted.rest counted.second)
     (each_fits (λ id. Number (count_width version) id) (λ id. fits_count version id) (λ id part p. number_fits (count_width version) id part p) v.dims shaped.rest shaped.second)))
     (list_fits version 12 (AttributeOf version) (is_writable_attr version) (attr_fits version) v.attrs listed.rest listed.second))
     typed.second.0)
@@ -79,11 +81,11 @@ var_fits header v bytes h =
 
 records_fit : (version n : ℕ) (bytes : List ℕ) → RecordsOf version n bytes → (n == all_ones version) ≡ false → fits_count version n ≡ true
 records_fit version n bytes (inl h) e = number_fits (count_width version) n bytes h
-records_fit version n bytes (inr h) e = absurd (let is = eq_test n (all_ones version) h.0 in cc)
+records_fit version n bytes (inr h) e = absurd (let is = equal_true n (all_ones version) h.0 in cc)
 
 dim_fits : (version : ℕ) (d : Dim) (bytes : List ℕ) → DimensionOf version d bytes → (fits_count version (length d.name) && fits_count version d.len) ≡ true
 dim_fits version d bytes h =
-    all_true (fits_count version (length d.name)) (fits_count version d.len) (name_fits version d.name h.front h.first) (number_fits (count_width version) d.len h.rest h.second)
+    and_from (fits_count version (length d.name)) (fits_count version d.len) (name_fits version d.name h.front h.first) (number_fits (count_width version) d.len h.rest h.second)
 
 -- ---- the fields that the reader comes to
 
@@ -103,9 +105,6 @@ clean_field v b asks rest f x a clean = by_fault (wrong_at v f b x) refl
 abbrev Passes : ℕ → List Ask → List Ask → (List ℕ → Type 0) → Type 0 → Type 0
 Passes v asks later P G =
     (b : List ℕ) (x : ℕ) (text more : List ℕ) → drop x b ≡ text ++ more → P text → Clean v b asks x → G × Clean v b later (x + length text)
-
-drop_on : (b : List ℕ) (x : ℕ) (s t : List ℕ) → drop x b ≡ s ++ t → drop (x + length s) b ≡ t
-drop_on b x s t e = sym (drop-drop (length s) x b) ∙ ap (λ (c : List ℕ). drop (length s) c) e ∙ drop-append_seam s t
 
 passes_then : {P Q : List ℕ → Type 0} {G H : Type 0} (v : ℕ) (asks mid later : List Ask) → Passes v asks mid P G → Passes v mid later Q H → Passes v asks later (P ▹ Q) (G × H)
 passes_then v asks mid later p q b x text more e j clean =
@@ -129,25 +128,9 @@ field_passes v asks rest later f G a long go b x text more e p clean =
     let told = go b x text p here (right_number v f b x step.0) in
     (told.0, subst (λ (n : ℕ). Clean v b later (x + n)) (sym len) (subst (λ (next : List Ask). Clean v b next (x + field_len v f)) told.1 step.1))
 
-read_4 : (p q r s : ℕ) → big_endian (p ∷ q ∷ r ∷ s ∷ []) ≡ from_be_bytes w32 (p ∷ q ∷ r ∷ s ∷ [])
-read_4 p q r s = omega arith
-
-read_8 : (a b c d p q r s : ℕ) → big_endian (a ∷ b ∷ c ∷ d ∷ p ∷ q ∷ r ∷ s ∷ []) ≡ from_be_bytes w64 (a ∷ b ∷ c ∷ d ∷ p ∷ q ∷ r ∷ s ∷ [])
-read_8 a b c d p q r s = omega arith
-
-back_4 : (n : ℕ) → n < 2 ^ 32 → big_endian (to_be_bytes w32 n) ≡ n
-back_4 n h = read_4 _ _ _ _ ∙ from_be_bytes-to_be_bytes_4 n h
-
-back_8 : (n : ℕ) → n < 2 ^ 64 → big_endian (to_be_bytes w64 n) ≡ n
-back_8 n h = read_8 _ _ _ _ _ _ _ _ ∙ from_be_bytes-to_be_bytes_8 n h
-
 back_by : (t : Bool) (n : ℕ) → 2 * n < 256 ^ byte_len (cond t w64 w32) → (big_endian (to_be_bytes (cond t w64 w32) n) ≡ n) × (length (to_be_bytes (cond t w64 w32) n) ≡ byte_len (cond t w64 w32))
 back_by true n h = let less : 2 * n < 2 ^ 64 = h in (back_8 n (omega (arith, less)), refl)
 back_by false n h = let less : 2 * n < 2 ^ 32 = h in (back_4 n (omega (arith, less)), refl)
-
-count_long : (t : Bool) (n : ℕ) → length (to_be_bytes (cond t w64 w32) n) ≡ byte_len (cond t w64 w32)
-count_long true n = refl
-count_long false n = refl
 
 -- a number of the width of counts
 number_passes : (v n : ℕ) (asks rest later : List Ask) (f : Field) (G : Type 0) → asked asks ≡ Some (f, rest) → field_len v f ≡ byte_len (count_width v)
@@ -155,7 +138,7 @@ number_passes : (v n : ℕ) (asks rest later : List Ask) (f : Field) (G : Type 0
     → ((x : ℕ) → wrong v f x n ≡ None → G) → (after_field f n ++ rest) ≡ later → Passes v asks later (Number (count_width v) n) G
 number_passes v n asks rest later f G a wide read fine after =
     field_passes v asks rest later f G a
-    (λ text p. ap (λ (t : List ℕ). length t) p.1 ∙ count_long (v == 5) n ∙ sym wide)
+    (λ text p. ap (λ (t : List ℕ). length t) p.1 ∙ width_long (v == 5) n ∙ sym wide)
     (λ b x text p here right.
     let is : field_number v f b x ≡ n = read b x ∙ ap (λ (t : List ℕ). big_endian t) (here ∙ p.1) ∙ (back_by (v == 5) n p.0).0 in
     (fine x (subst (λ (k : ℕ). wrong v f x k ≡ None) is right), subst (λ (k : ℕ). (after_field f k ++ rest) ≡ later) (sym is) after))
@@ -190,7 +173,7 @@ abbrev IsWithinLimit : Dim → Type 0
 IsWithinLimit d = nat_le d.len file_limit ≡ true
 
 bounded : (v x n : ℕ) → wrong v DimLength x n ≡ None → nat_le n file_limit ≡ true
-bounded v x n w = le_test n file_limit (not_lt_told file_limit n (either _ _ (no_fault _ (fault.BadNumber x) w)).1)
+bounded v x n w = le-leb n file_limit (ltb-false file_limit n (or_parts _ _ (no_fault _ (fault.BadNumber x) w)).1)
 
 dim_passes : (v : ℕ) (d : Dim) (asks rest : List Ask) → asked asks ≡ Some (NameLength, One DimLength ∷ rest) → Passes v asks rest (DimensionOf v d) ((Unit {0} × Unit {0}) × IsWithinLimit d)
 dim_passes v d asks rest a =
@@ -229,8 +212,8 @@ magic_passes : (v : ℕ) (rest : List Ask) → Passes v (One Magic ∷ rest) res
 magic_passes v rest = field_passes v (One Magic ∷ rest) rest rest Magic (Unit {0}) refl (λ text p. ap (λ (t : List ℕ). length t) p) (λ b x text p here right. (tt, refl))
 
 records_long : (v n : ℕ) (text : List ℕ) → RecordsOf v n text → length text ≡ byte_len (count_width v)
-records_long v n text (inl h) = ap (λ (t : List ℕ). length t) h.1 ∙ count_long (v == 5) n
-records_long v n text (inr h) = ap (λ (t : List ℕ). length t) h.1 ∙ count_long (v == 5) n
+records_long v n text (inl h) = ap (λ (t : List ℕ). length t) h.1 ∙ width_long (v == 5) n
+records_long v n text (inr h) = ap (λ (t : List ℕ). length t) h.1 ∙ width_long (v == 5) n
 
 records_pass : (v n : ℕ) (rest : List Ask) → Passes v (One Records ∷ rest) rest (RecordsOf v n) (Unit {0})
 records_pass v n rest = field_passes v (One Records ∷ rest) rest rest Records (Unit {0}) refl (records_long v n) (λ b x text p here right. (tt, refl))
@@ -273,11 +256,11 @@ dims_fit : (version : ℕ) (dims : List Dim) (bytes : List ℕ) → ListOf versi
     → is_writable_list version (is_writable_dim version) dims ≡ true
 dims_fit version dims bytes h within =
     let spelled = list_fits version 10 (DimensionOf version) (λ d. fits_count version (length d.name) && fits_count version d.len) (dim_fits version) dims bytes h in
-    all_true (fits_count version (length dims)) _ (and_left _ _ spelled)
+    and_from (fits_count version (length dims)) _ (and_first _ _ spelled)
     (each_passes (is_writable_dim version) dims
     (each_both (λ d. (fits_count version (length d.name) && fits_count version d.len) ≡ true) IsWithinLimit (λ d. is_writable_dim version d ≡ true)
-    (λ d p q. all_true (fits_count version (length d.name) && fits_count version d.len) (nat_le d.len file_limit) p q) dims
-    (passes_each (λ d. fits_count version (length d.name) && fits_count version d.len) dims (and_right _ _ spelled)) within))
+    (λ d p q. and_from (fits_count version (length d.name) && fits_count version d.len) (nat_le d.len file_limit) p q) dims
+    (passes_each (λ d. fits_count version (length d.name) && fits_count version d.len) dims (and_second _ _ spelled)) within))
 
 pub opened : (header : Header) (bytes : List ℕ) (len : ℕ) → BeginsWith bytes header len → is_sound header ≡ true → is_redefinable header ≡ true
 opened header bytes len h sound =
@@ -289,10 +272,10 @@ opened header bytes len h sound =
     let records = fits_count version header.records in
     let dims = is_writable_list version (is_writable_dim version) header.dims in
     let attrs = is_writable_list version (is_writable_attr version) header.attrs in
-    all_true (is_sound header && records && dims && attrs) _
-    (all_true (is_sound header && records && dims) _
-    (all_true (is_sound header && records) _
-    (all_true (is_sound header) _ sound (records_fit version header.records counted.rest counted.second (checked header sound).counted))
+    and_from (is_sound header && records && dims && attrs) _
+    (and_from (is_sound header && records && dims) _
+    (and_from (is_sound header && records) _
+    (and_from (is_sound header) _ sound (records_fit version header.records counted.rest counted.second (checked header sound).counted))
     (dims_fit version header.dims shaped.rest shaped.second (dims_within header bytes len h)))
     (list_fits version 12 (AttributeOf version) (is_writable_attr version) (attr_fits version) header.attrs described.rest described.second))
     (list_fits version 11 (VariableOf version) (is_redefinable_var header) (var_fits header) header.vars whole.rest whole.second)

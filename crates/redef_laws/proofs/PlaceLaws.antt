@@ -7,6 +7,9 @@ use Rattle.std.specs.Prelude.{not, nat_lt, nat_le, ◌==◌, fold, slice_get, un
 use Rattle.std.specs.List.{enumerate_from, AllByRecursion}
 use Rattle.std.specs.Option.{option_or}
 use Rattle.std.proofs.lemmas.List.Folds.{find-append}
+use Rattle.std.proofs.lemmas.Bool.{not-true, lt-ltb, le-leb, leb-true, ltb-true, ltb-false, leb-false}
+use Rattle.list_laws.proofs.Each.{each_append, each_weaker}
+use Rattle.overlay_laws.proofs.Members.{in_filter, in_map, map_in}
 use Rattle.nc_base.specs.declared.header.Header.{Header}
 use Rattle.nc_base.specs.declared.header.Var.{Var}
 use Rattle.serial_spec.specs.Layout.{slab, vsize, is_record, round_up}
@@ -16,8 +19,8 @@ use Rattle.serial_spec.specs.Place.{AreApart}
 use Rattle.serial_spec.specs.Redefinition.{Numbered, fixed_of, records_in, old_of, new_of, by_begin, fixed_order, fixed_begins, front_after, first_record, record_begins, begins_by_number, begin_of_number}
 use Rattle.overlay_laws.specs.Entries.{In}
 use Rattle.overlay_laws.proofs.HullLaws.{in_left, in_right}
-use Rattle.redef_laws.proofs.FieldLaws.{lt_test, le_test, lt_told, le_told, not_lt_told, not_le_told, not_true, each_both, each_then}
-use Rattle.redef_laws.proofs.BeginLaws.{in_filter, in_numbered, each_filter, each_filtered, each_append, each_by_begin, in_by_begin, Numbers, numbers_of, at_number, fixed_begin, fixed_apart, HasNone, fixed_none, mapped_begins, map_begin, map_none, vsizes, record_begin, record_apart}
+use Rattle.redef_laws.proofs.FieldLaws.{each_both}
+use Rattle.redef_laws.proofs.BeginLaws.{in_numbered, each_filter, each_filtered, each_by_begin, in_by_begin, Numbers, numbers_of, at_number, fixed_begin, fixed_apart, HasNone, fixed_none, mapped_begins, map_begin, map_none, vsizes, record_begin, record_apart}
 
 -- ---- the parts of the begins
 
@@ -51,12 +54,6 @@ old_place_of header n v = first_place header n + (v.begin - old_first header n)
 abbrev pub new_from : Header → ℕ → ℕ
 new_from header n = first_place header n + vsizes header (old_records header n)
 
-parts : (header : Header) (n : ℕ)
-    → begins_by_number header n
-    ≡ fixed_begins header (header_len header) (fixed_order header n) ++ mapped_begins (old_place_of header n) (placed_records header n)
-    ++ record_begins header (new_from header n) (new_records header n)
-parts header n = refl
-
 pub first_up : (header : Header) (n : ℕ) → fixed_end header n ≤ first_place header n
 first_up header n = by_least (fixed_end header n) (least (map (λ v. v.1.begin) (old_records header n)))
   where
@@ -65,7 +62,7 @@ first_up header n = by_least (fixed_end header n) (least (map (λ v. v.1.begin) 
     by_least front (Some begin) = by_test (nat_le front begin) refl
       where
         by_test : (t : Bool) → nat_le front begin ≡ t → front ≤ cond t begin (round_up 4 front)
-        by_test true e = le_told front begin e
+        by_test true e = leb-true front begin e
         by_test false e = omega arith
 
 -- ---- members
@@ -88,17 +85,17 @@ in_fixed header n k v g e = by_number (nat_lt k n) refl
         (in_by_begin (old_of n (fixed_of header (numbered header))) (k, v) (in_filter (λ (p : Numbered). nat_lt p.0 n) (fixed_of header (numbered header)) (k, v) there l))
     by_number false l =
         in_right (by_begin (old_of n (fixed_of header (numbered header)))) (new_of n (fixed_of header (numbered header))) (k, v)
-        (in_filter (λ (p : Numbered). nat_le n p.0) (fixed_of header (numbered header)) (k, v) there (le_test n k (not_lt_told k n l)))
+        (in_filter (λ (p : Numbered). nat_le n p.0) (fixed_of header (numbered header)) (k, v) there (le-leb n k (ltb-false k n l)))
 
 pub in_old : (header : Header) (n k : ℕ) (v : Var) → slice_get header.vars k ≡ Some v → is_record header v ≡ true → k < n → In (old_records header n) (k, v)
 in_old header n k v g e l =
     in_filter (λ (p : Numbered). nat_lt p.0 n) (records_in header (numbered header)) (k, v)
-    (in_filter (λ (p : Numbered). is_record header p.1) (numbered header) (k, v) (in_whole header k v g) e) (lt_test k n l)
+    (in_filter (λ (p : Numbered). is_record header p.1) (numbered header) (k, v) (in_whole header k v g) e) (lt-ltb k n l)
 
 pub in_new : (header : Header) (n k : ℕ) (v : Var) → slice_get header.vars k ≡ Some v → is_record header v ≡ true → n ≤ k → In (new_records header n) (k, v)
 in_new header n k v g e l =
     in_filter (λ (p : Numbered). nat_le n p.0) (records_in header (numbered header)) (k, v)
-    (in_filter (λ (p : Numbered). is_record header p.1) (numbered header) (k, v) (in_whole header k v g) e) (le_test n k l)
+    (in_filter (λ (p : Numbered). is_record header p.1) (numbered header) (k, v) (in_whole header k v g) e) (le-leb n k l)
 
 -- what holds of each fixed variable, in the order in which they are placed
 each_fixed : (P : Numbered → Type 0) (header : Header) (n : ℕ) → AllByRecursion P (fixed_of header (numbered header)) → AllByRecursion P (fixed_order header n)
@@ -125,7 +122,7 @@ new_numbers header n = each_filter (λ (p : Numbered). slice_get header.vars p.0
 not_fixed : (header : Header) (n k : ℕ) (v : Var) → slice_get header.vars k ≡ Some v → is_record header v ≡ true → HasNone k (fixed_order header n)
 not_fixed header n k v g e =
     each_both (λ p. slice_get header.vars p.0 ≡ Some p.1) (λ p. not (is_record header p.1) ≡ true) (λ p. p.0 ≡ k → ⊥)
-    (λ p there plain same. other p there (not_true (is_record header p.1) plain) same) (fixed_order header n) (fixed_numbers header n)
+    (λ p there plain same. other p there (not-true (is_record header p.1) plain) same) (fixed_order header n) (fixed_numbers header n)
     (each_fixed (λ p. not (is_record header p.1) ≡ true) header n (each_filtered (λ (p : Numbered). not (is_record header p.1)) (numbered header)))
   where
     other : (p : Numbered) → slice_get header.vars p.0 ≡ Some p.1 → is_record header p.1 ≡ false → p.0 ≡ k → ⊥
@@ -137,7 +134,7 @@ not_fixed header n k v g e =
 
 not_old : (header : Header) (n k : ℕ) → n ≤ k → HasNone k (old_records header n)
 not_old header n k l =
-    each_then (λ (p : Numbered). nat_lt p.0 n ≡ true) (λ p. p.0 ≡ k → ⊥) (λ p e same. let low = lt_told p.0 n e in absurd (omega arith)) (old_records header n)
+    each_weaker (λ (p : Numbered). nat_lt p.0 n ≡ true) (λ p. p.0 ≡ k → ⊥) (λ p e same. let low = ltb-true p.0 n e in absurd (omega arith)) (old_records header n)
     (each_filtered (λ (p : Numbered). nat_lt p.0 n) (records_in header (numbered header)))
 
 -- ---- places
@@ -227,8 +224,8 @@ any_place header n k v g = by_kind (is_record header v) (nat_lt k n) refl refl
   where
     by_kind : (t u : Bool) → is_record header v ≡ t → nat_lt k n ≡ u → (b : ℕ) × (at_number (begins_by_number header n) k ≡ Some (k, b))
     by_kind false u e l = let found = fixed_place header n k v g e in (found.0, found.1.at)
-    by_kind true true e l = (old_place_of header n v, old_place header n k v g e (lt_told k n l))
-    by_kind true false e l = let found = new_place header n k v g e (not_lt_told k n l) in (found.0, found.1.at)
+    by_kind true true e l = (old_place_of header n v, old_place header n k v g e (ltb-true k n l))
+    by_kind true false e l = let found = new_place header n k v g e (ltb-false k n l) in (found.0, found.1.at)
 
 pub begin_is : (found : List (ℕ × ℕ)) (k b : ℕ) → at_number found k ≡ Some (k, b) → begin_of_number found k ≡ b
 begin_is found k b e = ap (λ (o : Option (ℕ × ℕ)). elim o as (λ q. ℕ) [ None ↦ 0 | Some p ↦ p.1 ]) e
@@ -251,10 +248,10 @@ min_is (x ∷ xs) a = by_rest (min_is xs (min a x)) (nat_le a x) refl
     by_rest : (fold (λ x y. min x y) (min a x) xs ≡ min a x) ⊎ In xs (fold (λ x y. min x y) (min a x) xs) → (t : Bool) → nat_le a x ≡ t
         → (fold (λ x y. min x y) (min a x) xs ≡ a) ⊎ In (x ∷ xs) (fold (λ x y. min x y) (min a x) xs)
     by_rest (inr h) t e = inr (inr h)
-    by_rest (inl s) true e = let l = le_told a x e in inl (s ∙ (let m : min a x ≡ a = omega arith in m))
-    by_rest (inl s) false e = let l = not_le_told a x e in inr (inl (sym (s ∙ (let m : min a x ≡ x = omega arith in m))))
+    by_rest (inl s) true e = let l = leb-true a x e in inl (s ∙ (let m : min a x ≡ a = omega arith in m))
+    by_rest (inl s) false e = let l = leb-false a x e in inr (inl (sym (s ∙ (let m : min a x ≡ x = omega arith in m))))
 
-least_low : (xs : List ℕ) (y : ℕ) → In xs y → unwrap_or (least xs) 0 ≤ y
+pub least_low : (xs : List ℕ) (y : ℕ) → In xs y → unwrap_or (least xs) 0 ≤ y
 least_low [] y h = absurd h
 least_low (x ∷ xs) y (inl e) = let l = min_low xs x in omega arith
 least_low (x ∷ xs) y (inr h) = min_each xs x y h
@@ -263,23 +260,13 @@ least_in : (xs : List ℕ) (y : ℕ) → In xs y → In xs (unwrap_or (least xs)
 least_in [] y h = absurd h
 least_in (x ∷ xs) y h = elim (min_is xs x) [ inl e ↦ inl (sym e) | inr g ↦ inr g ]
 
-in_mapped : {A B : Type 0} (f : A → B) (xs : List A) (x : A) → In xs x → In (map f xs) (f x)
-in_mapped f [] x h = absurd h
-in_mapped f (y ∷ xs) x (inl e) = inl (ap f e)
-in_mapped f (y ∷ xs) x (inr h) = inr (in_mapped f xs x h)
-
-mapped_in : {A B : Type 0} (f : A → B) (xs : List A) (y : B) → In (map f xs) y → (x : A) × In xs x × (f x ≡ y)
-mapped_in f [] y h = absurd h
-mapped_in f (x ∷ xs) y (inl e) = (x, inl refl, e)
-mapped_in f (x ∷ xs) y (inr h) = let found = mapped_in f xs y h in (found.0, inr found.1, found.2)
-
 pub old_first_low : (header : Header) (n : ℕ) (p : Numbered) → In (old_records header n) p → old_first header n ≤ p.1.begin
 old_first_low header n p h =
-    least_low (map (λ v. v.1.begin) (old_records header n)) p.1.begin (in_mapped (λ (q : Numbered). q.1.begin) (old_records header n) p h)
+    least_low (map (λ v. v.1.begin) (old_records header n)) p.1.begin (in_map (λ (q : Numbered). q.1.begin) (old_records header n) p h)
 
 -- an old record variable has it
 pub old_first_is : (header : Header) (n : ℕ) (p : Numbered) → In (old_records header n) p
     → (q : Numbered) × In (old_records header n) q × (q.1.begin ≡ old_first header n)
 old_first_is header n p h =
-    mapped_in (λ (q : Numbered). q.1.begin) (old_records header n) (old_first header n)
-    (least_in (map (λ v. v.1.begin) (old_records header n)) p.1.begin (in_mapped (λ (q : Numbered). q.1.begin) (old_records header n) p h))
+    map_in (λ (q : Numbered). q.1.begin) (old_records header n) (old_first header n)
+    (least_in (map (λ v. v.1.begin) (old_records header n)) p.1.begin (in_map (λ (q : Numbered). q.1.begin) (old_records header n) p h))

@@ -1,11 +1,14 @@
 -- Where the old variables begin in a redefined header: no lower than before, and in the same order.
-use Rattle.std.proofs.Common.{◌≡◌, ℕ, ◌+◌, ◌-◌, ◌<◌, ◌≤◌, min, refl, sym, ◌∙◌, ap, subst, inl, inr, ◌⊎◌, List, [], ◌∷◌, ◌++◌, map, Bool, true, false, cond, Option, Some, None, arith}
+use Rattle.std.proofs.Common.{◌≡◌, ℕ, ◌+◌, ◌-◌, ◌<◌, ◌≤◌, refl, sym, ◌∙◌, ap, subst, inl, inr, ◌⊎◌, List, [], ◌∷◌, ◌++◌, map, Bool, true, false, cond, Option, Some, None, arith}
 use Rattle.std.proofs.lemmas.Bool.Decides.{nat_tests}
 use Rattle.std.proofs.lemmas.List.Folds.{find-append}
-use Rattle.std.specs.Prelude.{slice_get, find, fold, not, nat_lt, nat_le, ◌==◌, unwrap_or, sum_by}
+use Rattle.std.specs.Prelude.{slice_get, find, not, nat_lt, nat_le, ◌==◌, unwrap_or, sum_by}
 use Rattle.std.specs.List.{enumerate_from}
 use Rattle.std.specs.Option.{option_or}
+use Rattle.std.proofs.lemmas.Bool.{lt-ltb}
 use borrow.Author.Tests.{eqb-true}
+use Rattle.redef_laws.proofs.PlaceLaws.{least_low}
+use Rattle.redef_laws.proofs.BeginLaws.{begin_past}
 use Rattle.nc_base.specs.declared.header.Header.{Header}
 use Rattle.nc_base.specs.declared.header.Var.{Var}
 use Rattle.serial_spec.specs.Layout.{is_record, slab, vsize, round_up}
@@ -14,7 +17,7 @@ use Rattle.serial_spec.specs.SharedByte.{least}
 use Rattle.serial_spec.specs.Redefinition.{Numbered, fixed_of, records_in, old_of, new_of, by_begin, fixed_order, begin_at, fixed_begins, front_after, first_record, record_begins, begins_by_number, begin_of_number}
 use Rattle.overlay_laws.specs.Entries.{In}
 use Rattle.overlay_laws.proofs.HullLaws.{filter_in, in_either}
-use Rattle.redef_laws.proofs.Members.{in_filter, in_map, in_numbered, numbered_in}
+use Rattle.overlay_laws.proofs.Members.{in_filter, in_map, in_numbered, numbered_in}
 use Rattle.redef_laws.proofs.Ordered.{AreOrdered, by_begin_same, by_begin_ordered}
 
 -- ---- numbered variables
@@ -36,13 +39,6 @@ later p vars k u (inl e) f = absurd (differs (ap (λ (q : Numbered). q.0) e) f)
 later p vars k u (inr h) f = h
 
 -- ---- fixed variables
-
-begin_past : (front : ℕ) (v : Var) → front ≤ begin_at front v
-begin_past front v = by_test (nat_le front v.begin) refl
-  where
-    by_test : (t : Bool) → nat_le front v.begin ≡ t → front ≤ cond t v.begin (round_up 4 front)
-    by_test true e = grind (arith, nat_tests)
-    by_test false e = omega arith
 
 begin_up : (front : ℕ) (v : Var) → v.begin ≤ begin_at front v
 begin_up front v = by_test (nat_le front v.begin) refl
@@ -162,20 +158,6 @@ map_placed header f (p ∷ vars) k u of h = by_test (λ g. map_placed header f v
     by_test rest false e =
         ap (λ (t : Bool). cond t (Some (p.0, f p)) (find (λ (b : ℕ × ℕ). b.0 == k) (map (λ (v : Numbered). (v.0, f v)) vars))) e ∙ rest (later p vars k u h e)
 
-least_low : (xs : List ℕ) (x : ℕ) → In xs x → unwrap_or (least xs) 0 ≤ x
-least_low [] x h = absurd h
-least_low (y ∷ ys) x h = below y ys x h
-  where
-    low : (a : ℕ) (zs : List ℕ) → fold (λ b c. min b c) a zs ≤ a
-    low a [] = omega arith
-    low a (z ∷ zs) = let l = low (min a z) zs in omega arith
-
-    below : (a : ℕ) (zs : List ℕ) (z : ℕ) → In (a ∷ zs) z → fold (λ b c. min b c) a zs ≤ z
-    below a zs z (inl e) = let l = low a zs in omega (arith, e)
-    below a [] z (inr h) = absurd h
-    below a (w ∷ zs) z (inr (inl e)) = let l = low (min a w) zs in omega (arith, e)
-    below a (w ∷ zs) z (inr (inr h)) = below (min a w) zs z (inr h)
-
 first_past : (front : ℕ) (before : Option ℕ) → unwrap_or before 0 ≤ first_record front before
 first_past front None = omega arith
 first_past front (Some begin) = by_test (nat_le front begin) refl
@@ -191,9 +173,6 @@ first_past front (Some begin) = by_test (nat_le front begin) refl
 all_of : (header : Header) → AreOf header (enumerate_from 0 header.vars)
 all_of header p h = numbered_in header.vars p h
 
-below_true : (k n : ℕ) → k < n → nat_lt k n ≡ true
-below_true k n h = grind (arith, nat_tests)
-
 abbrev pub old_fixed : Header → ℕ → List Numbered
 old_fixed header n = old_of n (fixed_of header (enumerate_from 0 header.vars))
 
@@ -204,12 +183,12 @@ fixed_is_old : (header : Header) (n k : ℕ) (v : Var) → slice_get header.vars
 fixed_is_old header n k v h l e =
     (by_begin_same (old_fixed header n)).1 (k, v)
     (in_filter (λ w. nat_lt w.0 n) (fixed_of header (enumerate_from 0 header.vars)) (k, v)
-    (in_filter (λ w. not (is_record header w.1)) (enumerate_from 0 header.vars) (k, v) (in_numbered header.vars k v h) (ap not e)) (below_true k n l))
+    (in_filter (λ w. not (is_record header w.1)) (enumerate_from 0 header.vars) (k, v) (in_numbered header.vars k v h) (ap not e)) (lt-ltb k n l))
 
 record_is_old : (header : Header) (n k : ℕ) (v : Var) → slice_get header.vars k ≡ Some v → k < n → is_record header v ≡ true → In (old_records header n) (k, v)
 record_is_old header n k v h l e =
     in_filter (λ w. nat_lt w.0 n) (records_in header (enumerate_from 0 header.vars)) (k, v)
-    (in_filter (λ w. is_record header w.1) (enumerate_from 0 header.vars) (k, v) (in_numbered header.vars k v h) e) (below_true k n l)
+    (in_filter (λ w. is_record header w.1) (enumerate_from 0 header.vars) (k, v) (in_numbered header.vars k v h) e) (lt-ltb k n l)
 
 fixed_of_header : (header : Header) (n : ℕ) → AreOf header (by_begin (old_fixed header n))
 fixed_of_header header n p h =

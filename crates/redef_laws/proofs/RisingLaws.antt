@@ -5,7 +5,10 @@ use Rattle.std.proofs.lemmas.List.Sums.{sum_by-append}
 use Rattle.std.proofs.lemmas.List.Filters.{sum_by-filter_both}
 use Rattle.std.specs.Prelude.{filter, map, flat_map, zip, sum_by, nat_lt}
 use Rattle.std.specs.List.{range_with_len}
+use Rattle.std.proofs.lemmas.Bool.{not-true}
 use borrow.Author.Tests.{ltb-true, ltb-false}
+use Rattle.redef_laws.proofs.ElementSlabs.{slabs_fixed}
+use Rattle.list_laws.proofs.Truth.{and_first}
 use Rattle.nc_base.specs.declared.header.Header.{Header}
 use Rattle.nc_base.specs.declared.header.Var.{Var}
 use Rattle.serial_spec.specs.DeviceCalls.{Slab, highest_first, slabs, slabs_of, stores, zero_calls}
@@ -13,14 +16,13 @@ use Rattle.serial_spec.specs.HeaderGrammar.{header_len, is_sound}
 use Rattle.serial_spec.specs.Layout.{is_record, recsize, slab, share}
 use Rattle.serial_spec.proofs.ApartLaws.{none_shared, slab_fits}
 use Rattle.serial_spec.specs.Redefinition.{is_redefinable}
-use Rattle.var_layout.proofs.Soundness.{and_left}
 use Rattle.overlay_laws.specs.Entries.{In}
 use Rattle.overlay_laws.proofs.HullLaws.{filter_in, in_left, in_right, in_flat, flat_in, in_range, range_low, range_high}
 use Rattle.redef_laws.specs.Rising.{first_slab, lowest_first, fixed_slabs, record_slabs, in_record, slabs_of_record, rising, changes, gaps, IsRisen}
 use Rattle.redef_laws.specs.Shifted.{new_end, AreShifted}
 use Rattle.redef_laws.proofs.ChainLaws.{Ascends, AreDistinct, ascends_joined, lowest_members, lowest_ascends, shifted_risen}
 use Rattle.redef_laws.proofs.OldBegins.{ShareNone, zip_shares_none, filter_shares_none, either_way, Follows, fixed_begins_differ, fixed_below_record, records_follow, record_begins_differ}
-use Rattle.redef_laws.proofs.Members.{in_map, map_in, zip_in}
+use Rattle.overlay_laws.proofs.Members.{in_map, map_in, zip_in}
 use Rattle.redef_laws.proofs.FallingLaws.{falls_backwards}
 use Rattle.redef_laws.proofs.GapLaws.{zeros_between}
 use Rattle.redef_laws.proofs.SumLaws.{HaveSameSums, sum_mapped, sum_joined, sum_same, sum_turned, sum_lowest, sums_members, sums_back}
@@ -41,9 +43,6 @@ record_pairs old new = filter (λ p. is_record old p.0) (pairs old new)
 abbrev slab_in : Header → Header → Var × Var → ℕ → Slab
 slab_in old new p r = in_record (recsize old) (recsize new) r (first_slab old p)
 
-slabs_fixed : (old new : Header) (p : Var × Var) → is_record old p.0 ≡ false → slabs_of old new p ≡ first_slab old p ∷ []
-slabs_fixed old new p e = ap (λ b. elim b as (λ _. List Slab) [ false ↦ first_slab old p ∷ [] | true ↦ map (slab_in old new p) (range_with_len 0 old.records) ]) e
-
 slabs_record : (old new : Header) (p : Var × Var) → is_record old p.0 ≡ true → slabs_of old new p ≡ map (slab_in old new p) (range_with_len 0 old.records)
 slabs_record old new p e = ap (λ b. elim b as (λ _. List Slab) [ false ↦ first_slab old p ∷ [] | true ↦ map (slab_in old new p) (range_with_len 0 old.records) ]) e
 
@@ -51,14 +50,10 @@ slabs_record old new p e = ap (λ b. elim b as (λ _. List Slab) [ false ↦ fir
 abbrev record_sum : Header → Header → (Slab → ℕ) → Var × Var → ℕ
 record_sum old new f p = sum_by (λ r. f (slab_in old new p r)) (range_with_len 0 old.records)
 
-no_not : (b : Bool) → not b ≡ true → b ≡ false
-no_not false h = refl
-no_not true h = cc
-
 fixed_sum : (old new : Header) (f : Slab → ℕ) → sum_by (λ p. sum_by f (slabs_of old new p)) (fixed_pairs old new) ≡ sum_by f (fixed_slabs old new)
 fixed_sum old new f =
     sum_same (λ p. sum_by f (slabs_of old new p)) (λ p. f (first_slab old p)) (fixed_pairs old new)
-    (λ p m. ap (sum_by f) (slabs_fixed old new p (no_not (is_record old p.0) (filter_in (λ q. not (is_record old q.0)) (pairs old new) p m).1)) ∙ omega arith)
+    (λ p m. ap (sum_by f) (slabs_fixed old new p (not-true (is_record old p.0) (filter_in (λ q. not (is_record old q.0)) (pairs old new) p m).1)) ∙ omega arith)
     ∙ sym (sum_mapped f (first_slab old) (fixed_pairs old new))
     ∙ sym (sum_lowest f (map (first_slab old) (fixed_pairs old new)))
 
@@ -155,7 +150,7 @@ record IsRecord (old : Header) (p : Var × Var) : Type 0 where
 
 fixed_full : (old new : Header) (p : Var × Var) → IsFull old new → In (fixed_pairs old new) p → IsFixed old p
 fixed_full old new p h m = record {
-  fixed = no_not (is_record old p.0) (filter_in (λ q. not (is_record old q.0)) (pairs old new) p m).1;
+  fixed = not-true (is_record old p.0) (filter_in (λ q. not (is_record old q.0)) (pairs old new) p m).1;
   full = h.some (first_slab old p) (rising_in old new (first_slab old p)
       (in_left (fixed_slabs old new) (flat_map (slabs_of_record old new) (range_with_len 0 old.records)) (first_slab old p)
       (in_lowest (map (first_slab old) (fixed_pairs old new)) (first_slab old p) (in_map (first_slab old) (fixed_pairs old new) p m))));
@@ -280,7 +275,7 @@ rising_ascends old new h =
 -- ---- the law
 
 pub redefinable_sound : (old : Header) → is_redefinable old ≡ true → is_sound old ≡ true
-redefinable_sound old h = and_left _ _ (and_left _ _ (and_left _ _ (and_left _ _ h)))
+redefinable_sound old h = and_first _ _ (and_first _ _ (and_first _ _ (and_first _ _ h)))
 
 -- both lists of slabs have the same members
 pub rising_all : (old new : Header) (s : Slab) → In (rising old new) s ↔ In (slabs old new) s

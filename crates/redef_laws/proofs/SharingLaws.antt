@@ -1,11 +1,15 @@
 -- No two variables of a redefined header share a byte, and none has one of the header.
-use Rattle.std.proofs.Common.{◌≡◌, ℕ, zero, suc, ◌+◌, ◌<◌, ◌≤◌, List, [], ◌∷◌, length, drop, map, Bool, true, false, cond, ◌||◌, Some, refl, sym, ap, subst, ◌∙◌, inl, inr, ◌⊎◌, arith}
-use Rattle.std.specs.Prelude.{nat_lt, nat_le, ◌==◌, filter, sum_by, slice_get}
+use Rattle.std.proofs.Common.{◌≡◌, ℕ, zero, suc, ◌+◌, ◌<◌, ◌≤◌, List, [], ◌∷◌, length, drop, map, Bool, true, false, cond, ◌||◌, Some, refl, sym, ap, ◌∙◌, inl, inr, ◌⊎◌, arith}
+use Rattle.std.specs.Prelude.{nat_lt, nat_le, ◌==◌, sum_by, slice_get}
 use Rattle.std.specs.List.{AllByRecursion}
 use Rattle.std.proofs.Math.Nat.{mul-pos}
 use Rattle.std.proofs.lemmas.Bool.Decides.{nat_tests}
 use Rattle.std.proofs.lemmas.List.{length-map}
 use Rattle.std.proofs.lemmas.List.Sums.{sum_by-cons}
+use Rattle.std.proofs.lemmas.Bool.{ltb-true, ltb-false, eqb-true}
+use Rattle.serial_spec.proofs.RoomLaws.{slab_below}
+use Rattle.overlay_laws.proofs.Members.{each_in}
+use Rattle.list_laws.proofs.Truth.{equal_true}
 use Rattle.nc_base.specs.declared.header.Header.{Header}
 use Rattle.nc_base.specs.declared.header.Dim.{Dim}
 use Rattle.nc_base.specs.declared.header.Var.{Var}
@@ -17,11 +21,11 @@ use Rattle.serial_spec.specs.Layout.{product, length_of, lengths, without_record
 use Rattle.serial_spec.specs.HeaderGrammar.{header_len, is_sound}
 use Rattle.serial_spec.specs.Redefinition.{Numbered, added, records_in}
 use Rattle.serial_spec.proofs.ApartLaws.{none_from}
-use Rattle.var_layout.proofs.Soundness.{slab_below, recsize_shared}
-use Rattle.var_layout.proofs.LaidOut.{shares_by}
+use Rattle.var_layout.proofs.Soundness.{recsize_shared}
+use Rattle.var_layout.proofs.LaidOut.{shares_by, count_two}
 use Rattle.overlay_laws.specs.Entries.{In}
 use Rattle.overlay_laws.proofs.HullLaws.{filter_in}
-use Rattle.redef_laws.proofs.FieldLaws.{lt_told, not_lt_told, eq_told, eq_test, opposite}
+use Rattle.redef_laws.proofs.FieldLaws.{opposite}
 use Rattle.redef_laws.proofs.GrownLaws.{IsFitVar, is_record_at}
 use Rattle.redef_laws.proofs.FitLaws.{checked}
 use Rattle.redef_laws.proofs.BeginLaws.{same_var, vsizes}
@@ -128,50 +132,23 @@ sound_records header i j v w sound g f d e other = by_order (nat_lt i j) refl
         ∙ sym (ap (λ (b : Bool). shares_by (is_record header x) b x.begin (slab header x) y.begin (slab header y) (recsize header)) t) ∙ apart)
 
     by_order : (t : Bool) → nat_lt i j ≡ t → AreOrdered v.begin (slab header v) w.begin (slab header w) (recsize header)
-    by_order true l = pair i j v w g f d e (lt_told i j l)
-    by_order false l = ordered_turned w.begin (slab header w) v.begin (slab header v) (recsize header) (pair j i w v f g e d (later (not_lt_told i j l)))
+    by_order true l = pair i j v w g f d e (ltb-true i j l)
+    by_order false l = ordered_turned w.begin (slab header w) v.begin (slab header v) (recsize header) (pair j i w v f g e d (later (ltb-false i j l)))
       where
         later : j ≤ i → j < i
         later h = by_same (i == j) refl
           where
             by_same : (t : Bool) → (i == j) ≡ t → j < i
-            by_same true s = absurd (other (eq_told i j s))
+            by_same true s = absurd (other (eqb-true i j s))
             by_same false s = grind (arith, nat_tests)
 
 -- ---- the size of a record
-
-one_passes : {A : Type 0} (p : A → Bool) (xs : List A) (k : ℕ) (x : A) → slice_get xs k ≡ Some x → p x ≡ true → 1 ≤ length (filter p xs)
-one_passes p [] k x h e = cc
-one_passes p (y ∷ xs) zero x h e =
-    let same : y ≡ x = cc in
-    let f = ap (λ (t : Bool). length (cond t (y ∷ filter p xs) (filter p xs))) (ap (λ z. p z) same ∙ e) in
-    omega arith
-one_passes p (y ∷ xs) (suc k) x h e = by_test (p y) (one_passes p xs k x h e)
-  where
-    by_test : (t : Bool) → 1 ≤ length (filter p xs) → 1 ≤ length (cond t (y ∷ filter p xs) (filter p xs))
-    by_test true l = omega arith
-    by_test false l = l
-
-two_pass : {A : Type 0} (p : A → Bool) (xs : List A) (i j : ℕ) (x y : A) → i < j → slice_get xs i ≡ Some x → slice_get xs j ≡ Some y → p x ≡ true → p y ≡ true
-    → 2 ≤ length (filter p xs)
-two_pass p [] i j x y l h g e f = cc
-two_pass p (z ∷ xs) i zero x y l h g e f = absurd (omega arith)
-two_pass p (z ∷ xs) zero (suc j) x y l h g e f =
-    let same : z ≡ x = cc in
-    let later = one_passes p xs j y g f in
-    let here = ap (λ (t : Bool). length (cond t (z ∷ filter p xs) (filter p xs))) (ap (λ w. p w) same ∙ e) in
-    omega arith
-two_pass p (z ∷ xs) (suc i) (suc j) x y l h g e f = by_test (p z) (two_pass p xs i j x y (omega arith) h g e f)
-  where
-    by_test : (t : Bool) → 2 ≤ length (filter p xs) → 2 ≤ length (cond t (z ∷ filter p xs) (filter p xs))
-    by_test true m = omega arith
-    by_test false m = m
 
 -- with two record variables at least, a record has the sum of their vsizes
 pub recsize_of_two : (header : Header) (n i j : ℕ) (v w : Var) → i < j → slice_get header.vars i ≡ Some v → slice_get header.vars j ≡ Some w → is_record header v ≡ true
     → is_record header w ≡ true → recsize header ≡ vsizes header (old_records header n) + vsizes header (new_records header n)
 recsize_of_two header n i j v w l g f d e =
-    let two = two_pass (λ x. is_record header x) header.vars i j v w l g f d e in
+    let two = count_two (λ x. is_record header x) header.vars i j v w l g f d e in
     let long = length-map (record_variables header header.vars) (λ x. slab header x) in
     recsize_shared header
     ∙ ap (λ (t : Bool). sum_by (λ x. cond t (slab header x) (vsize header x)) (record_variables header header.vars)) (not_one (length (record_slabs header)) (omega arith))
@@ -181,11 +158,6 @@ recsize_of_two header n i j v w l g f d e =
     not_one n l = grind (arith, nat_tests)
 
 -- ---- old record variables end before the new ones begin
-
-each_in : {A : Type 0} (P : A → Type 0) (xs : List A) (x : A) → AllByRecursion P xs → In xs x → P x
-each_in P [] x h i = absurd i
-each_in P (y ∷ xs) x h (inl e) = subst P e h.0
-each_in P (y ∷ xs) x h (inr i) = each_in P xs x h.1 i
 
 vsizes_hold : (header : Header) (list : List Numbered) (p : Numbered) → In list p → vsize header p.1 ≤ vsizes header list
 vsizes_hold header [] p h = absurd h
@@ -211,7 +183,7 @@ old_member header n p h =
     record {
       there = each_in (λ q. slice_get header.vars q.0 ≡ Some q.1) (old_records header n) p (old_numbers header n) h;
       kind = inner.1;
-      low = lt_told p.0 n outer.1;
+      low = ltb-true p.0 n outer.1;
     }
 
 -- two old record variables in the header with what is added
@@ -243,7 +215,7 @@ old_room old extras k v sound l g e = by_number (least.0.0 == k) refl
     own : (p : Numbered) → p.1.begin ≡ old_first (added old extras) (length old.vars) → slice_get (added old extras).vars p.0 ≡ Some p.1 → (p.0 == k) ≡ true
         → v.begin + slab (added old extras) v ≤ old_first (added old extras) (length old.vars) + vsizes (added old extras) (old_records (added old extras) (length old.vars))
     own p first there s =
-        let same : p.1 ≡ v = same_var (added old extras).vars k p.0 v p.1 g there (eq_told p.0 k s) in
+        let same : p.1 ≡ v = same_var (added old extras).vars k p.0 v p.1 g there (eqb-true p.0 k s) in
         let begin = ap (λ (w : Var). w.begin) same in
         let holds = vsizes_hold (added old extras) (old_records (added old extras) (length old.vars)) (k, v) here in
         let below = slab_below (added old extras) v in
@@ -252,7 +224,7 @@ old_room old extras k v sound l g e = by_number (least.0.0 == k) refl
     another : (p : Numbered) → p.1.begin ≡ old_first (added old extras) (length old.vars) → IsOldRecord (added old extras) (length old.vars) p → (p.0 == k) ≡ false
         → v.begin + slab (added old extras) v ≤ old_first (added old extras) (length old.vars) + vsizes (added old extras) (old_records (added old extras) (length old.vars))
     another p first m s =
-        bounded (old_pair old extras k p.0 v p.1 sound l m.low g m.there e m.kind (λ same. opposite (p.0 == k) (eq_test p.0 k (sym same)) s)) (old_recsize old extras sound)
+        bounded (old_pair old extras k p.0 v p.1 sound l m.low g m.there e m.kind (λ same. opposite (p.0 == k) (equal_true p.0 k (sym same)) s)) (old_recsize old extras sound)
       where
         bounded : AreOrdered v.begin (slab (added old extras) v) p.1.begin (slab (added old extras) p.1) (recsize old)
             → recsize old ≤ vsizes (added old extras) (old_records (added old extras) (length old.vars))

@@ -3,6 +3,7 @@ use Rattle.std.proofs.Common.{◌≡◌, ℕ, zero, suc, ◌<◌, ◌≤◌, ref
 use Rattle.std.proofs.lemmas.Option.{slice_get_within}
 use Rattle.std.specs.Prelude.{slice_get, bytes_eq}
 use Rattle.std.specs.List.{enumerate_from}
+use Rattle.list_laws.proofs.Truth.{and_first}
 use Rattle.nc_base.specs.declared.header.Header.{Header}
 use Rattle.nc_base.specs.declared.header.Var.{Var}
 use Rattle.nc_base.specs.declared.header.Attr.{Attr}
@@ -14,10 +15,9 @@ use Rattle.serial_spec.specs.Layout.{is_record}
 use Rattle.serial_spec.specs.Redefinition.{with_attr, with_extra, added, begins_by_number, begin_of_number, with_begins, redefined_header, is_redefinable}
 use Rattle.serial_spec.proofs.AddedLaws.{redefined_keeps}
 use Rattle.serial_spec.proofs.ElementLaws.{get_map}
-use Rattle.var_layout.proofs.Soundness.{and_left}
 use Rattle.redef_laws.specs.Applied.{IsApplied}
 use Rattle.redef_laws.specs.Shifted.{AreShifted, new_end}
-use Rattle.redef_laws.proofs.Members.{numbered_at}
+use Rattle.overlay_laws.proofs.Members.{numbered_at}
 use Rattle.redef_laws.proofs.PlacedLaws.{begin_rises, fixed_begins_rise, record_begins_rise}
 use Rattle.redef_laws.proofs.SlabLaws.{IsRaised, pair_at}
 use Rattle.redef_laws.proofs.SlabOrder.{raised_shifts}
@@ -123,7 +123,7 @@ redefined_raised old extras sound sound_new =
             omega (arith, rise, one.now, two.now)
 
 sound_before : (header : Header) → is_redefinable header ≡ true → is_sound header ≡ true
-sound_before header h = and_left _ _ (and_left _ _ (and_left _ _ (and_left _ _ h)))
+sound_before header h = and_first _ _ (and_first _ _ (and_first _ _ (and_first _ _ h)))
 
 pub shifts : (old new : Header) (extras : List Extra) → IsApplied old extras new → is_sound new ≡ true
     → AreShifted (header_len old) (header_len new) (new_end old new) (slabs old new)

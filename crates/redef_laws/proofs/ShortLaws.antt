@@ -3,18 +3,20 @@ use Rattle.std.proofs.Common.{◌≡◌, ℕ, ◌-◌, ◌*◌, ◌^◌, ◌≤�
 use Rattle.std.specs.Prelude.{sum_by, replicate}
 use Rattle.std.specs.List.{AllByRecursion}
 use Rattle.std.proofs.lemmas.List.Sums.{sum_by-cons}
+use Rattle.std.proofs.lemmas.Bool.{and_from}
+use Rattle.var_layout.proofs.ElementPlaces.{row_below_bytes}
+use Rattle.var_layout.proofs.LaidWritable.{small_count}
+use Rattle.list_laws.proofs.Each.{each_passes}
+use Rattle.list_laws.proofs.Truth.{equal_true}
 use Rattle.nc_base.specs.declared.header.Header.{Header}
 use Rattle.nc_base.specs.declared.header.Dim.{Dim}
 use Rattle.nc_base.specs.declared.header.Attr.{Attr}
 use Rattle.nc_base.specs.declared.header.Var.{Var}
-use Rattle.nc_base.specs.declared.header.NcType.{NcType}
-use Rattle.nc_base.specs.declared.header.NcType.TheVariants.{Byte, Char, Short, Int, Float, Double, UByte, UShort, UInt, Int64, UInt64}
 use Rattle.serial_spec.specs.ExternalForm.{size_of}
 use Rattle.serial_spec.specs.Layout.{round_up}
 use Rattle.serial_spec.specs.HeaderGrammar.{name, padded, count, tag, number_of, list_of, dimension, attribute, variable, header_len, is_writable_attr, is_writable_list, fits_count, is_type}
 use Rattle.var_layout.proofs.WrittenLengths.{list_len, variable_len, canon_len}
-use Rattle.var_layout.proofs.LaidOut.{all_true}
-use Rattle.redef_laws.proofs.FieldLaws.{eq_test, small_fits, each_passes, each_both}
+use Rattle.redef_laws.proofs.FieldLaws.{each_both}
 use Rattle.redef_laws.proofs.GrownLaws.{IsTyped}
 
 -- ---- the parts of a list
@@ -60,31 +62,18 @@ attr_long version a =
     let four : length (tag (number_of a.kind)) ≡ 4 = refl in
     record { named = omega arith; valued = omega arith; some = omega arith }
 
-count_below : (n : ℕ) (kind : NcType) → n ≤ n * size_of kind
-count_below n Byte = omega arith
-count_below n Char = omega arith
-count_below n Short = omega arith
-count_below n Int = omega arith
-count_below n Float = omega arith
-count_below n Double = omega arith
-count_below n UByte = omega arith
-count_below n UShort = omega arith
-count_below n UInt = omega arith
-count_below n Int64 = omega arith
-count_below n UInt64 = omega arith
-
 attr_written : (version : ℕ) (a : Attr) → IsTyped version a → length (attribute version a) ≤ 2 ^ 20 → is_writable_attr version a ≡ true
 attr_written version a t short =
     let long = attr_long version a in
     let named = long.named in
     let valued = long.valued in
     let whole = t.whole in
-    let counted = count_below a.count a.kind in
-    all_true (fits_count version (length a.name) && is_type version a.kind && fits_count version a.count) _
-    (all_true (fits_count version (length a.name) && is_type version a.kind) _
-    (all_true (fits_count version (length a.name)) _ (small_fits version (length a.name) (omega arith)) t.kind)
-    (small_fits version a.count (omega arith)))
-    (eq_test (length a.bytes) (a.count * size_of a.kind) whole)
+    let counted = row_below_bytes a.count a.kind in
+    and_from (fits_count version (length a.name) && is_type version a.kind && fits_count version a.count) _
+    (and_from (fits_count version (length a.name) && is_type version a.kind) _
+    (and_from (fits_count version (length a.name)) _ (small_count version (length a.name) (omega arith)) t.kind)
+    (small_count version a.count (omega arith)))
+    (equal_true (length a.bytes) (a.count * size_of a.kind) whole)
 
 -- ---- a list of attributes
 
@@ -94,7 +83,7 @@ attrs_written version attrs all short =
     let whole = list_len version 12 (λ a. attribute version a) attrs in
     let sum : sum_by (λ a. length (attribute version a)) attrs ≤ 2 ^ 20 = omega (arith, whole, short) in
     let few = few_below (λ a. length (attribute version a)) (λ a. (attr_long version a).some) attrs in
-    all_true (fits_count version (length attrs)) _ (small_fits version (length attrs) (omega (arith, sum, few)))
+    and_from (fits_count version (length attrs)) _ (small_count version (length attrs) (omega (arith, sum, few)))
     (each_passes (is_writable_attr version) attrs
     (each_both (IsTyped version) (λ a. length (attribute version a) ≤ 2 ^ 20) (λ a. is_writable_attr version a ≡ true) (attr_written version) attrs all
     (each_below (λ a. length (attribute version a)) (2 ^ 20) attrs sum)))

@@ -1,6 +1,5 @@
 -- The slabs of the old variables: what they are, and where each lies.
-use Rattle.std.proofs.Common.{◌≡◌, ℕ, ◌+◌, ◌-◌, ◌*◌, ◌<◌, ◌≤◌, refl, sym, ◌∙◌, ap, inl, inr, ◌⊎◌, List, [], ◌∷◌, length, map, Bool, true, false, cond, Some, arith}
-use Rattle.std.proofs.lemmas.Bool.Decides.{nat_tests}
+use Rattle.std.proofs.Common.{◌≡◌, ℕ, ◌+◌, ◌-◌, ◌*◌, ◌<◌, ◌≤◌, refl, sym, ◌∙◌, ap, inl, inr, ◌⊎◌, List, [], ◌∷◌, map, Bool, true, false, cond, Some, arith}
 use Rattle.std.proofs.lemmas.Nat.{mul-le}
 use Rattle.std.specs.Prelude.{slice_get, zip, ◌==◌}
 use Rattle.std.specs.List.{range_with_len}
@@ -8,13 +7,13 @@ use Rattle.nc_base.specs.declared.header.Header.{Header}
 use Rattle.nc_base.specs.declared.header.Var.{Var}
 use Rattle.serial_spec.specs.DeviceCalls.{Slab, slabs, slabs_of}
 use Rattle.serial_spec.specs.HeaderGrammar.{is_sound, header_len}
-use Rattle.serial_spec.specs.Layout.{is_record, slab, vsize, recsize, record_slabs, last_share, end_of_var, lengths}
+use Rattle.serial_spec.specs.Layout.{is_record, slab, vsize, recsize, last_share, end_of_var, lengths}
 use Rattle.serial_spec.specs.Redefinition.{KeepsVars}
-use Rattle.serial_spec.proofs.RoomLaws.{end_holds}
+use Rattle.serial_spec.proofs.RoomLaws.{end_holds, slab_below, slab_shared, some_record}
 use Rattle.overlay_laws.specs.Entries.{In}
 use Rattle.overlay_laws.proofs.HullLaws.{flat_in, range_high}
 use Rattle.redef_laws.specs.Shifted.{IsShifted, new_end}
-use Rattle.redef_laws.proofs.Members.{map_in, zip_in}
+use Rattle.overlay_laws.proofs.Members.{map_in, zip_in}
 use Rattle.redef_laws.proofs.RecordSizes.{same_slab, same_record, record_grows}
 use Rattle.redef_laws.proofs.SoundVars.{slab_holds, past_front}
 
@@ -117,25 +116,12 @@ slab_in old new s keeps h =
 
 -- ---- where a slab lies
 
-slab_below : (header : Header) (v : Var) → slab header v ≤ vsize header v
-slab_below header v = omega arith
-
-slab_shared : (header : Header) (v : Var) → slab header v ≤ last_share header v
-slab_shared header v = by_test (length (record_slabs header) == 1)
-  where
-    by_test : (t : Bool) → slab header v ≤ cond t (slab header v) (vsize header v)
-    by_test true = omega arith
-    by_test false = slab_below header v
-
 fixed_ends : (header : Header) (n : ℕ) (v : Var) → is_record header v ≡ false → v.begin + slab header v ≤ end_of_var header n v
 fixed_ends header n v e =
     let own : end_of_var header n v ≡ v.begin + vsize header v =
     ap (λ (t : Bool). cond t (cond (n == 0) 0 (v.begin + (n - 1) * recsize header + last_share header v)) (v.begin + vsize header v)) e in
     let below = slab_below header v in
     omega arith
-
-some_record : (r n : ℕ) → r < n → (n == 0) ≡ false
-some_record r n h = grind (arith, nat_tests)
 
 record_ends : (header : Header) (n r : ℕ) (v : Var) → is_record header v ≡ true → r < n → v.begin + r * recsize header + slab header v ≤ end_of_var header n v
 record_ends header n r v e h =

@@ -12,17 +12,13 @@ use Rattle.serial_spec.proofs.ApartLaws.{slab_fits}
 use Rattle.serial_spec.proofs.CellLaws.{same_number}
 use Rattle.redef_laws.specs.Shifted.{IsLower, AreShifted, new_end}
 use Rattle.redef_laws.proofs.RecordSizes.{record_grows}
-use Rattle.redef_laws.proofs.SoundVars.{slab_holds, vars_apart, IsApart, InTurn}
+use Rattle.redef_laws.proofs.SoundVars.{slab_holds, vars_apart, IsApart, InTurn, swapped}
 use Rattle.redef_laws.proofs.SlabLaws.{IsRaised, IsPair, IsFixedSlab, IsRecordSlab, slab_in, slab_lies}
 
 -- ---- n bytes from a and m bytes from b, in records r and u of one size
 
 abbrev Turns : ℕ → ℕ → ℕ → ℕ → ℕ → Type 0
 Turns size a n b m = InTurn size a n b m ⊎ InTurn size b m a n
-
-swapped : {A B : Type 0} → A ⊎ B → B ⊎ A
-swapped (inl x) = inr x
-swapped (inr y) = inl y
 
 first_ends : (a n b m : ℕ) → 0 < m → a ≤ b → (a + n ≤ b) ⊎ (b + m ≤ a) → a + n ≤ b
 first_ends a n b m p l (inl h) = h

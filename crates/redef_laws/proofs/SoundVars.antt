@@ -6,6 +6,7 @@ use Rattle.std.proofs.lemmas.Nat.{mul-le}
 use Rattle.std.specs.Prelude.{slice_get, drop, nat_lt, nat_le, ◌==◌}
 use Rattle.std.specs.List.{AllByRecursion}
 use borrow.Author.Tests.{ltb-false}
+use Rattle.serial_spec.proofs.LengthLaws.{size_pos}
 use Rattle.nc_base.specs.declared.header.Header.{Header}
 use Rattle.nc_base.specs.declared.header.Var.{Var}
 use Rattle.serial_spec.specs.ExternalForm.{size_of}
@@ -13,7 +14,6 @@ use Rattle.serial_spec.specs.Layout.{product, without_record, lengths, inner_len
 use Rattle.serial_spec.specs.HeaderGrammar.{is_sound, header_len}
 use Rattle.serial_spec.proofs.ApartLaws.{none_from, none_shared, past_header}
 use Rattle.serial_spec.proofs.RoomLaws.{none_later}
-use Rattle.var_layout.proofs.ElementPlaces.{size_pos}
 
 -- ---- one variable
 
@@ -119,7 +119,7 @@ unshared size a n b m true true p q h =
       both_records = λ e f. one_then_other size a n b m (nat_le a b) h;
     }
 
-swapped : {A B : Type 0} → A ⊎ B → B ⊎ A
+pub swapped : {A B : Type 0} → A ⊎ B → B ⊎ A
 swapped (inl x) = inr x
 swapped (inr y) = inl y
 

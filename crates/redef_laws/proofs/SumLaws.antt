@@ -2,10 +2,11 @@
 use Rattle.std.proofs.Common.{◌≡◌, ℕ, ◌+◌, ◌<◌, ◌≤◌, refl, sym, ◌∙◌, ap, subst, inl, inr, List, [], ◌∷◌, Bool, true, false, cond, ◌&&◌, arith}
 use Rattle.std.proofs.lemmas.List.Sums.{sum_by-cons, sum_by-append}
 use Rattle.std.specs.Prelude.{map, flat_map, sum_by, nat_le, nat_lt, ◌==◌}
+use Rattle.std.proofs.lemmas.Bool.{and_parts}
 use borrow.Author.Tests.{ltb-true, ltb-false, eqb-true}
+use Rattle.list_laws.proofs.Truth.{equal_true}
 use Rattle.serial_spec.specs.DeviceCalls.{Slab}
 use Rattle.overlay_laws.specs.Entries.{In}
-use Rattle.overlay_laws.proofs.WalkLaws.{eq_true}
 use Rattle.redef_laws.specs.Rising.{put_in, lowest_first}
 use Rattle.redef_laws.proofs.ChainLaws.{AreDistinct}
 
@@ -92,17 +93,12 @@ abbrev is_slab : Slab → Slab → Bool
 is_slab s t = t.from == s.from && (t.to == s.to && t.len == s.len)
 
 itself : (s : Slab) → is_slab s s ≡ true
-itself s = λ i. eq_true s.from s.from refl i && (eq_true s.to s.to refl i && eq_true s.len s.len refl i)
-
-both : (a b : Bool) → (a && b) ≡ true → (a ≡ true) × (b ≡ true)
-both true true h = (refl, refl)
-both true false h = cc
-both false b h = cc
+itself s = λ i. equal_true s.from s.from refl i && (equal_true s.to s.to refl i && equal_true s.len s.len refl i)
 
 same_slab : (s t : Slab) → is_slab s t ≡ true → t ≡ s
 same_slab s t h =
-    let a = both (t.from == s.from) _ h in
-    let b = both (t.to == s.to) _ a.1 in
+    let a = and_parts (t.from == s.from) _ h in
+    let b = and_parts (t.to == s.to) _ a.1 in
     let from : t.from ≡ s.from = eqb-true _ _ a.0 in
     let to : t.to ≡ s.to = eqb-true _ _ b.0 in
     let len : t.len ≡ s.len = eqb-true _ _ b.1 in
@@ -164,8 +160,8 @@ once_distinct [] h = tt
 once_distinct (s ∷ ss) h = (
   (λ t g e.
       let all = sum_by-cons (begins_at s.from) s ss in
-      let one : begins_at s.from s ≡ 1 = ap (λ b. cond b 1 0) (eq_true s.from s.from refl) in
-      let two : begins_at s.from t ≡ 1 = ap (λ b. cond b 1 0) (eq_true t.from s.from (sym e)) in
+      let one : begins_at s.from s ≡ 1 = ap (λ b. cond b 1 0) (equal_true s.from s.from refl) in
+      let two : begins_at s.from t ≡ 1 = ap (λ b. cond b 1 0) (equal_true t.from s.from (sym e)) in
       let there = summed_in (begins_at s.from) ss t g in
       let most = h s.from in
       omega arith),

@@ -4,7 +4,13 @@ use Rattle.std.specs.Prelude.{not, nat_lt, nat_le, ◌==◌, count_by, filter, f
 use Rattle.std.specs.List.{AllByRecursion}
 use Rattle.std.specs.Option.{option_or}
 use Rattle.std.proofs.lemmas.Bool.Decides.{nat_tests}
-use Rattle.std.proofs.lemmas.List.Sums.{length-filter, sum_by-cons}
+use Rattle.std.proofs.lemmas.List.Sums.{length-filter}
+use Rattle.std.proofs.lemmas.Bool.{and_from, not-true, not-false, le-leb, ltb-true, ltb-false, leb-false}
+use Rattle.var_layout.proofs.LaidOut.{past_none}
+use Rattle.var_layout.proofs.LaidWritable.{small_count, vsize_fits}
+use Rattle.list_laws.proofs.Each.{each_passes, each_fails, each_weaker, each_at}
+use Rattle.list_laws.proofs.Truth.{and_first, and_second}
+use Rattle.list_laws.proofs.Optional.{both_none, none_before_map, untold}
 use Rattle.nc_base.specs.declared.header.Header.{Header}
 use Rattle.nc_base.specs.declared.header.Dim.{Dim}
 use Rattle.nc_base.specs.declared.header.Var.{Var}
@@ -14,15 +20,11 @@ use Rattle.nc_base.specs.declared.errors.RedefErr.{RedefErr}
 use Rattle.nc_base.specs.declared.errors.RedefErr.TheVariants as redef
 use Rattle.serial_spec.specs.Limits.{most_dims, most_vars, most_dims_of_var, most_header_bytes, file_limit, record_limit}
 use Rattle.serial_spec.specs.Layout.{vsize, record_share, sharing}
-use Rattle.serial_spec.specs.HeaderGrammar.{attribute, list_of, is_sound, is_version, counts_are_small, header_len, record_later, is_record_id, bad_id, all_ones, measure, past_bound, keeps_bound, fits_count, is_type, is_writable, is_writable_dim, is_writable_attr, is_writable_list, is_writable_var}
+use Rattle.serial_spec.specs.HeaderGrammar.{attribute, list_of, is_sound, is_version, counts_are_small, header_len, record_later, is_record_id, bad_id, all_ones, measure, keeps_bound, fits_count, is_type, is_writable, is_writable_dim, is_writable_attr, is_writable_list, is_writable_var}
 use Rattle.serial_spec.specs.Redefinition.{added, extras_fault, begins_by_number, with_begins, redefined_header, redefined_fault, is_large_var, is_far_begin, is_bad_begin, size_fault}
-use Rattle.serial_spec.proofs.ApartLaws.{neither}
-use Rattle.serial_spec.proofs.RoomLaws.{unmapped}
 use Rattle.redef_laws.specs.Applied.{IsApplied}
-use Rattle.var_layout.proofs.Soundness.{and_left, and_right}
-use Rattle.var_layout.proofs.LaidOut.{all_true}
-use Rattle.redef_laws.proofs.FieldLaws.{not_both, not_true, not_false, lt_told, not_lt_told, le_test, not_le_told, each_passes, each_fails, each_then, each_both, small_fits, count_fits, begin_fits}
-use Rattle.redef_laws.proofs.GrownLaws.{HasFitLength, IsFitVar, IsFit, is_record_dim, each_at, all_more, all_same, HasVersionOf}
+use Rattle.redef_laws.proofs.FieldLaws.{not_both, each_both, begin_fits}
+use Rattle.redef_laws.proofs.GrownLaws.{HasFitLength, IsFitVar, IsFit, is_record_dim, all_more, all_same, HasVersionOf}
 use Rattle.redef_laws.proofs.ShortLaws.{is_short, attrs_written}
 use Rattle.redef_laws.proofs.FitLaws.{IsChecked, checked, passes_checks, none_found, finds_none, IsOpened, opened_old}
 use Rattle.redef_laws.proofs.RebegunLaws.{rebegun_each, rebegun_long}
@@ -36,10 +38,6 @@ pub record HasNoFault (old : Header) (extras : List Extra) : Type 0 where
   pub short : header_len (redefined_header old extras) ≤ 2 ^ 20
   pub begins : find (is_bad_begin (redefined_header old extras)) (begins_by_number (added old extras) (length old.vars)) ≡ None
 
-no_choice : {A : Type 0} (t : Bool) (x : A) → cond t (Some x) None ≡ None → t ≡ false
-no_choice true x h = absurd cc
-no_choice false x h = refl
-
 pub no_fault : (old : Header) (extras : List Extra) → redefined_fault old extras ≡ None → HasNoFault old extras
 no_fault old extras h = by_extras (extras_fault old extras) refl h
   where
@@ -50,13 +48,13 @@ no_fault old extras h = by_extras (extras_fault old extras) refl h
         → HasNoFault old extras
     by_layout none g =
         let new = redefined_header old extras in
-        let both = neither (size_fault new) _ (unmapped (λ e. redef.Layout e) _ g) in
-        let sizes = neither (option_map (λ k. layout.VarSize k) (position (is_large_var new) new.vars)) _ both.0 in
+        let both = both_none (size_fault new) _ (none_before_map (λ e. redef.Layout e) _ g) in
+        let sizes = both_none (option_map (λ k. layout.VarSize k) (position (is_large_var new) new.vars)) _ both.0 in
         record {
           accepted = none;
-          sizes = unmapped (λ k. layout.VarSize k) (position (is_large_var new) new.vars) sizes.0;
-          short = not_lt_told (2 ^ 20) (header_len new) (no_choice (nat_lt most_header_bytes (header_len new)) layout.HeaderRange sizes.1);
-          begins = unmapped (λ b. layout.BeginRange b.0) (find (is_bad_begin new) (begins_by_number (added old extras) (length old.vars))) both.1;
+          sizes = none_before_map (λ k. layout.VarSize k) (position (is_large_var new) new.vars) sizes.0;
+          short = ltb-false (2 ^ 20) (header_len new) (untold (nat_lt most_header_bytes (header_len new)) layout.HeaderRange sizes.1);
+          begins = none_before_map (λ b. layout.BeginRange b.0) (find (is_bad_begin new) (begins_by_number (added old extras) (length old.vars))) both.1;
         }
 
     by_extras : (o : Option RedefErr) → extras_fault old extras ≡ o
@@ -74,7 +72,7 @@ no_fault old extras h = by_extras (extras_fault old extras) refl h
 -- ---- each variable keeps its bound
 
 -- what is not found fails the test
-found_fails : {A : Type 0} (bad p : A → Bool) (xs : List A) (x : A) → find bad xs ≡ None → find p xs ≡ Some x → bad x ≡ false
+pub found_fails : {A : Type 0} (bad p : A → Bool) (xs : List A) (x : A) → find bad xs ≡ None → find p xs ≡ Some x → bad x ≡ false
 found_fails bad p [] x h g = absurd cc
 found_fails {A} bad p (y ∷ xs) x h g = by_tests (bad y) (p y) refl h g (λ h' g'. found_fails bad p xs x h' g')
   where
@@ -92,8 +90,8 @@ pub record IsBound (header : Header) (k : ℕ) (v : Var) : Type 0 where
 bound_by : (header : Header) (k b : ℕ) (v : Var) → slice_get header.vars k ≡ Some v → is_bad_begin header (k, b) ≡ false → IsBound header k v
 bound_by header k b v g h =
     let kept : (not (is_far_begin header v) && keeps_bound header (sum_by (λ w. record_share header w) (take k header.vars)) v) ≡ true =
-    not_false _ (sym (ap (λ (o : Option Var). elim o as (λ u. Bool) [ None ↦ false | Some w ↦ not (not (is_far_begin header w) && keeps_bound header (sum_by (λ x. record_share header x) (take k header.vars)) w) ]) g) ∙ h) in
-    record { near = not_true (is_far_begin header v) (and_left _ _ kept); keeps = and_right (not (is_far_begin header v)) _ kept }
+    not-false _ (sym (ap (λ (o : Option Var). elim o as (λ u. Bool) [ None ↦ false | Some w ↦ not (not (is_far_begin header w) && keeps_bound header (sum_by (λ x. record_share header x) (take k header.vars)) w) ]) g) ∙ h) in
+    record { near = not-true (is_far_begin header v) (and_first _ _ kept); keeps = and_second (not (is_far_begin header v)) _ kept }
 
 pub each_bound : (old : Header) (extras : List Extra) → HasNoFault old extras → (k : ℕ) (x : Var) → slice_get (redefined_header old extras).vars k ≡ Some x
     → IsBound (redefined_header old extras) k x
@@ -103,20 +101,6 @@ each_bound old extras none k x g =
     let p = placed header n k x g in
     bound_by (redefined_header old extras) k x.begin x g
     (found_fails (is_bad_begin (redefined_header old extras)) (λ b. b.0 == k) (begins_by_number header n) (k, x.begin) none.begins p.1.found)
-
-past_none : (header : Header) (vs : List Var) (before n : ℕ)
-    → ((k : ℕ) (v : Var) → slice_get vs k ≡ Some v → keeps_bound header (before + sum_by (λ w. record_share header w) (take k vs)) v ≡ true)
-    → past_bound header before n vs ≡ None
-past_none header [] before n h = refl
-past_none header (v ∷ vs) before n h =
-    let here : keeps_bound header before v ≡ true =
-    ap (λ (m : ℕ). keeps_bound header m v) (let e : before ≡ before + 0 = omega arith in e) ∙ h 0 v refl in
-    let rest = past_none header vs (before + record_share header v) (suc n)
-    (λ k w g. ap (λ (m : ℕ). keeps_bound header m w) (shifted before (record_share header v) (sum_by (λ x. record_share header x) (take k vs)) _ (sum_by-cons (λ x. record_share header x) v (take k vs))) ∙ h (suc k) w g) in
-    ap (λ (t : Bool). cond t (past_bound header (before + record_share header v) (suc n) vs) (Some n)) here ∙ rest
-  where
-    shifted : (b s r t : ℕ) → t ≡ s + r → b + s + r ≡ b + t
-    shifted b s r t e = omega arith
 
 measured : (header : Header) → ((k : ℕ) (v : Var) → slice_get header.vars k ≡ Some v → IsBound header k v) → measure header ≡ None
 measured header h =
@@ -177,12 +161,12 @@ checks old new k =
       one_record = one_at_most (count_by (λ (d : Dim). d.len == 0) new.dims) (length (filter is_record_dim new.dims)) (length-filter is_record_dim new.dims) fit.one_record;
       first =
           finds_none (record_later new) new.vars
-          (each_then (IsFitVar new.version new.dims) (λ v. record_later new v ≡ false) (λ v f. each_fails (λ id. is_record_id new id) (drop 1 v.dims) f.later) new.vars fit.vars);
+          (each_weaker (IsFitVar new.version new.dims) (λ v. record_later new v ≡ false) (λ v f. each_fails (λ id. is_record_id new id) (drop 1 v.dims) f.later) new.vars fit.vars);
       ids =
           finds_none (bad_id new) new.vars
-          (each_then (IsFitVar new.version new.dims) (λ v. bad_id new v ≡ false)
+          (each_weaker (IsFitVar new.version new.dims) (λ v. bad_id new v ≡ false)
           (λ v f. each_fails (λ id. nat_le (length new.dims) id) v.dims
-          (each_then (λ id. id < length new.dims) (λ id. nat_le (length new.dims) id ≡ false) (λ id l. above (length new.dims) id l) v.dims f.known)) new.vars fit.vars);
+          (each_weaker (λ id. id < length new.dims) (λ id. nat_le (length new.dims) id ≡ false) (λ id l. above (length new.dims) id l) v.dims f.known)) new.vars fit.vars);
       counted = ap (λ (n : ℕ). n == all_ones new.version) k.same.records ∙ ap (λ (v : ℕ). old.records == all_ones v) k.same.version ∙ c.counted;
       measured = measured new k.bound;
       few = ap (λ (n : ℕ). nat_le (record_limit new.version) n) k.same.records ∙ ap (λ (v : ℕ). nat_le (record_limit v) old.records) k.same.version ∙ c.few;
@@ -197,17 +181,17 @@ checks old new k =
 
 counts : (header : Header) → IsFit header → counts_are_small header ≡ true
 counts header fit =
-    all_true (nat_le (length header.dims) most_dims && nat_le (length header.vars) most_vars) _
-    (all_true (nat_le (length header.dims) most_dims) _ (le_test (length header.dims) 1024 fit.few_dims) (le_test (length header.vars) 8192 fit.few_vars))
+    and_from (nat_le (length header.dims) most_dims && nat_le (length header.vars) most_vars) _
+    (and_from (nat_le (length header.dims) most_dims) _ (le-leb (length header.dims) 1024 fit.few_dims) (le-leb (length header.vars) 8192 fit.few_vars))
     (each_passes (λ (v : Var). nat_le (length v.dims) most_dims_of_var) header.vars
-    (each_then (IsFitVar header.version header.dims) (λ (v : Var). nat_le (length v.dims) most_dims_of_var ≡ true) (λ v f. le_test (length v.dims) 32 f.few) header.vars fit.vars))
+    (each_weaker (IsFitVar header.version header.dims) (λ (v : Var). nat_le (length v.dims) most_dims_of_var ≡ true) (λ v f. le-leb (length v.dims) 32 f.few) header.vars fit.vars))
 
 pub sound : (old new : Header) → IsKnown old new → is_sound new ≡ true
 sound old new k =
-    all_true (is_version new.version && counts_are_small new && nat_le (header_len new) most_header_bytes) _
-    (all_true (is_version new.version && counts_are_small new) _
-    (all_true (is_version new.version) _ (ap (λ (v : ℕ). is_version v) k.same.version ∙ k.opened.version) (counts new k.fit))
-    (le_test (header_len new) (2 ^ 20) k.short))
+    and_from (is_version new.version && counts_are_small new && nat_le (header_len new) most_header_bytes) _
+    (and_from (is_version new.version && counts_are_small new) _
+    (and_from (is_version new.version) _ (ap (λ (v : ℕ). is_version v) k.same.version ∙ k.opened.version) (counts new k.fit))
+    (le-leb (header_len new) (2 ^ 20) k.short))
     (ap (λ o. is_none o) (passes_checks new (checks old new k)))
 
 -- ---- each number fits its field
@@ -215,16 +199,16 @@ sound old new k =
 dims_written : (old new : Header) → IsKnown old new → is_writable_list new.version (is_writable_dim new.version) new.dims ≡ true
 dims_written old new k =
     let few = k.fit.few_dims in
-    all_true (fits_count new.version (length new.dims)) _ (small_fits new.version (length new.dims) (omega arith))
+    and_from (fits_count new.version (length new.dims)) _ (small_count new.version (length new.dims) (omega arith))
     (each_passes (is_writable_dim new.version) new.dims
     (each_both (λ d. length d.name ≤ 2 ^ 20) (HasFitLength new.version) (λ d. is_writable_dim new.version d ≡ true) (dim_written new.version) new.dims
     (is_short new k.short).dims k.fit.lengths))
   where
     dim_written : (version : ℕ) (d : Dim) → length d.name ≤ 2 ^ 20 → HasFitLength version d → is_writable_dim version d ≡ true
     dim_written version d short fit =
-        all_true (fits_count version (length d.name) && fits_count version d.len) _
-        (all_true (fits_count version (length d.name)) _ (small_fits version (length d.name) (omega arith)) fit.fits)
-        (le_test d.len file_limit fit.small)
+        and_from (fits_count version (length d.name) && fits_count version d.len) _
+        (and_from (fits_count version (length d.name)) _ (small_count version (length d.name) (omega arith)) fit.fits)
+        (le-leb d.len file_limit fit.small)
 
 -- what is known of one variable of a new header
 record IsKnownVar (header : Header) (k : ℕ) (v : Var) : Type 0 where
@@ -239,14 +223,9 @@ dims_of_var : (header : Header) (k : ℕ) (v : Var) → IsKnownVar header k v �
 dims_of_var header k v is =
     let few = is.fit.few in
     let all = is.few_dims in
-    all_true (fits_count header.version (length v.dims)) _ (small_fits header.version (length v.dims) (omega arith))
+    and_from (fits_count header.version (length v.dims)) _ (small_count header.version (length v.dims) (omega arith))
     (each_passes (λ id. fits_count header.version id) v.dims
-    (each_then (λ id. id < length header.dims) (λ id. fits_count header.version id ≡ true) (λ id l. small_fits header.version id (omega arith)) v.dims is.fit.known))
-
-size_fits : (header : Header) (v : Var) → vsize header v < 2 ^ 62 → is_large_var header v ≡ false → fits_count header.version (vsize header v) ≡ true
-size_fits header v l h =
-    count_fits header.version (vsize header v) l
-    (λ e. let m = not_lt_told (2 ^ 31 - 4) (vsize header v) (not_both (not (header.version == 5)) _ h (ap (λ (t : Bool). not t) e)) in omega arith)
+    (each_weaker (λ id. id < length header.dims) (λ id. fits_count header.version id ≡ true) (λ id l. small_count header.version id (omega arith)) v.dims is.fit.known))
 
 var_written : (header : Header) (k : ℕ) (v : Var) → IsKnownVar header k v → is_writable_var header v ≡ true
 var_written header k v is =
@@ -255,22 +234,22 @@ var_written header k v is =
     let names = fits_count version (length v.name) in
     let dims = is_writable_list version (λ id. fits_count version id) v.dims in
     let attrs = is_writable_list version (is_writable_attr version) v.attrs in
-    let end = lt_told (v.begin + vsize header v) file_limit (and_right (nat_lt (vsize header v) file_limit) _ (and_left (nat_lt (vsize header v) file_limit && nat_lt (v.begin + vsize header v) file_limit) _ is.bound.keeps)) in
-    all_true (names && dims && attrs && is_type version v.kind && fits_count version (vsize header v)) _
-    (all_true (names && dims && attrs && is_type version v.kind) _
-    (all_true (names && dims && attrs) _
-    (all_true (names && dims) _
-    (all_true names _ (small_fits version (length v.name) (omega arith)) (dims_of_var header k v is))
+    let end = ltb-true (v.begin + vsize header v) file_limit (and_second (nat_lt (vsize header v) file_limit) _ (and_first (nat_lt (vsize header v) file_limit && nat_lt (v.begin + vsize header v) file_limit) _ is.bound.keeps)) in
+    and_from (names && dims && attrs && is_type version v.kind && fits_count version (vsize header v)) _
+    (and_from (names && dims && attrs && is_type version v.kind) _
+    (and_from (names && dims && attrs) _
+    (and_from (names && dims) _
+    (and_from names _ (small_count version (length v.name) (omega arith)) (dims_of_var header k v is))
     (attrs_written version v.attrs is.fit.typed is.attrs))
     is.fit.known_type)
-    (size_fits header v (omega arith) is.stored))
-    (begin_fits version v.begin (omega arith) (λ e. not_le_told (2 ^ 31) v.begin (not_both (version == 1) _ is.bound.near e)))
+    (vsize_fits header v (omega arith) is.stored))
+    (begin_fits version v.begin (omega arith) (λ e. leb-false (2 ^ 31) v.begin (not_both (version == 1) _ is.bound.near e)))
 
 vars_written : (old new : Header) → IsKnown old new → is_writable_list new.version (is_writable_var new) new.vars ≡ true
 vars_written old new k =
     let few = k.fit.few_vars in
     let short = is_short new k.short in
-    all_true (fits_count new.version (length new.vars)) _ (small_fits new.version (length new.vars) (omega arith))
+    and_from (fits_count new.version (length new.vars)) _ (small_count new.version (length new.vars) (omega arith))
     (each_passes (is_writable_var new) new.vars
     (each_from (λ v. is_writable_var new v ≡ true) new.vars
     (λ i v g. var_written new i v (record {
@@ -289,10 +268,10 @@ written old new extras applied =
     let records = fits_count version new.records in
     let dims = is_writable_list version (is_writable_dim version) new.dims in
     let attrs = is_writable_list version (is_writable_attr version) new.attrs in
-    all_true (is_sound new && records && dims && attrs) _
-    (all_true (is_sound new && records && dims) _
-    (all_true (is_sound new && records) _
-    (all_true (is_sound new) _ (sound old new k)
+    and_from (is_sound new && records && dims && attrs) _
+    (and_from (is_sound new && records && dims) _
+    (and_from (is_sound new && records) _
+    (and_from (is_sound new) _ (sound old new k)
     (ap (λ (v : ℕ). fits_count v new.records) k.same.version ∙ ap (λ (n : ℕ). fits_count old.version n) k.same.records ∙ k.opened.records))
     (dims_written old new k))
     (attrs_written version new.attrs k.fit.attrs (is_short new k.short).attrs))

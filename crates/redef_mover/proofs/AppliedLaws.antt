@@ -1,6 +1,7 @@
 -- From the laws of a redefinition to what a relocation asks and promises.
 use Rattle.std.proofs.Common.{◌≡◌, ◌↔◌, ℕ, ◌<◌, refl, sym, ◌∙◌, ap, List, [], ◌∷◌, ◌++◌, length, true, Some, None, arith}
 use Rattle.std.specs.Prelude.{filter, flat_map, reverse}
+use Rattle.list_laws.proofs.Truth.{and_first}
 use Rattle.nc_base.specs.declared.header.Header.{Header}
 use Rattle.nc_base.specs.declared.script.Extra.{Extra}
 use Rattle.nc_base.specs.declared.script.Extra.TheVariants as extra
@@ -8,7 +9,6 @@ use Rattle.nc_base.specs.declared.step.DiskCall.TheVariants.{Store}
 use Rattle.serial_spec.specs.DeviceCalls.{Slab, grow_to, highest_first, move_calls, slabs, zero_calls}
 use Rattle.serial_spec.specs.HeaderGrammar.{header_len, is_writable}
 use Rattle.serial_spec.specs.Redefinition.{added, redefined, with_extra}
-use Rattle.serial_spec.proofs.SpellingLaws.{left}
 use Rattle.var_layout.proofs.ElementPlaces.{sound_end}
 use Rattle.overlay_laws.specs.Entries.{In}
 use Rattle.redef_laws.specs.Applied.{IsApplied}
@@ -21,7 +21,7 @@ use Rattle.redef_mover.proofs.CarryLaws.{carried_is}
 
 -- ---- the record count stays
 
-one_keeps : (header : Header) (e : Extra) → (with_extra header e).records ≡ header.records
+pub one_keeps : (header : Header) (e : Extra) → (with_extra header e).records ≡ header.records
 one_keeps header (extra.Dim d) = refl
 one_keeps header (extra.Var kind name dims) = refl
 one_keeps header (extra.Att None a) = refl
@@ -42,9 +42,9 @@ pub carriable : (old new : Header) (extras : List Extra) → IsApplied old extra
 carriable old new extras h writable shifted all risen =
     let count = same_records old new extras h in
     record {
-      sound = left _ _ (left _ _ (left _ _ (left _ _ h.redefinable)));
+      sound = and_first _ _ (and_first _ _ (and_first _ _ (and_first _ _ h.redefinable)));
       writable = writable;
-      low = sound_end new old.records (left _ _ (left _ _ (left _ _ (left _ _ writable)))) (omega arith);
+      low = sound_end new old.records (and_first _ _ (and_first _ _ (and_first _ _ (and_first _ _ writable)))) (omega arith);
       risen = risen;
       inside = λ s i. (shifted.each s ((all s).0 i)).inside;
     }
@@ -56,7 +56,7 @@ pub record HasLaws (old new : Header) : Type 0 where
   pub all : (s : Slab) → In (rising old new) s ↔ In (slabs old new) s
   pub falls : highest_first (filter changes (slabs old new)) ≡ filter changes (reverse (rising old new))
   pub zeros : (z : ℕ) → 0 < z → zero_calls z old new ≡ gap_calls z (gaps (header_len new) (new_end old new) (rising old new))
-  pub moved : (file left : List ℕ) → IsMoved old new file left → left ≡ redefined file old new
+  pub moved : (file and_first : List ℕ) → IsMoved old new file and_first → and_first ≡ redefined file old new
 
 pub has_laws : (old new : Header) (extras : List Extra) → IsApplied old extras new → is_writable new ≡ true
     → AreShifted (header_len old) (header_len new) (new_end old new) (slabs old new) → ((s : Slab) → In (rising old new) s ↔ In (slabs old new) s)

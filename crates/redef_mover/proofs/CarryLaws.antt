@@ -29,11 +29,6 @@ spaced_from b end [] s h i = absurd i
 spaced_from b end (t ∷ ss) s h (inl e) = subst (λ (u : Slab). b ≤ u.to) e h.0
 spaced_from b end (t ∷ ss) s h (inr i) = let low : b ≤ t.to = h.0 in let rest = spaced_from (t.to + t.len) end ss s h.1 i in omega arith
 
-spaced_to : (b end : ℕ) (ss : List Slab) (s : Slab) → AreSpaced b end ss → In ss s → s.to + s.len ≤ end
-spaced_to b end [] s h i = absurd i
-spaced_to b end (t ∷ ss) s h (inl e) = subst (λ (u : Slab). u.to + u.len ≤ end) e (spaced_low (t.to + t.len) end ss h.1)
-spaced_to b end (t ∷ ss) s h (inr i) = spaced_to (t.to + t.len) end ss s h.1 i
-
 -- ---- moves, the highest slab first
 
 abbrev up_moved : List ℕ → List Slab → List ℕ

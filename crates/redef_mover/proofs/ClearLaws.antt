@@ -5,6 +5,7 @@ use Rattle.std.proofs.lemmas.Grind.{flat_map-append, fold-append}
 use Rattle.std.specs.List.{range_with_len}
 use Rattle.std.proofs.Math.ListN.{drop_of_length-le}
 use Rattle.std.proofs.lemmas.List.{drop_more, length-replicate, map-append, take-replicate}
+use Rattle.overlay_laws.proofs.SaidLaws.{same_file}
 use Rattle.nc_base.specs.declared.step.DiskCall.{DiskCall}
 use Rattle.nc_base.specs.declared.step.DiskCall.TheVariants.{Store}
 use Rattle.serial_spec.specs.DeviceCalls.{Slab, stores}
@@ -18,7 +19,7 @@ use Rattle.redef_mover.specs.declared.slabs.Shift.{Shift}
 use Rattle.redef_mover.specs.declared.slabs.Slabs.{Slabs}
 use Rattle.redef_mover.specs.Moves.{all_cleared, behind, cleared, further, gap_calls, gaps_before, listed, slab_of, slabs_at, AreClearable, AreSpaced}
 use Rattle.redef_mover.proofs.MovesLaws.{map_id, no_further}
-use Rattle.redef_mover.proofs.SlabLaws.{below_or, same_files, write_none}
+use Rattle.redef_mover.proofs.SlabLaws.{below_or}
 use Rattle.redef_mover.proofs.WindowLaws.{count_is, range_joined, windows_of}
 
 -- ---- one gap
@@ -47,7 +48,7 @@ cleared_inside file x n y h k = let bytes = zeros_long n in at-written_inside fi
 
 both_cleared : (file : List ℕ) (x a b c : ℕ) → c ≡ a + b → x + c ≤ length file → cleared (cleared file (x, a)) (x + a, b) ≡ cleared file (x, c)
 both_cleared file x a b c e h =
-    same_files (cleared (cleared file (x, a)) (x + a, b)) (cleared file (x, c))
+    same_file (cleared (cleared file (x, a)) (x + a, b)) (cleared file (x, c))
     (cleared_long (cleared file (x, a)) (x + a) b room ∙ cleared_long file x a (omega arith) ∙ sym (cleared_long file x c h)) each
   where
     room : x + a + b ≤ length (cleared file (x, a))
@@ -79,9 +80,6 @@ window_cleared file bytes x len z j n place from h l k b f e =
     let there : place - from ≡ x + min len (j * z) = omega arith in
     (λ t. written (cleared file (x, min len (j * z))) (there t) (b t))
     ∙ both_cleared file x (min len (j * z)) n (min len ((j + 1) * z)) (omega arith) (omega arith)
-
-pub none_cleared : (file : List ℕ) (x n : ℕ) → n ≡ 0 → x ≤ length file → cleared file (x, n) ≡ file
-none_cleared file x n e h = ap (λ (m : ℕ). cleared file (x, m)) e ∙ write_none file x h
 
 -- ---- the stores so far
 
@@ -203,11 +201,6 @@ next_record slabs r a b l e f =
     let more : slabs.count - r ≡ suc (slabs.count - (r + 1)) = omega arith in
     ap (λ (n : ℕ). flat_map (slabs_at slabs.step slabs.records.items) (range_with_len r n)) more
     ∙ (λ t. map (further (sym e t) (sym f t)) (map slab_of slabs.records.items) ++ above slabs (r + 1))
-
-pub no_record : (slabs : Slabs) (r : ℕ) → slabs.count ≤ r → above slabs r ≡ []
-no_record slabs r h =
-    let none : slabs.count - r ≡ 0 = omega arith in
-    ap (λ (n : ℕ). flat_map (slabs_at slabs.step slabs.records.items) (range_with_len r n)) none
 
 pub fixed_first : (slabs : Slabs) (a b : ℕ) → a ≡ 0 → b ≡ 0 → listed slabs ≡ map (further a b) (map slab_of slabs.fixed.items) ++ above slabs 0
 fixed_first slabs a b e f =

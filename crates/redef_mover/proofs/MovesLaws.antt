@@ -1,10 +1,12 @@
 -- Slabs moved one after another: what is left to be moved gives the whole.
-use Rattle.std.proofs.Common.{◌≡◌, ℕ, zero, suc, ◌+◌, ◌*◌, ◌<◌, refl, sym, ◌∙◌, ap, subst, List, [], ◌∷◌, ◌++◌, length, map, take, get_or, Option, Some, None, append_assoc, inl, inr, arith}
+use Rattle.std.proofs.Common.{◌≡◌, ℕ, ◌+◌, ◌*◌, ◌<◌, refl, sym, ◌∙◌, ap, subst, List, [], ◌∷◌, ◌++◌, length, map, take, get_or, Option, Some, None, append_assoc, arith}
 use Rattle.std.specs.Prelude.{fold, filter, flat_map, reverse}
 use Rattle.std.specs.List.{range_with_len}
 use Rattle.std.proofs.lemmas.Grind.{fold-append, flat_map-append}
 use Rattle.std.proofs.lemmas.List.{append-nil, map-append, reverse-append, take_more}
 use Rattle.std.proofs.lemmas.List.Elements.{filter-append}
+use Rattle.overlay_laws.proofs.Members.{entry_in, in_map}
+use Rattle.list_laws.proofs.Maps.{map_map}
 use Rattle.nc_base.specs.declared.step.DiskCall.{DiskCall}
 use Rattle.nc_outside.specs.Told.{after, with_end}
 use Rattle.nc_outside.proofs.ToldLaws.{after-after, after-same, with_end-with_end, with_end-nil}
@@ -62,10 +64,6 @@ last_called whole mid now z part all e w k = k ∙ ap (λ ss. with_end mid (all_
 
 -- ---- a list from its end
 
-map_twice : {A B C : Type 0} (f : B → C) (g : A → B) (xs : List A) → map f (map g xs) ≡ map (λ x. f (g x)) xs
-map_twice f g [] = refl
-map_twice f g (x ∷ xs) = ap (λ ys. f (g x) ∷ ys) (map_twice f g xs)
-
 pub last_first : {A B : Type 0} (f : A → B) (xs : List A) (k n : ℕ) (d : A) → n ≡ k + 1 → k < length xs
     → reverse (map f (take n xs)) ≡ f (get_or xs k d) ∷ reverse (map f (take k xs))
 last_first f xs k n d e h =
@@ -78,22 +76,12 @@ last_first f xs k n d e h =
 pub slab_first : (a b : ℕ) (ss : List Shift) (k n : ℕ) (d : Shift) (s : Slab) → s ≡ further a b (slab_of (get_or ss k d)) → n ≡ k + 1 → k < length ss
     → reverse (map (further a b) (map slab_of (take n ss))) ≡ (s ∷ []) ++ reverse (map (further a b) (map slab_of (take k ss)))
 slab_first a b ss k n d s e m h =
-    ap (λ ys. reverse ys) (map_twice (further a b) slab_of (take n ss))
+    ap (λ ys. reverse ys) (map_map (further a b) slab_of (take n ss))
     ∙ last_first (λ s. further a b (slab_of s)) ss k n d m h
-    ∙ (λ t. sym e t ∷ reverse (sym (map_twice (further a b) slab_of (take k ss)) t))
-
-pub in_at : {A : Type 0} (xs : List A) (k : ℕ) (d : A) → k < length xs → In xs (get_or xs k d)
-in_at [] k d h = absurd (omega arith)
-in_at (x ∷ xs) zero d h = inl refl
-in_at (x ∷ xs) (suc k) d h = inr (in_at xs k d (omega arith))
-
-pub in_map : {A B : Type 0} (f : A → B) (xs : List A) (x : A) → In xs x → In (map f xs) (f x)
-in_map f [] x h = h
-in_map f (y ∷ xs) x (inl e) = inl (ap f e)
-in_map f (y ∷ xs) x (inr h) = inr (in_map f xs x h)
+    ∙ (λ t. sym e t ∷ reverse (sym (map_map (further a b) slab_of (take k ss)) t))
 
 pub in_record : (a b : ℕ) (ss : List Shift) (k : ℕ) (d : Shift) → k < length ss → In (map (further a b) (map slab_of ss)) (further a b (slab_of (get_or ss k d)))
-in_record a b ss k d h = in_map (further a b) (map slab_of ss) (slab_of (get_or ss k d)) (in_map slab_of ss (get_or ss k d) (in_at ss k d h))
+in_record a b ss k d h = in_map (further a b) (map slab_of ss) (slab_of (get_or ss k d)) (in_map slab_of ss (get_or ss k d) (entry_in ss k d h))
 
 -- ---- records from the last one down
 

@@ -5,6 +5,10 @@ use Rattle.std.specs.List.{enumerate_from, prefix_len}
 use Rattle.std.specs.Option.{option_or}
 use Rattle.std.proofs.lemmas.Bool.Decides.{nat_tests}
 use Rattle.std.proofs.lemmas.List.Sums.{sum_by-cons}
+use Rattle.list_laws.proofs.Maps.{found_passes}
+use Rattle.redef_laws.proofs.WrittenLaws.{found_fails}
+use Rattle.list_laws.proofs.Optional.{none_before_map}
+use Rattle.redef_laws.proofs.RebegunLaws.{rebegun_len}
 use Rattle.nc_base.specs.declared.header.Header.{Header}
 use Rattle.nc_base.specs.declared.header.Var.{Var}
 use Rattle.nc_base.specs.declared.script.Extra.{Extra}
@@ -13,24 +17,16 @@ use Rattle.nc_base.specs.declared.errors.LayoutErr.TheVariants as layout
 use Rattle.nc_base.specs.declared.errors.RedefErr.{RedefErr}
 use Rattle.nc_base.specs.declared.errors.RedefErr.TheVariants as redef
 use Rattle.serial_spec.specs.Limits.{most_header_bytes, file_limit}
-use Rattle.serial_spec.specs.HeaderGrammar.{header_len, variable, keeps_bound}
+use Rattle.serial_spec.specs.HeaderGrammar.{header_len, keeps_bound}
 use Rattle.serial_spec.specs.Layout.{is_record, slab, vsize, record_share, record_slabs, record_size, record_variables}
 use Rattle.serial_spec.specs.Redefinition.{Numbered, is_large_var, size_fault, is_far_begin, is_bad_begin, begin_of_number, with_begins, begins_by_number, extras_fault, added, redefined_header, redefined_fault}
 use Rattle.var_layout.specs.Capped.{capped}
-use Rattle.var_layout.proofs.WrittenLengths.{list_len, variable_len, canon_len}
 use Rattle.redef_mover.specs.Placing.{capped_pairs}
 
 -- ---- what does not look at the begins
 
 abbrev begun : ℕ → List (ℕ × ℕ) → List Var → List Var
 begun n found vars = map (λ (v : Numbered). record v.1 { begin = begin_of_number found v.0 }) (enumerate_from n vars)
-
-begun_sum : (f : Var → ℕ) → ((v : Var) (b : ℕ) → f (record v { begin = b }) ≡ f v) → (found : List (ℕ × ℕ)) (n : ℕ) (vars : List Var) → sum_by f (begun n found vars) ≡ sum_by f vars
-begun_sum f same found n [] = refl
-begun_sum f same found n (v ∷ vars) =
-    sum_by-cons f (record v { begin = begin_of_number found n }) (begun (n + 1) found vars)
-    ∙ ap (λ (m : ℕ). m + sum_by f (begun (n + 1) found vars)) (same v (begin_of_number found n))
-    ∙ ap (λ (m : ℕ). f v + m) (begun_sum f same found (n + 1) vars) ∙ sym (sum_by-cons f v vars)
 
 begun_sum_front : (f : Var → ℕ) → ((v : Var) (b : ℕ) → f (record v { begin = b }) ≡ f v) → (found : List (ℕ × ℕ)) (n : ℕ) (vars : List Var) (k : ℕ)
     → sum_by f (take k (begun n found vars)) ≡ sum_by f (take k vars)
@@ -62,22 +58,13 @@ length-begun : (found : List (ℕ × ℕ)) (n : ℕ) (vars : List Var) → lengt
 length-begun found n [] = refl
 length-begun found n (v ∷ vars) = ap (λ (m : ℕ). suc m) (length-begun found (n + 1) vars)
 
-len_kept : (header : Header) (found : List (ℕ × ℕ)) → header_len (with_begins header found) ≡ header_len header
-len_kept header found =
-    let new = canon_len (with_begins header found) in
-    let old = canon_len header in
-    let new_list = list_len header.version 11 (λ v. variable (with_begins header found) v) (begun 0 found header.vars) in
-    let old_list = list_len header.version 11 (λ v. variable header v) header.vars in
-    let same = begun_sum (λ v. length (variable header v)) (λ v b. variable_len header (record v { begin = b }) ∙ sym (variable_len header v)) found 0 header.vars in
-    omega (arith, new, old, new_list, old_list, same)
-
 pub size_kept : (header : Header) (found : List (ℕ × ℕ)) → size_fault (with_begins header found) ≡ size_fault header
 size_kept header found =
     ap (λ (m : ℕ). option_or (option_map (λ k. layout.VarSize k) (cond (nat_lt m (length (begun 0 found header.vars))) (Some m) None))
     (if nat_lt most_header_bytes (header_len (with_begins header found)) then Some layout.HeaderRange else None)) (begun_large header found 0 header.vars)
     ∙ ap (λ (m : ℕ). option_or (option_map (λ k. layout.VarSize k) (cond (nat_lt (prefix_len (λ v. not (is_large_var header v)) header.vars) m) (Some (prefix_len (λ v. not (is_large_var header v)) header.vars)) None))
     (if nat_lt most_header_bytes (header_len (with_begins header found)) then Some layout.HeaderRange else None)) (length-begun found 0 header.vars)
-    ∙ ap (λ (m : ℕ). option_or (option_map (λ k. layout.VarSize k) (position (is_large_var header) header.vars)) (if nat_lt most_header_bytes m then Some layout.HeaderRange else None)) (len_kept header found)
+    ∙ ap (λ (m : ℕ). option_or (option_map (λ k. layout.VarSize k) (position (is_large_var header) header.vars)) (if nat_lt most_header_bytes m then Some layout.HeaderRange else None)) (rebegun_len header found)
 
 -- ---- whether a begin is out of range, by its number alone
 
@@ -213,33 +200,11 @@ same_first header all (b ∷ found) f =
     by_test true rest = refl
     by_test false rest = rest
 
-none_left : {A B : Type 0} (f : A → B) (o : Option A) → option_map f o ≡ None → o ≡ None
-none_left f None h = refl
-none_left f (Some x) h = cc
-
 pub none_first : (header : Header) (found : List (ℕ × ℕ)) → find (is_bad_begin (with_begins header (capped_pairs found))) (capped_pairs found) ≡ None
     → find (is_bad_begin (with_begins header found)) found ≡ None
 none_first header found h =
-    none_left (λ (b : ℕ × ℕ). redef.Taken b.0) (find (is_bad_begin (with_begins header found)) found)
+    none_before_map (λ (b : ℕ × ℕ). redef.Taken b.0) (find (is_bad_begin (with_begins header found)) found)
     (sym (same_first header found found (λ k. redef.Taken k)) ∙ ap (λ (o : Option (ℕ × ℕ)). option_map (λ (b : ℕ × ℕ). redef.Taken b.0) o) h)
-
--- what another test finds fails the one that finds none
-fails_found : {A : Type 0} (p q : A → Bool) (xs : List A) (x : A) → find p xs ≡ None → find q xs ≡ Some x → p x ≡ false
-fails_found p q [] x h e = cc
-fails_found p q (y ∷ xs) x h e = by_tests (p y) (q y) refl h e (λ g f. fails_found p q xs x g f)
-  where
-    by_tests : (t u : Bool) → p y ≡ t → cond t (Some y) (find p xs) ≡ None → cond u (Some y) (find q xs) ≡ Some x → (find p xs ≡ None → find q xs ≡ Some x → p x ≡ false) → p x ≡ false
-    by_tests true u a g f rest = cc
-    by_tests false true a g f rest = let same : y ≡ x = cc in ap (λ z. p z) (sym same) ∙ a
-    by_tests false false a g f rest = rest g f
-
-found_passes : {A : Type 0} (q : A → Bool) (xs : List A) (x : A) → find q xs ≡ Some x → q x ≡ true
-found_passes q [] x e = cc
-found_passes q (y ∷ xs) x e = by_test (q y) refl e (λ f. found_passes q xs x f)
-  where
-    by_test : (u : Bool) → q y ≡ u → cond u (Some y) (find q xs) ≡ Some x → (find q xs ≡ Some x → q x ≡ true) → q x ≡ true
-    by_test true a f rest = let same : y ≡ x = cc in ap (λ z. q z) (sym same) ∙ a
-    by_test false a f rest = rest f
 
 good_small : (header : Header) (v : Var) (begin before : ℕ) (slabs : List ℕ) → bad_by header v begin before slabs ≡ false → capped begin ≡ begin
 unfolding bad_by
@@ -266,7 +231,7 @@ number_same header found k v none there = number_capped found k ∙ by_place (fi
     by_place (Some b) e =
         let passes = found_passes (λ (x : ℕ × ℕ). x.0 == k) found b e in
         let same : b.0 ≡ k = grind (arith, nat_tests) in
-        let good = sym (fails_found (is_bad_begin (with_begins header found)) (λ (x : ℕ × ℕ). x.0 == k) found b none e) ∙ bad_is header found b in
+        let good = sym (found_fails (is_bad_begin (with_begins header found)) (λ (x : ℕ × ℕ). x.0 == k) found b none e) ∙ bad_is header found b in
         good_small header v (begin_of_number found k) (sum_by (λ w. record_share header w) (take k header.vars)) (record_slabs header)
         (sym (one_var header found k v) ∙ ap (λ (p : Option Var). bad_of header found k p) (sym there)
         ∙ ap (λ (n : ℕ). bad_of header found n (slice_get header.vars n)) (sym same) ∙ sym good)
@@ -299,9 +264,6 @@ layout_part made header n =
 
 abbrev fault_by : Option RedefErr → Option RedefErr → Option RedefErr
 fault_by o other = elim o [ Some f ↦ Some f | None ↦ other ]
-
-pub fault_of_extra : (old : Header) (extras : List Extra) (f : RedefErr) → extras_fault old extras ≡ Some f → redefined_fault old extras ≡ Some f
-fault_of_extra old extras f h = ap (λ (o : Option RedefErr). fault_by o (layout_part (redefined_header old extras) (added old extras) (length old.vars))) h
 
 past_extras : (old : Header) (extras : List Extra) → extras_fault old extras ≡ None
     → redefined_fault old extras ≡ layout_part (redefined_header old extras) (added old extras) (length old.vars)
@@ -336,7 +298,7 @@ past_sizes old new extras none made small =
     let found = begins_by_number header (length old.vars) in
     past_extras old extras none
     ∙ second_told (size_fault (with_begins header found)) (find (is_bad_begin (with_begins header found)) found)
-    (size_kept header found ∙ ap (λ (h : Header). size_fault h) (sym made) ∙ none_left (λ x. redef.Layout x) (size_fault new) small)
+    (size_kept header found ∙ ap (λ (h : Header). size_fault h) (sym made) ∙ none_before_map (λ x. redef.Layout x) (size_fault new) small)
 
 pub fault_of_begin : (old new left : Header) (extras : List Extra) (places : List (ℕ × ℕ)) (e : RedefErr) → extras_fault old extras ≡ None → new ≡ added old extras
     → option_map (λ x. redef.Layout x) (size_fault new) ≡ None → places ≡ capped_pairs (begins_by_number new (length old.vars)) → left ≡ with_begins new places

@@ -1,9 +1,9 @@
 -- The bytes of a file in which a slab was moved.
 use Rattle.std.proofs.Common.{◌≡◌, ℕ, ◌+◌, ◌-◌, ◌<◌, ◌≤◌, ◌⊎◌, inl, inr, refl, sym, ◌∙◌, ap, List, [], ◌++◌, length, take, drop, Bool, true, false, arith}
 use Rattle.std.specs.Prelude.{nat_lt}
-use Rattle.std.proofs.lemmas.Grind.{same_number_lists}
 use Rattle.std.proofs.lemmas.List.{append-nil, take-append-drop}
 use borrow.Author.Tests.{ltb-true, ltb-false}
+use Rattle.overlay_laws.proofs.SaidLaws.{same_file}
 use Rattle.serial_spec.specs.DeviceCalls.{Slab}
 use Rattle.serial_spec.specs.File.{at, read, written}
 use Rattle.serial_spec.proofs.CellLaws.{read_long, read_at}
@@ -17,10 +17,6 @@ below_or a b = by_test (nat_lt a b) refl
     by_test : (t : Bool) → nat_lt a b ≡ t → (a < b) ⊎ (b ≤ a)
     by_test true e = inl (ltb-true _ _ e)
     by_test false e = inr (ltb-false _ _ e)
-
--- two files as long as one another, of which each byte is the same
-pub same_files : (f g : List ℕ) → length f ≡ length g → ((x : ℕ) → at f x ≡ at g x) → f ≡ g
-same_files f g e h = same_number_lists f g e (λ x l. h x)
 
 -- ---- a write
 
@@ -56,7 +52,7 @@ moved_none file s e h = ap (λ (n : ℕ). written file s.to (read file s.from n)
 
 -- a slab that stays
 pub moved_nowhere : (file : List ℕ) (s : Slab) → s.from ≡ s.to → s.to + s.len ≤ length file → slab_moved file s ≡ file
-moved_nowhere file s e h = same_files (slab_moved file s) file (moved_long file s h) each
+moved_nowhere file s e h = same_file (slab_moved file s) file (moved_long file s h) each
   where
     each : (x : ℕ) → at (slab_moved file s) x ≡ at file x
     each x = elim (below_or x s.to) [
@@ -80,7 +76,7 @@ pub record AreParts (low high whole : Slab) : Type 0 where
 pub both_moved : (file : List ℕ) (low high whole : Slab) → AreParts low high whole → whole.to + whole.len ≤ length file
     → slab_moved (slab_moved file high) low ≡ slab_moved file whole
 both_moved file low high whole p h =
-    same_files (slab_moved (slab_moved file high) low) (slab_moved file whole)
+    same_file (slab_moved (slab_moved file high) low) (slab_moved file whole)
     (moved_long (slab_moved file high) low room ∙ moved_long file high (omega arith) ∙ sym (moved_long file whole h)) each
   where
     room : low.to + low.len ≤ length (slab_moved file high)

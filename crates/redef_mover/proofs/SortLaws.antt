@@ -10,6 +10,7 @@ use Rattle.std.proofs.lemmas.Bool.Decides.{nat_tests}
 use Rattle.std.proofs.lemmas.List.{map-append, take_more}
 use Rattle.std.proofs.lemmas.List.Elements.{filter-append}
 use Rattle.std.proofs.lemmas.List.Sorted.{IsNonDecreasingBy-from_sort}
+use Rattle.std.proofs.lemmas.List.FromFn.{length-enumerate_from}
 use borrow.Author.Tests.{ltb-true, ltb-false, eqb-true, leb-true, leb-false}
 use Rattle.nc_base.specs.declared.header.Var.{Var}
 use Rattle.serial_spec.specs.DeviceCalls.{Slab}
@@ -74,12 +75,8 @@ pair_at vs ws olds news n x e f h g =
     let there = enumerated (zip vs ws) 0 n x h g in
     subst (λ (ps : List (Var × Var)). IsAt ps n x.1) (λ t. zip (e t) (f t)) there
 
-counted : {A : Type 0} (xs : List A) (i : ℕ) → length (enumerate_from i xs) ≡ length xs
-counted [] i = refl
-counted (x ∷ xs) i = ap suc (counted xs (i + 1))
-
 pub pairs_end : (vs ws olds news : List Var) (n : ℕ) → vs ≡ olds → ws ≡ news → n ≡ length (enumerate_from 0 (zip vs ws)) → n ≡ length (zip olds news)
-pairs_end vs ws olds news n e f h = h ∙ counted (zip vs ws) 0 ∙ (λ t. length (zip (e t) (f t)))
+pairs_end vs ws olds news n e f h = h ∙ length-enumerate_from 0 (zip vs ws) ∙ (λ t. length (zip (e t) (f t)))
 
 -- ---- two sorted lists
 

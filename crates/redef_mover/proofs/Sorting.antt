@@ -6,7 +6,7 @@ use Rattle.std.specs.List.Sorted.{IsNonDecreasingBy, IsStableByKey, ties}
 use Rattle.std.specs.Ordering.{nat_cmp, is_lt}
 use Rattle.std.specs.declared.cmp.Ordering.TheVariants.{Less, Equal, Greater}
 use Rattle.std.proofs.lemmas.Bool.Decides.{nat_tests}
-use Rattle.std.proofs.lemmas.Bool.{cases_lt}
+use Rattle.std.proofs.lemmas.Bool.{cases_lt, and_parts}
 use Rattle.serial_spec.specs.Lists.{inserted_by, sorted_by as in_order_by}
 
 abbrev pub put_by : {A : Type 0} → (A → ℕ) → A → List A → List A
@@ -49,14 +49,10 @@ sorted_keeps key n [] = refl
 sorted_keeps key n (x ∷ xs) =
     put_keeps key n x (sorted_by key xs) ∙ ap (λ ys. cond (key x == n) (x ∷ ys) ys) (sorted_keeps key n xs)
 
-and_both : (t u : Bool) → (t && u) ≡ true → (t ≡ true) × (u ≡ true)
-and_both true u e = (refl, e)
-and_both false u e = cc
-
 put_below : {A : Type 0} (key : A → ℕ) (n : ℕ) (x : A) (xs : List A) → n ≤ key x → lies_below key n xs ≡ true → lies_below key n (put_by key x xs) ≡ true
 put_below key n x [] h e = let first : nat_le n (key x) ≡ true = grind (arith, nat_tests) in ap (λ (t : Bool). t && true) first
 put_below key n x (y ∷ ys) h e =
-    let both = and_both (nat_le n (key y)) (lies_below key n ys) e in
+    let both = and_parts (nat_le n (key y)) (lies_below key n ys) e in
     by_order (nat_le (key x) (key y)) both.0 (put_below key n x ys h both.1)
   where
     first : nat_le n (key x) ≡ true
@@ -69,7 +65,7 @@ put_below key n x (y ∷ ys) h e =
 lower : {A : Type 0} (key : A → ℕ) (n m : ℕ) (xs : List A) → n ≤ m → lies_below key m xs ≡ true → lies_below key n xs ≡ true
 lower key n m [] h e = refl
 lower key n m (x ∷ xs) h e =
-    let both = and_both (nat_le m (key x)) (lies_below key m xs) e in
+    let both = and_parts (nat_le m (key x)) (lies_below key m xs) e in
     let m_le = both.0 in
     let first : nat_le n (key x) ≡ true = grind (arith, nat_tests) in
     ap (λ (t : Bool). t && lies_below key n xs) first ∙ lower key n m xs h both.1
@@ -98,7 +94,7 @@ other_key key n x xs e = ap (λ (t : Bool). cond t (x ∷ of_key key n xs) (of_k
 none_lower : {A : Type 0} (key : A → ℕ) (n m : ℕ) (xs : List A) → n < m → lies_below key m xs ≡ true → of_key key n xs ≡ []
 none_lower key n m [] h e = refl
 none_lower key n m (x ∷ xs) h e =
-    let both = and_both (nat_le m (key x)) (lies_below key m xs) e in
+    let both = and_parts (nat_le m (key x)) (lies_below key m xs) e in
     let le = both.0 in
     other_key key n x xs (let f : (key x == n) ≡ false = grind (arith, nat_tests) in f) ∙ none_lower key n m xs h both.1
 

@@ -1,5 +1,5 @@
 -- What is told of a disk after one change more, and what is left to be done.
-use Rattle.std.proofs.Common.{◌≡◌, refl, sym, ◌∙◌, ap, List, ◌++◌, Option, Some, None, Result, Ok, Err}
+use Rattle.std.proofs.Common.{◌≡◌, ◌∙◌, ap, List, ◌++◌, Option, Some, None, Result, Ok, Err}
 use Rattle.std.specs.Prelude.{is_ok, if◌then◌else◌, IfSome, OnOk}
 use Rattle.nc_base.specs.declared.step.DiskCall.{DiskCall}
 use Rattle.nc_outside.specs.Told.{after, with_end}
@@ -11,19 +11,11 @@ pub for_told : {A : Type 0} {P Q : A → Type 0} (held : Option A) → ((x : A) 
 for_told None f h = tt
 for_told (Some x) f h = f x h
 
-pub on_ok : {T E P Q : Type 0} (r : Result T E) → (P → Q) → OnOk r P → OnOk r Q
-on_ok (Ok x) f p = f p
-on_ok (Err e) f p = tt
-
 pub when_ok : {T E A : Type 0} (r : Result T E) (x a b : A) → x ≡ (if is_ok r then a else b) → OnOk r (x ≡ a)
 when_ok (Ok y) x a b h = h
 when_ok (Err e) x a b h = tt
 
 -- ---- bytes
-
-pub told_begin : {A : Type 0} {P : A → Type 0} (held : Option A) (f : A → A) → IfSome held P → ((x : A) → P x → f x ≡ x) → held ≡ after f held
-told_begin None f h e = refl
-told_begin (Some x) f h e = ap Some (sym (e x h))
 
 pub told_more : {A : Type 0} {P : A → Type 0} (held mid now : Option A) (f g h : A → A) → IfSome held P → ((x : A) → P x → g (f x) ≡ h x)
     → mid ≡ after f held → now ≡ after g mid → now ≡ after h held

@@ -4,14 +4,15 @@ use Rattle.std.specs.Prelude.{flat_map, IfSome}
 use Rattle.std.specs.List.{range_with_len}
 use Rattle.std.proofs.Math.Nat.{mul-le-mul_right}
 use Rattle.std.proofs.lemmas.Grind.{div_ceil_times, flat_map-append}
-use Rattle.std.proofs.lemmas.List.{append-nil, drop_more}
+use Rattle.std.proofs.lemmas.List.{append-nil}
 use Rattle.std.proofs.lemmas.Nat.{div-add-mod', div-mul-add, mod_below}
+use Rattle.overlay_laws.proofs.OriginLaws.{slice_step}
 use Rattle.nc_base.specs.declared.step.DiskCall.{DiskCall}
 use Rattle.serial_spec.specs.DeviceCalls.{Slab, move_window, window_count}
 use Rattle.serial_spec.specs.File.{at, read, written}
 use Rattle.nc_outside.specs.Told.{after}
 use Rattle.redef_mover.specs.Moves.{slab_calls, slab_moved, window, window_calls}
-use Rattle.redef_mover.proofs.SlabLaws.{both_moved, moved_none}
+use Rattle.redef_mover.proofs.SlabLaws.{both_moved}
 
 -- ---- how many windows
 
@@ -51,9 +52,6 @@ windows_reach z len count h e =
 
 -- ---- a read
 
-slice_step : (b : List ℕ) (from n : ℕ) → from < length b → take (suc n) (drop from b) ≡ at b from ∷ take n (drop (from + 1) b)
-slice_step b from n h = ap (λ (xs : List ℕ). take (suc n) xs) (drop_more b from 0 h)
-
 -- bytes read within a file, as a slice of it
 pub read_slice : (file : List ℕ) (x n : ℕ) → x + n ≤ length file → read file x n ≡ take n (drop x file)
 read_slice file x zero h = refl
@@ -80,9 +78,6 @@ abbrev pub upper : ℕ → Slab → ℕ → Slab
 upper z s j =
     let rest = s.len - j * z in
     record { from = s.from + rest; to = s.to + rest; len = s.len - rest }
-
-pub none_moved : (z : ℕ) (s : Slab) (file : List ℕ) → s.to + s.len ≤ length file → slab_moved file (upper z s 0) ≡ file
-none_moved z s file h = moved_none file (upper z s 0) (omega arith) (omega arith)
 
 pub window_moved : (z j : ℕ) (s : Slab) (file : List ℕ) → s.from ≤ s.to → j * z < s.len → s.to + s.len ≤ length file
     → slab_moved (slab_moved file (upper z s j)) (window z s j) ≡ slab_moved file (upper z s (j + 1))

@@ -55,10 +55,6 @@ set_last n found (suc j) begin d (v ∷ vars) h =
     ∙ ap (λ ws. record v { begin = last_begin (found ++ (n + suc j, begin) ∷ []) n v.begin } ∷ ws)
     (set_last (n + 1) found j begin d vars (omega arith) ∙ ap (λ (m : ℕ). with_last (n + 1) (found ++ (m, begin) ∷ []) vars) (let e : n + 1 + j ≡ n + suc j = omega arith in e))
 
-length-with_last : (n : ℕ) (found : List (ℕ × ℕ)) (vars : List Var) → length (with_last n found vars) ≡ length vars
-length-with_last n found [] = refl
-length-with_last n found (v ∷ vars) = ap (λ (m : ℕ). suc m) (length-with_last (n + 1) found vars)
-
 pub last_none : (n : ℕ) (vars : List Var) → vars ≡ with_last n [] vars
 last_none n [] = refl
 last_none n (v ∷ vars) = ap (λ ws. v ∷ ws) (last_none (n + 1) vars)

@@ -1,16 +1,14 @@
 -- Each move on an inbox keeps its rule.
-use Rattle.std.proofs.Common.{◌≡◌, ◌≢◌, ◌<◌, ◌≤◌, ◌+◌, ℕ, true, false, true≢false, cond, eqb, List, [], ◌∷◌, ◌++◌, length, set, sym, refl, ap, ◌∙◌, subst, append_assoc, length-append, lt_of_not-le, eq-eqb, ne_eqb, arith}
+use Rattle.std.proofs.Common.{◌≡◌, ◌≢◌, ◌<◌, ◌≤◌, ◌+◌, ℕ, true, cond, eqb, List, [], ◌∷◌, ◌++◌, length, set, sym, refl, ap, ◌∙◌, subst, append_assoc, length-append, lt_of_not-le, eq-eqb, ne_eqb, arith}
 use mathlib.Core.Option.{some}
 use lib.ListN.{get_elem?}
+use Rattle.list_laws.proofs.Truth.{no_false}
 use Rattle.crossbeam_channel.specs.Fifo.{Pushes, Pops, Forks, Merges, Learns}
 use Rattle.ruled_line.specs.declared.inbox_rule.InboxView.{InboxView}
 use Rattle.ruled_line.specs.InboxRule.{sender_view, receiver_view, met_view, idle_view, FitsInbox, InboxHolds}
 use Rattle.ruled_line.specs.Ends.{items_under}
 use Rattle.ruled_line.proofs.Views.{Each, each_alone, each_set, each_more}
 use Rattle.ruled_line.proofs.ItemsUnder.{items_under-append, items_under-push_same, items_under-push_other, length-items_under, items_under-some, items_under-none}
-
-never : {A : Type 0} → false ≡ true → A
-never p = absurd (true≢false (sym p))
 
 -- the seats, once one number has another
 reseated : (ℕ → ℕ) → ℕ → ℕ → ℕ → ℕ
@@ -26,10 +24,10 @@ reseated-else seat_of number seat p apart = ap (λ b. cond b seat (seat_of p)) (
 
 module _ {T : Type 0} where
   idle_fits : (seat_of : ℕ → ℕ) (reader room given : ℕ) (taken items : List (ℕ × T)) (seat : ℕ) → FitsInbox seat_of reader room given taken items seat idle_view
-  idle_fits seat_of reader room given taken items seat = ((λ p. never p), λ p. never p)
+  idle_fits seat_of reader room given taken items seat = ((λ p. no_false p), λ p. no_false p)
 
   pub begins : InboxHolds {T = T} [] (receiver_view 0 0 [] ∷ [])
-  begins = ((λ p. p), 0, 0, 0, [], omega arith, (λ number _. refl), each_alone (FitsInbox (λ p. p) 0 0 0 [] []) (receiver_view 0 0 []) ((λ p. never p), λ _. (refl, refl, refl, refl)))
+  begins = ((λ p. p), 0, 0, 0, [], omega arith, (λ number _. refl), each_alone (FitsInbox (λ p. p) 0 0 0 [] []) (receiver_view 0 0 []) ((λ p. no_false p), λ _. (refl, refl, refl, refl)))
 
   pub sends : (n seat : ℕ) (v : InboxView T) (x : ℕ × T) → v.puts ≡ true → v.number ≡ x.0 → v.room ≡ n → Pushes InboxHolds n seat v x (λ w. w ≡ sender_view v.number v.room (v.put ++ x.1 ∷ []))
   sends n seat v x may number room items views short h here = let w : InboxView T = sender_view v.number v.room (v.put ++ x.1 ∷ []) in let mine = (h.7 seat v here).0 may in
@@ -46,7 +44,7 @@ module _ {T : Type 0} where
           omega (arith, length-append items (x ∷ []), long),
           (λ p le. items_under-push_other p x h.4 items (λ (e : x.0 ≡ p). omega (arith, e, below, le)) ∙ h.6 p le),
           each_set F views seat w
-              ((λ _. (mine.0, mine.1, ap (λ l. l ++ x.1 ∷ []) mine.2 ∙ subst (λ (k : ℕ). items_under k (h.4 ++ items) ++ x.1 ∷ [] ≡ items_under k (h.4 ++ (items ++ x ∷ []))) (sym number) (sym (items_under-push_same x h.4 items)), mine.3)), λ p. never p)
+              ((λ _. (mine.0, mine.1, ap (λ l. l ++ x.1 ∷ []) mine.2 ∙ subst (λ (k : ℕ). items_under k (h.4 ++ items) ++ x.1 ∷ [] ≡ items_under k (h.4 ++ (items ++ x ∷ []))) (sym number) (sym (items_under-push_same x h.4 items)), mine.3)), λ p. no_false p)
               (λ j u other e. let theirs = h.7 j u e in (
                 (λ p. let t = theirs.0 p in (
                   t.0,
@@ -75,7 +73,7 @@ module _ {T : Type 0} where
           h.4 ++ x ∷ [],
           omega (arith, fewer),
           (λ p le. ap (λ l. items_under p l) (sym same) ∙ h.6 p le),
-          each_set F views seat w ((λ p. never p), λ _. (mine.0, ap (λ l. l ++ x ∷ []) mine.1, mine.2, mine.3))
+          each_set F views seat w ((λ p. no_false p), λ _. (mine.0, ap (λ l. l ++ x ∷ []) mine.1, mine.2, mine.3))
               (λ j u other e. let theirs = h.7 j u e in (
                 (λ p. let t = theirs.0 p in (t.0, t.1, t.2 ∙ ap (λ l. items_under u.number l) same, t.3)),
                 (λ p. absurd (other ((theirs.1 p).0 ∙ sym mine.0))),
@@ -99,7 +97,7 @@ module _ {T : Type 0} where
         omega (arith, empty),
         (λ p le. h.6 p (omega (arith, given, le))),
         each_more F vs idle_view (idle_fits h.0 h.1 room 0 h.4 items (length vs))
-            (each_set F views seat l ((λ p. never p), λ _. (mine.0, mine.1, refl, refl))
+            (each_set F views seat l ((λ p. no_false p), λ _. (mine.0, mine.1, refl, refl))
             (λ j u other e. let theirs = h.7 j u e in (
               (λ p. let t = (theirs.0 p).1 in absurd (omega (arith, t, given))),
               (λ p. absurd (other ((theirs.1 p).0 ∙ sym mine.0))),
@@ -125,9 +123,9 @@ module _ {T : Type 0} where
             sym (h.6 h.3 (omega arith)) ∙ ap (λ k. items_under k (h.4 ++ items)) (sym mine.2),
             mine.3,
           )),
-          λ p. never p,
+          λ p. no_false p,
         )
-            (each_set F views seat l ((λ p. never p), λ _. (mine.0, mine.1, ap (λ k. k + 1) mine.2, mine.3))
+            (each_set F views seat l ((λ p. no_false p), λ _. (mine.0, mine.1, ap (λ k. k + 1) mine.2, mine.3))
             (λ j u other e. let theirs = h.7 j u e in (
               (λ p. let t = theirs.0 p in let below : u.number < h.3 = t.1 in (
                 reseated-else h.0 h.3 (length vs) u.number (λ (q : u.number ≡ h.3). omega (arith, q, below)) ∙ t.0,

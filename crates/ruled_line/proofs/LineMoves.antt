@@ -1,14 +1,12 @@
 -- Each move on a line keeps its rule.
-use Rattle.std.proofs.Common.{◌≡◌, ◌≢◌, ◌≤◌, ◌+◌, ℕ, true, false, true≢false, List, [], ◌∷◌, ◌++◌, length, set, sym, refl, ap, ◌∙◌, subst, append_assoc, length-append, arith}
+use Rattle.std.proofs.Common.{◌≡◌, ◌≢◌, ◌≤◌, ◌+◌, ℕ, true, false, List, [], ◌∷◌, ◌++◌, length, set, sym, refl, ap, ◌∙◌, subst, append_assoc, length-append, arith}
 use mathlib.Core.Option.{some}
 use lib.ListN.{get_elem?}
+use Rattle.list_laws.proofs.Truth.{no_false}
 use Rattle.crossbeam_channel.specs.Fifo.{Pushes, Pops, Forks, Merges, Learns}
 use Rattle.ruled_line.specs.declared.line_rule.LineView.{LineView}
 use Rattle.ruled_line.specs.LineRule.{line_view, FitsLine, LineHolds}
 use Rattle.ruled_line.proofs.Views.{Each, each_alone, each_set, each_more}
-
-never : {A : Type 0} → false ≡ true → A
-never p = absurd (true≢false (sym p))
 
 module _ {T : Type 0} where
   pub begins : LineHolds {T = T} [] (line_view true true 0 [] [] ∷ [])
@@ -66,8 +64,8 @@ module _ {T : Type 0} where
         h.4,
         h.5,
         omega (arith, empty),
-        each_more F vs r ((λ p. never p), λ _. (refl, there.1))
-            (each_set F views end l ((λ _. (here.0, here.1, refl)), λ p. never p)
+        each_more F vs r ((λ p. no_false p), λ _. (refl, there.1))
+            (each_set F views end l ((λ _. (here.0, here.1, refl)), λ p. no_false p)
             (λ j u other e. ((λ p. absurd (other (((h.7 j u e).0 p).0 ∙ sym here.0))), λ p. absurd (other (((h.7 j u e).1 p).0 ∙ sym there.0))))),
       )
 
@@ -78,7 +76,7 @@ module _ {T : Type 0} where
       (λ j y apart e p q. subst (λ (z : ℕ × LineView T). get_elem? views z.0 ≡ some z.1) (λ i. (p i, q i)) e) in
       let theirs = (h.7 other u (was other u at' refl refl)).1 b in
       let now : Each Now vs = each_set Now views end both (λ _. ((λ _. mine), λ _. (refl, theirs.1))) (λ j y _ e apart. ((h.7 j y e).0, λ p. absurd (apart (((h.7 j y e).1 p).0 ∙ sym theirs.0)))) in
-      (h.0, end, h.2, h.3, h.4, h.5, h.6, each_set (FitsLine h.0 end h.2 h.3 h.4) vs other (line_view false false 0 [] []) ((λ p. never p), λ p. never p) (λ j y apart e. now j y e apart))
+      (h.0, end, h.2, h.3, h.4, h.5, h.6, each_set (FitsLine h.0 end h.2 h.3 h.4) vs other (line_view false false 0 [] []) ((λ p. no_false p), λ p. no_false p) (λ j y apart e. now j y e apart))
 
   pub learns : (end : ℕ) (v : LineView T) → v.puts ≡ true → v.takes ≡ true → Learns LineHolds end v (λ items. (v.put ≡ v.taken ++ items) × (length items ≤ v.room))
   learns end v a b items views h at = let mine = h.7 end v at in let put = mine.0 a in let taken = mine.1 b in

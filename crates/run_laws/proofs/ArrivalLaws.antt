@@ -1,6 +1,7 @@
 -- A run of ranks at their next offers is that of ranks which wait where they heard their last reply.
 use Rattle.std.proofs.Common.{◌≡◌, ℕ, zero, suc, refl, sym, ◌∙◌, ap, List, [], ◌∷◌, ◌++◌, map, set, Option, Some, None}
 use Rattle.std.specs.Prelude.{slice_get, zip, fold, nat_lt}
+use Rattle.list_laws.proofs.Maps.{map_map}
 use Rattle.nc_base.specs.declared.header.Header.{Header}
 use Rattle.nc_base.specs.declared.request.Call.{Call}
 use Rattle.nc_base.specs.declared.script.Hints.{Hints}
@@ -19,10 +20,6 @@ use Rattle.run_laws.proofs.OrderLaws.{calls_close}
 -- each rank goes up to its next offer
 abbrev pub gone_up : Setting → Counted × List Going → Stand
 gone_up s state = (state.0, map (advance s.header) state.1)
-
-map_two : {X Y Z : Type 0} (f : Y → Z) (g : X → Y) (xs : List X) → map f (map g xs) ≡ map (λ x. f (g x)) xs
-map_two f g [] = refl
-map_two f g (x ∷ xs) = ap (λ (zs : List _). f (g x) ∷ zs) (map_two f g xs)
 
 map_set : {X Y : Type 0} (f : X → Y) (xs : List X) (r : ℕ) (x : X) → set (map f xs) r (f x) ≡ map f (set xs r x)
 map_set f [] r x = refl
@@ -53,7 +50,7 @@ pub arrival_step : (s : Setting) (state : Counted × List Going) (m : Mark) → 
 arrival_step s (c, goings) (Meet k) =
     let stepped = meeting s (offers_of (map (advance s.header) goings)) c in
     ap (λ (ranks : List Arrived). (stepped.0, ranks))
-    (sym (map_two (advance s.header) (λ p. hears s.header p.0.0 p.1) (zip (map (advance s.header) goings) stepped.1)))
+    (sym (map_map (advance s.header) (λ p. hears s.header p.0.0 p.1) (zip (map (advance s.header) goings) stepped.1)))
 arrival_step s (c, goings) (Solo r n) =
     ap (stand_at s r c (map (advance s.header) goings)) (get_up s goings r) ∙ by (slice_get goings r)
   where
@@ -100,13 +97,13 @@ arrival_end : (s : Setting) (state : Counted × List Going) (order : List Mark)
 arrival_end s state order =
     ap (λ (stand : Stand). close_by s stand.0 (map (λ a. a.0) stand.1)) (arrival_steps s state order)
     ∙ ap (λ (gs : List Going). close_by s (fold (after_mark s) state order).0 gs)
-    (map_two (λ (a : Arrived). a.0) (advance s.header) (fold (after_mark s) state order).1)
+    (map_map (λ (a : Arrived). a.0) (advance s.header) (fold (after_mark s) state order).1)
 
 first_up : (header : Header) (s : Setting) (file : List ℕ) (calls : List (List Call)) → s.header ≡ header
     → first_stand header file calls ≡ gone_up s (first_state header file calls)
 first_up header s file calls e =
     ap (λ (ranks : List Arrived). (record { file = file; records = header.records }, ranks))
-    (sym (map_two (advance header) (first_going header) calls) ∙ ap (λ (h : Header). map (advance h) (map (first_going header) calls)) (sym e))
+    (sym (map_map (advance header) (first_going header) calls) ∙ ap (λ (h : Header). map (advance h) (map (first_going header) calls)) (sym e))
 
 pub serial_of_arrivals : (script : Script) (header : Header) (file : List ℕ) (order : List Mark)
     → serial_from script header file order ≡ ended_from (setting_of script header) (first_stand header file script.calls) order

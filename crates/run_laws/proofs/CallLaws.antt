@@ -1,6 +1,8 @@
 -- One call of a rank: its mode, its kind, its mark, its offer and its requests.
 use Rattle.std.proofs.Common.{◌≡◌, ℕ, refl, sym, ◌∙◌, ap, subst, List, [], ◌∷◌, ◌++◌, map, Bool, true, false, cond, not, ◌&&◌, max, Option, Some, None}
 use Rattle.std.specs.Prelude.{◌==◌, if◌then◌else◌, is_none, is_some, IfSome, find, option_map}
+use Rattle.std.proofs.Math.Bool.{and-false}
+use Rattle.list_laws.proofs.Optional.{value_of_some}
 use Rattle.nc_base.specs.declared.header.Header.{Header}
 use Rattle.nc_base.specs.declared.request.Call.{Call}
 use Rattle.nc_base.specs.declared.request.Call.TheVariants as call
@@ -112,10 +114,6 @@ either : {X : Type 0} (P : X → Type 0) (t : Bool) (a b : X) → (t ≡ true �
 either P true a b f g = f refl
 either P false a b f g = g refl
 
-and_false : (b : Bool) → (b && false) ≡ false
-and_false true = refl
-and_false false = refl
-
 with_true : (b t : Bool) → b ≡ t → (b && true) ≡ t
 with_true true t e = e
 with_true false t e = e
@@ -126,7 +124,7 @@ answered_alone r c r' mode known still of_data alone kind frees = record {
   mode = mode;
   known = known;
   still = still;
-  solo = ap (λ (b : Bool). r.independent && b) of_data ∙ and_false r.independent;
+  solo = ap (λ (b : Bool). r.independent && b) of_data ∙ and-false r.independent;
   alone = alone;
   kind = kind;
   frees = frees;
@@ -298,13 +296,9 @@ heard_at header rank heard reply a o e f =
       mode = ap (λ (p : Rank × Answer). p.0.independent) g;
     }
 
-open_some : {X : Type 0} (m : Option X) → is_some m ≡ true → (x : X) × (m ≡ Some x)
-open_some None e = cc
-open_some (Some x) e = (x, refl)
-
 pub hears_keeps : (header : Header) (rank heard : Rank) (reply : Reply) (a : Answer) → is_some rank.«open» ≡ true → (heard, a) ≡ hear header rank reply
     → (heard.known ≡ max rank.known reply.records) × ((heard.«open» ≡ None) × (heard.posted ≡ rank.posted))
 hears_keeps header rank heard reply a e f =
-    let o = open_some rank.«open» e in
+    let o = value_of_some rank.«open» e in
     let w = heard_at header rank heard reply a o.0 o.1 f in
     (w.known, (w.closed, w.posted))

@@ -1,9 +1,12 @@
 -- What a lawful script has of the calls of one rank.
-use Rattle.std.proofs.Common.{◌≡◌, ℕ, zero, suc, ◌+◌, ◌≤◌, refl, sym, ◌∙◌, ap, inl, inr, ◌⊎◌, List, [], ◌∷◌, length, map, Bool, true, false, ◌&&◌, Option, Some, None, arith, true≢false}
-use Rattle.std.proofs.lemmas.Bool.Decides.{eqb_tells, nat_tests}
+use Rattle.std.proofs.Common.{◌≡◌, ℕ, zero, suc, ◌+◌, ◌≤◌, refl, sym, ap, List, [], ◌∷◌, length, map, true, Option, Some, None, arith}
 use Rattle.std.proofs.lemmas.Slice.Eq.{bytes_eq-Decides}
 use Rattle.std.specs.Prelude.{slice_get, ◌==◌, nat_le, bytes_eq, fold, sum}
 use Rattle.std.specs.List.{list_all, enumerate_from, cons_option}
+use Rattle.std.proofs.lemmas.Bool.{eqb-true, leb-true}
+use Rattle.std.proofs.lemmas.Option.{same_Some}
+use Rattle.list_laws.proofs.Each.{passes_at}
+use Rattle.list_laws.proofs.Truth.{and_first, and_second}
 use Rattle.nc_base.specs.declared.request.Call.{Call}
 use Rattle.nc_base.specs.declared.script.Script.{Script}
 use Rattle.nc_base.specs.declared.step.MeetKind.{MeetKind}
@@ -14,33 +17,7 @@ use Rattle.run_laws.specs.Ways.{kinds_of}
 
 -- ---- tests and lists
 
-pub and_front : (a b : Bool) → (a && b) ≡ true → a ≡ true
-and_front true b e = refl
-and_front false b e = cc
-
-pub and_back : (a b : Bool) → (a && b) ≡ true → b ≡ true
-and_back true b e = e
-and_back false b e = cc
-
-pub and_both : (a b : Bool) → a ≡ true → b ≡ true → (a && b) ≡ true
-and_both a b e f = λ i. (e i && f i)
-
-pub same_number : (q r : ℕ) → (q == r) ≡ true → q ≡ r
-same_number q r e = by (eqb_tells q r)
-  where
-    by : (((q == r) ≡ true) × (q ≡ r)) ⊎ (((q == r) ≡ false) × (q ≡ r → ⊥)) → q ≡ r
-    by (inl (f, g)) = g
-    by (inr (f, g)) = absurd (true≢false (sym e ∙ f))
-
-pub some_same : {X : Type 0} (x y : X) → Some x ≡ Some y → x ≡ y
-some_same x y e = cc
-
-pub all_at : {X : Type 0} (p : X → Bool) (xs : List X) → list_all p xs ≡ true → (q : ℕ) (x : X) → slice_get xs q ≡ Some x → p x ≡ true
-all_at p [] h q x e = cc
-all_at p (x' ∷ xs) h zero x e = sym (ap p (some_same x' x e)) ∙ and_front (p x') _ h
-all_at p (x' ∷ xs) h (suc q) x e = all_at p xs (and_back (p x') _ h) q x e
-
-get_enumerate : {X : Type 0} (xs : List X) (a q n : ℕ) (x : X) → slice_get xs q ≡ Some x → a + q ≡ n → slice_get (enumerate_from a xs) q ≡ Some (n, x)
+pub get_enumerate : {X : Type 0} (xs : List X) (a q n : ℕ) (x : X) → slice_get xs q ≡ Some x → a + q ≡ n → slice_get (enumerate_from a xs) q ≡ Some (n, x)
 get_enumerate [] a q n x e l = cc
 get_enumerate (x' ∷ xs) a zero n x e l = let b : x' ≡ x = cc in let c : a ≡ n = omega arith in λ i. Some (c i, b i)
 get_enumerate (x' ∷ xs) a (suc q) n x e l = get_enumerate xs _ q n x e (omega arith)
@@ -51,12 +28,12 @@ sum_low n (x ∷ xs) = let h = sum_low (n + x) xs in omega arith
 
 sum_has : (n : ℕ) (xs : List ℕ) (r x : ℕ) → slice_get xs r ≡ Some x → n + x ≤ fold (λ a y. a + y) n xs
 sum_has n [] r x e = cc
-sum_has n (y ∷ xs) zero x e = let a : y ≡ x = some_same y x e in let h = sum_low (n + y) xs in omega arith
+sum_has n (y ∷ xs) zero x e = let a : y ≡ x = same_Some y x e in let h = sum_low (n + y) xs in omega arith
 sum_has n (y ∷ xs) (suc r) x e = let h = sum_has (n + y) xs r x e in omega arith
 
 get_length : (calls : List (List Call)) (r : ℕ) (own : List Call) → slice_get calls r ≡ Some own → slice_get (map (λ o. length o) calls) r ≡ Some (length own)
 get_length [] r own e = cc
-get_length (o ∷ calls) zero own e = ap (λ (l : List Call). Some (length l)) (some_same o own e)
+get_length (o ∷ calls) zero own e = ap (λ (l : List Call). Some (length l)) (same_Some o own e)
 get_length (o ∷ calls) (suc r) own e = get_length calls r own e
 
 -- ---- the ranks agree
@@ -84,10 +61,10 @@ same_kinds (j ∷ a) (k ∷ b) e =
 pub one_list : (calls : List (List Call)) (r : ℕ) (own : List Call) → agree calls ≡ true → slice_get calls r ≡ Some own
     → kinds own ≡ elim calls [ [] ↦ [] | first ∷ others ↦ kinds first ]
 one_list [] r own h e = cc
-one_list (first ∷ others) zero own h e = sym (ap (λ (l : List Call). kinds l) (some_same first own e))
+one_list (first ∷ others) zero own h e = sym (ap (λ (l : List Call). kinds l) (same_Some first own e))
 one_list (first ∷ others) (suc r) own h e =
     same_kinds (kinds own) (kinds first) ((bytes_eq-Decides (kind_numbers own) (kind_numbers first)).0
-    (all_at (λ o. bytes_eq (kind_numbers o) (kind_numbers first)) others h r own e))
+    (passes_at (λ o. bytes_eq (kind_numbers o) (kind_numbers first)) others h r own e))
 
 kinds_few : (calls : List Call) → length (kinds calls) ≤ length calls
 kinds_few [] = omega arith
@@ -121,35 +98,32 @@ pub record Tests (script : Script) : Type 0 where
 
 tests_of : (script : Script) → is_lawful script ≡ true → Tests script
 tests_of script h =
-    let t11 = and_front _ _ h in
-    let t10 = and_front _ _ t11 in
-    let t9 = and_front _ _ t10 in
-    let t8 = and_front _ _ t9 in
-    let t7 = and_front _ _ t8 in
-    let t6 = and_front _ _ t7 in
-    let t5 = and_front _ _ t6 in
-    let t4 = and_front _ _ t5 in
-    let t3 = and_front _ _ t4 in
-    let t2 = and_front _ _ t3 in
+    let t11 = and_first _ _ h in
+    let t10 = and_first _ _ t11 in
+    let t9 = and_first _ _ t10 in
+    let t8 = and_first _ _ t9 in
+    let t7 = and_first _ _ t8 in
+    let t6 = and_first _ _ t7 in
+    let t5 = and_first _ _ t6 in
+    let t4 = and_first _ _ t5 in
+    let t3 = and_first _ _ t4 in
+    let t2 = and_first _ _ t3 in
     record {
-      agreed = and_back _ _ h;
-      few = and_back _ _ t10;
-      different = and_back _ _ t9;
-      lawful = and_back _ _ t8;
-      one_each = and_back _ _ t2;
-      within = and_front _ _ t2;
+      agreed = and_second _ _ h;
+      few = and_second _ _ t10;
+      different = and_second _ _ t9;
+      lawful = and_second _ _ t8;
+      one_each = and_second _ _ t2;
+      within = and_first _ _ t2;
     }
 
-at_most : (a b : ℕ) → nat_le a b ≡ true → a ≤ b
-at_most a b h = grind (arith, nat_tests)
-
-le_two : (a b c : ℕ) → a ≤ b → b ≤ c → a ≤ c
+pub le_two : (a b c : ℕ) → a ≤ b → b ≤ c → a ≤ c
 le_two a b c h k = omega arith
 
 own_few : (script : Script) (r : ℕ) (own : List Call) → Tests script → slice_get script.calls r ≡ Some own → length own ≤ most_calls
 own_few script r own t e =
     let h = sum_has 0 (map (λ o. length o) script.calls) r (length own) (get_length script.calls r own e) in
-    le_two (length own) _ most_calls (from_zero _ _ h) (at_most _ most_calls t.few)
+    le_two (length own) _ most_calls (from_zero _ _ h) (leb-true _ most_calls t.few)
   where
     from_zero : (a b : ℕ) → 0 + a ≤ b → a ≤ b
     from_zero a b h = omega arith
@@ -158,9 +132,9 @@ pub own_lawful : (script : Script) (r : ℕ) (own : List Call) → is_lawful scr
 own_lawful script r own h e =
     let t = tests_of script h in
     record {
-      lawful = all_at (λ o. list_all (is_lawful_call script.ranks o.0) o.1) (enumerate_from 0 script.calls) t.lawful r (r, own)
+      lawful = passes_at (λ o. list_all (is_lawful_call script.ranks o.0) o.1) (enumerate_from 0 script.calls) t.lawful r (r, own)
           (get_enumerate script.calls 0 r r own e (omega arith));
-      different = all_at (λ o. are_different (posted_ids o)) script.calls t.different r own e;
+      different = passes_at (λ o. are_different (posted_ids o)) script.calls t.different r own e;
       few = own_few script r own t e;
       agreed = one_list script.calls r own t.agreed e;
     }
@@ -169,8 +143,8 @@ pub ranks_lawful : (script : Script) → is_lawful script ≡ true → Ranks scr
 ranks_lawful script h =
     let t = tests_of script h in
     record {
-      one_each = same_number (length script.calls) script.ranks t.one_each;
-      most = at_most script.ranks 64 (and_back _ _ t.within);
+      one_each = eqb-true (length script.calls) script.ranks t.one_each;
+      most = leb-true script.ranks 64 (and_second _ _ t.within);
       kinds_few = by script.calls (λ own e. own_few script 0 own t e);
     }
   where

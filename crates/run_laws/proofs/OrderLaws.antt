@@ -4,6 +4,8 @@ use Rattle.std.proofs.lemmas.List.{append-nil}
 use Rattle.std.proofs.lemmas.Grind.{fold-append}
 use Rattle.std.specs.Prelude.{slice_get, ◌==◌, nat_lt, fold}
 use Rattle.std.specs.List.{list_all}
+use Rattle.std.proofs.lemmas.Bool.{eqb-true}
+use Rattle.list_laws.proofs.Truth.{and_first, and_second}
 use Rattle.nc_base.specs.declared.header.Header.{Header}
 use Rattle.nc_base.specs.declared.script.Hints.{Hints}
 use Rattle.nc_base.specs.declared.script.Script.{Script}
@@ -14,7 +16,6 @@ use Rattle.serial_spec.specs.FileStep.{Setting, Counted}
 use Rattle.serial_spec.specs.DeviceCalls.{mark_calls, store_records, calls_from}
 use Rattle.serial_spec.specs.SerialEnd.{Going, setting_of, first_state, state_after, after_mark, after_solo, solo_of, advance, closed}
 use Rattle.run_laws.specs.Standing.{is_solo_of, own_step, own_calls, calls_so_far}
-use Rattle.run_laws.proofs.LawfulLaws.{and_front, and_back, same_number}
 use Rattle.run_laws.proofs.StandingLaws.{solo_goes, solo_calls_go}
 
 -- ---- states
@@ -74,8 +75,8 @@ own_solos s r c goings g [] e h = let f = sym (set_own goings r g e) in λ i. (c
 own_solos s r c goings g (Meet k ∷ more) e h = cc
 own_solos s r c goings g (Solo q n ∷ more) e h =
     let done = solo_of s r c (advance s.header g) in
-    let q_is = same_number q r (and_front (q == r) _ h) in
-    let others = own_solos s r done.0 (set goings r done.1) done.1 more (get_set goings r g done.1 e) (and_back (q == r) _ h) in
+    let q_is = eqb-true q r (and_first (q == r) _ h) in
+    let others = own_solos s r done.0 (set goings r done.1) done.1 more (get_set goings r g done.1 e) (and_second (q == r) _ h) in
     ap (λ (j : ℕ). fold (after_mark s) (after_solo s j c goings) more) q_is
     ∙ ap (λ (state : Counted × List Going). fold (after_mark s) state more) (solo_goes s r c goings g e) ∙ others
     ∙ ap (λ (gs : List Going). ((fold (own_step s r) done more).0, gs)) (set_set goings r done.1 (fold (own_step s r) done more).1)
@@ -86,9 +87,9 @@ own_solo_calls hints s r c goings g [] e h = refl
 own_solo_calls hints s r c goings g (Meet k ∷ more) e h = cc
 own_solo_calls hints s r c goings g (Solo q n ∷ more) e h =
     let done = solo_of s r c (advance s.header g) in
-    let q_is = same_number q r (and_front (q == r) _ h) in
+    let q_is = eqb-true q r (and_first (q == r) _ h) in
     let first = solo_calls_go hints s r n c goings g e in
-    let others = own_solo_calls hints s r done.0 (set goings r done.1) done.1 more (get_set goings r g done.1 e) (and_back (q == r) _ h) in
+    let others = own_solo_calls hints s r done.0 (set goings r done.1) done.1 more (get_set goings r g done.1 e) (and_second (q == r) _ h) in
     ap (λ (j : ℕ). mark_calls hints s (c, goings) (Solo j n) ++ calls_so_far hints s (after_solo s j c goings) more) q_is
     ∙ ap (λ (state : Counted × List Going). mark_calls hints s (c, goings) (Solo r n) ++ calls_so_far hints s state more) (solo_goes s r c goings g e)
     ∙ (λ i. first i ++ others i)

@@ -1,10 +1,14 @@
 -- What a rank on its way has at its next call, and that all ranks meet and end together.
-use Rattle.std.proofs.Common.{◌≡◌, ℕ, zero, suc, ◌+◌, ◌*◌, ◌^◌, ◌<◌, ◌≤◌, ◌≢◌, refl, sym, ◌∙◌, ap, subst, List, [], ◌∷◌, ◌++◌, length, drop, true, Option, Some, None, arith, length-drop}
+use Rattle.std.proofs.Common.{◌≡◌, ℕ, suc, ◌+◌, ◌*◌, ◌^◌, ◌<◌, ◌≤◌, ◌≢◌, refl, sym, ◌∙◌, ap, subst, List, [], ◌∷◌, ◌++◌, length, drop, true, Option, Some, None, arith, length-drop}
 use Rattle.std.proofs.lemmas.List.{append-nil}
 use Rattle.std.proofs.lemmas.List.Folds.{list_all-append}
 use Rattle.std.proofs.lemmas.Bool.Decides.{nat_tests}
-use Rattle.std.specs.Prelude.{slice_get, ◌==◌, nat_lt, filter, is_none}
+use Rattle.std.specs.Prelude.{slice_get, ◌==◌, nat_lt, filter}
 use Rattle.std.specs.List.{list_all}
+use Rattle.std.proofs.lemmas.Bool.{and_from, eqb-true}
+use Rattle.list_laws.proofs.Places.{entry_below}
+use Rattle.list_laws.proofs.Optional.{none_of_test}
+use Rattle.list_laws.proofs.Truth.{and_first, and_second}
 use Rattle.nc_base.specs.declared.request.Call.{Call}
 use Rattle.nc_base.specs.declared.request.Call.TheVariants as call
 use Rattle.nc_base.specs.declared.script.Script.{Script}
@@ -21,7 +25,7 @@ use Rattle.serial_spec.specs.Lawful.{is_lawful, is_lawful_call, most_calls, most
 use Rattle.run_laws.specs.Requests.{IsFresh, IsShare, posts_held}
 use Rattle.run_laws.specs.Ways.{meetings, kinds_of, Waits, IsOnWay}
 use Rattle.run_laws.proofs.CallLaws.{is_free, Keeps}
-use Rattle.run_laws.proofs.LawfulLaws.{and_front, and_back, and_both, same_number, ranks_lawful}
+use Rattle.run_laws.proofs.LawfulLaws.{ranks_lawful}
 use Rattle.run_laws.proofs.WayLaws.{kind_some, calls_long}
 
 -- ---- the next call
@@ -33,12 +37,8 @@ none_waits (Some w) h = absurd h
 pub call_idle : (script : Script) (order : List Mark) (r : ℕ) (s : Going) → IsOnWay script order r s None → s.rank.«open» ≡ None
 call_idle script order r s w = none_waits s.rank.«open» w.waits
 
-free_none : {X : Type 0} (m : Option X) → is_none m ≡ true → m ≡ None
-free_none None e = refl
-free_none (Some x) e = cc
-
 fresh_first : (r : machine.Rank) (c : Call) (calls : List Call) → list_all (is_free r.posted) (posted_ids (c ∷ calls)) ≡ true → IsFresh r c
-fresh_first r (call.Post id kind name given values) calls h = free_none _ (and_front (is_free r.posted id) _ h)
+fresh_first r (call.Post id kind name given values) calls h = none_of_test _ (and_first (is_free r.posted id) _ h)
 fresh_first r c calls h = tt
 
 pub call_fresh : (script : Script) (order : List Mark) (r : ℕ) (s : Going) (c : Call) (calls : List Call) → IsOnWay script order r s None → s.calls ≡ c ∷ calls
@@ -49,12 +49,12 @@ call_fresh script order r s c calls w e =
 pub call_lawful : (script : Script) (order : List Mark) (r : ℕ) (s : Going) (c : Call) (calls : List Call) → IsOnWay script order r s None → s.calls ≡ c ∷ calls
     → is_lawful_call script.ranks r c ≡ true
 call_lawful script order r s c calls w e =
-    and_front (is_lawful_call script.ranks r c) _ (sym (ap (λ (cs : List Call). list_all (is_lawful_call script.ranks r) cs) e) ∙ w.lawful)
+    and_first (is_lawful_call script.ranks r c) _ (sym (ap (λ (cs : List Call). list_all (is_lawful_call script.ranks r) cs) e) ∙ w.lawful)
 
 share_of : (ranks r : ℕ) (c : Call) → r < ranks → ranks ≤ 64 → is_lawful_call ranks r c ≡ true → IsShare c
 share_of ranks r (call.FillRec name number share others) l m h =
-    let one = same_number share r (and_back _ _ (and_front _ (others == ranks) h)) in
-    let all = same_number others ranks (and_back _ _ h) in
+    let one = eqb-true share r (and_second _ _ (and_first _ (others == ranks) h)) in
+    let all = eqb-true others ranks (and_second _ _ h) in
     (below share r ranks others one l all, few others ranks all m)
   where
     below : (a b c d : ℕ) → a ≡ b → b < c → d ≡ c → a < d
@@ -137,7 +137,7 @@ together_number script order r s o l w =
 
 all_more : (ranks : ℕ) (order : List Mark) (m : Mark) → is_of_rank_below ranks m ≡ true → list_all (is_of_rank_below ranks) order ≡ true
     → list_all (is_of_rank_below ranks) (order ++ m ∷ []) ≡ true
-all_more ranks order m e h = list_all-append (is_of_rank_below ranks) order (m ∷ []) ∙ and_both _ _ h (and_both _ true e refl)
+all_more ranks order m e h = list_all-append (is_of_rank_below ranks) order (m ∷ []) ∙ and_from _ _ h (and_from _ true e refl)
 
 pub solo_of_known : (ranks r n : ℕ) (order : List Mark) → r < ranks → list_all (is_of_rank_below ranks) order ≡ true
     → list_all (is_of_rank_below ranks) (order ++ Solo r n ∷ []) ≡ true
@@ -149,11 +149,6 @@ solo_of_known ranks r n order l h = all_more ranks order (Solo r n) (below r ran
 pub meeting_of_known : (ranks k : ℕ) (order : List Mark) → list_all (is_of_rank_below ranks) order ≡ true
     → list_all (is_of_rank_below ranks) (order ++ Meet k ∷ []) ≡ true
 meeting_of_known ranks k order h = all_more ranks order (Meet k) refl h
-
-get_below : {X : Type 0} (xs : List X) (q : ℕ) → q < length xs → (x : X) × (slice_get xs q ≡ Some x)
-get_below [] q l = absurd (omega arith)
-get_below (x ∷ xs) zero l = (x, refl)
-get_below (x ∷ xs) (suc q) l = get_below xs q (omega arith)
 
 at_end : (script : Script) (order : List Mark) (r : ℕ) (s : Going) → IsOnWay script order r s None → s.calls ≡ [] → filter (concerns r) order ≡ marks script.calls r
 at_end script order r s w e =
@@ -167,6 +162,6 @@ order_legal script order ss e known f = record { known_ranks = known; each_rank 
   where
     each : (r : ℕ) → r < script.ranks → filter (concerns r) order ≡ marks script.calls r
     each r l =
-        let s = get_below ss r (omega arith) in
+        let s = entry_below ss r (omega arith) in
         let w = f r s.0 s.1 in
         at_end script order r s.0 w.0 w.1

@@ -3,10 +3,11 @@ use Rattle.std.proofs.Common.{◌≡◌, ℕ, zero, suc, ◌+◌, ◌*◌, ◌�
 use Rattle.std.proofs.lemmas.List.{append-nil}
 use Rattle.std.proofs.lemmas.List.Sums.{sum_by-append}
 use Rattle.std.proofs.lemmas.List.Elements.{filter-append}
-use Rattle.std.proofs.lemmas.Bool.{eq-eqb}
+use Rattle.std.proofs.lemmas.Bool.{eq-eqb, and_from, eqb-true}
 use Rattle.std.proofs.lemmas.Bool.Decides.{eqb_tells}
 use Rattle.std.specs.Prelude.{slice_get, ◌==◌, filter, is_some}
 use Rattle.std.specs.List.{list_all, list_any, cons_option}
+use Rattle.list_laws.proofs.Truth.{and_first, and_second}
 use Rattle.nc_base.specs.declared.header.Header.{Header}
 use Rattle.nc_base.specs.declared.request.Call.{Call}
 use Rattle.nc_base.specs.declared.request.Call.TheVariants as call
@@ -21,7 +22,7 @@ use Rattle.nc_base.specs.declared.step.OfferKind.TheVariants as offer
 use Rattle.nc_base.specs.declared.step.Reply.{Reply}
 use Rattle.nc_base.specs.declared.step.Want.TheVariants as want
 use Rattle.serial_spec.specs.RankMachine as machine
-use Rattle.serial_spec.specs.RankMachine.{Open, Posted, new_rank, step, hear}
+use Rattle.serial_spec.specs.RankMachine.{Open, Posted, step, hear}
 use Rattle.serial_spec.specs.SerialEnd.{Going, first_going}
 use Rattle.serial_spec.specs.History.{kinds, marks_from, concerns, kind_of_call, kind_of_meeting, mode_after, is_collective, is_data}
 use Rattle.serial_spec.specs.Lawful.{is_lawful, is_lawful_call, most_calls, most_parts, are_different, posted_ids, id_posted}
@@ -29,7 +30,7 @@ use Rattle.run_laws.specs.Requests.{posts_held}
 use Rattle.run_laws.specs.Standing.{answered, asking, is_solo_of}
 use Rattle.run_laws.specs.Ways.{is_meeting, meetings, mode_heard, marks_left, kind_of_offer, kinds_of, Waits, AreNew, IsOnWay}
 use Rattle.run_laws.proofs.CallLaws.{Frees, is_free, is_other, says_at, heard_at}
-use Rattle.run_laws.proofs.LawfulLaws.{and_front, and_back, and_both, same_number, own_lawful}
+use Rattle.run_laws.proofs.LawfulLaws.{own_lawful}
 
 -- ---- the marks of an order
 
@@ -62,25 +63,25 @@ not_own q r n = by (eqb_tells q r)
 longer : (answers : List Answer) (a : Answer) → length (answers ++ a ∷ []) ≡ suc (length answers)
 longer answers a = length-append answers (a ∷ []) ∙ (omega arith)
 
-kinds_skip : (c : Call) (calls : List Call) → kind_of_call c ≡ None → kinds (c ∷ calls) ≡ kinds calls
+pub kinds_skip : (c : Call) (calls : List Call) → kind_of_call c ≡ None → kinds (c ∷ calls) ≡ kinds calls
 kinds_skip c calls e = ap (λ (m : Option MeetKind). cons_option m (kinds calls)) e
 
-kinds_take : (c : Call) (calls : List Call) (kind : MeetKind) → kind_of_call c ≡ Some kind → kinds (c ∷ calls) ≡ kind ∷ kinds calls
+pub kinds_take : (c : Call) (calls : List Call) (kind : MeetKind) → kind_of_call c ≡ Some kind → kinds (c ∷ calls) ≡ kind ∷ kinds calls
 kinds_take c calls kind e = ap (λ (m : Option MeetKind). cons_option m (kinds calls)) e
 
-marks_meet : (q n k : ℕ) (ind : Bool) (c : Call) (calls : List Call) → is_collective c ≡ true
+pub marks_meet : (q n k : ℕ) (ind : Bool) (c : Call) (calls : List Call) → is_collective c ≡ true
     → marks_from q n k ind (c ∷ calls) ≡ Meet k ∷ marks_from q (suc n) (suc k) (mode_after ind c) calls
 marks_meet q n k ind c calls e = rw (e, marks_from) refl
 
-marks_alone : (q n k : ℕ) (ind : Bool) (c : Call) (calls : List Call) → is_collective c ≡ false → (ind && is_data c) ≡ false
+pub marks_alone : (q n k : ℕ) (ind : Bool) (c : Call) (calls : List Call) → is_collective c ≡ false → (ind && is_data c) ≡ false
     → marks_from q n k ind (c ∷ calls) ≡ marks_from q (suc n) k ind calls
 marks_alone q n k ind c calls e f = rw (e, marks_from) (rw f refl)
 
-marks_solo : (q n k : ℕ) (ind : Bool) (c : Call) (calls : List Call) → is_collective c ≡ false → (ind && is_data c) ≡ true
+pub marks_solo : (q n k : ℕ) (ind : Bool) (c : Call) (calls : List Call) → is_collective c ≡ false → (ind && is_data c) ≡ true
     → marks_from q n k ind (c ∷ calls) ≡ Solo q n ∷ marks_from q (suc n) k ind calls
 marks_solo q n k ind c calls e f = rw (e, marks_from) (rw f refl)
 
-mode_alone : (ind : Bool) (c : Call) → kind_of_call c ≡ None → mode_after ind c ≡ ind
+pub mode_alone : (ind : Bool) (c : Call) → kind_of_call c ≡ None → mode_after ind c ≡ ind
 mode_alone ind call.BeginIndep e = cc
 mode_alone ind call.EndIndep e = cc
 mode_alone ind c e = refl
@@ -102,14 +103,14 @@ still_free : (r r' : machine.Rank) (n : Option ℕ) (ids : List ℕ) → ((id : 
     → list_all (is_other n) ids ≡ true → list_all (is_free r.posted) ids ≡ true → list_all (is_free r'.posted) ids ≡ true
 still_free r r' n [] f o h = refl
 still_free r r' n (id ∷ ids) f o h =
-    and_both _ _ (f id (and_front (is_other n id) _ o) (and_front (is_free r.posted id) _ h))
-    (still_free r r' n ids f (and_back (is_other n id) _ o) (and_back (is_free r.posted id) _ h))
+    and_from _ _ (f id (and_first (is_other n id) _ o) (and_first (is_free r.posted id) _ h))
+    (still_free r r' n ids f (and_second (is_other n id) _ o) (and_second (is_free r.posted id) _ h))
 
 all_other : (n : ℕ) (ids : List ℕ) → not (list_any (λ m. m == n) ids) ≡ true → list_all (is_other (Some n)) ids ≡ true
 all_other n [] h = refl
 all_other n (m ∷ ids) h =
     let w = neither (m == n) _ h in
-    and_both _ _ (ids_apart n m w.0) (all_other n ids w.1)
+    and_from _ _ (ids_apart n m w.0) (all_other n ids w.1)
 
 none_other : (ids : List ℕ) → list_all (is_other None) ids ≡ true
 none_other [] = refl
@@ -122,7 +123,7 @@ new_next : (r r' : machine.Rank) (n : Option ℕ) (ids : List ℕ) → ((id : �
     → New r (cons_option n ids) → New r' ids
 new_next r r' None ids f w = (w.0, still_free r r' None ids f (none_other ids) w.1)
 new_next r r' (Some n) ids f w =
-    (and_back _ _ w.0, still_free r r' (Some n) ids f (all_other n ids (and_front _ _ w.0)) (and_back (is_free r.posted n) _ w.1))
+    (and_second _ _ w.0, still_free r r' (Some n) ids f (all_other n ids (and_first _ _ w.0)) (and_second (is_free r.posted n) _ w.1))
 
 are_new : (s : Going) (r' : machine.Rank) (c : Call) (calls : List Call) → AreNew s → s.calls ≡ c ∷ calls → Frees s.rank c r' → New r' (posted_ids calls)
 are_new s r' c calls w e f =
@@ -185,7 +186,7 @@ way_answers script order r header s next a c calls w e f p =
       kinds = sym (kinds_skip c calls says.kind) ∙ sym (ap (λ (cs : List Call). kinds cs) e) ∙ w.kinds;
       waits = subst (λ (m : Option Open). Waits m None) (sym says.still) w.waits;
       meets = tt;
-      lawful = and_back (is_lawful_call script.ranks r c) _ (sym (ap (λ (cs : List Call). list_all (is_lawful_call script.ranks r) cs) e) ∙ w.lawful);
+      lawful = and_second (is_lawful_call script.ranks r c) _ (sym (ap (λ (cs : List Call). list_all (is_lawful_call script.ranks r) cs) e) ∙ w.lawful);
       new = record { different = new.0; fresh = new.1 };
       few = moved _ _ _ _ most_calls long (calls_long s c calls e) w.few;
       posts = held_more _ _ _ _ long p w.posts;
@@ -218,7 +219,7 @@ way_meets script order r header s next o c calls w e f p =
       kinds = kind ∙ sym (kinds_take c calls says.of_kind says.kind) ∙ sym (ap (λ (cs : List Call). kinds cs) e) ∙ w.kinds;
       waits = waits_for next.«open» asks.open_with o asks.is_open asks.gets;
       meets = some_meeting o says.of_kind says.meets;
-      lawful = and_back (is_lawful_call script.ranks r c) _ (sym (ap (λ (cs : List Call). list_all (is_lawful_call script.ranks r) cs) e) ∙ w.lawful);
+      lawful = and_second (is_lawful_call script.ranks r c) _ (sym (ap (λ (cs : List Call). list_all (is_lawful_call script.ranks r) cs) e) ∙ w.lawful);
       new = record { different = new.0; fresh = new.1 };
       few = moved _ _ _ _ most_calls refl (calls_long s c calls e) w.few;
       posts = held_more _ _ _ _ refl p w.posts;
@@ -254,7 +255,7 @@ way_solo script order r header s next heard o reply a c calls w e f p g =
       kinds = sym (kinds_skip c calls says.kind) ∙ sym (ap (λ (cs : List Call). kinds cs) e) ∙ w.kinds ∙ ap (λ (j : ℕ). drop j (kinds_of script)) (sym same);
       waits = subst (λ (m : Option Open). Waits m None) (sym hears.closed) tt;
       meets = tt;
-      lawful = and_back (is_lawful_call script.ranks r c) _ (sym (ap (λ (cs : List Call). list_all (is_lawful_call script.ranks r) cs) e) ∙ w.lawful);
+      lawful = and_second (is_lawful_call script.ranks r c) _ (sym (ap (λ (cs : List Call). list_all (is_lawful_call script.ranks r) cs) e) ∙ w.lawful);
       new = record { different = new.0; fresh = new.1 };
       few = moved _ _ _ _ most_calls long (calls_long s c calls e) w.few;
       posts = held_same next heard _ hears.posted (held_more _ _ _ _ long p w.posts);
@@ -323,20 +324,20 @@ way_same script order order' r s held e f w = record {
 }
 
 one_of : (q n : ℕ) → list_all (is_solo_of q) (Solo q n ∷ []) ≡ true
-one_of q n = and_both (q == q) true (eq-eqb q q refl) refl
+one_of q n = and_from (q == q) true (eq-eqb q q refl) refl
 
 others_filter : (q r : ℕ) (more : List Mark) → q ≢ r → list_all (is_solo_of q) more ≡ true → filter (concerns r) more ≡ []
 others_filter q r [] n h = refl
 others_filter q r (Meet k ∷ more) n h = cc
 others_filter q r (Solo p m ∷ more) n h =
-    let p_is = same_number p q (and_front (p == q) _ h) in
+    let p_is = eqb-true p q (and_first (p == q) _ h) in
     ap (λ (b : Bool). cond b (Solo p m ∷ filter (concerns r) more) (filter (concerns r) more)) (not_own p r (λ z. n (sym p_is ∙ z)))
-    ∙ others_filter q r more n (and_back (p == q) _ h)
+    ∙ others_filter q r more n (and_second (p == q) _ h)
 
 others_meetings : (q : ℕ) (more : List Mark) → list_all (is_solo_of q) more ≡ true → meetings more ≡ 0
 others_meetings q [] h = refl
 others_meetings q (Meet k ∷ more) h = cc
-others_meetings q (Solo p m ∷ more) h = others_meetings q more (and_back (p == q) _ h)
+others_meetings q (Solo p m ∷ more) h = others_meetings q more (and_second (p == q) _ h)
 
 pub way_others : (script : Script) (order more : List Mark) (r q : ℕ) (s : Going) (held : Option Offer) → q ≢ r → list_all (is_solo_of q) more ≡ true
     → IsOnWay script order r s held → IsOnWay script (order ++ more) r s held

@@ -3,6 +3,7 @@ use Rattle.std.proofs.Common.{◌≡◌, ℕ, ◌+◌, ◌≤◌, List, [], ◌�
 use Rattle.std.specs.List.{AllByRecursion, list_any}
 use borrow.Author.Tests.{ltb-false}
 use Rattle.std.specs.Prelude.{drop, nat_lt}
+use Rattle.list_laws.proofs.Each.{each_push}
 use Rattle.nc_base.specs.declared.errors.ScriptKind.TheVariants as kind
 use Rattle.nc_base.specs.declared.errors.LimitName.TheVariants as limit
 use Rattle.nc_base.specs.declared.header.Dim.{Dim}
@@ -12,7 +13,7 @@ use Rattle.serial_spec.specs.Lawful.{most_values, is_dim, is_var, added_dims, ad
 use Rattle.script_spec.specs.ScriptWords.{Word}
 use Rattle.script_spec.specs.ScriptSteps.{refuse_if, reads_as, ended}
 use Rattle.script_spec.specs.ScriptDefinitions.{dim_line, var_head, name_list, owner_of_text, owner_name, attribute, Added, nothing_added, is_added_record, added_shape, dim_addition, var_addition, att_addition, addition}
-use Rattle.script_laws.proofs.ListLaws.{all_more, count_more, sum_more}
+use Rattle.script_laws.proofs.ListLaws.{count_more, sum_more}
 use Rattle.script_laws.proofs.StepLaws.{first_then, then_with, by_test, unless_refused}
 use Rattle.script_laws.proofs.DimLaws.{NewDim, dim_read, attr_whole, NewAttr, attribute_read, NewHead, head_read}
 
@@ -40,8 +41,8 @@ dim_added d x f new =
       few_dims = let room = new.room in omega (arith, length-append d.dims (x ∷ []));
       vars = let vars = f.vars in omega (arith, count_more is_var d.extras (extra.Dim x));
       few_vars = f.few_vars;
-      each = all_more (λ y. is_lawful_extra y ≡ true) d.extras (extra.Dim x) f.each (lt-ltb _ _ new.fits.short);
-      whole = all_more (λ y. is_whole_extra y ≡ true) d.extras (extra.Dim x) f.whole refl;
+      each = each_push (λ y. is_lawful_extra y ≡ true) d.extras (extra.Dim x) f.each (lt-ltb _ _ new.fits.short);
+      whole = each_push (λ y. is_whole_extra y ≡ true) d.extras (extra.Dim x) f.whole refl;
     }
 
 added_shaped : (dims : List Dim) (ws : List Word) → IfOk (added_shape dims ws) (λ r. length r.0 ≤ most_dims_of_var)
@@ -74,8 +75,8 @@ addition_read before d first ws h f =
             few_dims = f.few_dims;
             vars = let vars = f.vars in omega (arith, count_more is_var d.extras (extra.Var v.0.0 v.0.1 names.0), length-append d.vars (v.0.1 ∷ []));
             few_vars = let room = head.room in omega (arith, length-append d.vars (v.0.1 ∷ []));
-            each = all_more (λ y. is_lawful_extra y ≡ true) d.extras (extra.Var v.0.0 v.0.1 names.0) f.each (le-leb _ _ few);
-            whole = all_more (λ y. is_whole_extra y ≡ true) d.extras (extra.Var v.0.0 v.0.1 names.0) f.whole refl;
+            each = each_push (λ y. is_lawful_extra y ≡ true) d.extras (extra.Var v.0.0 v.0.1 names.0) f.each (le-leb _ _ few);
+            whole = each_push (λ y. is_whole_extra y ≡ true) d.extras (extra.Var v.0.0 v.0.1 names.0) f.whole refl;
           };
           few = omega arith;
           held = omega (arith, sum_more values_in_extra d.extras (extra.Var v.0.0 v.0.1 names.0));
@@ -90,8 +91,8 @@ addition_read before d first ws h f =
             few_dims = f.few_dims;
             vars = let vars = f.vars in omega (arith, count_more is_var d.extras (extra.Att (owner_name o.0) a));
             few_vars = f.few_vars;
-            each = all_more (λ y. is_lawful_extra y ≡ true) d.extras (extra.Att (owner_name o.0) a) f.each refl;
-            whole = all_more (λ y. is_whole_extra y ≡ true) d.extras (extra.Att (owner_name o.0) a) f.whole (attr_whole 5 a new.fits);
+            each = each_push (λ y. is_lawful_extra y ≡ true) d.extras (extra.Att (owner_name o.0) a) f.each refl;
+            whole = each_push (λ y. is_whole_extra y ≡ true) d.extras (extra.Att (owner_name o.0) a) f.whole (attr_whole 5 a new.fits);
           };
           few = new.few;
           held = omega (arith, sum_more values_in_extra d.extras (extra.Att (owner_name o.0) a));

@@ -1,9 +1,12 @@
 -- The ranks of a script agree on the kinds of their collective calls.
-use Rattle.std.proofs.Common.{◌≡◌, ◌∙◌, ◌≤◌, ◌<◌, ℕ, zero, suc, ◌+◌, List, [], ◌∷◌, length, map, Bool, true, false, cond, not, Option, Some, None, Result, Ok, Err, refl, sym, ap, subst, arith, find, position, is_some, option_map, ◌==◌, nat_lt, bytes_eq, eqb-true, ltb-false, eq-or-lt_of_le, ◌⊎◌, inl, inr, true≢false}
+use Rattle.std.proofs.Common.{◌≡◌, ◌∙◌, ◌≤◌, ◌<◌, ℕ, zero, suc, ◌+◌, List, [], ◌∷◌, length, map, Bool, true, false, cond, not, Option, Some, None, Ok, refl, sym, ap, subst, arith, find, position, is_some, option_map, ◌==◌, nat_lt, bytes_eq, eqb-true, ltb-false, eq-or-lt_of_le, ◌⊎◌, inl, inr, true≢false}
 use Rattle.std.specs.List.{AllByRecursion, list_all, range_with_len, position_or_len, prefix_len}
 use Rattle.std.proofs.lemmas.Slice.Eq.{bytes_eq-Decides}
-use Rattle.nc_base.specs.declared.errors.ScriptErr.{ScriptErr}
-use Rattle.nc_base.specs.declared.errors.ScriptKind.{ScriptKind}
+use Rattle.std.proofs.lemmas.Bool.{and_from}
+use Rattle.script_spec.proofs.TextLaws.{finished}
+use Rattle.list_laws.proofs.Each.{each_weaker}
+use Rattle.list_laws.proofs.Maps.{found_passes}
+use Rattle.list_laws.proofs.Optional.{none_before_map}
 use Rattle.nc_base.specs.declared.errors.ScriptKind.TheVariants as kind
 use Rattle.nc_base.specs.declared.request.Call.{Call}
 use Rattle.nc_base.specs.declared.step.MeetKind.{MeetKind}
@@ -13,21 +16,8 @@ use Rattle.serial_spec.specs.Lawful.{kind_numbers, agree}
 use Rattle.script_spec.specs.ScriptWords.{Line}
 use Rattle.script_spec.specs.ScriptCalls.{kind_at, differs_at, is_difference, first_difference, mismatch}
 use Rattle.script_spec.specs.ScriptGrammar.{finish}
-use Rattle.script_laws.proofs.ListLaws.{some_same, all_weaker, both_true}
-
-no_fault : (o : Option ScriptKind) (n : ℕ) (u : Unit {0}) → elim o as (λ _. Result (Unit {0}) ScriptErr) [ None ↦ Ok tt | Some e ↦ Err (record { line = n; kind = e }) ] ≡ Ok u → o ≡ None
-no_fault None n u h = refl
-no_fault (Some e) n u h = absurd (cc)
-
-finished : (n : ℕ) (calls : List (List Call)) (ls : List Line) (u : Unit {0}) → finish n calls ls ≡ Ok u → mismatch (map (λ own. kinds own) calls) ≡ None
-finished n calls (l ∷ ls) u h = absurd (cc)
-finished n calls [] u h = no_fault (mismatch (map (λ own. kinds own) calls)) n u h
 
 -- ---- no difference
-
-none_mapped : {A B : Type 0} (f : A → B) (o : Option A) → option_map f o ≡ None → o ≡ None
-none_mapped f None h = refl
-none_mapped f (Some x) h = absurd (cc)
 
 -- what is not found passes nowhere
 find_none : (p : ℕ → Bool) (from len k : ℕ) → find p (range_with_len from len) ≡ None → from ≤ k → k < from + len → p k ≡ false
@@ -40,28 +30,20 @@ find_none p from (suc len) k h low high = by_first (p from) refl (eq-or-lt_of_le
     by_first false e (inl same) g rest = subst (λ (i : ℕ). p i ≡ false) same e
     by_first false e (inr less) g rest = rest g (omega arith)
 
-find_passes : {A : Type 0} (p : A → Bool) (xs : List A) (x : A) → find p xs ≡ Some x → p x ≡ true
-find_passes p [] x h = absurd (cc)
-find_passes {A} p (y ∷ ys) x h = by_first (p y) refl h (λ g. find_passes p ys x g)
-  where
-    by_first : (b : Bool) → p y ≡ b → cond b (Some y) (find p ys) ≡ Some x → (find p ys ≡ Some x → p x ≡ true) → p x ≡ true
-    by_first true e g rest = subst (λ (z : A). p z ≡ true) (some_same y x g) e
-    by_first false e g rest = rest g
-
 not_some : {A : Type 0} (o : Option A) → is_some o ≡ false → o ≡ None
 not_some None h = refl
 not_some (Some x) h = absurd (cc)
 
 no_difference : (ranks : List (List MeetKind)) (first : List MeetKind) → first_difference ranks first ≡ None → find (is_difference ranks first) (range_with_len 0 (length first + 1)) ≡ None
 no_difference ranks first h =
-    by_found (find (is_difference ranks first) (range_with_len 0 (length first + 1))) (λ k e. find_passes (is_difference ranks first) (range_with_len 0 (length first + 1)) k e) h
+    by_found (find (is_difference ranks first) (range_with_len 0 (length first + 1))) (λ k e. found_passes (is_difference ranks first) (range_with_len 0 (length first + 1)) k e) h
   where
     by_found : (o : Option ℕ) → ((k : ℕ) → o ≡ Some k → is_difference ranks first k ≡ true)
         → elim o as (λ _. Option (ℕ × ℕ)) [ None ↦ None | Some k ↦ option_map (λ r. (k, r)) (differs_at ranks first k) ] ≡ None → o ≡ None
     by_found None f g = refl
     by_found (Some k) f g =
         let there : is_difference ranks first k ≡ true = f k refl in
-        let none : is_difference ranks first k ≡ false = ap is_some (none_mapped (λ r. (k, r)) (differs_at ranks first k) g) in
+        let none : is_difference ranks first k ≡ false = ap is_some (none_before_map (λ r. (k, r)) (differs_at ranks first k) g) in
         absurd (true≢false (sym there ∙ none))
 
 -- ---- no rank differs
@@ -92,7 +74,7 @@ SameAt first k own = kind_at k own ≡ kind_at k first
 
 all_same_at : (ranks : List (List MeetKind)) (first : List MeetKind) (k : ℕ) → differs_at ranks first k ≡ None → AllByRecursion (SameAt first k) ranks
 all_same_at ranks first k h =
-    all_weaker (λ own. not (not (kind_at k own == kind_at k first)) ≡ true) (SameAt first k) (λ own e. eqb-true (kind_at k own) (kind_at k first) (no_not (kind_at k own == kind_at k first) e)) ranks
+    each_weaker (λ own. not (not (kind_at k own == kind_at k first)) ≡ true) (SameAt first k) (λ own e. eqb-true (kind_at k own) (kind_at k first) (no_not (kind_at k own == kind_at k first) e)) ranks
     (position_none (λ own. not (kind_at k own == kind_at k first)) ranks h)
 
 all_swapped : {A : Type 0} (P : ℕ → A → Type 0) (n : ℕ) (xs : List A) → ((k : ℕ) → k ≤ n → AllByRecursion (P k) xs) → AllByRecursion (λ x. (k : ℕ) → k ≤ n → P k x) xs
@@ -122,13 +104,13 @@ same_numbers (x ∷ xs) (y ∷ ys) h =
 mapped_pass : (test : List Call → Bool) (Q : List MeetKind → Type 0) → ((own : List Call) → Q (kinds own) → test own ≡ true) → (calls : List (List Call))
     → AllByRecursion Q (map (λ own. kinds own) calls) → list_all test calls ≡ true
 mapped_pass test Q f [] h = refl
-mapped_pass test Q f (own ∷ calls) h = both_true (test own) (list_all test calls) (f own h.0) (mapped_pass test Q f calls h.1)
+mapped_pass test Q f (own ∷ calls) h = and_from (test own) (list_all test calls) (f own h.0) (mapped_pass test Q f calls h.1)
 
 pub agreed : (calls : List (List Call)) → mismatch (map (λ own. kinds own) calls) ≡ None → agree calls ≡ true
 agreed [] h = refl
 agreed (own ∷ others) h =
     let ranks : List (List MeetKind) = kinds own ∷ map (λ o. kinds o) others in
-    let none = none_mapped (λ (d : ℕ × ℕ). kind.Mismatch d.0 0 d.1) (first_difference ranks (kinds own)) h in
+    let none = none_before_map (λ (d : ℕ × ℕ). kind.Mismatch d.0 0 d.1) (first_difference ranks (kinds own)) h in
     let nowhere = no_difference ranks (kinds own) none in
     let same : AllByRecursion (λ o. (k : ℕ) → k ≤ length (kinds own) → SameAt (kinds own) k o) ranks =
     all_swapped (SameAt (kinds own)) (length (kinds own)) ranks (λ k l.

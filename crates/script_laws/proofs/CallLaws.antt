@@ -2,6 +2,9 @@
 use Rattle.std.proofs.Common.{◌≡◌, ℕ, zero, suc, ◌+◌, ◌^◌, ◌<◌, ◌≤◌, List, [], ◌∷◌, ◌++◌, length, Bool, true, false, cond, not, Option, Some, None, Result, Err, IfOk, IfSome, refl, subst, arith, nat_lt, nat_le, ◌==◌, find, map, bytes_eq, codes, option_and_then, length-append, lt-ltb, le-leb, ltb-false, eq-eqb}
 use Rattle.std.specs.List.{AllByRecursion, list_all}
 use Rattle.std.proofs.lemmas.Result.{IfOk-weaker}
+use Rattle.std.proofs.lemmas.Bool.{and_from}
+use Rattle.list_laws.proofs.Each.{each_push}
+use Rattle.list_laws.proofs.Optional.{if_some_at}
 use Rattle.nc_base.specs.declared.errors.ScriptKind.{ScriptKind}
 use Rattle.nc_base.specs.declared.errors.ScriptKind.TheVariants as kind
 use Rattle.nc_base.specs.declared.errors.LimitName.TheVariants as limit
@@ -20,7 +23,7 @@ use Rattle.script_spec.specs.ScriptWords.{Word, size_of_text, between_brackets, 
 use Rattle.script_spec.specs.ScriptSteps.{refuse_if, or_fault, reads_as, size, list, name, ended, whole}
 use Rattle.script_spec.specs.ScriptValues.{values}
 use Rattle.script_spec.specs.ScriptCalls.{after_prefix, form_and_all, form_of_text, given_of, given_parts, part, part_list, many_regions, region, id_of_text, choice, id_of_post, posted, put_call, get_call, post_values, is_posted, new_id, post_call, fill_call, attach_call, inquiry, lone_calls, lone_call, plain_call, post_of_text, call_of}
-use Rattle.script_laws.proofs.ListLaws.{both_true, all_more, all_pass, found_all}
+use Rattle.script_laws.proofs.ListLaws.{all_pass, found_all}
 use Rattle.script_laws.proofs.StepLaws.{first_then, then_with, ok_then, by_test, unless_refused, read_as, whole_line}
 use Rattle.script_laws.proofs.WordLaws.{size_read}
 use Rattle.script_laws.proofs.CallValueLaws.{FitsValues, call_values_read}
@@ -30,9 +33,6 @@ use Rattle.script_laws.proofs.CallValueLaws.{FitsValues, call_values_read}
 size_word : (ws : List Word) → IfOk (size ws) (λ r. r.0 < 2 ^ 63)
 size_word ws = read_as size_of_text kind.BadNumber ws (λ n. n < 2 ^ 63) size_read
 
-if_some : {A : Type 0} (o : Option A) (x : A) (P : A → Type 0) → o ≡ Some x → IfSome o P → P x
-if_some {A} o x P e h = let Q : Option A → Type 0 = λ s. IfSome s P in subst Q e h
-
 sizes_read : (w : List ℕ) (ns : List ℕ) → list_of_text w ≡ Some ns → are_sizes ns ≡ true
 sizes_read w ns h = by_inside (between_brackets w) h
   where
@@ -40,7 +40,7 @@ sizes_read w ns h = by_inside (between_brackets w) h
     by_inside None e = absurd (cc)
     by_inside (Some inside) e =
         all_pass is_size (λ n. n < 2 ^ 63) (λ n small. lt-ltb n (2 ^ 63) small) ns
-        (if_some (all_some (map size_of_text (parts inside))) ns (λ xs. AllByRecursion (λ n. n < 2 ^ 63) xs) e (found_all (λ n. n < 2 ^ 63) size_of_text size_read (parts inside)))
+        (if_some_at (λ xs. AllByRecursion (λ n. n < 2 ^ 63) xs) (all_some (map size_of_text (parts inside))) ns e (found_all (λ n. n < 2 ^ 63) size_of_text size_read (parts inside)))
 
 list_word : (ws : List Word) → IfOk (list ws) (λ r. are_sizes r.0 ≡ true)
 list_word ws = read_as list_of_text kind.BadNumber ws (λ ns. are_sizes ns ≡ true) sizes_read
@@ -50,12 +50,12 @@ list_word ws = read_as list_of_text kind.BadNumber ws (λ ns. are_sizes ns ≡ t
 given_fits : (f : Form) (s c d m : List ℕ) → has_lists_of f (given_of f s c d m) ≡ true → are_sizes s ≡ true → are_sizes c ≡ true → are_sizes d ≡ true → are_sizes m ≡ true
     → is_given (given_of f s c d m) ≡ true
 given_fits f s c d m lists starts counts strides steps =
-    both_true _ _ (both_true _ _ (both_true _ _ (both_true _ _ (both_true _ _ (both_true _ _ lists starts) counts) strides) steps) refl) refl
+    and_from _ _ (and_from _ _ (and_from _ _ (and_from _ _ (and_from _ _ (and_from _ _ lists starts) counts) strides) steps) refl) refl
 
 part_read : (ws : List Word) → IfOk (part ws) (λ r. is_part r.0 ≡ true)
 part_read ws =
     then_with (list ws) _ _ (λ r. are_sizes r.0 ≡ true) (list_word ws) (λ s starts.
-    then_with (list s.1) _ _ (λ r. are_sizes r.0 ≡ true) (list_word s.1) (λ c counts. both_true _ _ starts counts))
+    then_with (list s.1) _ _ (λ r. are_sizes r.0 ≡ true) (list_word s.1) (λ c counts. and_from _ _ starts counts))
 
 record AreParts (n : ℕ) (ps : List Part) : Type 0 where
   good : AllByRecursion (λ p. is_part p ≡ true) ps
@@ -66,7 +66,7 @@ part_list_read : (n total : ℕ) (found : List Part) (ws : List Word) → length
 part_list_read zero total found ws e h = record { good = h; long = omega arith }
 part_list_read (suc n) total found ws e h =
     ok_then (part ws) (λ p. part_list n (found ++ p.0 ∷ []) p.1) _ (λ r. is_part r.0 ≡ true) (part_read ws) (λ p good.
-    part_list_read n total (found ++ p.0 ∷ []) p.1 (omega (arith, length-append found (p.0 ∷ []))) (all_more (λ q. is_part q ≡ true) found p.0 h good))
+    part_list_read n total (found ++ p.0 ∷ []) p.1 (omega (arith, length-append found (p.0 ∷ []))) (each_push (λ q. is_part q ≡ true) found p.0 h good))
 
 some_parts : (ps : List Part) (n : ℕ) → length ps ≡ n → (n == 0) ≡ false → not (is_empty ps) ≡ true
 some_parts [] n e h = subst (λ (m : ℕ). (m == 0) ≡ false → false ≡ true) e (λ k. absurd (cc)) h
@@ -77,7 +77,7 @@ parts_fit ps n all some few =
     let lists : not (is_empty ps) ≡ true = some_parts ps n all.long some in
     let each : list_all is_part ps ≡ true = all_pass is_part (λ p. is_part p ≡ true) (λ p h. h) ps all.good in
     let most : nat_le (length ps) most_parts ≡ true = le-leb (length ps) most_parts (let long = all.long in omega arith) in
-    both_true _ _ (both_true _ _ (both_true _ _ (both_true _ _ (both_true _ _ (both_true _ _ lists refl) refl) refl) refl) each) most
+    and_from _ _ (and_from _ _ (and_from _ _ (and_from _ _ (and_from _ _ (and_from _ _ lists refl) refl) refl) refl) each) most
 
 many_read : (ws : List Word) → IfOk (many_regions ws) (λ r. is_given r.0 ≡ true)
 many_read ws =
@@ -118,7 +118,7 @@ put_read ranks r before own all f ws h =
     first_then (name ws) _ _ (λ v _.
     then_with (region f v.1) _ _ (λ g. is_given g.0 ≡ true) (region_read f v.1) (λ g good.
     then_with (values None before g.1) _ _ (FitsValues before) (call_values_read before g.1 h) (λ vs fits.
-    record { lawful = both_true _ _ good fits.lawful; few = fits.few; fresh = tt })))
+    record { lawful = and_from _ _ good fits.lawful; few = fits.few; fresh = tt })))
 
 get_read : (ranks r before : ℕ) (own : List Call) (all : Bool) (f : Form) (ws : List Word) → before ≤ most_values → IfOk (get_call all f ws) (FitsCall ranks r before own)
 get_read ranks r before own all f ws h =
@@ -146,14 +146,14 @@ post_read ranks r before own k f ws h =
     first_then (name id.1) _ _ (λ v _.
     then_with (region f v.1) _ _ (λ g. is_given g.0 ≡ true) (region_read f v.1) (λ g good.
     then_with (post_values k before g.1) _ _ (FitsPost k before) (post_values_read k before g.1 h) (λ vs fits.
-    record { lawful = both_true _ _ good fits.lawful; few = fits.few; fresh = new }))))
+    record { lawful = and_from _ _ good fits.lawful; few = fits.few; fresh = new }))))
 
 fill_read : (ranks r before : ℕ) (own : List Call) (ws : List Word) → before ≤ most_values → IfOk (fill_call ranks r ws) (FitsCall ranks r before own)
 fill_read ranks r before own ws h =
     first_then (name ws) _ _ (λ v _.
     then_with (size v.1) _ _ (λ n. n.0 < 2 ^ 63) (size_word v.1) (λ n small.
     first_then (ended n.1) _ _ (λ _ _.
-    record { lawful = both_true _ _ (both_true _ _ (lt-ltb n.0 (2 ^ 63) small) (eq-eqb r r refl)) (eq-eqb ranks ranks refl); few = omega arith; fresh = tt })))
+    record { lawful = and_from _ _ (and_from _ _ (lt-ltb n.0 (2 ^ 63) small) (eq-eqb r r refl)) (eq-eqb ranks ranks refl); few = omega arith; fresh = tt })))
 
 attach_read : (ranks r before : ℕ) (own : List Call) (ws : List Word) → before ≤ most_values → IfOk (attach_call ws) (FitsCall ranks r before own)
 attach_read ranks r before own ws h =

@@ -1,8 +1,13 @@
 -- The values of a call: few, and each a number of 20 digits at most.
-use Rattle.std.proofs.Common.{◌≡◌, ℕ, zero, suc, ◌+◌, ◌-◌, ◌*◌, ◌^◌, ◌<◌, ◌≤◌, List, [], ◌∷◌, ◌++◌, length, map, Bool, true, false, cond, not, ◌&&◌, ◌||◌, Option, Some, None, IfOk, refl, sym, subst, arith, nat_lt, nat_le, ◌==◌, fold, option_map, bytes_eq, codes, length-append, ℤ, pos, negsuc, neg_ℤ, ◌+ℤ◌, ◌*ℤ◌, unsigned_abs, lt-ltb, le-leb, ltb-true, ltb-false, leb-true, eqb-true, mul-le-mul_left, zero-add}
-use Rattle.std.specs.List.{AllByRecursion, list_all, range_with_len}
+use Rattle.std.proofs.Common.{◌≡◌, ℕ, zero, suc, ◌+◌, ◌-◌, ◌*◌, ◌^◌, ◌<◌, ◌≤◌, List, [], ◌∷◌, ◌++◌, length, map, Bool, true, false, cond, not, ◌&&◌, ◌||◌, Option, Some, None, IfOk, refl, sym, subst, arith, nat_lt, ◌==◌, option_map, bytes_eq, codes, length-append, ℤ, pos, negsuc, neg_ℤ, ◌+ℤ◌, ◌*ℤ◌, unsigned_abs, lt-ltb, le-leb, ltb-true, ltb-false, eqb-true, mul-le-mul_left}
+use Rattle.std.specs.List.{AllByRecursion, range_with_len}
 use Rattle.std.proofs.lemmas.Int.{ints}
 use Rattle.std.proofs.lemmas.List.FromFn.{length-map-range_with_len}
+use Rattle.std.proofs.lemmas.Bool.{and_from, not-false}
+use Rattle.script_spec.proofs.TextLaws.{faultless_some}
+use Rattle.script_spec.proofs.NumeralLaws.{natural_small}
+use Rattle.list_laws.proofs.Each.{each_push}
+use Rattle.list_laws.proofs.Truth.{and_first}
 use Rattle.nc_base.specs.declared.errors.ScriptKind.TheVariants as kind
 use Rattle.nc_base.specs.declared.errors.LimitName.TheVariants as limit
 use Rattle.nc_base.specs.declared.request.Values.{Values}
@@ -12,45 +17,14 @@ use Rattle.serial_spec.specs.ExternalForm.{Class}
 use Rattle.serial_spec.specs.Limits.{most_elements}
 use Rattle.serial_spec.specs.Lawful.{most_values, is_number, are_values}
 use Rattle.serial_spec.specs.Request.{count_of}
-use Rattle.script_spec.specs.ScriptWords.{Word, Plain, Quoted, Broken, is_digit, is_digits, digits_value, natural_of, number_of_text}
+use Rattle.script_spec.specs.ScriptWords.{Word, Plain, Quoted, Broken, natural_of, number_of_text}
 use Rattle.script_spec.specs.ScriptSteps.{refuse_if, or_fault, bare, reads_as, size, ended}
 use Rattle.script_spec.specs.ScriptValues.{within_limits, one_value, each_value, sequence_count, numbers_between, term, sequence, is_term, last_number, wrong_kind, may_be, are_numbers, are_patterns, seq_values, seqx_values, patterns_between, pattern_values, text_values, number_for, pattern_for, listed_values, listed_kind, values}
-use Rattle.script_laws.proofs.ListLaws.{is_true, and_left, and_right, both_true, all_more, all_pass}
-use Rattle.script_laws.proofs.StepLaws.{first_then, then_with, ok_then, by_test, unless_refused, found}
-use Rattle.script_laws.proofs.WordLaws.{kept_if}
+use Rattle.script_laws.proofs.ListLaws.{all_pass}
+use Rattle.script_laws.proofs.StepLaws.{first_then, then_with, ok_then, by_test, unless_refused}
 use Rattle.script_laws.proofs.ValueLaws.{patterns_long}
 
 -- ---- a number
-
-abbrev tens : ℕ → ℕ
-tens zero = 1
-tens (suc n) = 10 * tens n
-
-tens-le : (i k j : ℕ) → k + i ≡ j → tens i ≤ tens j
-tens-le i zero j e = let same : i ≡ j = omega arith in rw same (omega arith)
-tens-le i (suc k) j e = let more : suc (k + i) ≡ j = omega arith in rw (← more) (omega (arith, tens-le i k (k + i) refl))
-
-tens-fits : (i : ℕ) → i ≤ 20 → tens i ≤ 10 ^ 20
-tens-fits i h = tens-le i (20 - i) 20 (omega arith)
-
-digit_small : (d : ℕ) → is_digit d ≡ true → d - 48 ≤ 9
-digit_small d h = let most : d ≤ 57 = leb-true d 57 (and_right (nat_le 48 d) (nat_le d 57) h) in omega arith
-
-digits_below : (ds : List ℕ) (n k : ℕ) → list_all is_digit ds ≡ true → n < tens k → fold (λ m d. 10 * m + (d - 48)) n ds < tens (k + length ds)
-digits_below [] n k all h = let same : k ≡ k + 0 = omega arith in subst (λ (i : ℕ). n < tens i) same h
-digits_below (d ∷ ds) n k all h =
-    let small = digit_small d (and_left (is_digit d) (list_all is_digit ds) all) in
-    let same : suc k + length ds ≡ k + length (d ∷ ds) = omega arith in
-    subst (λ (i : ℕ). fold (λ m x. 10 * m + (x - 48)) (10 * n + (d - 48)) ds < tens i) same
-    (digits_below ds (10 * n + (d - 48)) (suc k) (and_right (is_digit d) (list_all is_digit ds) all) (omega arith))
-
-natural_small : (ds : List ℕ) (n : ℕ) → natural_of ds ≡ Some n → n < 10 ^ 20
-natural_small ds n h =
-    let k = kept_if (is_digits ds) (digits_value ds) n h in
-    let few : length ds ≤ 20 = leb-true (length ds) 20 (and_right (nat_lt 0 (length ds)) (nat_le (length ds) 20) (and_left (nat_lt 0 (length ds) && nat_le (length ds) 20) (list_all is_digit ds) k.0)) in
-    let below : digits_value ds < tens (length ds) =
-    subst (λ (i : ℕ). digits_value ds < tens i) (zero-add (length ds)) (digits_below ds 0 0 (and_right (nat_lt 0 (length ds) && nat_le (length ds) 20) (list_all is_digit ds) k.0) (omega arith)) in
-    subst (λ (m : ℕ). m < 10 ^ 20) k.1 (omega (arith, tens-fits (length ds) few))
 
 abbrev IsSmall : ℤ → Type 0
 IsSmall z = unsigned_abs z < 10 ^ 20
@@ -99,7 +73,7 @@ is_term_small n z h some = by_none (n == 0) (λ e. eqb-true n 0 e) h
   where
     by_none : (b : Bool) → (b ≡ true → n ≡ 0) → (b || (nat_lt (unsigned_abs z) (10 ^ 20) && true)) ≡ true → IsSmall z
     by_none true f e = let none : n ≡ 0 = f refl in absurd (omega arith)
-    by_none false f e = ltb-true (unsigned_abs z) (10 ^ 20) (and_left (nat_lt (unsigned_abs z) (10 ^ 20)) true e)
+    by_none false f e = ltb-true (unsigned_abs z) (10 ^ 20) (and_first (nat_lt (unsigned_abs z) (10 ^ 20)) true e)
 
 sequence_small : (a b : ℤ) (n : ℕ) → is_term None n a ≡ true → is_term None n (last_number a b n) ≡ true → AllByRecursion IsSmall (sequence a b n)
 sequence_small a b zero p q = tt
@@ -127,22 +101,22 @@ one_read {A} f P before n w h =
     first_then (bare w) _ _ (λ v _.
     first_then (or_fault kind.BadNumber (f v)) _ _ (λ x told.
     then_with (within_limits None before (n + 1)) _ _ (λ _. FewMore before (n + 1)) (few_more before (n + 1)) (λ _ few.
-    record { good = h v x (found kind.BadNumber (f v) x told); few = few })))
+    record { good = h v x (faultless_some kind.BadNumber (f v) x told); few = few })))
 
 record EachValue (A : Type 0) (P : A → Type 0) (before : ℕ) (xs : List A) : Type 0 where
   good : AllByRecursion P xs
   few : FewMore before (length xs)
 
-each_read : {A : Type 0} (f : List ℕ → Option A) (P : A → Type 0) (before : ℕ) (found : List A) (ws : List Word) → ((v : List ℕ) (x : A) → f v ≡ Some x → P x)
-    → EachValue A P before found → IfOk (each_value f None before found ws) (EachValue A P before)
-each_read f P before found [] h all = all
-each_read {A} f P before found (w ∷ ws) h all =
-    ok_then (one_value f None before (length found) w) (λ x. each_value f None before (found ++ x ∷ []) ws) _ (OneValue A P before (length found))
-    (one_read f P before (length found) w h)
-    (λ x one. each_read f P before (found ++ x ∷ []) ws h (record { good = all_more P found x all.good one.good; few = grown x one.few }))
+each_read : {A : Type 0} (f : List ℕ → Option A) (P : A → Type 0) (before : ℕ) (faultless_some : List A) (ws : List Word) → ((v : List ℕ) (x : A) → f v ≡ Some x → P x)
+    → EachValue A P before faultless_some → IfOk (each_value f None before faultless_some ws) (EachValue A P before)
+each_read f P before faultless_some [] h all = all
+each_read {A} f P before faultless_some (w ∷ ws) h all =
+    ok_then (one_value f None before (length faultless_some) w) (λ x. each_value f None before (faultless_some ++ x ∷ []) ws) _ (OneValue A P before (length faultless_some))
+    (one_read f P before (length faultless_some) w h)
+    (λ x one. each_read f P before (faultless_some ++ x ∷ []) ws h (record { good = each_push P faultless_some x all.good one.good; few = grown x one.few }))
   where
-    grown : (x : A) → FewMore before (length found + 1) → FewMore before (length (found ++ x ∷ []))
-    grown x few = record { most = let m = few.most in omega (arith, length-append found (x ∷ [])); all = let m = few.all in omega (arith, length-append found (x ∷ [])) }
+    grown : (x : A) → FewMore before (length faultless_some + 1) → FewMore before (length (faultless_some ++ x ∷ []))
+    grown x few = record { most = let m = few.most in omega (arith, length-append faultless_some (x ∷ [])); all = let m = few.all in omega (arith, length-append faultless_some (x ∷ [])) }
 
 count_read : (suits : Bool) (before : ℕ) (ws : List Word) → IfOk (sequence_count suits None before ws) (λ n. FewMore before n.0)
 count_read suits before ws =
@@ -159,13 +133,13 @@ numbers_read n ws =
     then_with (term None n ws) _ _ (λ a. is_term None n a.0 ≡ true) (of_term ws) (λ a first.
     first_then (reads_as number_of_text kind.BadNumber a.1) _ _ (λ b _.
     then_with (refuse_if (not (is_term None n (last_number a.0 b.0 n))) kind.BadNumber) _ _ (λ _. is_term None n (last_number a.0 b.0 n) ≡ true)
-    (unless_refused _ kind.BadNumber _ (is_true (is_term None n (last_number a.0 b.0 n)))) (λ _ last.
+    (unless_refused _ kind.BadNumber _ (not-false (is_term None n (last_number a.0 b.0 n)))) (λ _ last.
     first_then (ended b.1) _ _ (λ _ _. record { long = length-map-range_with_len (λ k. a.0 +ℤ (b.0 *ℤ pos k)) 0 n; small = sequence_small a.0 b.0 n first last }))))
   where
     of_term : (us : List Word) → IfOk (term None n us) (λ a. is_term None n a.0 ≡ true)
     of_term us = first_then (reads_as number_of_text kind.BadNumber us) _ _ (λ a _.
         then_with (refuse_if (not (is_term None n a.0)) kind.BadNumber) _ _ (λ _. is_term None n a.0 ≡ true)
-        (unless_refused _ kind.BadNumber _ (is_true (is_term None n a.0))) (λ _ h. h))
+        (unless_refused _ kind.BadNumber _ (not-false (is_term None n a.0))) (λ _ h. h))
 
 -- ---- the values
 
@@ -175,7 +149,7 @@ pub record FitsValues (before : ℕ) (vs : Values) : Type 0 where
 
 numbers_fit : (before : ℕ) (zs : List ℤ) → AllByRecursion IsSmall zs → FewMore before (length zs) → FitsValues before (Numbers zs)
 numbers_fit before zs small few =
-    record { lawful = both_true _ _ (le-leb (length zs) most_elements few.most) (all_pass is_number IsSmall (λ z h. lt-ltb _ _ h) zs small); few = few.all }
+    record { lawful = and_from _ _ (le-leb (length zs) most_elements few.most) (all_pass is_number IsSmall (λ z h. lt-ltb _ _ h) zs small); few = few.all }
 
 patterns_fit : (before : ℕ) (ns : List ℕ) → FewMore before (length ns) → FitsValues before (pattern_values ns)
 patterns_fit before [] few = record { lawful = refl; few = few.all }

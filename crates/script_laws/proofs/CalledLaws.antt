@@ -4,6 +4,10 @@ use Rattle.std.specs.List.{AllByRecursion, list_any, list_all, enumerate_from}
 use Rattle.std.proofs.lemmas.List.Elements.{filter_map-append}
 use Rattle.std.proofs.lemmas.List.Folds.{list_any-append}
 use Rattle.std.proofs.lemmas.List.{length-replicate}
+use Rattle.std.proofs.lemmas.Bool.{and_from, not_from_false, not-true, or_from}
+use Rattle.script_spec.proofs.TextLaws.{one_posted, none_posted}
+use Rattle.list_laws.proofs.Each.{each_push}
+use Rattle.list_laws.proofs.Truth.{and_first, and_second, or_first_false, or_second_false}
 use Rattle.nc_base.specs.declared.errors.ScriptErr.{ScriptErr}
 use Rattle.nc_base.specs.declared.request.Call.{Call}
 use Rattle.serial_spec.specs.Lawful.{most_values, is_lawful_call, values_in_call, posted_ids, are_different}
@@ -11,7 +15,7 @@ use Rattle.script_spec.specs.ScriptWords.{Word, Line}
 use Rattle.script_spec.specs.ScriptSteps.{◌>>=◌, bare, next}
 use Rattle.script_spec.specs.ScriptCalls.{id_of_post, posted, is_posted, Called, calls_of, rank_of_text, with_call, call_of, call_line, called_after}
 use Rattle.script_spec.specs.ScriptGrammar.{at_line, call_step, data_part}
-use Rattle.script_laws.proofs.ListLaws.{and_left, and_right, both_true, not_false, not_true, or_left, or_right, both_false, sum_cons, sum_more, all_more, all_pass}
+use Rattle.script_laws.proofs.ListLaws.{sum_cons, sum_more, all_pass}
 use Rattle.script_laws.proofs.StepLaws.{first_then, then_with, ok_then, by_test, whole_line, at_line_kept}
 use Rattle.script_laws.proofs.CallLaws.{FitsCall, call_read}
 
@@ -43,17 +47,11 @@ sum_grown f (own ∷ calls) (suc r) n c h = omega (arith, sum_cons f own (slice_
 different_more : (ids : List ℕ) (id : ℕ) → are_different ids ≡ true → list_any (λ other. id == other) ids ≡ false → are_different (ids ++ id ∷ []) ≡ true
 different_more [] id h new = refl
 different_more (n ∷ ns) id h new =
-    let others : list_any (λ m. m == n) ns ≡ false = not_true (list_any (λ m. m == n) ns) (and_left (not (list_any (λ m. m == n) ns)) (are_different ns) h) in
-    let last : list_any (λ m. m == n) (id ∷ []) ≡ false = both_false (id == n) false (or_left (id == n) (list_any (λ other. id == other) ns) new) refl in
-    let none : list_any (λ m. m == n) (ns ++ id ∷ []) ≡ false = list_any-append (λ m. m == n) ns (id ∷ []) ∙ both_false _ _ others last in
-    both_true _ _ (not_false _ none)
-    (different_more ns id (and_right (not (list_any (λ m. m == n) ns)) (are_different ns) h) (or_right (id == n) (list_any (λ other. id == other) ns) new))
-
-one_posted : (c : Call) (id : ℕ) → id_of_post c ≡ Some id → posted (c ∷ []) ≡ id ∷ []
-one_posted c id h = rw h refl
-
-none_posted : (c : Call) → id_of_post c ≡ None → posted (c ∷ []) ≡ []
-none_posted c h = rw h refl
+    let others : list_any (λ m. m == n) ns ≡ false = not-true (list_any (λ m. m == n) ns) (and_first (not (list_any (λ m. m == n) ns)) (are_different ns) h) in
+    let last : list_any (λ m. m == n) (id ∷ []) ≡ false = or_from (id == n) false (or_first_false (id == n) (list_any (λ other. id == other) ns) new) refl in
+    let none : list_any (λ m. m == n) (ns ++ id ∷ []) ≡ false = list_any-append (λ m. m == n) ns (id ∷ []) ∙ or_from _ _ others last in
+    and_from _ _ (not_from_false _ none)
+    (different_more ns id (and_second (not (list_any (λ m. m == n) ns)) (are_different ns) h) (or_second_false (id == n) (list_any (λ other. id == other) ns) new))
 
 posted_more : (own : List Call) (c : Call) (ids : List ℕ) → posted (c ∷ []) ≡ ids → posted (own ++ c ∷ []) ≡ posted own ++ ids
 posted_more own c ids h = filter_map-append id_of_post own (c ∷ []) ∙ ap (λ (more : List ℕ). posted own ++ more) h
@@ -90,7 +88,7 @@ later_calls size lines more base d h f =
     record { ranks = f.ranks; lawful = f.lawful; different = f.different; few_calls = let few = f.few_calls in omega arith; held = f.held; few = f.few }
 
 lawful_more : (size r : ℕ) (own : List Call) (c : Call) → LawfulOwn size r own → is_lawful_call size r c ≡ true → LawfulOwn size r (own ++ c ∷ [])
-lawful_more size r own c h p = all_more (λ x. is_lawful_call size r x ≡ true) own c h p
+lawful_more size r own c h p = each_push (λ x. is_lawful_call size r x ≡ true) own c h p
 
 one_longer : (own : List Call) (c : Call) → length (own ++ c ∷ []) ≤ length own + 1
 one_longer own c = omega (arith, length-append own (c ∷ []))
@@ -173,7 +171,7 @@ numbered_pass : (test : ℕ → List Call → Bool) (F : ℕ → List Call → T
     → (calls : List (List Call)) → EachRank F calls → list_all (λ own. test own.0 own.1) (enumerate_from n calls) ≡ true
 numbered_pass test F n h [] all = refl
 numbered_pass test F n h (own ∷ calls) all =
-    both_true _ _ (h 0 n own (omega arith) all.0) (numbered_pass test (λ k. F (suc k)) (n + 1) (λ k m own e p. h (suc k) m own (omega arith) p) calls all.1)
+    and_from _ _ (h 0 n own (omega arith) all.0) (numbered_pass test (λ k. F (suc k)) (n + 1) (λ k m own e p. h (suc k) m own (omega arith) p) calls all.1)
 
 pub all_lawful : (size : ℕ) (calls : List (List Call)) → EachRank (LawfulOwn size) calls → list_all (λ own. list_all (is_lawful_call size own.0) own.1) (enumerate_from 0 calls) ≡ true
 all_lawful size calls all =
@@ -182,4 +180,4 @@ all_lawful size calls all =
 
 pub all_different : (calls : List (List Call)) → EachRank DifferentIds calls → list_all (λ own. are_different (posted_ids own)) calls ≡ true
 all_different [] h = refl
-all_different (own ∷ calls) h = both_true _ _ h.0 (all_different calls h.1)
+all_different (own ∷ calls) h = and_from _ _ h.0 (all_different calls h.1)

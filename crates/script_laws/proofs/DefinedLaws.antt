@@ -1,6 +1,8 @@
 -- What is defined after a line, and what is known then.
 use Rattle.std.proofs.Common.{◌≡◌, ℕ, zero, suc, ◌+◌, ◌≤◌, sum, map, List, [], ◌∷◌, ◌++◌, length, replicate, true, false, Option, Some, None, Ok, Err, IfOk, IfSome, refl, subst, arith, ◌==◌, count_by, slice_set, bytes_eq, codes, length-append, is_some}
 use Rattle.std.specs.List.{AllByRecursion}
+use Rattle.std.proofs.lemmas.Option.{same_Some}
+use Rattle.list_laws.proofs.Each.{each_push, each_weaker}
 use Rattle.nc_base.specs.declared.errors.ScriptKind.TheVariants as kind
 use Rattle.nc_base.specs.declared.header.Dim.{Dim}
 use Rattle.nc_base.specs.declared.header.Attr.{Attr}
@@ -10,7 +12,7 @@ use Rattle.serial_spec.specs.Lawful.{most_values, attr_values, extra_values}
 use Rattle.script_spec.specs.ScriptWords.{Word}
 use Rattle.script_spec.specs.ScriptSteps.{◌>>=◌, refuse_if, reads_as, ended}
 use Rattle.script_spec.specs.ScriptDefinitions.{HintForm, Within, Either, hint_form, hint_in, hint_of_text, hint_value, hint_line, ranks_line, number_within, one_of_two, is_unlimited, dim_line, var_line, owner_of_text, owner_place, attribute, Defined, no_definition, with_dim, with_var, with_attr, with_title, att_line, dim_definition, var_definition, fill_line, definition, nothing_added, Known, nothing_known, addition, known_after}
-use Rattle.script_laws.proofs.ListLaws.{sum_more, some_same, all_more, all_weaker}
+use Rattle.script_laws.proofs.ListLaws.{sum_more}
 use Rattle.script_laws.proofs.StepLaws.{first_then, then_with, by_test, read_as}
 use Rattle.script_laws.proofs.WordLaws.{InRange, within_read, one_of_two_read}
 use Rattle.script_laws.proofs.AddedLaws.{FitsAdded, nothing_added_fits, FitsAddition, addition_read}
@@ -38,7 +40,7 @@ later_defined version lines more h d f =
       dims = f.dims;
       one_record = f.one_record;
       few_vars = f.few_vars;
-      vars = all_weaker (FitsVar version lines d.dims) (FitsVar version more d.dims) (later version lines more d.dims h) d.vars f.vars;
+      vars = each_weaker (FitsVar version lines d.dims) (FitsVar version more d.dims) (later version lines more d.dims h) d.vars f.vars;
       few_attrs = let few = f.few_attrs in omega arith;
       attrs = f.attrs;
     }
@@ -47,12 +49,12 @@ dim_fits : (version lines : ℕ) (d : Defined) (x : Dim) → FitsDefined version
 dim_fits version lines d x f new =
     record {
       few_dims = let room = new.room in omega (arith, length-append d.dims (x ∷ []));
-      dims = all_more (FitsDim version) d.dims x f.dims new.fits;
+      dims = each_push (FitsDim version) d.dims x f.dims new.fits;
       one_record = one_more d.dims x f.one_record new.once;
       few_vars = f.few_vars;
       few_attrs = f.few_attrs;
       attrs = f.attrs;
-      vars = all_weaker (FitsVar version lines d.dims) (FitsVar version lines (d.dims ++ x ∷ [])) (wider version lines d.dims x) d.vars f.vars;
+      vars = each_weaker (FitsVar version lines d.dims) (FitsVar version lines (d.dims ++ x ∷ [])) (wider version lines d.dims x) d.vars f.vars;
     }
 
 var_fits : (version lines : ℕ) (d : Defined) (x : Var) → FitsDefined version lines d → NewVar version lines d.dims d.vars x → FitsDefined version lines (with_var x d)
@@ -64,7 +66,7 @@ var_fits version lines d x f new =
       few_attrs = f.few_attrs;
       attrs = f.attrs;
       few_vars = let room = new.room in omega (arith, length-append d.vars (x ∷ []));
-      vars = all_more (FitsVar version lines d.dims) d.vars x f.vars new.fits;
+      vars = each_push (FitsVar version lines d.dims) d.vars x f.vars new.fits;
     }
 
 attr_fits : (version lines : ℕ) (d : Defined) (k : Option ℕ) (a : Attr) (owner : List ℕ) → FitsDefined version lines d → FitsAttr version a
@@ -78,7 +80,7 @@ attr_fits version lines d None a owner f fits =
       few_vars = f.few_vars;
       vars = more.vars;
       few_attrs = let few = f.few_attrs in omega (arith, length-append d.attrs (a ∷ []));
-      attrs = all_more (FitsAttr version) d.attrs a f.attrs fits;
+      attrs = each_push (FitsAttr version) d.attrs a f.attrs fits;
     }
 attr_fits version lines d (Some k) a owner f fits =
     let more = later_defined version lines (suc lines) (omega arith) d f in
@@ -173,7 +175,7 @@ no_hint (suc m) (suc h) n e = no_hint m h n e
 one_hint : (F : ℕ → ℕ → Type 0) (hints : List (Option ℕ)) (k v : ℕ) → ((h n : ℕ) → hint_in h hints ≡ Some n → F h n) → F k v
     → (h n : ℕ) → hint_in h (slice_set hints k (Some v)) ≡ Some n → F h n
 one_hint F [] k v f p h n e = f h n e
-one_hint F (o ∷ os) zero v f p zero n e = let same : v ≡ n = some_same v n e in subst (F zero) same p
+one_hint F (o ∷ os) zero v f p zero n e = let same : v ≡ n = same_Some v n e in subst (F zero) same p
 one_hint F (o ∷ os) zero v f p (suc h) n e = f (suc h) n e
 one_hint F (o ∷ os) (suc k) v f p zero n e = f zero n e
 one_hint F (o ∷ os) (suc k) v f p (suc h) n e = one_hint (λ i m. F (suc i) m) os k v (λ i m q. f (suc i) m q) p h n e

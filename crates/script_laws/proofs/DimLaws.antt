@@ -1,9 +1,13 @@
 -- Dimensions, variables and attributes as they are defined, line by line.
-use Rattle.std.proofs.Common.{◌≡◌, ◌∙◌, ℕ, suc, ◌+◌, ◌*◌, ◌^◌, ◌<◌, ◌≤◌, List, [], ◌∷◌, ◌++◌, length, drop, Bool, true, false, cond, ◌&&◌, ◌||◌, Option, Some, None, IfOk, IfSome, refl, ap, subst, arith, nat_lt, nat_le, ◌==◌, count_by, sum, map, slice_get, slice_set, position, bytes_eq, length-append, length-set}
-use Rattle.std.specs.List.{AllByRecursion, list_any, position_or_len}
-use borrow.Author.Tests.{ltb-true, ltb-false, leb-false, eq-eqb}
+use Rattle.std.proofs.Common.{◌≡◌, ◌∙◌, ℕ, suc, ◌+◌, ◌*◌, ◌^◌, ◌<◌, ◌≤◌, List, [], ◌∷◌, ◌++◌, length, drop, Bool, true, false, cond, ◌&&◌, ◌||◌, Option, Some, None, IfOk, IfSome, refl, ap, arith, nat_lt, nat_le, ◌==◌, count_by, sum, map, slice_get, slice_set, position, bytes_eq, length-append, length-set}
+use Rattle.std.specs.List.{AllByRecursion, list_any}
+use borrow.Author.Tests.{ltb-false, leb-false, eq-eqb}
 use Rattle.std.proofs.lemmas.List.{length-map}
 use Rattle.std.proofs.lemmas.List.Sums.{sum_by-cons}
+use Rattle.std.proofs.lemmas.Bool.{and_from}
+use Rattle.list_laws.proofs.Places.{position_below}
+use Rattle.list_laws.proofs.Each.{each_push, each_weaker, each_later, each_at, fails_each}
+use Rattle.list_laws.proofs.Truth.{and_second}
 use Rattle.nc_base.specs.declared.errors.ScriptKind.{ScriptKind}
 use Rattle.nc_base.specs.declared.errors.ScriptKind.TheVariants as kind
 use Rattle.nc_base.specs.declared.errors.LimitName.TheVariants as limit
@@ -22,9 +26,9 @@ use Rattle.script_spec.specs.ScriptWords.{Word, is_name}
 use Rattle.script_spec.specs.ScriptSteps.{refuse_if, or_fault, reads_as, name, ended}
 use Rattle.script_spec.specs.ScriptValues.{values}
 use Rattle.script_spec.specs.ScriptDefinitions.{type_of, is_among, length_limit, length_of_text, is_unlimited, dim_names, dim_line, var_head, name_list, dim_ids, is_record_dim, var_names, shape, var_line, Title, attr_of, attribute_name, attribute, external_bytes, same_title, with_attr_at}
-use Rattle.script_laws.proofs.ListLaws.{all_more, all_weaker, all_both, all_later, all_at, all_set, all_fail, and_right, count_more, sum_set, sum_more, both_true, found_all}
+use Rattle.script_laws.proofs.ListLaws.{all_both, all_set, count_more, sum_set, sum_more, found_all}
 use Rattle.script_laws.proofs.StepLaws.{first_then, then_with, unless_refused, read_as}
-use Rattle.script_laws.proofs.WordLaws.{kept_if, name_short, named, type_read, length_read, small_fits, length_fits}
+use Rattle.script_laws.proofs.WordLaws.{name_short, named, type_read, length_read, small_fits, length_fits}
 use Rattle.script_laws.proofs.ValueLaws.{AreWithin, values_within, bytes_long}
 
 -- ---- a dimension
@@ -42,7 +46,7 @@ dim_fits : (version : ℕ) (n : List ℕ) (len : ℕ) → is_name n ≡ true →
 dim_fits version n len good short =
     let name_fits : fits_count version (length n) ≡ true = small_fits version (length n) (let h = name_short n good in omega arith) in
     let len_fits = length_fits version len short in
-    record { writable = both_true _ _ (both_true _ _ name_fits len_fits.0) len_fits.1; short = short }
+    record { writable = and_from _ _ (and_from _ _ name_fits len_fits.0) len_fits.1; short = short }
 
 pub dim_read : (version : ℕ) (dims : List Dim) (ws : List Word) → IfOk (dim_line version dims ws) (NewDim version dims)
 dim_read version dims ws =
@@ -86,11 +90,11 @@ attr_fits version n t vs good typed few =
     let name_fits : fits_count version (length n) ≡ true = small_fits version (length n) (let h = name_short n good in omega arith) in
     let count_fits : fits_count version (count_of vs) ≡ true = small_fits version (count_of vs) few in
     let whole : (length (external_bytes t vs) == count_of vs * size_of t) ≡ true = eq-eqb _ _ (bytes_long t vs) in
-    both_true _ _ (both_true _ _ (both_true _ _ name_fits typed) count_fits) whole
+    and_from _ _ (and_from _ _ (and_from _ _ name_fits typed) count_fits) whole
 
 pub attr_whole : (version : ℕ) (a : Attr) → FitsAttr version a → is_whole_attr a ≡ true
 attr_whole version a h =
-    and_right (fits_count version (length a.name) && is_type version a.kind && fits_count version a.count) (length a.bytes == a.count * size_of a.kind) h
+    and_second (fits_count version (length a.name) && is_type version a.kind && fits_count version a.count) (length a.bytes == a.count * size_of a.kind) h
 
 title_named : (titles : List Title) (owner : List ℕ) (ws : List Word) → IfOk (attribute_name titles owner ws) (λ r. is_name r.0 ≡ true)
 title_named titles owner ws =
@@ -133,9 +137,9 @@ wider version lines dims d v f =
       few_attrs = f.few_attrs;
       attrs = f.attrs;
       begins = f.begins;
-      ids = all_weaker (λ id. id < length dims) (λ id. id < length (dims ++ d ∷ [])) (λ id h. omega (arith, length-append dims (d ∷ []))) v.dims f.ids;
-      inner = all_weaker (λ id. (id < length dims) × (is_record_dim dims id ≡ false)) (λ id. is_record_dim (dims ++ d ∷ []) id ≡ false) (λ id h. still_inner dims d id h.0 h.1) (drop 1 v.dims)
-          (all_both (λ id. id < length dims) (λ id. is_record_dim dims id ≡ false) (drop 1 v.dims) (all_later (λ id. id < length dims) v.dims f.ids) f.inner);
+      ids = each_weaker (λ id. id < length dims) (λ id. id < length (dims ++ d ∷ [])) (λ id h. omega (arith, length-append dims (d ∷ []))) v.dims f.ids;
+      inner = each_weaker (λ id. (id < length dims) × (is_record_dim dims id ≡ false)) (λ id. is_record_dim (dims ++ d ∷ []) id ≡ false) (λ id h. still_inner dims d id h.0 h.1) (drop 1 v.dims)
+          (all_both (λ id. id < length dims) (λ id. is_record_dim dims id ≡ false) (drop 1 v.dims) (each_later (λ id. id < length dims) v.dims f.ids) f.inner);
     }
 
 pub later : (version lines more : ℕ) (dims : List Dim) → lines ≤ more → (v : Var) → FitsVar version lines dims v → FitsVar version more dims v
@@ -152,11 +156,6 @@ later version lines more dims h v f =
     }
 
 -- ---- the places of a variable's dimensions
-
-position_below : {A : Type 0} (p : A → Bool) (xs : List A) (n : ℕ) → position p xs ≡ Some n → n < length xs
-position_below p xs n e =
-    let k = kept_if (nat_lt (position_or_len p xs) (length xs)) (position_or_len p xs) n e in
-    subst (λ (m : ℕ). m < length xs) k.1 (ltb-true _ _ k.0)
 
 some_or_fault : {A : Type 0} (e : ScriptKind) (o : Option A) (P : A → Type 0) → IfSome o P → IfOk (or_fault e o) P
 some_or_fault e None P h = tt
@@ -180,7 +179,7 @@ shaped dims ws =
     then_with (refuse_if (nat_lt most_dims_of_var (length ids)) (kind.Limit limit.VarDims)) _ _ (λ _. length ids ≤ most_dims_of_var)
     (unless_refused _ _ (length ids ≤ most_dims_of_var) (λ e. ltb-false _ _ e)) (λ _ few.
     then_with (refuse_if (list_any (is_record_dim dims) (drop 1 ids)) kind.BadShape) _ _ (λ _. AllByRecursion (λ id. is_record_dim dims id ≡ false) (drop 1 ids))
-    (unless_refused _ _ _ (λ e. all_fail (is_record_dim dims) (drop 1 ids) e)) (λ _ inner. record { few = few; below = below; inner = inner }))))
+    (unless_refused _ _ _ (λ e. fails_each (is_record_dim dims) (drop 1 ids) e)) (λ _ inner. record { few = few; below = below; inner = inner }))))
 
 pub record NewHead (version : ℕ) (names : List (List ℕ)) (t : NcType) (n : List ℕ) : Type 0 where
   pub typed : is_type version t ≡ true
@@ -225,10 +224,10 @@ var_read version lines dims vars ws =
 
 pub attr_placed : (version lines : ℕ) (dims : List Dim) (k : ℕ) (a : Attr) (vars : List Var) → FitsAttr version a → AllByRecursion (FitsVar version lines dims) vars
     → AllByRecursion (FitsVar version (suc lines) dims) (with_attr_at k a vars)
-attr_placed version lines dims k a vars fits all = by_place (slice_get vars k) (λ v e. all_at (FitsVar version lines dims) vars k v all e)
+attr_placed version lines dims k a vars fits all = by_place (slice_get vars k) (λ v e. each_at (FitsVar version lines dims) vars k v all e)
   where
     more : AllByRecursion (FitsVar version (suc lines) dims) vars
-    more = all_weaker (FitsVar version lines dims) (FitsVar version (suc lines) dims) (later version lines (suc lines) dims (omega arith)) vars all
+    more = each_weaker (FitsVar version lines dims) (FitsVar version (suc lines) dims) (later version lines (suc lines) dims (omega arith)) vars all
 
     grown : (v : Var) → FitsVar version lines dims v → FitsVar version (suc lines) dims (record v { attrs = v.attrs ++ a ∷ [] })
     grown v f =
@@ -239,7 +238,7 @@ attr_placed version lines dims k a vars fits all = by_place (slice_get vars k) (
           ids = f.ids;
           inner = f.inner;
           few_attrs = let few = f.few_attrs in omega (arith, length-append v.attrs (a ∷ []));
-          attrs = all_more (FitsAttr version) v.attrs a f.attrs fits;
+          attrs = each_push (FitsAttr version) v.attrs a f.attrs fits;
           begins = f.begins;
         }
 

@@ -2,7 +2,7 @@
 use Rattle.std.proofs.Common.{◌≡◌, ℕ, ◌^◌, ◌<◌, ◌≤◌, List, length, drop, Bool, true, false, not, Option, Some, None, refl, arith, nat_le, ◌==◌, count_by, slice_get}
 use Rattle.std.specs.List.{AllByRecursion, list_any, list_all}
 use borrow.Author.Tests.{le-leb, le-ltb}
-use Rattle.std.proofs.lemmas.Bool.{lt-leb}
+use Rattle.std.proofs.lemmas.Bool.{lt-leb, and_from, not_from_false, not-true}
 use Rattle.nc_base.specs.declared.header.Dim.{Dim}
 use Rattle.nc_base.specs.declared.header.Attr.{Attr}
 use Rattle.nc_base.specs.declared.header.Var.{Var}
@@ -13,7 +13,7 @@ use Rattle.serial_spec.specs.HeaderGrammar.{is_version, counts_are_small, two_re
 use Rattle.var_layout.specs.Unplaced.{is_unplaced, has_writable_names, has_writable_parts}
 use Rattle.script_spec.specs.ScriptDefinitions.{is_unlimited, is_record_dim, Defined}
 use Rattle.script_spec.specs.ScriptGrammar.{header_of, most_lines, Reads}
-use Rattle.script_laws.proofs.ListLaws.{not_false, not_true, both_true, all_pass, none_passes}
+use Rattle.script_laws.proofs.ListLaws.{all_pass, none_passes}
 use Rattle.script_laws.proofs.WordLaws.{small_fits}
 use Rattle.script_laws.proofs.DimLaws.{FitsDim, FitsAttr, FitsVar}
 use Rattle.script_laws.proofs.DefinedLaws.{FitsDefined}
@@ -25,7 +25,7 @@ small_counts : (version lines : ℕ) (d : Defined) → FitsDefined version lines
 small_counts version lines d f =
     let vars : list_all (λ (v : Var). nat_le (length v.dims) most_dims_of_var) d.vars ≡ true =
     all_pass (λ (v : Var). nat_le (length v.dims) most_dims_of_var) (FitsVar version lines d.dims) (λ v g. le-leb (length v.dims) most_dims_of_var g.few_dims) d.vars f.vars in
-    both_true _ _ (both_true _ _ (le-leb (length d.dims) most_dims f.few_dims) (le-leb (length d.vars) most_vars f.few_vars)) vars
+    and_from _ _ (and_from _ _ (le-leb (length d.dims) most_dims f.few_dims) (le-leb (length d.vars) most_vars f.few_vars)) vars
 
 same_record : (o : Option Dim) → elim o as (λ _. Bool) [ None ↦ false | Some d ↦ is_unlimited d ] ≡ false → (length_of o == 0) ≡ false
 same_record None e = refl
@@ -43,20 +43,20 @@ ids_below version lines d f =
 
 unplaced_of : (version lines : ℕ) (d : Defined) → is_version version ≡ true → FitsDefined version lines d → is_unplaced (header_of version d) ≡ true
 unplaced_of version lines d good f =
-    let two : not (two_record_dims (header_of version d)) ≡ true = not_false _ (le-ltb 1 (count_by is_unlimited d.dims) f.one_record) in
-    let first : not (list_any (record_later (header_of version d)) d.vars) ≡ true = not_false _ (first_only version lines d f) in
-    let ids : not (list_any (bad_id (header_of version d)) d.vars) ≡ true = not_false _ (ids_below version lines d f) in
-    both_true _ _ (both_true _ _ (both_true _ _ (both_true _ _ (both_true _ _ good (small_counts version lines d f)) two) first) ids) refl
+    let two : not (two_record_dims (header_of version d)) ≡ true = not_from_false _ (le-ltb 1 (count_by is_unlimited d.dims) f.one_record) in
+    let first : not (list_any (record_later (header_of version d)) d.vars) ≡ true = not_from_false _ (first_only version lines d f) in
+    let ids : not (list_any (bad_id (header_of version d)) d.vars) ≡ true = not_from_false _ (ids_below version lines d f) in
+    and_from _ _ (and_from _ _ (and_from _ _ (and_from _ _ (and_from _ _ good (small_counts version lines d f)) two) first) ids) refl
 
 pub read_unplaced : (text : List ℕ) (s : Script) → Reads text s → s.fresh ≡ true → is_unplaced s.header ≡ true
 read_unplaced text s =
     read_script text s (λ t. t.fresh ≡ true → is_unplaced t.header ≡ true) (λ version ranks known calls parts new.
-    let old = not_true (version == 0) new in unplaced_of version most_lines known.defined (parts.head old) (parts.known.fresh old))
+    let old = not-true (version == 0) new in unplaced_of version most_lines known.defined (parts.head old) (parts.known.fresh old))
 
 -- ---- parts that fit their fields
 
 list_fits : {A : Type 0} (version most : ℕ) (test : A → Bool) (xs : List A) → length xs ≤ most → most ≤ 2 ^ 24 → list_all test xs ≡ true → is_writable_list version test xs ≡ true
-list_fits version most test xs h k all = both_true _ _ (small_fits version (length xs) (omega arith)) all
+list_fits version most test xs h k all = and_from _ _ (small_fits version (length xs) (omega arith)) all
 
 attrs_fit : (version : ℕ) (attrs : List Attr) → AllByRecursion (FitsAttr version) attrs → list_all (is_writable_attr version) attrs ≡ true
 attrs_fit version attrs f = all_pass (is_writable_attr version) (FitsAttr version) (λ a g. g) attrs f
@@ -64,16 +64,16 @@ attrs_fit version attrs f = all_pass (is_writable_attr version) (FitsAttr versio
 names_fit : (version : ℕ) (d : Defined) (v : Var) → FitsVar version most_lines d.dims v → has_writable_names (header_of version d) v ≡ true
 names_fit version d v f =
     let attrs = list_fits version most_lines (is_writable_attr version) v.attrs f.few_attrs (omega arith) (attrs_fit version v.attrs f.attrs) in
-    both_true _ _ (both_true _ _ f.named attrs) f.typed
+    and_from _ _ (and_from _ _ f.named attrs) f.typed
 
 parts_fit : (version : ℕ) (d : Defined) → FitsDefined version most_lines d → has_writable_parts (header_of version d) ≡ true
 parts_fit version d f =
     let dims = list_fits version most_dims (is_writable_dim version) d.dims f.few_dims (omega arith) (all_pass (is_writable_dim version) (FitsDim version) (λ x g. g.writable) d.dims f.dims) in
     let attrs = list_fits version most_lines (is_writable_attr version) d.attrs f.few_attrs (omega arith) (attrs_fit version d.attrs f.attrs) in
     let vars = all_pass (has_writable_names (header_of version d)) (FitsVar version most_lines d.dims) (names_fit version d) d.vars f.vars in
-    both_true _ _ (both_true _ _ dims attrs) vars
+    and_from _ _ (and_from _ _ dims attrs) vars
 
 pub read_writable : (text : List ℕ) (s : Script) → Reads text s → s.fresh ≡ true → has_writable_parts s.header ≡ true
 read_writable text s =
     read_script text s (λ t. t.fresh ≡ true → has_writable_parts t.header ≡ true) (λ version ranks known calls parts new.
-    parts_fit version known.defined (parts.known.fresh (not_true (version == 0) new)))
+    parts_fit version known.defined (parts.known.fresh (not-true (version == 0) new)))

@@ -1,22 +1,22 @@
 -- The hints of a script are within their ranges.
 use Rattle.std.proofs.Common.{◌≡◌, ℕ, ◌*◌, ◌/◌, ◌%◌, ◌≤◌, List, true, Option, min, arith}
+use Rattle.std.proofs.lemmas.Bool.{and_from}
 use borrow.Author.Tests.{le-leb, eq-eqb}
 use Rattle.serial_spec.specs.Lawful.{is_within, is_alignment, are_lawful_hints}
 use Rattle.script_spec.specs.ScriptDefinitions.{hint_in}
 use Rattle.script_spec.specs.ScriptGrammar.{hint_or, hints_of}
-use Rattle.script_laws.proofs.ListLaws.{both_true}
 use Rattle.script_laws.proofs.WordLaws.{InRange}
 use Rattle.script_laws.proofs.DefinedLaws.{FitHints}
 use Rattle.script_laws.proofs.RunLaws.{or_default, header_aligned, var_aligned}
 
 pub within_range : (low high unit n : ℕ) → InRange low high unit n → is_within low high n ≡ true
-within_range low high unit n f = both_true _ _ (le-leb low n f.at_least) (le-leb n high f.at_most)
+within_range low high unit n f = and_from _ _ (le-leb low n f.at_least) (le-leb n high f.at_most)
 
 aligned : (n : ℕ) → InRange 4 1048576 4 n → is_alignment n ≡ true
 aligned n f =
     let multiple : n % 4 ≡ 0 = f.multiple in
     let whole : (n / 4) * 4 ≡ n = omega arith in
-    both_true _ _ (within_range 4 1048576 4 n f) (eq-eqb _ _ whole)
+    and_from _ _ (within_range 4 1048576 4 n f) (eq-eqb _ _ whole)
 
 any_unit : (low high n : ℕ) → low ≤ n → n ≤ high → InRange low high 1 n
 any_unit low high n a b = record { at_least = a; at_most = b; multiple = omega arith }
@@ -45,10 +45,10 @@ striping_unit hints f = or_default (hint_in 9 hints) 1 (InRange 1 33554432 1) (f
 pub lawful_hints : (ranks : ℕ) (hints : List (Option ℕ)) → InRange 1 64 1 ranks → FitHints hints → are_lawful_hints (hints_of ranks hints) ≡ true
 lawful_hints ranks hints r f =
     let a = within_range 1 64 1 _ (nodes ranks hints r f) in
-    let b = both_true _ _ a (within_range 1 33554432 1 _ (cb_buffer hints f)) in
-    let c = both_true _ _ b (within_range 1 33554432 1 _ (rd_buffer hints f)) in
-    let d = both_true _ _ c (within_range 1 33554432 1 _ (wr_buffer hints f)) in
-    let e = both_true _ _ d (within_range 1 64 1 _ (line_room hints f)) in
-    let g = both_true _ _ e (aligned _ (header_aligned hints f)) in
-    let h = both_true _ _ g (aligned _ (var_aligned hints f)) in
-    both_true _ _ h (within_range 1 33554432 1 _ (striping_unit hints f))
+    let b = and_from _ _ a (within_range 1 33554432 1 _ (cb_buffer hints f)) in
+    let c = and_from _ _ b (within_range 1 33554432 1 _ (rd_buffer hints f)) in
+    let d = and_from _ _ c (within_range 1 33554432 1 _ (wr_buffer hints f)) in
+    let e = and_from _ _ d (within_range 1 64 1 _ (line_room hints f)) in
+    let g = and_from _ _ e (aligned _ (header_aligned hints f)) in
+    let h = and_from _ _ g (aligned _ (var_aligned hints f)) in
+    and_from _ _ h (within_range 1 33554432 1 _ (striping_unit hints f))

@@ -1,6 +1,7 @@
 -- A script that is read is lawful.
 use Rattle.std.proofs.Common.{◌≡◌, ◌∙◌, ℕ, ◌≤◌, List, length, map, sum, Bool, true, false, cond, not, ◌&&◌, refl, ap, arith, nat_le, ◌==◌, le-leb, lt-ltb, eq-eqb, eqb-true}
 use Rattle.std.specs.List.{AllByRecursion, list_all}
+use Rattle.std.proofs.lemmas.Bool.{and_from}
 use Rattle.nc_base.specs.declared.header.Dim.{Dim}
 use Rattle.nc_base.specs.declared.header.Attr.{Attr}
 use Rattle.nc_base.specs.declared.header.Var.{Var}
@@ -11,7 +12,7 @@ use Rattle.serial_spec.specs.HeaderGrammar.{is_version}
 use Rattle.serial_spec.specs.Lawful.{most_values, most_calls, is_empty, is_lawful_dim, is_lawful_var, is_nothing_defined, is_lawful_header, is_lawful_extra, is_whole_attr, is_whole_extra, has_whole_attrs, added_dims, added_vars, values_in_script, is_lawful}
 use Rattle.script_spec.specs.ScriptDefinitions.{length_limit, Defined, no_definition, Added, nothing_added, Known}
 use Rattle.script_spec.specs.ScriptGrammar.{script_of, header_of, most_lines, Reads}
-use Rattle.script_laws.proofs.ListLaws.{both_true, all_pass}
+use Rattle.script_laws.proofs.ListLaws.{all_pass}
 use Rattle.script_laws.proofs.DimLaws.{FitsDim, FitsAttr, FitsVar, attr_whole}
 use Rattle.script_laws.proofs.DefinedLaws.{FitsDefined, FitsKnown}
 use Rattle.script_laws.proofs.CalledLaws.{all_lawful, all_different}
@@ -25,7 +26,7 @@ either true x y f g = g refl
 either false x y f g = f refl
 
 var_lawful : (version lines : ℕ) (dims : List Dim) (v : Var) → FitsVar version lines dims v → is_lawful_var v ≡ true
-var_lawful version lines dims v f = both_true _ _ (le-leb (length v.dims) most_dims_of_var f.few_dims) (eq-eqb v.begin 0 f.begins)
+var_lawful version lines dims v f = and_from _ _ (le-leb (length v.dims) most_dims_of_var f.few_dims) (eq-eqb v.begin 0 f.begins)
 
 nothing_more : (known : Known) → known.added ≡ nothing_added → is_empty known.added.extras ≡ true
 nothing_more known e = ap (λ (d : Added). is_empty d.extras) e
@@ -42,9 +43,9 @@ new_lawful version most known good f none =
     all_pass (is_lawful_dim version) (FitsDim version) (λ x g. lt-ltb x.len (length_limit version) g.short) known.defined.dims f.dims in
     let vars : list_all is_lawful_var known.defined.vars ≡ true =
     all_pass is_lawful_var (FitsVar version most known.defined.dims) (var_lawful version most known.defined.dims) known.defined.vars f.vars in
-    let a = both_true _ _ good (le-leb (length known.defined.dims) most_dims f.few_dims) in
-    let b = both_true _ _ (both_true _ _ a dims) (le-leb (length known.defined.vars) most_vars f.few_vars) in
-    both_true _ _ (both_true _ _ b vars) (nothing_more known none)
+    let a = and_from _ _ good (le-leb (length known.defined.dims) most_dims f.few_dims) in
+    let b = and_from _ _ (and_from _ _ a dims) (le-leb (length known.defined.vars) most_vars f.few_vars) in
+    and_from _ _ (and_from _ _ b vars) (nothing_more known none)
 
 header_lawful : (most version ranks : ℕ) (known : Known) (calls : List (List Call)) → FitsParts most version ranks known calls → is_lawful_header (script_of version ranks known calls) ≡ true
 header_lawful most version ranks known calls parts =
@@ -66,17 +67,17 @@ extras_lawful known most version f = all_pass is_lawful_extra (λ x. is_lawful_e
 lawful_of : (version ranks : ℕ) (known : Known) (calls : List (List Call)) → FitsParts most_lines version ranks known calls → is_lawful (script_of version ranks known calls) ≡ true
 lawful_of version ranks known calls parts =
     let extras = parts.known.added in
-    let a = both_true _ _ (within_range 1 64 1 ranks parts.ranks) (eq-eqb (length calls) ranks parts.calls.ranks) in
-    let b = both_true _ _ a (lawful_hints ranks known.hints parts.ranks parts.known.hints) in
-    let c = both_true _ _ b (header_lawful most_lines version ranks known calls parts) in
+    let a = and_from _ _ (within_range 1 64 1 ranks parts.ranks) (eq-eqb (length calls) ranks parts.calls.ranks) in
+    let b = and_from _ _ a (lawful_hints ranks known.hints parts.ranks parts.known.hints) in
+    let c = and_from _ _ b (header_lawful most_lines version ranks known calls parts) in
     let dims : added_dims known.added.extras ≤ most_dims = let same = extras.dims in let few = extras.few_dims in omega arith in
     let vars : added_vars known.added.extras ≤ most_vars = let same = extras.vars in let few = extras.few_vars in omega arith in
-    let d = both_true _ _ (both_true _ _ c (le-leb (added_dims known.added.extras) most_dims dims)) (le-leb (added_vars known.added.extras) most_vars vars) in
-    let e = both_true _ _ d (extras_lawful known most_lines version parts.known) in
-    let f = both_true _ _ (both_true _ _ e (all_lawful ranks calls parts.calls.lawful)) (all_different calls parts.calls.different) in
-    let g = both_true _ _ f (le-leb (sum (map (λ own. length own) calls)) most_calls parts.calls.few_calls) in
-    let h = both_true _ _ g (le-leb _ most_values (few_values most_lines version ranks known calls parts)) in
-    both_true _ _ h parts.agreed
+    let d = and_from _ _ (and_from _ _ c (le-leb (added_dims known.added.extras) most_dims dims)) (le-leb (added_vars known.added.extras) most_vars vars) in
+    let e = and_from _ _ d (extras_lawful known most_lines version parts.known) in
+    let f = and_from _ _ (and_from _ _ e (all_lawful ranks calls parts.calls.lawful)) (all_different calls parts.calls.different) in
+    let g = and_from _ _ f (le-leb (sum (map (λ own. length own) calls)) most_calls parts.calls.few_calls) in
+    let h = and_from _ _ g (le-leb _ most_values (few_values most_lines version ranks known calls parts)) in
+    and_from _ _ h parts.agreed
 
 pub read_lawful : (text : List ℕ) (s : Script) → Reads text s → is_lawful s ≡ true
 read_lawful text s = read_script text s (λ t. is_lawful t ≡ true) lawful_of
@@ -88,7 +89,7 @@ attrs_whole version attrs f = all_pass is_whole_attr (FitsAttr version) (λ a g.
 
 defined_whole : (version lines : ℕ) (d : Defined) → FitsDefined version lines d → (list_all is_whole_attr d.attrs && list_all (λ (v : Var). list_all is_whole_attr v.attrs) d.vars) ≡ true
 defined_whole version lines d f =
-    both_true _ _ (attrs_whole version d.attrs f.attrs)
+    and_from _ _ (attrs_whole version d.attrs f.attrs)
     (all_pass (λ (v : Var). list_all is_whole_attr v.attrs) (FitsVar version lines d.dims) (λ v g. attrs_whole version v.attrs g.attrs) d.vars f.vars)
 
 whole_known : (version lines : ℕ) (known : Known) (b : Bool) → (version == 0) ≡ b → FitsKnown version lines known
@@ -99,5 +100,5 @@ whole_known version lines known false e f = defined_whole version lines known.de
 pub read_whole : (text : List ℕ) (s : Script) → Reads text s → has_whole_attrs s ≡ true
 read_whole text s =
     read_script text s (λ t. has_whole_attrs t ≡ true) (λ version ranks known calls parts.
-    both_true _ _ (whole_known version most_lines known (version == 0) refl parts.known)
+    and_from _ _ (whole_known version most_lines known (version == 0) refl parts.known)
     (all_pass is_whole_extra (λ x. is_whole_extra x ≡ true) (λ x h. h) known.added.extras parts.known.added.whole))

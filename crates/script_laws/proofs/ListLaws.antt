@@ -1,70 +1,16 @@
 -- Lists whose elements all are of one kind.
-use Rattle.std.proofs.Common.{◌≡◌, ℕ, zero, suc, ◌+◌, ◌≤◌, cond, sum, count_by, ap, arith, List, [], ◌∷◌, ◌++◌, drop, map, Bool, true, false, not, ◌||◌, ◌&&◌, Option, Some, None, IfSome, slice_get, slice_set, option_map, refl, sym, subst}
+use Rattle.std.proofs.Common.{◌≡◌, ℕ, zero, suc, ◌+◌, ◌≤◌, cond, sum, count_by, ap, arith, List, [], ◌∷◌, ◌++◌, map, Bool, true, false, Option, Some, None, IfSome, slice_get, slice_set, option_map, refl}
 use Rattle.std.specs.List.{AllByRecursion, list_any, list_all}
 use Rattle.std.proofs.lemmas.List.Sums.{sum_by-cons, sum_by_push}
+use Rattle.std.proofs.lemmas.Option.{same_Some}
+use Rattle.std.proofs.lemmas.Bool.{and_from, or_from}
 use Rattle.script_spec.specs.ScriptWords.{all_some}
 
-pub some_same : {A : Type 0} (x y : A) → Some x ≡ Some y → x ≡ y
-some_same x y e = cc
-
-pub and_left : (a b : Bool) → (a && b) ≡ true → a ≡ true
-and_left true b h = refl
-and_left false b h = cc
-
-pub and_right : (a b : Bool) → (a && b) ≡ true → b ≡ true
-and_right true b h = h
-and_right false b h = cc
-
-pub both_true : (a b : Bool) → a ≡ true → b ≡ true → (a && b) ≡ true
-both_true true b p q = q
-both_true false b p q = p
-
-pub not_false : (b : Bool) → b ≡ false → not b ≡ true
-not_false true e = sym e
-not_false false e = refl
-
-pub not_true : (b : Bool) → not b ≡ true → b ≡ false
-not_true true e = sym e
-not_true false e = refl
-
-pub is_true : (b : Bool) → not b ≡ false → b ≡ true
-is_true true e = refl
-is_true false e = sym e
-
-pub or_left : (a b : Bool) → (a || b) ≡ false → a ≡ false
-or_left true b h = cc
-or_left false b h = refl
-
-pub or_right : (a b : Bool) → (a || b) ≡ false → b ≡ false
-or_right true b h = cc
-or_right false b h = h
-
-pub both_false : (a b : Bool) → a ≡ false → b ≡ false → (a || b) ≡ false
-both_false true b p q = p
-both_false false b p q = q
-
 -- ---- all of them
-
-pub all_more : {A : Type 0} (P : A → Type 0) (xs : List A) (x : A) → AllByRecursion P xs → P x → AllByRecursion P (xs ++ x ∷ [])
-all_more P [] x h p = (p, tt)
-all_more P (y ∷ ys) x h p = (h.0, all_more P ys x h.1 p)
-
-pub all_weaker : {A : Type 0} (P Q : A → Type 0) → ((x : A) → P x → Q x) → (xs : List A) → AllByRecursion P xs → AllByRecursion Q xs
-all_weaker P Q f [] h = tt
-all_weaker P Q f (x ∷ xs) h = (f x h.0, all_weaker P Q f xs h.1)
 
 pub all_both : {A : Type 0} (P Q : A → Type 0) (xs : List A) → AllByRecursion P xs → AllByRecursion Q xs → AllByRecursion (λ x. P x × Q x) xs
 all_both P Q [] h k = tt
 all_both P Q (x ∷ xs) h k = ((h.0, k.0), all_both P Q xs h.1 k.1)
-
-pub all_later : {A : Type 0} (P : A → Type 0) (xs : List A) → AllByRecursion P xs → AllByRecursion P (drop 1 xs)
-all_later P [] h = tt
-all_later P (x ∷ xs) h = h.1
-
-pub all_at : {A : Type 0} (P : A → Type 0) (xs : List A) (k : ℕ) (x : A) → AllByRecursion P xs → slice_get xs k ≡ Some x → P x
-all_at P [] k x h e = absurd (cc)
-all_at P (y ∷ ys) zero x h e = subst P (some_same y x e) h.0
-all_at P (y ∷ ys) (suc k) x h e = all_at P ys k x h.1 e
 
 pub all_set : {A : Type 0} (P : A → Type 0) (xs : List A) (k : ℕ) (x : A) → AllByRecursion P xs → P x → AllByRecursion P (slice_set xs k x)
 all_set P [] k x h p = tt
@@ -75,15 +21,11 @@ all_set P (y ∷ ys) (suc k) x h p = (h.0, all_set P ys k x h.1 p)
 
 pub all_pass : {A : Type 0} (test : A → Bool) (P : A → Type 0) → ((x : A) → P x → test x ≡ true) → (xs : List A) → AllByRecursion P xs → list_all test xs ≡ true
 all_pass test P f [] h = refl
-all_pass test P f (x ∷ xs) h = both_true (test x) (list_all test xs) (f x h.0) (all_pass test P f xs h.1)
+all_pass test P f (x ∷ xs) h = and_from (test x) (list_all test xs) (f x h.0) (all_pass test P f xs h.1)
 
 pub none_passes : {A : Type 0} (test : A → Bool) (P : A → Type 0) → ((x : A) → P x → test x ≡ false) → (xs : List A) → AllByRecursion P xs → list_any test xs ≡ false
 none_passes test P f [] h = refl
-none_passes test P f (x ∷ xs) h = both_false (test x) (list_any test xs) (f x h.0) (none_passes test P f xs h.1)
-
-pub all_fail : {A : Type 0} (test : A → Bool) (xs : List A) → list_any test xs ≡ false → AllByRecursion (λ x. test x ≡ false) xs
-all_fail test [] h = tt
-all_fail test (x ∷ xs) h = (or_left _ _ h, all_fail test xs (or_right _ _ h))
+none_passes test P f (x ∷ xs) h = or_from (test x) (list_any test xs) (f x h.0) (none_passes test P f xs h.1)
 
 -- ---- what is found of each
 
@@ -115,5 +57,5 @@ sum_more f (y ∷ ys) x = omega (arith, sum_cons f y (ys ++ x ∷ []), sum_cons 
 -- one of them changes, by so much at most
 pub sum_set : {A : Type 0} (f : A → ℕ) (xs : List A) (k n : ℕ) (x y : A) → slice_get xs k ≡ Some x → f y ≤ f x + n → sum (map f (slice_set xs k y)) ≤ sum (map f xs) + n
 sum_set f [] k n x y e h = absurd (cc)
-sum_set f (z ∷ zs) zero n x y e h = omega (arith, sum_cons f y zs, sum_cons f z zs, ap f (some_same z x e))
+sum_set f (z ∷ zs) zero n x y e h = omega (arith, sum_cons f y zs, sum_cons f z zs, ap f (same_Some z x e))
 sum_set f (z ∷ zs) (suc k) n x y e h = omega (arith, sum_cons f z (slice_set zs k y), sum_cons f z zs, sum_set f zs k n x y e h)

@@ -3,7 +3,9 @@ use Rattle.std.proofs.Common.{◌≡◌, ℕ, suc, ◌+◌, ◌≤◌, List, [],
 use Rattle.std.specs.Str.Lossy.{utf8_valid_len}
 use Rattle.std.specs.List.{enumerate_from}
 use Rattle.std.proofs.lemmas.List.FromFn.{length-enumerate_from}
+use Rattle.std.proofs.lemmas.Option.{cond_some}
 use borrow.Author.Tests.{ltb-false}
+use Rattle.script_spec.proofs.TextLaws.{faultless_some}
 use Rattle.nc_base.specs.declared.errors.ScriptKind.TheVariants as kind
 use Rattle.nc_base.specs.declared.errors.ScriptErr.{ScriptErr}
 use Rattle.nc_base.specs.declared.request.Call.{Call}
@@ -14,8 +16,8 @@ use Rattle.script_spec.specs.ScriptWords.{Word, Line, text_lines, significant, s
 use Rattle.script_spec.specs.ScriptSteps.{◌>>=◌, or_fault, bare, reads_as, ended, whole}
 use Rattle.script_spec.specs.ScriptDefinitions.{Known, nothing_known, known_after}
 use Rattle.script_spec.specs.ScriptGrammar.{at_line, version_of_text, version_line, head, data_line, definition_step, definitions, data_part, finish, script_of, no_calls, script_of_lines, most_bytes, most_lines, newlines, is_mismatch, too_many_lines, within_lines, script_of_utf8, script_of_text, Reads}
-use Rattle.script_laws.proofs.StepLaws.{first_then, then_with, ok_then, by_test, if_read, found, read_as, whole_line, at_line_kept}
-use Rattle.script_laws.proofs.WordLaws.{InRange, kept_if}
+use Rattle.script_laws.proofs.StepLaws.{first_then, then_with, ok_then, by_test, if_read, read_as, whole_line, at_line_kept}
+use Rattle.script_laws.proofs.WordLaws.{InRange}
 use Rattle.script_laws.proofs.CalledLaws.{FitsCalled, calls_read, no_calls_fit}
 use Rattle.script_laws.proofs.AgreeLaws.{finish_agreed}
 use Rattle.script_laws.proofs.DefinedLaws.{FitsKnown, nothing_known_fits, later_known, known_more}
@@ -31,7 +33,7 @@ version_read w n h = by_size (size_of_text w) h
   where
     by_size : (o : Option ℕ) → elim o as (λ _. Option ℕ) [ None ↦ None | Some m ↦ cond (is_version m) (Some m) None ] ≡ Some n → is_version n ≡ true
     by_size None e = absurd (cc)
-    by_size (Some m) e = let k = kept_if (is_version m) m n e in subst (λ (x : ℕ). is_version x ≡ true) k.1 k.0
+    by_size (Some m) e = let k = cond_some (is_version m) m n e in subst (λ (x : ℕ). is_version x ≡ true) k.1 k.0
 
 head_read : (w : Word) (ws : List Word) → IfOk (head w ws) IsHead
 head_read w ws =
@@ -60,7 +62,7 @@ step_kept version lines known w ws f =
   where
     of_data : IfOk (data_line known ws >>= λ ranks. Ok (Some ranks, known)) (FitsStep version (suc lines))
     of_data = then_with (data_line known ws) _ _ (InRange 1 64 1)
-        (first_then (or_fault kind.MissingWord known.ranks) _ _ (λ ranks told. whole_line ranks ws (InRange 1 64 1) (ranks_known known.ranks ranks f.ranks (found _ _ ranks told))))
+        (first_then (or_fault kind.MissingWord known.ranks) _ _ (λ ranks told. whole_line ranks ws (InRange 1 64 1) (ranks_known known.ranks ranks f.ranks (faultless_some _ _ ranks told))))
         (λ ranks fits. record { known = later_known version lines (suc lines) (omega arith) known f; ranks = fits })
 
     of_more : (first : List ℕ) → IfOk (known_after version known first ws >>= λ more. Ok (None, more)) (FitsStep version (suc lines))
@@ -89,9 +91,9 @@ definitions_kept past version lines most known (l ∷ ls) h f =
 -- ---- the whole
 
 -- of what a script that is read is made, of at most so many lines
-pub record FitsParts (most version size : ℕ) (found : Known) (called : List (List Call)) : Type 0 where
+pub record FitsParts (most version size : ℕ) (faultless_some : Known) (called : List (List Call)) : Type 0 where
   pub head : IsHead version
-  pub known : FitsKnown version most found
+  pub known : FitsKnown version most faultless_some
   pub ranks : InRange 1 64 1 size
   pub values : ℕ
   pub calls : FitsCalled size most found.values (record { calls = called; values = values })

@@ -1,10 +1,10 @@
 -- The hints and the calls of a script, and the header of one for an existing dataset.
 use Rattle.std.proofs.Common.{◌≡◌, ◌∙◌, ℕ, ◌≤◌, List, length, false, Option, Some, None, refl, ap, arith, ◌==◌, unwrap_or}
+use Rattle.std.proofs.lemmas.Bool.{not-false}
 use borrow.Author.Tests.{eqb-true}
 use Rattle.nc_base.specs.declared.script.Script.{Script}
 use Rattle.script_spec.specs.ScriptDefinitions.{hint_in, Defined, no_definition}
 use Rattle.script_spec.specs.ScriptGrammar.{header_of, hint_or, Reads}
-use Rattle.script_laws.proofs.ListLaws.{is_true}
 use Rattle.script_laws.proofs.WordLaws.{InRange}
 use Rattle.script_laws.proofs.DefinedLaws.{FitHints}
 use Rattle.script_laws.proofs.ReadLaws.{read_script}
@@ -43,5 +43,5 @@ read_records text s = read_script text s (λ t. t.header.records ≡ 0) (λ vers
 pub read_opened : (text : List ℕ) (s : Script) → Reads text s → s.fresh ≡ false → s.header ≡ header_of 0 no_definition
 read_opened text s =
     read_script text s (λ t. t.fresh ≡ false → t.header ≡ header_of 0 no_definition) (λ version ranks known calls parts old.
-    let zero_version = is_true (version == 0) old in
+    let zero_version = not-false (version == 0) old in
     ap (λ (n : ℕ). header_of n known.defined) (eqb-true version 0 zero_version) ∙ ap (λ (d : Defined). header_of 0 d) (parts.known.old zero_version))

@@ -1,5 +1,6 @@
 -- Steps that succeed, from word to word.
-use Rattle.std.proofs.Common.{◌≡◌, ℕ, List, Bool, true, false, Option, Some, None, Result, Ok, Err, IfOk, refl, subst}
+use Rattle.std.proofs.Common.{◌≡◌, ℕ, List, Bool, true, false, Option, Some, Result, Ok, Err, IfOk, refl, subst}
+use Rattle.script_spec.proofs.TextLaws.{faultless_some}
 use Rattle.nc_base.specs.declared.errors.ScriptKind.{ScriptKind}
 use Rattle.script_spec.specs.ScriptWords.{Word}
 use Rattle.script_spec.specs.ScriptSteps.{◌>>=◌, refuse_if, or_fault, reads_as, next, ended, whole}
@@ -31,13 +32,9 @@ pub unless_refused : (b : Bool) (e : ScriptKind) (P : Type 0) → (b ≡ false �
 unless_refused true e P f = tt
 unless_refused false e P f = f refl
 
-pub found : {A : Type 0} (e : ScriptKind) (o : Option A) (x : A) → or_fault e o ≡ Ok x → o ≡ Some x
-found e None x h = absurd (cc)
-found e (Some y) x h = cc
-
 pub read_as : {A : Type 0} (f : List ℕ → Option A) (e : ScriptKind) (ws : List Word) (P : A → Type 0) → ((w : List ℕ) (x : A) → f w ≡ Some x → P x) → IfOk (reads_as f e ws) (λ r. P r.0)
 read_as f e ws P h =
-    first_then (next ws) _ _ (λ w _. first_then (or_fault e (f w.0)) _ _ (λ x told. h w.0 x (found e (f w.0) x told)))
+    first_then (next ws) _ _ (λ w _. first_then (or_fault e (f w.0)) _ _ (λ x told. h w.0 x (faultless_some e (f w.0) x told)))
 
 pub whole_line : {A : Type 0} (x : A) (ws : List Word) (P : A → Type 0) → P x → IfOk (whole (x, ws)) P
 whole_line x ws P h = first_then (ended ws) _ _ (λ _ _. h)

@@ -3,7 +3,9 @@ use Rattle.std.proofs.Common.{◌≡◌, ℕ, ◌*◌, ◌%◌, ◌^◌, ◌<◌
 use Rattle.std.specs.List.{list_all}
 use Rattle.std.specs.Int.{w32, w64, byte_len}
 use Rattle.std.proofs.lemmas.Bool.Decides.{nat_tests}
+use Rattle.std.proofs.lemmas.Option.{cond_some}
 use borrow.Author.Tests.{ltb-true, leb-true, eqb-true}
+use Rattle.list_laws.proofs.Truth.{and_first, and_second}
 use Rattle.nc_base.specs.declared.errors.ScriptKind.TheVariants as kind
 use Rattle.nc_base.specs.declared.header.NcType.{NcType}
 use Rattle.serial_spec.specs.Limits.{file_limit}
@@ -12,21 +14,16 @@ use Rattle.script_spec.specs.Texts.{type_word}
 use Rattle.script_spec.specs.ScriptWords.{Word, below, natural_of, size_of_text, is_name, starts_name, in_name}
 use Rattle.script_spec.specs.ScriptSteps.{name, name_of_text}
 use Rattle.script_spec.specs.ScriptDefinitions.{number_within, one_of_two, type_of, types, length_limit, length_of_text}
-use Rattle.script_laws.proofs.ListLaws.{and_left, and_right}
 use Rattle.script_laws.proofs.StepLaws.{read_as}
-
-pub kept_if : {A : Type 0} (b : Bool) (x y : A) → cond b (Some x) None ≡ Some y → (b ≡ true) × (x ≡ y)
-kept_if true x y h = (refl, cc)
-kept_if false x y h = absurd (cc)
 
 -- ---- names
 
 pub name_short : (n : List ℕ) → is_name n ≡ true → length n ≤ 256
 name_short [] h = omega arith
-name_short (c ∷ cs) h = let t : length cs < 256 = ltb-true (length cs) 256 (and_right (starts_name c && list_all in_name cs) (nat_lt (length cs) 256) h) in omega arith
+name_short (c ∷ cs) h = let t : length cs < 256 = ltb-true (length cs) 256 (and_second (starts_name c && list_all in_name cs) (nat_lt (length cs) 256) h) in omega arith
 
 pub name_read : (w n : List ℕ) → name_of_text w ≡ Some n → is_name n ≡ true
-name_read w n h = let k = kept_if (is_name w) w n h in subst (λ (x : List ℕ). is_name x ≡ true) k.1 k.0
+name_read w n h = let k = cond_some (is_name w) w n h in subst (λ (x : List ℕ). is_name x ≡ true) k.1 k.0
 
 pub named : (ws : List Word) → IfOk (name ws) (λ r. is_name r.0 ≡ true)
 named ws = read_as name_of_text kind.BadName ws (λ n. is_name n ≡ true) name_read
@@ -43,17 +40,17 @@ within_read low high unit w n h = by_size (size_of_text w) h
   where
     kept : (m : ℕ) → (nat_le low m && nat_le m high && m % unit == 0) ≡ true → InRange low high unit m
     kept m e =
-        let both = and_left (nat_le low m && nat_le m high) (m % unit == 0) e in
+        let both = and_first (nat_le low m && nat_le m high) (m % unit == 0) e in
         record {
-          at_least = leb-true low m (and_left (nat_le low m) (nat_le m high) both);
-          at_most = leb-true m high (and_right (nat_le low m) (nat_le m high) both);
-          multiple = eqb-true (m % unit) 0 (and_right (nat_le low m && nat_le m high) (m % unit == 0) e);
+          at_least = leb-true low m (and_first (nat_le low m) (nat_le m high) both);
+          at_most = leb-true m high (and_second (nat_le low m) (nat_le m high) both);
+          multiple = eqb-true (m % unit) 0 (and_second (nat_le low m && nat_le m high) (m % unit == 0) e);
         }
 
     by_size : (o : Option ℕ)
         → elim o as (λ _. Option ℕ) [ None ↦ None | Some m ↦ cond (nat_le low m && nat_le m high && m % unit == 0) (Some m) None ] ≡ Some n → InRange low high unit n
     by_size None e = absurd (cc)
-    by_size (Some m) e = let k = kept_if (nat_le low m && nat_le m high && m % unit == 0) m n e in subst (λ (x : ℕ). InRange low high unit x) k.1 (kept m k.0)
+    by_size (Some m) e = let k = cond_some (nat_le low m && nat_le m high && m % unit == 0) m n e in subst (λ (x : ℕ). InRange low high unit x) k.1 (kept m k.0)
 
 pub one_of_two_read : (zero_word one_word w : List ℕ) (n : ℕ) → one_of_two zero_word one_word w ≡ Some n → n ≤ 1
 one_of_two_read zero_word one_word w n h = by_words (bytes_eq w zero_word) (bytes_eq w one_word) h
@@ -65,7 +62,7 @@ one_of_two_read zero_word one_word w n h = by_words (bytes_eq w zero_word) (byte
 
 below_read : (limit : ℕ) (o : Option ℕ) (n : ℕ) → below limit o ≡ Some n → n < limit
 below_read limit None n h = absurd (cc)
-below_read limit (Some m) n h = let k = kept_if (nat_lt m limit) m n h in subst (λ (x : ℕ). x < limit) k.1 (ltb-true m limit k.0)
+below_read limit (Some m) n h = let k = cond_some (nat_lt m limit) m n h in subst (λ (x : ℕ). x < limit) k.1 (ltb-true m limit k.0)
 
 pub size_read : (w : List ℕ) (n : ℕ) → size_of_text w ≡ Some n → n < 2 ^ 63
 size_read w n h = below_read (2 ^ 63) (natural_of w) n h
@@ -77,7 +74,7 @@ type_read version w t h = by_word (find (λ (k : NcType). bytes_eq w (type_word 
   where
     by_word : (o : Option NcType) → elim o as (λ _. Option NcType) [ None ↦ None | Some k ↦ cond (nat_le (number_of k) (last_type version)) (Some k) None ] ≡ Some t → is_type version t ≡ true
     by_word None e = absurd (cc)
-    by_word (Some k) e = let c = kept_if (nat_le (number_of k) (last_type version)) k t e in subst (λ (x : NcType). is_type version x ≡ true) c.1 c.0
+    by_word (Some k) e = let c = cond_some (nat_le (number_of k) (last_type version)) k t e in subst (λ (x : NcType). is_type version x ≡ true) c.1 c.0
 
 -- ---- the lengths of dimensions
 

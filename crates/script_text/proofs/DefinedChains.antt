@@ -3,6 +3,7 @@ use Rattle.std.proofs.Common.{◌≡◌, ◌∙◌, ℕ, zero, suc, ◌+◌, ◌
 use Rattle.std.specs.List.{list_all, list_any}
 use Rattle.std.proofs.lemmas.Bool.{and_parts, and_from, or_from, or_left, or_right}
 use Rattle.std.proofs.lemmas.List.Folds.{list_any-append}
+use Rattle.script_spec.proofs.TextLaws.{faultless_some}
 use Rattle.nc_base.specs.declared.errors.ScriptKind.{ScriptKind}
 use Rattle.nc_base.specs.declared.errors.ScriptKind.TheVariants as kind
 use Rattle.nc_base.specs.declared.errors.LimitName.TheVariants as limit
@@ -15,7 +16,7 @@ use Rattle.serial_spec.specs.Lawful.{most_values}
 use Rattle.script_spec.specs.ScriptWords.{Word, is_name}
 use Rattle.script_spec.specs.ScriptSteps.{◌>>=◌, refuse_if, or_fault, reads_as, ended}
 use Rattle.script_spec.specs.ScriptDefinitions.{is_among, dim_line, var_head, name_list, dim_ids, is_record_dim, var_names, shape, var_line, owner_of_text, owner_place, Title, same_title, attribute, Defined, with_dim, with_var, with_attr_at, with_title, with_attr, att_line, dim_definition, var_definition, fill_line, definition}
-use Rattle.script_text.proofs.Steps.{went, same_ok, not_refused, no_fault}
+use Rattle.script_text.proofs.Steps.{went, same_ok, not_refused}
 use Rattle.script_text.proofs.Lines.{all_more, all_joined}
 use Rattle.script_text.proofs.PrintedValues.{is_read}
 use Rattle.script_text.proofs.PrintedRegions.{kept}
@@ -244,7 +245,7 @@ var_read version dims vars ws v h =
       record {
         dim_list = n.value.0;
         named = names_read a.value.1 n.value n.first;
-        found = no_fault kind.UnknownName (dim_ids dims n.value.0) i.value i.first ∙ ap (λ (xs : List ℕ). Some xs) ids;
+        found = faultless_some kind.UnknownName (dim_ids dims n.value.0) i.value i.first ∙ ap (λ (xs : List ℕ). Some xs) ids;
         few = subst (λ xs. nat_lt most_dims_of_var (length xs) ≡ false) ids (not_refused _ _ f.value f.first);
         records = subst (λ xs. list_any (is_record_dim dims) (drop 1 xs) ≡ false) ids (not_refused _ _ g.value g.first);
         head = head_read version (var_names vars) ws a.value a.first;
@@ -314,7 +315,7 @@ place_read vars owner o h = by (bytes_eq owner (codes ":")) refl h
     by true e k = subst (PlaceOf vars owner) (same_ok None o k) (bytes_same owner (codes ":") e)
     by false e k =
         let a = went (or_fault kind.UnknownName (position (bytes_eq owner) (var_names vars))) (λ j. Ok (Some j)) o k in
-        subst (PlaceOf vars owner) (same_ok (Some a.value) o a.rest) (found_name owner vars a.value (no_fault kind.UnknownName (position (bytes_eq owner) (var_names vars)) a.value a.first))
+        subst (PlaceOf vars owner) (same_ok (Some a.value) o a.rest) (found_name owner vars a.value (faultless_some kind.UnknownName (position (bytes_eq owner) (var_names vars)) a.value a.first))
 
 att_by_place : (version values : ℕ) (d : Defined) (owner : List ℕ) (o : Option ℕ) (a : Attr) → DefinedOk version values d → PlaceOf d.vars owner o → AttrRead version d.titles values owner a → DefinedOn version values (a.count, with_title owner a.name (with_attr o a d))
 att_by_place version values d owner None a ok at read = att_of_dataset version values d owner a ok at read

@@ -3,6 +3,7 @@ use Rattle.std.proofs.Common.{◌≡◌, ◌∙◌, ℕ, ◌+◌, ◌%◌, ◌^�
 use Rattle.std.specs.List.{list_all}
 use Rattle.std.proofs.lemmas.Bool.{and_parts, and_from}
 use borrow.Author.Tests.{leb-true, le-leb, eq-eqb}
+use Rattle.script_spec.proofs.TextLaws.{faultless_some}
 use Rattle.nc_base.specs.declared.errors.ScriptKind.{ScriptKind}
 use Rattle.nc_base.specs.declared.errors.ScriptKind.TheVariants as kind
 use Rattle.nc_base.specs.declared.errors.ScriptErr.{ScriptErr}
@@ -16,7 +17,7 @@ use Rattle.script_spec.specs.ScriptWords.{Word, Plain, Line}
 use Rattle.script_spec.specs.ScriptSteps.{◌>>=◌, refuse_if, or_fault, bare, reads_as}
 use Rattle.script_spec.specs.ScriptDefinitions.{Within, Either, hint_forms, hint_of_text, hint_form, number_within, hint_value, hint_in, hint_line, ranks_line, no_definition, definition, nothing_added, addition, Known, nothing_known, definition_or_addition, known_after}
 use Rattle.script_spec.specs.ScriptGrammar.{at_line, data_line, definition_step, definitions, rule_of, hints_of}
-use Rattle.script_text.proofs.Steps.{went, go_on, same_ok, passed, no_fault, word_read, whole_value}
+use Rattle.script_text.proofs.Steps.{went, go_on, same_ok, passed, word_read, whole_value}
 use Rattle.script_text.proofs.Lexing.{is_plain}
 use Rattle.script_text.proofs.Lines.{is_line, spelled}
 use Rattle.script_text.proofs.PrintedValues.{is_read}
@@ -295,7 +296,7 @@ step_ok version k w ws s read ok h =
         let a = went (data_line k ws) (λ ranks. Ok (Some ranks, k)) s e in
         let c = went (or_fault kind.MissingWord k.ranks) _ a.value a.first in
         let n = (whole_value (c.value, ws) a.value c.rest).0 in
-        subst (StepOk version) (same_ok (Some a.value, k) s a.rest) (ok, no_fault kind.MissingWord k.ranks c.value c.first ∙ ap (λ (x : ℕ). Some x) n)
+        subst (StepOk version) (same_ok (Some a.value, k) s a.rest) (ok, faultless_some kind.MissingWord k.ranks c.value c.first ∙ ap (λ (x : ℕ). Some x) n)
     by first false e =
         let a = went (known_after version k first ws) (λ more. Ok (None, more)) s e in
         subst (StepOk version) (same_ok (None, a.value) s a.rest) (known_on version k a.value first ws read ok a.first)

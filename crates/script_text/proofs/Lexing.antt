@@ -1,6 +1,6 @@
 -- Words that are printed are cut again from their line.
 use Rattle.std.proofs.Common.{◌≡◌, ◌∙◌, ℕ, zero, suc, ◌+◌, ◌*◌, ◌/◌, ◌%◌, ◌≤◌, ◌<◌, List, [], ◌∷◌, ◌++◌, map, length, take, drop, flat_map, Bool, true, false, not, cond, nat_lt, nat_le, ◌==◌, ◌&&◌, Option, Some, None, option_map, refl, sym, ap, subst, ⊎_elim, append_assoc, append-nil, length-append, arith}
-use Rattle.std.proofs.lemmas.Bool.{and_parts, or_from, ne_eqb, eqb-true, cases_Bool, cond-true, cond-false, agree_below_at}
+use Rattle.std.proofs.lemmas.Bool.{and_parts, or_from, ne_eqb, eqb-true, cases_Bool, cond-true, cond-false, agree_below_at, not-true}
 use Rattle.std.proofs.lemmas.Grind.{common_steps}
 use Rattle.std.proofs.lemmas.List.{take_at, drop_at}
 use Rattle.std.specs.List.{position_or_len, list_all}
@@ -153,10 +153,6 @@ plain_again c cs tail a h blank =
     ∙ (ap (λ (front : List ℕ). (Plain (c ∷ front), drop (length cs) (cs ++ tail))) (take_at cs tail (length cs) refl)
     ∙ ap (λ (back : List ℕ). (Plain (c ∷ cs), back)) (drop_at cs tail (length cs) refl)))
 
-pub not_true : (b : Bool) → not b ≡ true → b ≡ false
-not_true true h = absurd (cc)
-not_true false h = refl
-
 pub cut : (w : Word) → is_good w ≡ true → IsCut w
 cut (Plain []) h = absurd (cc)
 cut (Plain (c ∷ cs)) h =
@@ -167,7 +163,7 @@ cut (Plain (c ∷ cs)) h =
       behind = cs;
       spelled = refl;
       seen = not_blank c (graphic_bounds c all.0).0;
-      cut = λ tail blank. plain_again c cs tail (not_true (c == 34) both.0) all.1 blank;
+      cut = λ tail blank. plain_again c cs tail (not-true (c == 34) both.0) all.1 blank;
     }
 cut (Quoted text) h =
     record { head = 34; behind = flat_map text_char text ++ 34 ∷ []; spelled = refl; seen = refl; cut = λ tail blank. quoted_again text tail h blank }

@@ -1,6 +1,6 @@
 -- Lines that are printed are the significant lines of their text, which is ASCII.
 use Rattle.std.proofs.Common.{◌≡◌, ◌∙◌, ℕ, zero, suc, ◌+◌, ◌/◌, ◌%◌, ◌≤◌, ◌<◌, List, [], ◌∷◌, ◌++◌, map, length, take, get_or, flat_map, Bool, true, false, not, nat_lt, nat_le, ◌==◌, ◌&&◌, refl, sym, ap, subst, ⊎_elim, append_assoc, take_all, arith, IsUtf8, IsAscii}
-use Rattle.std.proofs.lemmas.Bool.{and_parts, and_from, ne_eqb, eq-eqb, eqb-true, cases_Bool, cases_lt, cond-true, cond-false, agree_below_at, le-leb, lt-ltb, le-ltb}
+use Rattle.std.proofs.lemmas.Bool.{and_parts, and_from, ne_eqb, eq-eqb, eqb-true, cases_Bool, cases_lt, cond-true, cond-false, agree_below_at, le-leb, lt-ltb, le-ltb, not-true}
 use Rattle.std.proofs.lemmas.Grind.{common_steps}
 use Rattle.std.proofs.lemmas.List.Splits.{slice_split_at, length-slice_split}
 use Rattle.std.proofs.lemmas.List.Folds.{list_all-append}
@@ -11,9 +11,10 @@ use Rattle.std.specs.List.{All, list_all, slice_split, enumerate_from}
 use Rattle.std.specs.Str.{is_utf8}
 use Rattle.std.specs.Str.Lossy.{valid_len_up_to, utf8_valid_len}
 use lib.Utf8.{scalar, scalars, encode, encodes, scalar_cases, next}
+use Rattle.script_spec.proofs.TextLaws.{first_line_kept}
 use Rattle.script_spec.specs.Texts.{text_char, hex_digit, joined, line}
 use Rattle.script_spec.specs.ScriptWords.{Word, Plain, Quoted, Broken, Line, words, is_comment, is_newline, line_of, significant, significant_of, text_lines, without_empty_end}
-use Rattle.script_text.proofs.Lexing.{spelling, is_graphic, is_byte, is_good, graphic_bounds, char_else, byte_bound, tail_of, joined_words, words_again, not_true, below_16}
+use Rattle.script_text.proofs.Lexing.{spelling, is_graphic, is_byte, is_good, graphic_bounds, char_else, byte_bound, tail_of, joined_words, words_again, below_16}
 
 -- ---- what holds of each byte
 
@@ -110,15 +111,11 @@ no_newline cs h k d low =
     let b = printable_bounds (get_or cs k d) (AllPass-from_list_all is_printable cs h k d low) in
     ne_eqb (get_or cs k d) 10 (omega arith)
 
-kept : (x : List ℕ) (zs : List (List ℕ)) → 0 < length zs → without_empty_end (x ∷ zs) ≡ x ∷ without_empty_end zs
-kept x [] h = absurd (omega arith)
-kept x (z ∷ zs) h = refl
-
 line_cut : (cs rest : List ℕ) → list_all is_printable cs ≡ true → text_lines ((cs ++ 10 ∷ []) ++ rest) ≡ cs ∷ text_lines rest
 line_cut cs rest h =
     ap text_lines (append_assoc cs (10 ∷ []) rest)
     ∙ (ap without_empty_end (slice_split_at is_newline cs 10 rest (no_newline cs h) refl)
-    ∙ kept cs (slice_split is_newline rest) (omega (arith, length-slice_split is_newline rest)))
+    ∙ first_line_kept cs (slice_split is_newline rest) (omega (arith, length-slice_split is_newline rest)))
 
 pub lines_again : (wss : List (List Word)) → list_all is_line wss ≡ true → text_lines (flat_map spelled wss) ≡ map body wss
 lines_again [] h = refl
@@ -137,7 +134,7 @@ numbered n ((w ∷ ws) ∷ wss) = record { number = n; first = w; rest = ws } �
 line_again : (n : ℕ) (w : Word) (ws : List Word) → is_line (w ∷ ws) ≡ true → line_of n (words (body (w ∷ ws))) ≡ record { number = n; first = w; rest = ws } ∷ []
 line_again n w ws h =
     let both = and_parts _ _ h in
-    ap (line_of n) (words_again w ws both.1) ∙ cond-false _ _ _ (not_true (is_comment w) both.0)
+    ap (line_of n) (words_again w ws both.1) ∙ cond-false _ _ _ (not-true (is_comment w) both.0)
 
 pub significant_again : (n : ℕ) (wss : List (List Word)) → list_all is_line wss ≡ true → significant_of (enumerate_from n (map body wss)) ≡ numbered n wss
 significant_again n [] h = refl

@@ -2,13 +2,14 @@
 use Rattle.std.proofs.Common.{◌≡◌, ◌∙◌, ℕ, zero, suc, ◌+◌, ◌-◌, ◌*◌, ◌/◌, ◌%◌, ◌^◌, ◌≤◌, ◌<◌, List, [], ◌∷◌, ◌++◌, map, length, take, get_or, fold, Bool, true, false, not, cond, nat_lt, nat_le, ◌==◌, ◌&&◌, ◌||◌, Option, Some, None, option_map, option_and_then, ℤ, pos, negsuc, neg_ℤ, unsigned_abs, refl, sym, ap, subst, length-append, arith, decimal}
 use Rattle.std.specs.Fmt.{signed_decimal}
 use Rattle.std.specs.List.{list_all, slice_split, All}
-use Rattle.std.proofs.lemmas.Bool.{and_parts, and_from, ne_eqb, eq-eqb, cond-true, cond-false, le-leb, lt-ltb}
+use Rattle.std.proofs.lemmas.Bool.{and_parts, and_from, ne_eqb, eq-eqb, cond-true, cond-false, le-leb, lt-ltb, not-true}
 use Rattle.std.proofs.lemmas.Fmt.{decimal_by_steps_wide, length-decimal-le_wide}
 use Rattle.std.proofs.lemmas.Grind.{common_steps}
 use Rattle.std.proofs.lemmas.List.{take_at, get_or_at}
 use Rattle.std.proofs.lemmas.List.Sums.{fold_push, AllPass-from_list_all}
 use Rattle.std.proofs.lemmas.List.Splits.{slice_split_at, slice_split_none}
 use native.Mathlib.Nat.{mul-le-mul_right}
+use Rattle.script_spec.proofs.NumeralLaws.{digit_bounds, natural_small, no_sum, sixteens-le, sixteens}
 use Rattle.script_spec.specs.Texts.{hex, hex_digit, joined}
 use Rattle.script_spec.specs.Shown.{bracketed, size_list}
 use Rattle.script_spec.specs.ScriptWords.{is_digit, digits_value, is_digits, natural_of, below, size_of_text, number_of_text, hex_sum, hex_value, bits_of_text, starts_name, in_name, is_name, between_brackets, is_comma, parts, all_some, list_of_text}
@@ -19,9 +20,6 @@ use Rattle.script_text.proofs.Lines.{all_more, all_joined}
 
 pub graphic : (c : ℕ) → 33 ≤ c → c ≤ 126 → is_graphic c ≡ true
 graphic c low high = and_from _ _ (le-leb 33 c low) (le-leb c 126 high)
-
-digit_bounds : (d : ℕ) → is_digit d ≡ true → (48 ≤ d) × (d ≤ 57)
-digit_bounds d h = grind (arith, common_steps)
 
 digit : (d : ℕ) → 48 ≤ d → d ≤ 57 → is_digit d ≡ true
 digit d low high = and_from _ _ (le-leb 48 d low) (le-leb d 57 high)
@@ -95,36 +93,6 @@ size_plain n h = decimal_plain n (omega arith)
 
 -- ---- numbers with a sign
 
-abbrev tens : ℕ → ℕ
-tens zero = 1
-tens (suc n) = 10 * tens n
-
-tens-le : (i k j : ℕ) → k + i ≡ j → tens i ≤ tens j
-tens-le i zero j e = let same : i ≡ j = omega arith in rw same (omega arith)
-tens-le i (suc k) j e = let more : suc (k + i) ≡ j = omega arith in rw (← more) (omega (arith, tens-le i k (k + i) refl))
-
-tens-fits : (i : ℕ) → i ≤ 20 → tens i ≤ 10 ^ 20
-tens-fits i h = tens-le i (20 - i) 20 (omega arith)
-
-value_bound : (ds : List ℕ) (a most : ℕ) → list_all is_digit ds ≡ true → (a + 1) * tens (length ds) ≤ most → fold add_digit a ds < most
-value_bound [] a most h le = omega arith
-value_bound (d ∷ ds) a most h le =
-    let both = and_parts _ _ h in
-    let b = digit_bounds d both.0 in
-    let step : (10 * a + (d - 48) + 1) * tens (length ds) ≤ (10 * (a + 1)) * tens (length ds) = mul-le-mul_right (tens (length ds)) (omega arith) in
-    value_bound ds (10 * a + (d - 48)) most both.1 (omega arith)
-
-natural_bound : (ds : List ℕ) (n : ℕ) → natural_of ds ≡ Some n → n < 10 ^ 20
-natural_bound ds n h = by (is_digits ds) refl h
-  where
-    by : (b : Bool) → is_digits ds ≡ b → cond {A = Option ℕ} b (Some (digits_value ds)) None ≡ Some n → n < 10 ^ 20
-    by true e k =
-        let same : digits_value ds ≡ n = cc in
-        let both = and_parts (nat_lt 0 (length ds) && nat_le (length ds) 20) (list_all is_digit ds) e in
-        let short : length ds ≤ 20 = grind (arith, common_steps, (and_parts (nat_lt 0 (length ds)) (nat_le (length ds) 20) both.0).1) in
-        subst (λ (x : ℕ). x < 10 ^ 20) same (value_bound ds 0 (10 ^ 20) both.1 (omega (arith, tens-fits (length ds) short)))
-    by false e k = absurd (cc)
-
 negative_bound : (o : Option ℕ) (z : ℤ) → ((n : ℕ) → o ≡ Some n → n < 10 ^ 20) → option_map (λ n. neg_ℤ (pos n)) o ≡ Some z → unsigned_abs z < 10 ^ 20
 negative_bound None z h e = absurd (cc)
 negative_bound (Some zero) z h e = let same : pos 0 ≡ z = cc in subst (λ (y : ℤ). unsigned_abs y < 10 ^ 20) same (h 0 refl)
@@ -139,8 +107,8 @@ number_bound [] z h = absurd (cc)
 number_bound (c ∷ cs) z h = by (c == 45) h
   where
     by : (b : Bool) → cond b (option_map (λ n. neg_ℤ (pos n)) (natural_of cs)) (option_map (λ n. pos n) (natural_of (c ∷ cs))) ≡ Some z → unsigned_abs z < 10 ^ 20
-    by true k = negative_bound (natural_of cs) z (natural_bound cs) k
-    by false k = positive_bound (natural_of (c ∷ cs)) z (natural_bound (c ∷ cs)) k
+    by true k = negative_bound (natural_of cs) z (natural_small cs) k
+    by false k = positive_bound (natural_of (c ∷ cs)) z (natural_small (c ∷ cs)) k
 
 unsigned_number : (ds : List ℕ) → 0 < length ds → list_all is_digit ds ≡ true → number_of_text ds ≡ option_map (λ n. pos n) (natural_of ds)
 unsigned_number [] some h = absurd (omega arith)
@@ -174,10 +142,6 @@ number_word (negsuc n) h =
 
 -- ---- bits
 
-abbrev pub sixteens : ℕ → ℕ
-sixteens zero = 1
-sixteens (suc n) = 16 * sixteens n
-
 hex_push : (hs : List ℕ) (d n : ℕ) → fold hex_sum (Some 0) hs ≡ Some n → d < 16 → fold hex_sum (Some 0) (hs ++ hex_digit d ∷ []) ≡ Some (16 * n + d)
 hex_push hs d n h low =
     fold_push hex_sum (Some 0) hs (hex_digit d)
@@ -200,10 +164,6 @@ bits_again k n some short h =
     and_from _ _ (and_from _ _ refl (lt-ltb 0 (length (hex k n)) (omega arith))) (le-leb (length (hex k n)) 16 (omega arith)) in
     cond-true _ _ _ test ∙ hex_sum_again k n h
 
-hex_sum_none : (hs : List ℕ) → fold hex_sum None hs ≡ None
-hex_sum_none [] = refl
-hex_sum_none (h ∷ hs) = hex_sum_none hs
-
 pub hex_value_bound : (c h : ℕ) → hex_value c ≡ Some h → h < 16
 hex_value_bound c h e = by (is_digit c) (nat_le 65 c && nat_le c 70) (nat_le 97 c && nat_le c 102) refl refl refl e
   where
@@ -220,15 +180,11 @@ hex_sum_bound (c ∷ hs) a n most e le = by (hex_value c) refl e (λ h. hex_sum_
   where
     by : (o : Option ℕ) → hex_value c ≡ o → fold hex_sum (option_map (λ h. 16 * a + h) o) hs ≡ Some n
         → ((h : ℕ) → fold hex_sum (Some (16 * a + h)) hs ≡ Some n → (16 * a + h + 1) * sixteens (length hs) ≤ most → n < most) → n < most
-    by None is k more = let none = hex_sum_none hs in absurd (cc)
+    by None is k more = let none = no_sum hs in absurd (cc)
     by (Some h) is k more =
         let low = hex_value_bound c h is in
         let step : (16 * a + h + 1) * sixteens (length hs) ≤ (16 * (a + 1)) * sixteens (length hs) = mul-le-mul_right (sixteens (length hs)) (omega arith) in
         more h k (omega arith)
-
-sixteens-le : (i k j : ℕ) → k + i ≡ j → sixteens i ≤ sixteens j
-sixteens-le i zero j e = let same : i ≡ j = omega arith in rw same (omega arith)
-sixteens-le i (suc k) j e = let more : suc (k + i) ≡ j = omega arith in rw (← more) (omega (arith, sixteens-le i k (k + i) refl))
 
 pub bits_bound : (w : List ℕ) (n : ℕ) → bits_of_text w ≡ Some n → n < 2 ^ 64
 bits_bound [] n h = absurd (cc)
@@ -267,10 +223,6 @@ brackets_again inside =
     let test : (true && nat_lt 0 (length cs) && (get_or cs (length cs - 1) 0 == 93)) ≡ true = and_from _ _ (and_from _ _ refl (lt-ltb 0 (length cs) (omega arith))) closed in
     cond-true _ _ _ test ∙ ap (λ (x : List ℕ). Some x) (ap (λ (k : ℕ). take k cs) last ∙ take_at inside (93 ∷ []) (length inside) refl)
 
-not_so : (b : Bool) → not b ≡ true → b ≡ false
-not_so true h = absurd (cc)
-not_so false h = refl
-
 item_bytes : (w : List ℕ) → is_item w ≡ true → list_all is_item_byte w ≡ true
 item_bytes [] h = refl
 item_bytes (c ∷ cs) h = h
@@ -279,7 +231,7 @@ item_graphic : (w : List ℕ) → is_item w ≡ true → list_all is_graphic w �
 item_graphic w h = all_more is_item_byte is_graphic (λ c b. (and_parts _ _ b).0) w (item_bytes w h)
 
 no_comma : (w : List ℕ) → list_all is_item_byte w ≡ true → All (λ c. is_comma c ≡ false) w
-no_comma w h k d low = not_so (is_comma (get_or w k d)) (and_parts _ _ (AllPass-from_list_all is_item_byte w h k d low)).1
+no_comma w h k d low = not-true (is_comma (get_or w k d)) (and_parts _ _ (AllPass-from_list_all is_item_byte w h k d low)).1
 
 cut_parts : (w : List ℕ) (ws : List (List ℕ)) → list_all is_item (w ∷ ws) ≡ true → slice_split is_comma (joined 44 (w ∷ ws)) ≡ w ∷ ws
 cut_parts w [] h = slice_split_none is_comma w (no_comma w (item_bytes w (and_parts _ _ h).0))

@@ -4,6 +4,7 @@ use Rattle.std.specs.List.{list_all, list_any, position_or_len}
 use Rattle.std.proofs.lemmas.Bool.{and_parts, and_from, or_parts, cases_lt, cond-true, cond-false}
 use Rattle.std.proofs.lemmas.Slice.Eq.{bytes_eq-Decides}
 use borrow.Author.Tests.{ltb-true, lt-ltb, le-ltb}
+use Rattle.list_laws.proofs.Places.{position_below}
 use Rattle.nc_base.specs.declared.header.Dim.{Dim}
 use Rattle.script_spec.specs.ScriptWords.{all_some}
 use Rattle.script_spec.specs.ScriptDefinitions.{is_among, dim_names, dim_ids, is_record_dim, is_unlimited}
@@ -55,13 +56,6 @@ place_more p [] ys k h = absurd (cc)
 place_more p (x ∷ xs) ys k h = ⊎_elim
     (λ (a : (p x ≡ true) × (k ≡ 0)). place_here p x (xs ++ ys) a.0 ∙ ap (λ (j : ℕ). Some j) (sym a.1))
     (λ (b : (p x ≡ false) × Later p xs k). place_later p x (xs ++ ys) b.1.before b.0 (place_more p xs ys b.1.before b.1.found) ∙ ap (λ (j : ℕ). Some j) (sym b.1.next))
-    (place_cases p x xs k h)
-
-pub place_within : {A : Type 0} (p : A → Bool) (xs : List A) (k : ℕ) → position p xs ≡ Some k → k < length xs
-place_within p [] k h = absurd (cc)
-place_within p (x ∷ xs) k h = ⊎_elim
-    (λ (a : (p x ≡ true) × (k ≡ 0)). omega (arith, a.1))
-    (λ (b : (p x ≡ false) × Later p xs k). omega (arith, b.1.next, place_within p xs b.1.before b.1.found))
     (place_cases p x xs k h)
 
 pub bytes_same : (a b : List ℕ) → bytes_eq a b ≡ true → a ≡ b
@@ -157,7 +151,7 @@ within_zipped dims [] [] h = refl
 within_zipped dims [] (i ∷ ids) h = absurd h
 within_zipped dims (n ∷ ns) [] h = absurd h
 within_zipped dims (n ∷ ns) (i ∷ ids) h =
-    let low = place_within (bytes_eq n) (dim_names dims) i h.0 in
+    let low = position_below (bytes_eq n) (dim_names dims) i h.0 in
     and_from _ _ (lt-ltb i (length dims) (omega (arith, low, length_names dims))) (within_zipped dims ns ids h.1)
 
 got_within : (dims more : List Dim) (i : ℕ) → i < length dims → slice_get (dims ++ more) i ≡ slice_get dims i

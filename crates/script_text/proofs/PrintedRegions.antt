@@ -3,6 +3,7 @@ use Rattle.std.proofs.Common.{◌≡◌, ◌∙◌, ℕ, zero, suc, ◌+◌, ◌
 use Rattle.std.specs.List.{list_all}
 use Rattle.std.proofs.lemmas.Bool.{and_parts, and_from, cond-true}
 use borrow.Author.Tests.{ltb-true, ltb-false, lt-ltb}
+use Rattle.script_spec.proofs.TextLaws.{faultless_some}
 use Rattle.nc_base.specs.declared.errors.ScriptKind.{ScriptKind}
 use Rattle.nc_base.specs.declared.errors.ScriptKind.TheVariants as kind
 use Rattle.nc_base.specs.declared.errors.LimitName.TheVariants as limit
@@ -17,7 +18,7 @@ use Rattle.script_spec.specs.Shown.{size_list, part_words, form_words, choice_wo
 use Rattle.script_spec.specs.ScriptWords.{Word, Plain, is_word, is_name, size_of_text, list_of_text}
 use Rattle.script_spec.specs.ScriptSteps.{◌>>=◌, refuse_if, bare, reads_as, size, list, name, name_of_text, whole}
 use Rattle.script_spec.specs.ScriptCalls.{given_of, given_parts, part, part_list, region, id_of_text, one_id, ids, choice}
-use Rattle.script_text.proofs.Steps.{went, go_on, same_ok, not_refused, passed, no_fault, faultless, read_word, word_read, word_before, whole_value, carried, carry_on, by_false}
+use Rattle.script_text.proofs.Steps.{went, go_on, same_ok, not_refused, passed, faultless, read_word, word_read, word_before, whole_value, carried, carry_on, by_false}
 use Rattle.script_text.proofs.Lexing.{spelling, is_plain, is_good}
 use Rattle.script_text.proofs.Lines.{all_joined}
 use Rattle.script_text.proofs.Numerals.{decimal_word, below_bound, below_again, size_bound, size_again, size_plain, is_size, list_bound, list_again, list_plain}
@@ -283,7 +284,7 @@ id_plain n h = size_plain n (omega arith)
 one_id_read : (w : Word) (n : ℕ) → one_id w ≡ Ok n → is_id n ≡ true
 one_id_read w n h =
     let a = went (bare w) _ n h in
-    lt-ltb n (2 ^ 32) (id_bound a.value n (no_fault kind.BadNumber (id_of_text a.value) n a.rest))
+    lt-ltb n (2 ^ 32) (id_bound a.value n (faultless_some kind.BadNumber (id_of_text a.value) n a.rest))
 
 ids_read : (ws : List Word) (found r : List ℕ) → list_all is_id found ≡ true → ids found ws ≡ Ok r → list_all is_id r ≡ true
 ids_read [] found r h e = subst (λ xs. list_all is_id xs ≡ true) (same_ok found r e) h

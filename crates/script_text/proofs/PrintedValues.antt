@@ -4,6 +4,8 @@ use Rattle.std.specs.Fmt.{signed_decimal}
 use Rattle.std.specs.List.{list_all}
 use Rattle.std.proofs.lemmas.Bool.{and_parts, and_from, and_left, cond-true, ne_eqb}
 use borrow.Author.Tests.{ltb-true, ltb-false, lt-ltb, le-ltb, not-false}
+use Rattle.script_spec.proofs.NumeralLaws.{sixteens}
+use Rattle.script_spec.proofs.TextLaws.{faultless_some}
 use Rattle.nc_base.specs.declared.errors.ScriptKind.{ScriptKind}
 use Rattle.nc_base.specs.declared.errors.ScriptKind.TheVariants as kind
 use Rattle.nc_base.specs.declared.errors.LimitName.TheVariants as limit
@@ -21,9 +23,9 @@ use Rattle.script_spec.specs.Shown.{shown_values}
 use Rattle.script_spec.specs.ScriptWords.{Word, Plain, Quoted, Broken, number_of_text, bits_of_text}
 use Rattle.script_spec.specs.ScriptSteps.{refuse_if, or_fault, bare, reads_as, size, ended}
 use Rattle.script_spec.specs.ScriptValues.{within_limits, are_numbers, are_patterns, are_text, may_be, may_have, wrong_kind, number_for, pattern_for, one_value, each_value, sequence_count, sequence, last_number, is_term, term, numbers_between, pattern_sequence, last_pattern, is_pattern_term, pattern_term, patterns_between, seq_values, seqx_values, pattern_values, text_values, number_values, bits_values, begins_x, listed_kind, listed_values, values}
-use Rattle.script_text.proofs.Steps.{went, go_on, same_ok, not_refused, passed, no_fault, faultless, carried, carry_on, by_false}
+use Rattle.script_text.proofs.Steps.{went, go_on, same_ok, not_refused, passed, faultless, carried, carry_on, by_false}
 use Rattle.script_text.proofs.Lexing.{spelling, is_byte, is_good}
-use Rattle.script_text.proofs.Numerals.{IsNumberWord, number_word, number_again, number_bound, bits_again, bits_bound, hex_graphic, sixteens}
+use Rattle.script_text.proofs.Numerals.{IsNumberWord, number_word, number_again, number_bound, bits_again, bits_bound, hex_graphic}
 use Rattle.script_text.proofs.Sequences.{is_fit_number, is_fit_pattern, numbers_fit, length-sequence, patterns_fit, length-pattern_sequence}
 
 -- ---- values as they are printed
@@ -95,7 +97,7 @@ each_fit f test each t before (w ∷ ws) found xs h room e =
     let c = went (or_fault kind.BadNumber (f b.value)) _ a.value b.rest in
     let d = went (within_limits t before (length found + 1)) _ a.value c.rest in
     let same = same_ok c.value a.value d.rest in
-    let fits = each b.value a.value (no_fault kind.BadNumber (f b.value) c.value c.first ∙ ap (λ y. Some y) same) in
+    let fits = each b.value a.value (faultless_some kind.BadNumber (f b.value) c.value c.first ∙ ap (λ y. Some y) same) in
     let long = length-append found (a.value ∷ []) in
     let more = each_fit f test each t before ws (found ++ a.value ∷ []) xs (all_pushed test found a.value h fits)
     (subst (λ n. HasRoom t before n) (sym long) (room_from t before (length found + 1) d.value d.first)) a.rest in

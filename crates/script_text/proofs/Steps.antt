@@ -1,5 +1,6 @@
 -- Steps from word to word, forwards and backwards.
-use Rattle.std.proofs.Common.{◌≡◌, ◌∙◌, ℕ, List, [], ◌∷◌, Bool, true, false, Option, Some, None, Result, Ok, Err, refl, ap}
+use Rattle.std.proofs.Common.{◌≡◌, ◌∙◌, ℕ, List, [], ◌∷◌, Bool, true, false, Option, Some, Result, Ok, Err, refl, ap}
+use Rattle.script_spec.proofs.TextLaws.{faultless_some}
 use Rattle.nc_base.specs.declared.errors.ScriptKind.{ScriptKind}
 use Rattle.script_spec.specs.ScriptWords.{Word, Plain, Quoted, Broken}
 use Rattle.script_spec.specs.ScriptSteps.{◌>>=◌, refuse_if, or_fault, bare, next, reads_as, ended, whole}
@@ -33,10 +34,6 @@ pub passed : (b : Bool) (e : ScriptKind) → b ≡ false → refuse_if b e ≡ O
 passed false e h = refl
 passed true e h = absurd (cc)
 
-pub no_fault : {A : Type 0} (e : ScriptKind) (o : Option A) (x : A) → or_fault e o ≡ Ok x → o ≡ Some x
-no_fault e (Some y) x h = ap (λ (z : _). Some z) (same_ok y x h)
-no_fault e None x h = absurd (cc)
-
 pub faultless : {A : Type 0} (e : ScriptKind) (o : Option A) (x : A) → o ≡ Some x → or_fault e o ≡ Ok x
 faultless e o x h = ap (or_fault e) h
 
@@ -51,7 +48,7 @@ read_word f e ws r h =
     let a = went (next ws) _ r h in
     let b = went (or_fault e (f a.value.0)) _ r a.rest in
     let same = ap (λ (p : _ × List Word). p.0) (same_ok (b.value, a.value.1) r b.rest) in
-    (a.value.0, no_fault e (f a.value.0) b.value b.first ∙ ap (λ (z : _). Some z) same)
+    (a.value.0, faultless_some e (f a.value.0) b.value b.first ∙ ap (λ (z : _). Some z) same)
 
 pub word_read : {A : Type 0} (f : List ℕ → Option A) (e : ScriptKind) (w : List ℕ) (x : A) (more : List Word) → f w ≡ Some x → reads_as f e (Plain w ∷ more) ≡ Ok (x, more)
 word_read f e w x more h = ap (λ (o : Option _). or_fault e o >>= λ y. Ok (y, more)) h
@@ -91,10 +88,6 @@ pub carry_on : {A B E : Type 0} (r : Result A E) (f : A → Result B E) (x : A) 
 carry_on r f x y e h = ap (λ (s : Result _ _). carry s f) e ∙ h
 
 -- ---- what comes of two tests, one after the other
-
-pub by_true : {A : Type 0} (b : Bool) (x y : A) → b ≡ true → elim b as (λ t. A) [ true ↦ x | false ↦ y ] ≡ x
-by_true true x y h = refl
-by_true false x y h = absurd (cc)
 
 pub by_false : {A : Type 0} (b : Bool) (x y : A) → b ≡ false → elim b as (λ t. A) [ true ↦ x | false ↦ y ] ≡ y
 by_false false x y h = refl

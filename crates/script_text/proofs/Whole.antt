@@ -4,6 +4,7 @@ use Rattle.std.specs.List.{list_all, enumerate_from}
 use Rattle.std.specs.Str.Lossy.{utf8_valid_len}
 use Rattle.std.proofs.lemmas.Bool.{and_parts, and_from, or_cases, cond-true, ne_eqb, eqb-true}
 use borrow.Author.Tests.{leb-true, le-ltb}
+use Rattle.script_spec.proofs.TextLaws.{finished}
 use Rattle.nc_base.specs.declared.errors.ScriptKind.{ScriptKind}
 use Rattle.nc_base.specs.declared.errors.ScriptKind.TheVariants as kind
 use Rattle.nc_base.specs.declared.errors.ScriptErr.{ScriptErr}
@@ -269,15 +270,6 @@ none_called n k few = record { long = length_empty n; chains = chains_empty n 0 
 all_called : (n values : ℕ) (d : Called) → Holds n values d → DataEnd n values d.calls
 all_called n values d holds = record { long = holds.long; chains = holds.chains; few = omega (arith, holds.counted, holds.few) }
 
-agreed : (n : ℕ) (calls : List (List Call)) (lines : List Line) (u : Unit {0}) → finish n calls lines ≡ Ok u → mismatch (map (λ own. kinds own) calls) ≡ None
-agreed n calls (l ∷ lines) u h = absurd (cc)
-agreed n calls [] u h = by (mismatch (map (λ own. kinds own) calls)) refl h
-  where
-    by : (o : Option ScriptKind) → mismatch (map (λ own. kinds own) calls) ≡ o → elim o as (λ x. Result (Unit {0}) ScriptErr) [ None ↦ Ok tt | Some e ↦ Err (record { line = n; kind = e }) ] ≡ Ok u
-        → mismatch (map (λ own. kinds own) calls) ≡ None
-    by None e k = e
-    by (Some x) e k = absurd (cc)
-
 abbrev finish_by : ℕ → Option ScriptKind → Result (Unit {0}) ScriptErr
 finish_by n o = elim o [ None ↦ Ok tt | Some e ↦ Err (record { line = n; kind = e }) ]
 
@@ -357,7 +349,7 @@ whole_read past (l ∷ lines) script read h =
     let h2 = hints_of n k.hints in
     let again = known_again (version == 0) version n h2 k refl r (hints_fit n k.hints r known.known.hints) known.known.few known.known.what in
     subst Whole (same_ok (script_of version n k calls) script f.rest)
-    (whole_from version n k.values h2 k.added.extras k.defined calls first (at_most_64 n r) again end (agreed c.value.0 calls c.value.1.1 f.value f.first))
+    (whole_from version n k.values h2 k.added.extras k.defined calls first (at_most_64 n r) again end (finished c.value.0 calls c.value.1.1 f.value f.first))
   where
     ranks_of : (o : Option ℕ) (n : ℕ) → o ≡ Some n → elim o as (λ x. Bool) [ None ↦ true | Some m ↦ is_value_of (Within 1 64 1) m ] ≡ true → is_value_of (Within 1 64 1) n ≡ true
     ranks_of None n e h = absurd (cc)

@@ -1,10 +1,14 @@
 -- The elements of an accepted region are elements of the variable, and their bytes lie within the file of the records that it needs.
-use Rattle.std.proofs.Common.{◌≡◌, ℕ, zero, suc, ◌+◌, ◌-◌, ◌*◌, ◌<◌, ◌≤◌, refl, sym, ◌∙◌, ap, subst, List, [], ◌∷◌, ◌++◌, length, map, drop, Bool, true, false, not, ◌||◌, cond, Option, Some, None, arith}
+use Rattle.std.proofs.Common.{◌≡◌, ℕ, zero, suc, ◌+◌, ◌-◌, ◌*◌, ◌<◌, ◌≤◌, refl, sym, ◌∙◌, ap, subst, List, [], ◌∷◌, length, map, drop, Bool, true, false, not, ◌||◌, cond, Option, Some, None, arith}
 use Rattle.std.proofs.Math.Nat.{mul-le-mul_right}
 use Rattle.std.proofs.lemmas.Bool.Decides.{nat_tests}
 use Rattle.std.specs.List.{list_any, AllByRecursion, range_with_len}
 use Rattle.std.specs.Prelude.{flat_map, slice_get, slice_index, MatchBool, ◌==◌}
+use Rattle.std.proofs.lemmas.Bool.{not-false}
+use Rattle.std.proofs.lemmas.List.{length-map}
 use borrow.Author.Tests.{eqb-true}
+use Rattle.list_laws.proofs.Truth.{or_first_false, or_second_false, equal_zero, equal_suc, and_first, and_second}
+use Rattle.list_laws.proofs.Each.{each_map, each_append, each_flat_map, each_weaker}
 use Rattle.nc_base.specs.declared.header.Header.{Header}
 use Rattle.nc_base.specs.declared.header.Var.{Var}
 use Rattle.nc_base.specs.declared.request.Region.{Region}
@@ -21,28 +25,8 @@ use Rattle.serial_spec.specs.Request.{coordinates, index_at, elements, places}
 use Rattle.serial_spec.specs.RegionCheck.{bound, bounds, bad_edge, some_edge, some_start, other_shape, is_too_large, first_code, check_var, check_some, check}
 use Rattle.serial_spec.specs.Records.{records_of, records_of_some, needed, needed_by}
 use Rattle.serial_spec.specs.SharedByte.{Puts, bytes_of, bytes_of_some, covered}
-use Rattle.serial_spec.proofs.SpellingLaws.{left, right}
 use Rattle.serial_spec.proofs.RowLaws.{row_below}
-use Rattle.serial_spec.proofs.ElementLaws.{map_long}
 use Rattle.serial_spec.proofs.RoomLaws.{none_later, element_inside, end_grows}
-
--- ---- all entries of lists
-
-pub all_map : {A B : Type 0} (P : B → Type 0) (f : A → B) (xs : List A) → AllByRecursion (λ x. P (f x)) xs → AllByRecursion P (map f xs)
-all_map P f [] h = tt
-all_map P f (x ∷ xs) h = (h.0, all_map P f xs h.1)
-
-pub all_joined : {A : Type 0} (P : A → Type 0) (xs ys : List A) → AllByRecursion P xs → AllByRecursion P ys → AllByRecursion P (xs ++ ys)
-all_joined P [] ys h k = k
-all_joined P (x ∷ xs) ys h k = (h.0, all_joined P xs ys h.1 k)
-
-pub all_flat : {A B : Type 0} (P : B → Type 0) (f : A → List B) (xs : List A) → AllByRecursion (λ x. AllByRecursion P (f x)) xs → AllByRecursion P (flat_map f xs)
-all_flat P f [] h = tt
-all_flat P f (x ∷ xs) h = all_joined P (f x) (flat_map f xs) h.0 (all_flat P f xs h.1)
-
-pub all_same : {A : Type 0} (P Q : A → Type 0) → ((x : A) → P x → Q x) → (xs : List A) → AllByRecursion P xs → AllByRecursion Q xs
-all_same P Q f [] h = tt
-all_same P Q f (x ∷ xs) h = (f x h.0, all_same P Q f xs h.1)
 
 -- ---- coordinates
 
@@ -53,11 +37,11 @@ all_below P a (suc k) n h f = (f a (omega arith), all_below P (a + 1) k n (omega
 pub coordinates_all : (counts : List ℕ) → AllByRecursion (IsIndex counts) (coordinates counts)
 coordinates_all [] = (tt, tt)
 coordinates_all (n ∷ counts) =
-    all_flat (IsIndex (n ∷ counts)) (λ i. map (λ c. i ∷ c) (coordinates counts)) (range_with_len 0 n)
+    each_flat_map (IsIndex (n ∷ counts)) (λ i. map (λ c. i ∷ c) (coordinates counts)) (range_with_len 0 n)
     (all_below (λ i. AllByRecursion (IsIndex (n ∷ counts)) (map (λ c. i ∷ c) (coordinates counts))) 0 n n (omega arith) (each (coordinates_all counts)))
   where
     each : AllByRecursion (IsIndex counts) (coordinates counts) → (i : ℕ) → i < n → AllByRecursion (IsIndex (n ∷ counts)) (map (λ c. i ∷ c) (coordinates counts))
-    each h i l = all_map (IsIndex (n ∷ counts)) (λ c. i ∷ c) (coordinates counts) (all_same (IsIndex counts) (λ c. IsIndex (n ∷ counts) (i ∷ c)) (λ c k. (l, k)) (coordinates counts) h)
+    each h i l = each_map (IsIndex (n ∷ counts)) (λ c. i ∷ c) (coordinates counts) (each_weaker (IsIndex counts) (λ c. IsIndex (n ∷ counts) (i ∷ c)) (λ c k. (l, k)) (coordinates counts) h)
 
 -- ---- below the bounds
 
@@ -67,14 +51,6 @@ BelowBounds [] (i ∷ index) = ⊥
 BelowBounds (b ∷ bounds) [] = ⊥
 BelowBounds (None ∷ bounds) (i ∷ index) = BelowBounds bounds index
 BelowBounds (Some n ∷ bounds) (i ∷ index) = (i < n) × BelowBounds bounds index
-
-neither_left : (a b : Bool) → (a || b) ≡ false → a ≡ false
-neither_left true b h = h
-neither_left false b h = refl
-
-neither_right : (a b : Bool) → (a || b) ≡ false → b ≡ false
-neither_right true b h = absurd cc
-neither_right false b h = h
 
 one_below : (m s n d i : ℕ) → bad_edge (Some m) s n d ≡ false → i < n → s + i * d < m
 one_below m s n d i h l =
@@ -95,19 +71,16 @@ below_bounds (x ∷ bs) (s ∷ starts) [] strides c a b d h e = absurd (omega ar
 below_bounds (x ∷ bs) (s ∷ starts) (n ∷ counts) [] c a b d h e = absurd (omega arith)
 below_bounds (x ∷ bs) (s ∷ starts) (n ∷ counts) (t ∷ strides) [] a b d h e = absurd h
 below_bounds (None ∷ bs) (s ∷ starts) (n ∷ counts) (t ∷ strides) (i ∷ c) a b d h e =
-    below_bounds bs starts counts strides c (omega arith) (omega arith) (omega arith) h.1 (neither_right (bad_edge None s n t) (some_edge bs starts counts strides) e)
+    below_bounds bs starts counts strides c (omega arith) (omega arith) (omega arith) h.1 (or_second_false (bad_edge None s n t) (some_edge bs starts counts strides) e)
 below_bounds (Some m ∷ bs) (s ∷ starts) (n ∷ counts) (t ∷ strides) (i ∷ c) a b d h e = (
-  one_below m s n t i (neither_left (bad_edge (Some m) s n t) (some_edge bs starts counts strides) e) h.0,
-  below_bounds bs starts counts strides c (omega arith) (omega arith) (omega arith) h.1 (neither_right (bad_edge (Some m) s n t) (some_edge bs starts counts strides) e),
+  one_below m s n t i (or_first_false (bad_edge (Some m) s n t) (some_edge bs starts counts strides) e) h.0,
+  below_bounds bs starts counts strides c (omega arith) (omega arith) (omega arith) h.1 (or_second_false (bad_edge (Some m) s n t) (some_edge bs starts counts strides) e),
 )
 
 -- ---- from bounds to lengths
 
-zero_is_zero : {A : Type 0} → (0 == 0) ≡ false → A
-zero_is_zero h = absurd cc
-
 fixed_bound : (way : Direction) (known n : ℕ) → (n == 0) ≡ false → bound way known n ≡ Some n
-fixed_bound way known zero h = zero_is_zero h
+fixed_bound way known zero h = equal_zero h
 fixed_bound Put known (suc n) h = refl
 fixed_bound Get known (suc n) h = refl
 
@@ -131,9 +104,6 @@ unfolding BelowBounds
 record_rest Put known bs r index h = h
 record_rest Get known bs r index h = h.1
 
-suc_is_some : (n : ℕ) → (suc n == 0) ≡ false
-suc_is_some n = grind (arith, nat_tests)
-
 -- below the bounds, and in a record below n: in words of the lengths alone
 by_lengths : (way : Direction) (known n : ℕ) (ls index : List ℕ) → AllByRecursion (λ m. (m == 0) ≡ false) (drop 1 ls)
     → BelowBounds (map (bound way known) ls) index → (starts_with_zero ls ≡ true → record_of index < n)
@@ -145,7 +115,7 @@ by_lengths way known n (zero ∷ ls) [] some h below = absurd h
 by_lengths way known n (zero ∷ ls) (r ∷ index) some h below =
     ((tt, fixed_index way known ls index some (record_rest way known (map (bound way known) ls) r index h)), below refl)
 by_lengths way known n (suc m ∷ ls) index some h below =
-    let e : (suc m == 0) ≡ false = suc_is_some m in
+    let e : (suc m == 0) ≡ false = equal_suc m in
     let own : IsIndex (suc m ∷ ls) index = fixed_index way known (suc m ∷ ls) index (e, some) h in (
       subst (λ (t : Bool). MatchBool t (HasRecord index × IsIndex (suc m ∷ ls) (within_record index)) (IsIndex (suc m ∷ ls) index)) (sym e) own,
       subst (λ (t : Bool). MatchBool t (record_of index < n) (Unit {0})) (sym e) tt,
@@ -156,10 +126,6 @@ by_lengths way known n (suc m ∷ ls) index some h below =
 first_ok : (b : Bool) (c : Code) (cs : List (Bool × Code)) → (c ≡ code.Ok → ⊥) → first_code ((b, c) ∷ cs) ≡ code.Ok → (b ≡ false) × (first_code cs ≡ code.Ok)
 first_ok true c cs n h = absurd (n h)
 first_ok false c cs n h = (refl, h)
-
-not_true : (b : Bool) → not b ≡ false → b ≡ true
-not_true true h = refl
-not_true false h = absurd cc
 
 pub record IsAccepted (header : Header) (v : Var) (g : Region) (known : ℕ) (way : Direction) : Type 0 where
   pub starts : length g.start ≡ length v.dims
@@ -179,13 +145,13 @@ accepted header v g known way h =
     let c = first_ok (some_start (bounds header v known way) g.start g.count) code.EInvalCoords edges (λ e. absurd cc) b.1 in
     let d = first_ok (some_edge (bounds header v known way) g.start g.count g.stride) code.EEdge large (λ e. absurd cc) c.1 in
     let f = first_ok (is_too_large header v g) code.ETooLarge [] (λ e. absurd cc) d.1 in
-    let shape = not_true _ a.0 in
-    let three = left _ _ shape in
-    let two = left _ _ three in
+    let shape = not-false _ a.0 in
+    let three = and_first _ _ shape in
+    let two = and_first _ _ three in
     record {
-      starts = eqb-true _ _ (left _ _ two);
-      counts = eqb-true _ _ (right _ _ two);
-      strides = eqb-true _ _ (right _ _ three);
+      starts = eqb-true _ _ (and_first _ _ two);
+      counts = eqb-true _ _ (and_second _ _ two);
+      strides = eqb-true _ _ (and_second _ _ three);
       edges = d.0;
       small = f.0;
     }
@@ -223,7 +189,7 @@ record_needed header v g c a b d h e = by_lists v.dims g.start g.count g.stride 
 accepted_at : (header : Header) (k : ℕ) (v : Var) (g : Region) (known : ℕ) (way : Direction) (c : List ℕ) → is_sound header ≡ true → slice_get header.vars k ≡ Some v
     → IsAccepted header v g known way → IsIndex g.count c → IsElementBelow header v (records_of header v g) (index_at g.start g.stride c)
 accepted_at header k v g known way c sound there a h =
-    let one : length (bounds header v known way) ≡ length v.dims = map_long (bound way known) (lengths header v) ∙ map_long (λ id. length_of (slice_get header.dims id)) v.dims in
+    let one : length (bounds header v known way) ≡ length v.dims = length-map (lengths header v) (bound way known) ∙ length-map v.dims (λ id. length_of (slice_get header.dims id)) in
     by_lengths way known (records_of header v g) (lengths header v) (index_at g.start g.stride c) (none_later header k v sound there)
     (below_bounds (bounds header v known way) g.start g.count g.stride c (a.starts ∙ sym one) (a.counts ∙ sym one) (a.strides ∙ sym one) h a.edges)
     (λ e. record_needed header v g c a.starts a.counts a.strides h e)
@@ -233,8 +199,8 @@ pub accepted_elements : (header : Header) (k : ℕ) (v : Var) (g : Region) (know
     → check_var header v g known way ≡ code.Ok → AllByRecursion (IsElementBelow header v (records_of header v g)) (elements g)
 accepted_elements header k v g known way sound there ok =
     let a = accepted header v g known way ok in
-    all_map (IsElementBelow header v (records_of header v g)) (λ c. index_at g.start g.stride c) (coordinates g.count)
-    (all_same (IsIndex g.count) (λ c. IsElementBelow header v (records_of header v g) (index_at g.start g.stride c)) (λ c h. accepted_at header k v g known way c sound there a h) (coordinates g.count) (coordinates_all g.count))
+    each_map (IsElementBelow header v (records_of header v g)) (λ c. index_at g.start g.stride c) (coordinates g.count)
+    (each_weaker (IsIndex g.count) (λ c. IsElementBelow header v (records_of header v g) (index_at g.start g.stride c)) (λ c h. accepted_at header k v g known way c sound there a h) (coordinates g.count) (coordinates_all g.count))
 
 -- ---- its bytes
 
@@ -246,9 +212,9 @@ pub accepted_bytes : (header : Header) (first k : ℕ) (v : Var) (g : Region) (k
     → AllByRecursion (λ x. x < end_of header first (records_of header v g)) (flat_map (λ x. range_with_len x (size_of v.kind)) (places header v g))
 accepted_bytes header first k v g known way sound there ok =
     let last = end_of header first (records_of header v g) in
-    all_flat (λ x. x < last) (λ x. range_with_len x (size_of v.kind)) (places header v g)
-    (all_map (λ x. AllByRecursion (λ y. y < last) (range_with_len x (size_of v.kind))) (λ i. place header v i) (elements g)
-    (all_same (IsElementBelow header v (records_of header v g)) (λ i. AllByRecursion (λ y. y < last) (range_with_len (place header v i) (size_of v.kind)))
+    each_flat_map (λ x. x < last) (λ x. range_with_len x (size_of v.kind)) (places header v g)
+    (each_map (λ x. AllByRecursion (λ y. y < last) (range_with_len x (size_of v.kind))) (λ i. place header v i) (elements g)
+    (each_weaker (IsElementBelow header v (records_of header v g)) (λ i. AllByRecursion (λ y. y < last) (range_with_len (place header v i) (size_of v.kind)))
     (λ i h. range_below (place header v i) (size_of v.kind) last (element_inside header first (records_of header v g) k v i there h)) (elements g) (accepted_elements header k v g known way sound there ok)))
 
 -- the bytes of an accepted post lie below the end for the records that it needs
@@ -270,6 +236,6 @@ puts_inside header first (p ∷ puts) n known sound ok l =
     let own : needed header p.1 ≤ n = omega (arith, l) in
     let others : needed_by header puts ≤ n = omega (arith, l) in
     let last = end_grows header first (needed header p.1) n own in
-    all_joined (λ x. x < end_of header first n) (bytes_of header p.1) (covered header puts)
-    (all_same (λ x. x < end_of header first (needed header p.1)) (λ x. x < end_of header first n) (λ x h. omega (arith, h, last)) (bytes_of header p.1) (post_inside header first p.1 (known p) Put sound ok.0))
+    each_append (λ x. x < end_of header first n) (bytes_of header p.1) (covered header puts)
+    (each_weaker (λ x. x < end_of header first (needed header p.1)) (λ x. x < end_of header first n) (λ x h. omega (arith, h, last)) (bytes_of header p.1) (post_inside header first p.1 (known p) Put sound ok.0))
     (puts_inside header first puts n known sound ok.1 others)

@@ -1,10 +1,12 @@
 -- What is added to a header keeps its variables: their kinds, and the lengths of their dimensions.
-use Rattle.std.proofs.Common.{◌≡◌, ℕ, zero, suc, ◌+◌, ◌<◌, refl, sym, ◌∙◌, ap, List, [], ◌∷◌, ◌++◌, length, map, Bool, true, false, cond, Some, None, append_assoc, arith}
-use Rattle.std.proofs.lemmas.Bool.Decides.{nat_tests}
+use Rattle.std.proofs.Common.{◌≡◌, ℕ, zero, suc, ◌+◌, refl, sym, ◌∙◌, ap, List, [], ◌∷◌, ◌++◌, length, map, Bool, true, false, cond, Some, None, append_assoc, arith}
 use Rattle.std.proofs.lemmas.List.{append-nil}
 use Rattle.std.proofs.lemmas.Iterator.Adapters.{position_from-zero}
 use Rattle.std.specs.List.{enumerate_from, AllByRecursion}
 use Rattle.std.specs.Prelude.{slice_get, position, bytes_eq, nat_le}
+use Rattle.std.proofs.lemmas.Bool.{leb-false}
+use Rattle.list_laws.proofs.Truth.{and_second}
+use Rattle.list_laws.proofs.Optional.{both_none, none_of_test, none_before_map}
 use Rattle.nc_base.specs.declared.header.Header.{Header}
 use Rattle.nc_base.specs.declared.header.Dim.{Dim}
 use Rattle.nc_base.specs.declared.header.Var.{Var}
@@ -15,9 +17,8 @@ use Rattle.nc_base.specs.declared.errors.HeaderErr.TheVariants as fault
 use Rattle.serial_spec.specs.Layout.{length_of}
 use Rattle.serial_spec.specs.HeaderGrammar.{is_sound, first_check, first_with, fault_if, two_record_dims, record_later, bad_id}
 use Rattle.serial_spec.specs.Redefinition.{with_attr, with_extra, added, begins_by_number, begin_of_number, with_begins, redefined_header, KeepsVars}
-use Rattle.serial_spec.proofs.ApartLaws.{neither, no_some, and_right}
 use Rattle.serial_spec.proofs.ElementLaws.{get_left, get_map}
-use Rattle.serial_spec.proofs.RoomLaws.{unmapped, untested, none_any}
+use Rattle.serial_spec.proofs.RoomLaws.{untested, none_any}
 
 -- ---- a header of which another is a part
 
@@ -40,7 +41,7 @@ grew_on h g f a b =
       vars = λ k v e. let one = a.vars k v e in let two = b.vars k one.0 one.1 in (two.0, two.1, two.2 ∙ one.2, two.3 ∙ one.3);
     }
 
-in_front : (vs ws : List Var) (k : ℕ) (v : Var) → slice_get vs k ≡ Some v → slice_get (vs ++ ws) k ≡ Some v
+pub in_front : (vs ws : List Var) (k : ℕ) (v : Var) → slice_get vs k ≡ Some v → slice_get (vs ++ ws) k ≡ Some v
 in_front [] ws k v h = absurd cc
 in_front (x ∷ vs) ws zero v h = h
 in_front (x ∷ vs) ws (suc k) v h = in_front vs ws k v h
@@ -97,23 +98,20 @@ placed_more h found =
 
 -- ---- the lengths stay
 
-below_count : (n id : ℕ) → nat_le n id ≡ false → id < n
-below_count n id h = grind (arith, nat_tests)
-
 same_lengths : (dims more : List Dim) (ids : List ℕ) → AllByRecursion (λ id. nat_le (length dims) id ≡ false) ids
     → map (λ id. length_of (slice_get (dims ++ more) id)) ids ≡ map (λ id. length_of (slice_get dims id)) ids
 same_lengths dims more [] h = refl
 same_lengths dims more (id ∷ ids) h =
-    λ t. ap length_of (get_left dims more id (below_count (length dims) id h.0)) t ∷ same_lengths dims more ids h.1 t
+    λ t. ap length_of (get_left dims more id (leb-false (length dims) id h.0)) t ∷ same_lengths dims more ids h.1 t
 
 ids_known : (header : Header) (k : ℕ) (v : Var) → is_sound header ≡ true → slice_get header.vars k ≡ Some v
     → AllByRecursion (λ id. nat_le (length header.dims) id ≡ false) v.dims
 ids_known header k v h g =
-    let checks : first_check header ≡ None = no_some _ (and_right _ _ h) in
-    let a = (neither (fault_if (two_record_dims header) fault.TwoRecordDims) _ checks).1 in
-    let b = (neither (first_with (record_later header) (λ n. fault.RecordDimNotFirst n) header.vars) _ a).1 in
-    let c = (neither (first_with (bad_id header) (λ n. fault.BadDimId n) header.vars) _ b).0 in
-    let none : position (bad_id header) header.vars ≡ None = unmapped (λ n. fault.BadDimId n) _ c in
+    let checks : first_check header ≡ None = none_of_test _ (and_second _ _ h) in
+    let a = (both_none (fault_if (two_record_dims header) fault.TwoRecordDims) _ checks).1 in
+    let b = (both_none (first_with (record_later header) (λ n. fault.RecordDimNotFirst n) header.vars) _ a).1 in
+    let c = (both_none (first_with (bad_id header) (λ n. fault.BadDimId n) header.vars) _ b).0 in
+    let none : position (bad_id header) header.vars ≡ None = none_before_map (λ n. fault.BadDimId n) _ c in
     none_any (λ id. nat_le (length header.dims) id) v.dims
     (untested (bad_id header) 0 header.vars k v (sym (position_from-zero (bad_id header) header.vars) ∙ none) g)
 

@@ -3,17 +3,19 @@ use Rattle.std.proofs.Common.{◌≡◌, ℕ, zero, suc, ◌+◌, ◌-◌, ◌*�
 use Rattle.std.proofs.Math.Nat.{add-mul, le_of_mul-le-mul_right, mul-le-mul_right}
 use Rattle.std.proofs.Math.Seq.{take-add, drop-append-add, take-append-add}
 use Rattle.std.proofs.lemmas.Nat.{div-add-mod', mod_below, le-div}
-use Rattle.std.proofs.lemmas.List.{drop-drop, drop-append-le, take-append-le, length-drop, drop-map, take-map, map-append, append-nil}
+use Rattle.std.proofs.lemmas.List.{drop-drop, drop-append-le, take-append-le, length-drop, drop-map, take-map, map-append, append-nil, length-map}
 use Rattle.std.proofs.lemmas.Grind.{flat_map-append}
 use Rattle.std.specs.Prelude.{flat_map, nat_lt, ◌==◌}
 use Rattle.std.specs.List.{range_with_len}
 use Rattle.std.proofs.lemmas.Bool.{eqb-false}
 use borrow.Author.Tests.{ltb-true, ltb-false, eqb-true}
+use Rattle.list_laws.proofs.Numbers.{some_factor}
+use Rattle.list_laws.proofs.Maps.{map_map}
 use Rattle.nc_base.specs.declared.request.Part.{Part}
 use Rattle.serial_spec.specs.Layout.{product}
 use Rattle.serial_spec.specs.Request.{coordinates}
 use Rattle.serial_spec.specs.Fill.{boxes, in_row, whole_rows, shifted, box_indices, AreBoxes}
-use Rattle.serial_spec.proofs.ElementLaws.{length-coordinates, map_long}
+use Rattle.serial_spec.proofs.ElementLaws.{length-coordinates}
 
 -- ---- parts of a list
 
@@ -108,11 +110,7 @@ abbrev slice : List ℕ → ℕ → List (List ℕ)
 slice lengths i = map (λ c. i ∷ c) (coordinates lengths)
 
 slice_long : (lengths : List ℕ) (i : ℕ) → length (slice lengths i) ≡ product lengths
-slice_long lengths i = map_long (λ c. i ∷ c) (coordinates lengths) ∙ length-coordinates lengths
-
-map_map : {A B C : Type 0} (f : B → C) (g : A → B) (xs : List A) → map f (map g xs) ≡ map (λ x. f (g x)) xs
-map_map f g [] = refl
-map_map f g (x ∷ xs) = ap (λ ys. f (g x) ∷ ys) (map_map f g xs)
+slice_long lengths i = length-map (coordinates lengths) (λ c. i ∷ c) ∙ length-coordinates lengths
 
 map_flat : {A B C : Type 0} (f : B → C) (g : A → List B) (xs : List A) → map f (flat_map g xs) ≡ flat_map (λ x. map f (g x)) xs
 map_flat f g [] = refl
@@ -207,10 +205,6 @@ scalar_boxes from to h k = by_test (nat_lt from to) refl
         λ t. part (first t) (last t) ([] ∷ [])
     by_test false e = sym (part_none ([] ∷ []) from to (ltb-false _ _ e))
 
-some_size : (n size x : ℕ) → x < n * size → 0 < size
-some_size n zero x h = absurd (omega arith)
-some_size n (suc size) x h = omega arith
-
 -- the row of a number, and its place there
 record InRow (size x q r : ℕ) : Type 0 where
   whole : q * size + r ≡ x
@@ -252,7 +246,7 @@ one_row n lengths q r s from to ih v w h k =
     let b = w.whole in
     let l = w.less in
     let ordered : r ≤ s = omega arith in
-    let size_pos : 0 < product lengths = some_size n (product lengths) from k in
+    let size_pos : 0 < product lengths = some_factor n (product lengths) from k in
     let below : q < n = below_n (nat_lt q n) refl in
     in_row_indices q (boxes lengths r s)
     ∙ ap (λ ys. map (λ c. q ∷ c) ys) (ih r s ordered (omega arith))
@@ -298,7 +292,7 @@ same_row n lengths from to ih h k e = by_end (nat_lt from (n * product lengths))
         → flat_map box_indices (in_row (from / product lengths) (boxes lengths (from % product lengths) (to % product lengths))) ≡ part from to (coordinates (n ∷ lengths))
     by_end true f =
         let low : from < n * product lengths = ltb-true _ _ f in
-        let some = some_size n (product lengths) from low in
+        let some = some_factor n (product lengths) from low in
         one_row n lengths (from / product lengths) (from % product lengths) (to % product lengths) from to ih (in_row_of (product lengths) from some)
         (subst (λ (q : ℕ). InRow (product lengths) to q (to % product lengths)) (sym e) (in_row_of (product lengths) to some)) h low
     by_end false f =
@@ -393,7 +387,7 @@ rows_right n lengths ih from to h k = by_row (from / product lengths == to / pro
     by_row true e = same_row n lengths from to ih h k (eqb-true _ _ e)
     by_row false e =
         let l = ordered e in
-        let some : 0 < product lengths = some_size n (product lengths) from (omega arith) in
+        let some : 0 < product lengths = some_factor n (product lengths) from (omega arith) in
         by_front some (later some e) (from % product lengths == 0) refl
 
 pub boxes_right : (lengths : List ℕ) (from to : ℕ) → from ≤ to → to ≤ product lengths → AreBoxes lengths from to (boxes lengths from to)

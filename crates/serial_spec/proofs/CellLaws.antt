@@ -5,11 +5,12 @@ use Rattle.std.specs.List.{AllByRecursion, enumerate_from}
 use Rattle.std.specs.Prelude.{flat_map, slice_get, ◌==◌}
 use Rattle.std.specs.Option.{option_or}
 use borrow.Author.Tests.{eqb-true}
+use Rattle.list_laws.proofs.Optional.{neither_some, second_counts, first_counts}
 use Rattle.serial_spec.specs.File.{at, read, written}
 use Rattle.serial_spec.specs.Place.{AreApart}
 use Rattle.serial_spec.specs.Said.{said_at, Cell, write_cells, said_by}
 use Rattle.serial_spec.proofs.FileLaws.{length-written_inside}
-use Rattle.serial_spec.proofs.SaidLaws.{said_below, said_past, said_inside, second_counts, first_counts, both_none, said_append}
+use Rattle.serial_spec.proofs.SaidLaws.{said_below, said_past, said_inside, said_append}
 
 -- ---- members
 
@@ -87,7 +88,7 @@ said_or_none c x low high (d ∷ ds) h = by_rest (said_or_none c x low high ds h
         → (said_at (said_by (d ∷ ds)) x ≡ Some (get_or c.1 (x - c.0) 0)) ⊎ (said_at (said_by (d ∷ ds)) x ≡ None)
     by_rest (inl s) q = inl (whole ∙ first_counts (said_at (said_by ds) x) (said_at (enumerate_from d.0 d.1) x) _ s)
     by_rest (inr s) (inl e) = inl (whole ∙ second_counts (said_at (said_by ds) x) (said_at (enumerate_from d.0 d.1) x) s ∙ said_by_one c d x e low high)
-    by_rest (inr s) (inr a) = inr (whole ∙ both_none (said_at (said_by ds) x) (said_at (enumerate_from d.0 d.1) x) s (unsaid_by_one d c.0 (length c.1) x a low high))
+    by_rest (inr s) (inr a) = inr (whole ∙ neither_some (said_at (said_by ds) x) (said_at (enumerate_from d.0 d.1) x) s (unsaid_by_one d c.0 (length c.1) x a low high))
 
 pub said_of : (c : Cell) (x : ℕ) → c.0 ≤ x → x < c.0 + length c.1 → (ds : List Cell) → AllByRecursion (IsOrApart c) ds → Has ds c
     → said_at (said_by ds) x ≡ Some (get_or c.1 (x - c.0) 0)
@@ -108,7 +109,7 @@ pub unsaid : (x : ℕ) (ds : List Cell) → AllByRecursion (λ d. AreApart d.0 (
 unsaid x [] h = refl
 unsaid x (d ∷ ds) h =
     said_append (enumerate_from d.0 d.1) (said_by ds) x
-    ∙ both_none (said_at (said_by ds) x) (said_at (enumerate_from d.0 d.1) x) (unsaid x ds h.1) (unsaid_by_one d x 1 x h.0 (omega arith) (omega arith))
+    ∙ neither_some (said_at (said_by ds) x) (said_at (enumerate_from d.0 d.1) x) (unsaid x ds h.1) (unsaid_by_one d x 1 x h.0 (omega arith) (omega arith))
 
 pub cells_within : (file : List ℕ) (ds : List Cell) (n : ℕ) → length file ≡ n → AllByRecursion (λ d. d.0 + length d.1 ≤ n) ds → length (write_cells file ds) ≡ n
 cells_within file [] n e h = e

@@ -1,5 +1,5 @@
 -- Every spelling of a header has the length of the one that is written.
-use Rattle.std.proofs.Common.{◌≡◌, ℕ, ◌+◌, List, [], ◌∷◌, ◌++◌, length, Bool, true, false, cond, refl, sym, ap, ◌∙◌, length-append, inl, inr, arith}
+use Rattle.std.proofs.Common.{◌≡◌, ℕ, ◌+◌, ◌≤◌, List, [], ◌∷◌, ◌++◌, length, Bool, true, false, cond, refl, sym, ap, ◌∙◌, length-append, inl, inr, arith}
 use Rattle.std.specs.Prelude.{flat_map, ◌==◌}
 use Rattle.std.specs.Int.{Width, w32, w64, byte_len, to_be_bytes}
 use Rattle.std.proofs.lemmas.List.{length-replicate}
@@ -8,6 +8,8 @@ use Rattle.nc_base.specs.declared.header.Dim.{Dim}
 use Rattle.nc_base.specs.declared.header.Attr.{Attr}
 use Rattle.nc_base.specs.declared.header.Var.{Var}
 use Rattle.nc_base.specs.declared.header.NcType.{NcType}
+use Rattle.nc_base.specs.declared.header.NcType.TheVariants.{Byte, Char, Short, Int, Float, Double, UByte, UShort, UInt, Int64, UInt64}
+use Rattle.serial_spec.specs.ExternalForm.{size_of}
 use Rattle.serial_spec.specs.Layout.{vsize}
 use Rattle.serial_spec.specs.HeaderGrammar.{Joined, ◌▹◌, Exactly, Each, Number, Padded, NameOf, ListOf, TypeOf, DimensionOf, AttributeOf, VariableOf, RecordsOf, Spells, count_width, begin_width, padded, count, tag, name, list_of, dimension, attribute, variable, magic, canon, header_len, number_of}
 
@@ -60,7 +62,7 @@ attr_long : (v : ℕ) (a : Attr) → Long (AttributeOf v a) (attribute v a)
 attr_long v a s h =
     joined_long _ _ (joined_long _ _ (joined_long _ _ (name_long v a.name) (type_long v a.kind)) (number_long (count_width v) a.count)) (padded_long a.bytes) s h.1
 
-width_long : (t : Bool) (n : ℕ) → length (to_be_bytes (cond t w64 w32) n) ≡ byte_len (cond t w64 w32)
+pub width_long : (t : Bool) (n : ℕ) → length (to_be_bytes (cond t w64 w32) n) ≡ byte_len (cond t w64 w32)
 width_long true n = refl
 width_long false n = refl
 
@@ -103,3 +105,31 @@ header_long header =
 
 pub spelling_long : (header : Header) (s : List ℕ) → Spells header s → length s ≡ header_len header
 spelling_long header s h = header_long header s h.1
+
+-- ---- a value of each type
+
+pub size_pos : (kind : NcType) → 1 ≤ size_of kind
+size_pos Byte = omega arith
+size_pos Char = omega arith
+size_pos Short = omega arith
+size_pos Int = omega arith
+size_pos Float = omega arith
+size_pos Double = omega arith
+size_pos UByte = omega arith
+size_pos UShort = omega arith
+size_pos UInt = omega arith
+size_pos Int64 = omega arith
+size_pos UInt64 = omega arith
+
+pub size_most : (kind : NcType) → size_of kind ≤ 8
+size_most Byte = omega arith
+size_most Char = omega arith
+size_most Short = omega arith
+size_most Int = omega arith
+size_most Float = omega arith
+size_most Double = omega arith
+size_most UByte = omega arith
+size_most UShort = omega arith
+size_most UInt = omega arith
+size_most Int64 = omega arith
+size_most UInt64 = omega arith

@@ -4,6 +4,7 @@ use Rattle.std.proofs.lemmas.Grind.{common_steps, fold-append, same_number_lists
 use Rattle.std.proofs.lemmas.List.{length-take, get_or-take, get_or-append_right, get_or-drop, length-replicate, length-drop}
 use Rattle.std.specs.List.{AllByRecursion}
 use Rattle.std.specs.Prelude.{flat_map, fold, zip, slice_get}
+use Rattle.list_laws.proofs.Each.{each_map, each_flat_map, each_weaker}
 use Rattle.nc_base.specs.declared.header.Header.{Header}
 use Rattle.nc_base.specs.declared.header.Var.{Var}
 use Rattle.serial_spec.specs.File.{at, read, written}
@@ -18,7 +19,7 @@ use Rattle.serial_spec.proofs.ApartLaws.{elements_apart, elements_past_header}
 use Rattle.serial_spec.proofs.ElementLaws.{coordinates_at}
 use Rattle.serial_spec.proofs.SaidLaws.{cells_said}
 use Rattle.serial_spec.proofs.RoomLaws.{known_of, index_is_element, element_inside}
-use Rattle.serial_spec.proofs.AcceptLaws.{coordinates_all, all_map, all_same, all_flat}
+use Rattle.serial_spec.proofs.AcceptLaws.{coordinates_all}
 use Rattle.serial_spec.proofs.CellLaws.{Has, has_map, has_flat, has_at, same_number, same_index, IsOrApart, said_of, unsaid, cells_within, read_long, read_at, read_same}
 
 -- ---- the file before the elements are moved
@@ -90,10 +91,10 @@ each_cell : (old new : Header) (file : List ℕ) (Q : Cell → Type 0)
     → Q (cell_at old new file v w index))
     → AllByRecursion Q (all_cells old new file)
 each_cell old new file Q f =
-    all_flat Q (cells_of old new file) (zip old.vars new.vars)
+    each_flat_map Q (cells_of old new file) (zip old.vars new.vars)
     (all_zip (λ p. AllByRecursion Q (cells_of old new file p)) old.vars new.vars
-    (λ k v w h g. all_map Q (cell_at old new file v w) (all_indices old v)
-    (all_same (IsIndex (known_lengths old v old.records)) (λ i. Q (cell_at old new file v w i)) (λ i l. f k v w i h g l) (all_indices old v) (coordinates_all (known_lengths old v old.records)))))
+    (λ k v w h g. each_map Q (cell_at old new file v w) (all_indices old v)
+    (each_weaker (IsIndex (known_lengths old v old.records)) (λ i. Q (cell_at old new file v w i)) (λ i l. f k v w i h g l) (all_indices old v) (coordinates_all (known_lengths old v old.records)))))
 
 has_zip : (olds news : List Var) (k : ℕ) (v w : Var) → slice_get olds k ≡ Some v → slice_get news k ≡ Some w → Has {A = Var × Var} (zip olds news) (v, w)
 has_zip [] news k v w h g = absurd cc

@@ -1,10 +1,12 @@
 -- Elements end within the file, and an index below the known lengths is an element.
-use Rattle.std.proofs.Common.{◌≡◌, ℕ, zero, suc, ◌+◌, ◌-◌, ◌*◌, ◌<◌, ◌≤◌, refl, sym, ◌∙◌, ap, subst, List, [], ◌∷◌, length, map, drop, Bool, true, false, ◌||◌, cond, Option, Some, None, arith}
+use Rattle.std.proofs.Common.{◌≡◌, ℕ, zero, suc, ◌+◌, ◌-◌, ◌*◌, ◌<◌, ◌≤◌, refl, sym, ◌∙◌, ap, subst, List, [], ◌∷◌, length, map, drop, Bool, true, false, ◌||◌, cond, Some, None, arith}
 use Rattle.std.proofs.Math.Nat.{mul-le-mul_right}
 use Rattle.std.proofs.lemmas.Bool.Decides.{nat_tests}
 use Rattle.std.proofs.lemmas.Iterator.Adapters.{position_from-zero}
 use Rattle.std.specs.List.{list_any, position_from, AllByRecursion}
-use Rattle.std.specs.Prelude.{slice_get, position, option_map, MatchBool, ◌==◌, if◌then◌else◌}
+use Rattle.std.specs.Prelude.{slice_get, position, MatchBool, ◌==◌, if◌then◌else◌}
+use Rattle.list_laws.proofs.Truth.{and_second, equal_suc}
+use Rattle.list_laws.proofs.Optional.{both_none, none_of_test, none_before_map}
 use Rattle.nc_base.specs.declared.header.Header.{Header}
 use Rattle.nc_base.specs.declared.header.Var.{Var}
 use Rattle.nc_base.specs.declared.errors.HeaderErr.TheVariants as fault
@@ -13,12 +15,12 @@ use Rattle.serial_spec.specs.Layout.{greatest, length_of, lengths, starts_with_z
 use Rattle.serial_spec.specs.Place.{place, record_of, within_record, HasRecord, IsIndex, IsElementBelow}
 use Rattle.serial_spec.specs.HeaderGrammar.{is_sound, first_check, first_with, fault_if, two_record_dims, record_later, is_record_id}
 use Rattle.serial_spec.specs.RegionCheck.{known_lengths}
-use Rattle.serial_spec.proofs.ApartLaws.{span_fixed, span_record, neither, no_some, and_right}
+use Rattle.serial_spec.proofs.ApartLaws.{span_fixed, span_record}
 use Rattle.serial_spec.proofs.ElementLaws.{get_map}
 
 -- ---- the end of a file
 
-greatest_holds : (ns : List ℕ) (k n : ℕ) → slice_get ns k ≡ Some n → n ≤ greatest ns
+pub greatest_holds : (ns : List ℕ) (k n : ℕ) → slice_get ns k ≡ Some n → n ≤ greatest ns
 greatest_holds [] k n h = absurd cc
 greatest_holds (m ∷ ns) zero n h = let same : m ≡ n = cc in omega arith
 greatest_holds (m ∷ ns) (suc k) n h = let l = greatest_holds ns k n h in omega arith
@@ -28,17 +30,17 @@ end_holds header first n k v h =
     let l = greatest_holds (map (λ w. end_of_var header n w) header.vars) k (end_of_var header n v) (get_map (λ w. end_of_var header n w) header.vars k v h) in
     omega arith
 
-slab_small : (header : Header) (v : Var) → slab header v ≤ vsize header v
-slab_small header v = omega arith
+pub slab_below : (header : Header) (v : Var) → slab header v ≤ vsize header v
+slab_below header v = omega arith
 
-slab_shared : (header : Header) (v : Var) → slab header v ≤ last_share header v
+pub slab_shared : (header : Header) (v : Var) → slab header v ≤ last_share header v
 slab_shared header v = by_test (length (record_slabs header) == 1)
   where
     by_test : (t : Bool) → slab header v ≤ cond t (slab header v) (vsize header v)
     by_test true = omega arith
-    by_test false = slab_small header v
+    by_test false = slab_below header v
 
-end_fixed : (header : Header) (n : ℕ) (v : Var) → is_record header v ≡ false → end_of_var header n v ≡ v.begin + vsize header v
+pub end_fixed : (header : Header) (n : ℕ) (v : Var) → is_record header v ≡ false → end_of_var header n v ≡ v.begin + vsize header v
 end_fixed header n v e = ap (λ (t : Bool). cond t (cond (n == 0) 0 (v.begin + (n - 1) * recsize header + last_share header v)) (v.begin + vsize header v)) e
 
 end_record : (header : Header) (n : ℕ) (v : Var) → is_record header v ≡ true → (n == 0) ≡ false
@@ -47,7 +49,7 @@ end_record header n v e f =
     ap (λ (t : Bool). cond t (cond (n == 0) 0 (v.begin + (n - 1) * recsize header + last_share header v)) (v.begin + vsize header v)) e
     ∙ ap (λ (t : Bool). cond t 0 (v.begin + (n - 1) * recsize header + last_share header v)) f
 
-some_record : (r n : ℕ) → r < n → (n == 0) ≡ false
+pub some_record : (r n : ℕ) → r < n → (n == 0) ≡ false
 some_record r n h = grind (arith, nat_tests)
 
 -- an element in a record below n ends within the file of n records
@@ -59,7 +61,7 @@ element_inside header first n k v index h p = by_kind (is_record header v) refl
     by_kind false e =
         let w = span_fixed header v index e p.0 in
         let high = w.high in
-        let small = slab_small header v in
+        let small = slab_below header v in
         let own = end_fixed header n v e in
         let whole = end_holds header first n k v h in
         omega arith
@@ -107,9 +109,6 @@ end_grows header first n m h =
 abbrev pub known_of : ℕ → ℕ → ℕ
 known_of known n = if n == 0 then known else n
 
-suc_is_some : (n : ℕ) → (suc n == 0) ≡ false
-suc_is_some n = grind (arith, nat_tests)
-
 none_known : (known : ℕ) (ns : List ℕ) → AllByRecursion (λ n. (n == 0) ≡ false) ns → map (known_of known) ns ≡ ns
 none_known known [] h = refl
 none_known known (n ∷ ns) h = λ t. ap (λ (b : Bool). cond b known n) h.0 t ∷ none_known known ns h.1 t
@@ -122,7 +121,7 @@ by_lengths known [] index some h = (h, tt)
 by_lengths known (zero ∷ ls) [] some h = absurd h
 by_lengths known (zero ∷ ls) (r ∷ index) some h = ((tt, subst (λ (ns : List ℕ). IsIndex ns index) (none_known known ls some) h.1), h.0)
 by_lengths known (suc n ∷ ls) index some h =
-    let e : (suc n == 0) ≡ false = suc_is_some n in
+    let e : (suc n == 0) ≡ false = equal_suc n in
     let whole : map (known_of known) (suc n ∷ ls) ≡ suc n ∷ ls = λ t. cond_at e t ∷ none_known known ls some t in
     let own : IsIndex (suc n ∷ ls) index = subst (λ (ns : List ℕ). IsIndex ns index) whole h in (
       subst (λ (t : Bool). MatchBool t (HasRecord index × IsIndex (suc n ∷ ls) (within_record index)) (IsIndex (suc n ∷ ls) index)) (sym e) own,
@@ -133,10 +132,6 @@ by_lengths known (suc n ∷ ls) index some h =
     cond_at e = ap (λ (t : Bool). cond t known (suc n)) e
 
 -- ---- the record dimension stands only first
-
-pub unmapped : {A B : Type 0} (f : A → B) (o : Option A) → option_map f o ≡ None → o ≡ None
-unmapped f None h = refl
-unmapped f (Some x) h = absurd cc
 
 pub untested : {A : Type 0} (test : A → Bool) (n : ℕ) (xs : List A) (k : ℕ) (x : A) → position_from test n xs ≡ None → slice_get xs k ≡ Some x → test x ≡ false
 untested test n [] k x h g = absurd cc
@@ -177,10 +172,10 @@ later_some header (id ∷ ids) h = each ids (none_any (λ id. is_record_id heade
 pub none_later : (header : Header) (k : ℕ) (v : Var) → is_sound header ≡ true → slice_get header.vars k ≡ Some v
     → AllByRecursion (λ n. (n == 0) ≡ false) (drop 1 (lengths header v))
 none_later header k v h g =
-    let checks : first_check header ≡ None = no_some _ (and_right _ _ h) in
-    let a = (neither (fault_if (two_record_dims header) fault.TwoRecordDims) _ checks).1 in
-    let b = (neither (first_with (record_later header) (λ n. fault.RecordDimNotFirst n) header.vars) _ a).0 in
-    let none : position (record_later header) header.vars ≡ None = unmapped (λ n. fault.RecordDimNotFirst n) _ b in
+    let checks : first_check header ≡ None = none_of_test _ (and_second _ _ h) in
+    let a = (both_none (fault_if (two_record_dims header) fault.TwoRecordDims) _ checks).1 in
+    let b = (both_none (first_with (record_later header) (λ n. fault.RecordDimNotFirst n) header.vars) _ a).0 in
+    let none : position (record_later header) header.vars ≡ None = none_before_map (λ n. fault.RecordDimNotFirst n) _ b in
     later_some header v.dims (untested (record_later header) 0 header.vars k v (sym (position_from-zero (record_later header) header.vars) ∙ none) g)
 
 pub index_is_element : (header : Header) (k : ℕ) (v : Var) (known : ℕ) (index : List ℕ) → is_sound header ≡ true → slice_get header.vars k ≡ Some v

@@ -6,7 +6,10 @@ use Rattle.std.proofs.lemmas.Bool.Decides.{nat_tests}
 use Rattle.std.specs.Prelude.{fold, flat_map, zip, nat_lt, ◌==◌, slice_get}
 use Rattle.std.specs.List.{enumerate_from, range_with_len}
 use Rattle.std.specs.Option.{option_or}
+use Rattle.std.proofs.lemmas.List.FromFn.{length-range_with_len}
 use borrow.Author.Tests.{ltb-true, ltb-false, eqb-true}
+use Rattle.list_laws.proofs.Truth.{equal_above, equal_below}
+use Rattle.list_laws.proofs.Optional.{neither_some, second_counts, first_counts, option_or_assoc, none_last}
 use Rattle.nc_base.specs.declared.header.Header.{Header}
 use Rattle.nc_base.specs.declared.header.Var.{Var}
 use Rattle.nc_base.specs.declared.plan.Post.{Post}
@@ -21,55 +24,30 @@ use Rattle.serial_spec.proofs.FileLaws.{at-longer, at-written_before, at-written
 
 -- ---- options
 
-no_none_some : {A B : Type 0} (a : A) → None ≡ Some a → B
-no_none_some a h = cc
-
-pub both_none : {A : Type 0} (o q : Option A) → o ≡ None → q ≡ None → option_or o q ≡ None
-both_none None q h k = k
-both_none (Some a) q h k = h
-
-pub second_counts : {A : Type 0} (o q : Option A) → o ≡ None → option_or o q ≡ q
-second_counts None q h = refl
-second_counts (Some a) q h = no_none_some a (sym h)
-
-pub first_counts : {A : Type 0} (o q : Option A) (a : A) → o ≡ Some a → option_or o q ≡ Some a
-first_counts None q a h = no_none_some a h
-first_counts (Some b) q a h = h
-
-option_or_assoc : {A : Type 0} (o q r : Option A) → option_or (option_or o q) r ≡ option_or o (option_or q r)
-option_or_assoc None q r = refl
-option_or_assoc (Some a) q r = refl
-
-byte_or_later : (o q : Option ℕ) (b : ℕ) → byte_or o (byte_or q b) ≡ byte_or (option_or o q) b
+pub byte_or_later : (o q : Option ℕ) (b : ℕ) → byte_or o (byte_or q b) ≡ byte_or (option_or o q) b
 byte_or_later None q b = refl
 byte_or_later (Some v) q b = refl
 
 -- ---- one pair
 
-one_miss : {A : Type 0} (y x : ℕ) (a : A) → (y == x) ≡ false → one_says y a x ≡ None
+pub one_miss : {A : Type 0} (y x : ℕ) (a : A) → (y == x) ≡ false → one_says y a x ≡ None
 one_miss y x a e = ap (λ (t : Bool). cond t (Some a) None) e
 
-one_hit : {A : Type 0} (y x : ℕ) (a : A) → (y == x) ≡ true → one_says y a x ≡ Some a
+pub one_hit : {A : Type 0} (y x : ℕ) (a : A) → (y == x) ≡ true → one_says y a x ≡ Some a
 one_hit y x a e = ap (λ (t : Bool). cond t (Some a) None) e
 
-above_miss : (y x : ℕ) → x < y → (y == x) ≡ false
-above_miss y x h = grind (arith, nat_tests)
-
-below_miss : (y x : ℕ) → y < x → (y == x) ≡ false
-below_miss y x h = grind (arith, nat_tests)
-
-missed : (y x : ℕ) → y ≤ x → (y == x) ≡ false → y + 1 ≤ x
+pub missed : (y x : ℕ) → y ≤ x → (y == x) ≡ false → y + 1 ≤ x
 missed y x h e = grind (arith, nat_tests)
 
 -- ---- one cell
 
 pub said_below : {A : Type 0} (p : ℕ) (b : List A) (x : ℕ) → x < p → said_at (enumerate_from p b) x ≡ None
 said_below p [] x h = refl
-said_below p (v ∷ b) x h = both_none (said_at (enumerate_from (p + 1) b) x) _ (said_below (p + 1) b x (omega arith)) (one_miss p x v (above_miss p x h))
+said_below p (v ∷ b) x h = neither_some (said_at (enumerate_from (p + 1) b) x) _ (said_below (p + 1) b x (omega arith)) (one_miss p x v (equal_above p x h))
 
 pub said_past : {A : Type 0} (p : ℕ) (b : List A) (x : ℕ) → p + length b ≤ x → said_at (enumerate_from p b) x ≡ None
 said_past p [] x h = refl
-said_past p (v ∷ b) x h = both_none (said_at (enumerate_from (p + 1) b) x) _ (said_past (p + 1) b x (omega arith)) (one_miss p x v (below_miss p x (omega arith)))
+said_past p (v ∷ b) x h = neither_some (said_at (enumerate_from (p + 1) b) x) _ (said_past (p + 1) b x (omega arith)) (one_miss p x v (equal_below p x (omega arith)))
 
 pub said_inside : {A : Type 0} (p : ℕ) (b : List A) (x : ℕ) (d : A) → p ≤ x → x < p + length b → said_at (enumerate_from p b) x ≡ Some (get_or b (x - p) d)
 said_inside p [] x d h k = absurd (omega arith)
@@ -90,10 +68,10 @@ said_inside {A} p (v ∷ b) x d h k = by_test (λ l. said_inside (p + 1) b x d l
 
 -- ---- a write
 
-taken_long : (file : List ℕ) (x : ℕ) → length (take x (longer file x)) ≡ x
+pub taken_long : (file : List ℕ) (x : ℕ) → length (take x (longer file x)) ≡ x
 taken_long file x = grind (arith, common_steps)
 
-front_long : (file b : List ℕ) (x : ℕ) → length (take x (longer file x) ++ b) ≡ x + length b
+pub front_long : (file b : List ℕ) (x : ℕ) → length (take x (longer file x) ++ b) ≡ x + length b
 front_long file b x = length-append (take x (longer file x)) b ∙ ap (λ (n : ℕ). n + length b) (taken_long file x)
 
 pub at-written_inside : (file b : List ℕ) (x y : ℕ) → x ≤ y → y < x + length b → at (written file x b) y ≡ get_or b (y - x) 0
@@ -123,10 +101,6 @@ written_said file b p x = by_front (nat_lt x p) refl
 
 -- ---- cells
 
-none_last : {A : Type 0} (o : Option A) → o ≡ option_or o None
-none_last None = refl
-none_last (Some a) = refl
-
 pub said_append : {A : Type 0} (ps qs : List (ℕ × A)) (x : ℕ) → said_at (ps ++ qs) x ≡ option_or (said_at qs x) (said_at ps x)
 said_append [] qs x = none_last (said_at qs x)
 said_append (p ∷ ps) qs x =
@@ -153,12 +127,12 @@ cells_of header post = cells_of_some header (slice_get header.vars post.var) pos
 abbrev cells_of_puts : Header → Puts → List Cell
 cells_of_puts header puts = flat_map (λ p. cells_of header p.1) puts
 
-put_is_cells : (s : Setting) (v : Option Var) (post : Post) (file : List ℕ) → put_some s v post file ≡ write_cells file (cells_of_some s.header v post)
+pub put_is_cells : (s : Setting) (v : Option Var) (post : Post) (file : List ℕ) → put_some s v post file ≡ write_cells file (cells_of_some s.header v post)
 put_is_cells s None post file = refl
 put_is_cells s (Some v) post file = refl
 
 -- the model's step, as cells
-puts_are_cells : (s : Setting) (puts : Puts) (file : List ℕ) → fold (put_post s) file puts ≡ write_cells file (cells_of_puts s.header puts)
+pub puts_are_cells : (s : Setting) (puts : Puts) (file : List ℕ) → fold (put_post s) file puts ≡ write_cells file (cells_of_puts s.header puts)
 puts_are_cells s [] file = refl
 puts_are_cells s (p ∷ puts) file =
     puts_are_cells s puts (put_post s file p)
@@ -167,42 +141,38 @@ puts_are_cells s (p ∷ puts) file =
 
 -- ---- what cells of elements say
 
-zip_nothing : (s : List ℕ) → [] ≡ zip {K = ℕ} {X = ℕ} s []
+pub zip_nothing : (s : List ℕ) → [] ≡ zip {K = ℕ} {X = ℕ} s []
 zip_nothing [] = refl
 zip_nothing (y ∷ s) = refl
 
-zip_append : (r s b : List ℕ) → zip (r ++ s) b ≡ zip r (take (length r) b) ++ zip s (drop (length r) b)
+pub zip_append : (r s b : List ℕ) → zip (r ++ s) b ≡ zip r (take (length r) b) ++ zip s (drop (length r) b)
 zip_append [] s b = refl
 zip_append (x ∷ r) s [] = zip_nothing s
 zip_append (x ∷ r) s (v ∷ b) = ap (λ ps. (x, v) ∷ ps) (zip_append r s b)
 
-range_long : (p n : ℕ) → length (range_with_len p n) ≡ n
-range_long p zero = refl
-range_long p (suc n) = ap suc (range_long (p + 1) n)
-
 -- bytes from a place on
-zip_range : (p n : ℕ) (b : List ℕ) → enumerate_from p (take n b) ≡ zip (range_with_len p n) (take n b)
+pub zip_range : (p n : ℕ) (b : List ℕ) → enumerate_from p (take n b) ≡ zip (range_with_len p n) (take n b)
 zip_range p zero b = refl
 zip_range p (suc n) [] = refl
 zip_range p (suc n) (v ∷ b) = ap (λ ps. (p, v) ∷ ps) (zip_range (p + 1) n b)
 
-range_and_rest : (p n : ℕ) (rest b : List ℕ) → zip (range_with_len p n ++ rest) b ≡ enumerate_from p (take n b) ++ zip rest (drop n b)
+pub range_and_rest : (p n : ℕ) (rest b : List ℕ) → zip (range_with_len p n ++ rest) b ≡ enumerate_from p (take n b) ++ zip rest (drop n b)
 range_and_rest p n rest b =
     zip_append (range_with_len p n) rest b
-    ∙ ap (λ m. zip (range_with_len p n) (take m b) ++ zip rest (drop m b)) (range_long p n)
+    ∙ ap (λ m. zip (range_with_len p n) (take m b) ++ zip rest (drop m b)) (length-range_with_len p n)
     ∙ ap (λ ps. ps ++ zip rest (drop n b)) (sym (zip_range p n b))
 
-cells_say : (size : ℕ) (ps bytes : List ℕ) → said_by (cells size ps bytes) ≡ zip (flat_map (λ x. range_with_len x size) ps) bytes
+pub cells_say : (size : ℕ) (ps bytes : List ℕ) → said_by (cells size ps bytes) ≡ zip (flat_map (λ x. range_with_len x size) ps) bytes
 cells_say size [] bytes = refl
 cells_say size (p ∷ ps) bytes =
     ap (λ rest. enumerate_from p (take size bytes) ++ rest) (cells_say size ps (drop size bytes))
     ∙ sym (range_and_rest p size (flat_map (λ x. range_with_len x size) ps) bytes)
 
-post_says : (header : Header) (v : Option Var) (post : Post) → said_by (cells_of_some header v post) ≡ zip (bytes_of_some header v post) post.bytes
+pub post_says : (header : Header) (v : Option Var) (post : Post) → said_by (cells_of_some header v post) ≡ zip (bytes_of_some header v post) post.bytes
 post_says header None post = refl
 post_says header (Some v) post = cells_say (size_of v.kind) (places header v post.region) post.bytes
 
-puts_say : (header : Header) (puts : Puts) → said_by (cells_of_puts header puts) ≡ said_by_puts header puts
+pub puts_say : (header : Header) (puts : Puts) → said_by (cells_of_puts header puts) ≡ said_by_puts header puts
 puts_say header [] = refl
 puts_say header (p ∷ puts) =
     flat_map-append (λ cell. enumerate_from cell.0 cell.1) (cells_of header p.1) (cells_of_puts header puts)

@@ -3,10 +3,11 @@ use Rattle.std.proofs.Common.{◌≡◌, ℕ, zero, suc, ◌+◌, ◌<◌, ◌�
 use Rattle.std.specs.Prelude.{slice_get, nat_lt, IsTrue}
 use Rattle.std.specs.Option.{option_or}
 use borrow.Author.Tests.{ltb-true, ltb-false}
+use Rattle.list_laws.proofs.Optional.{told_else, both_none}
 use Rattle.nc_base.specs.declared.header.Header.{Header}
 use Rattle.nc_base.specs.declared.header.Var.{Var}
 use Rattle.serial_spec.specs.Layout.{share, sharing, sharing_with, sharing_from, Shares, IsSharing}
-use Rattle.serial_spec.proofs.ApartLaws.{not_shared, neither, none_with}
+use Rattle.serial_spec.proofs.ApartLaws.{none_with}
 
 -- `Shares` over a list of variables
 abbrev SharesOf : Header → ℕ → List Var → ℕ → ℕ → Type 0
@@ -166,12 +167,12 @@ least_of header first k (v ∷ vs) p h = by_begin (λ g. least_of header first (
 no_pair : (header : Header) (first k : ℕ) (vs : List Var) → sharing_from header first k vs ≡ None → (a b : ℕ) → SharesOf header first vs a b → ⊥
 no_pair header first k [] h a b (x, g, s) = absurd cc
 no_pair header first k (v ∷ vs) h zero b s =
-    let out = not_shared (nat_lt v.begin first) (k, k) _ h in
-    stands_alone header first k (suc k) v vs out.0 (neither (sharing_with header v k (suc k) vs) (sharing_from header first (suc k) vs) out.1).0 b s
+    let out = told_else (nat_lt v.begin first) (k, k) _ h in
+    stands_alone header first k (suc k) v vs out.0 (both_none (sharing_with header v k (suc k) vs) (sharing_from header first (suc k) vs) out.1).0 b s
 no_pair header first k (v ∷ vs) h (suc a) b s =
-    let out = not_shared (nat_lt v.begin first) (k, k) _ h in
+    let out = told_else (nat_lt v.begin first) (k, k) _ h in
     let c = behind header first v vs a b s in
-    no_pair header first (suc k) vs (neither (sharing_with header v k (suc k) vs) (sharing_from header first (suc k) vs) out.1).1 a c.0 c.2
+    no_pair header first (suc k) vs (both_none (sharing_with header v k (suc k) vs) (sharing_from header first (suc k) vs) out.1).1 a c.0 c.2
 
 -- ---- the law
 

@@ -8,6 +8,7 @@ use Rattle.std.proofs.lemmas.List.{take_all, drop_all, append-nil}
 use Rattle.std.proofs.Math.ListN.{set}
 use Rattle.std.proofs.lemmas.List.FromFn.{get_or-enumerate_from, length-enumerate_from}
 use Rattle.std.proofs.lemmas.List.Sums.{fold_push}
+use Rattle.list_laws.proofs.Truth.{and_second}
 use Rattle.nc_base.specs.declared.header.Header.{Header}
 use Rattle.nc_base.specs.declared.header.Var.{Var}
 use Rattle.nc_base.specs.declared.script.Align.{Align}
@@ -16,10 +17,10 @@ use Rattle.serial_spec.specs.HeaderGrammar.{header_len}
 use Rattle.serial_spec.specs.Redefinition.{Numbered, fixed_of, records_in, size_fault, layout_fault}
 use Rattle.nc_base.specs.declared.errors.LayoutErr.TheVariants as fault
 use Rattle.std.proofs.lemmas.List.Folds.{find-append}
+use Rattle.std.proofs.lemmas.Bool.{not_from_false, not_from_true}
 use Rattle.var_layout.specs.Begins.{fixed_end, first_record, lies_too_far, far_fixed, far_record}
 use Rattle.var_layout.proofs.Capping.{filter_yes, filter_no, sum_filter_yes}
 use Rattle.var_layout.specs.Capped.{capped}
-use Rattle.var_layout.proofs.Soundness.{and_right}
 use Rattle.var_layout.proofs.Searches.{find_stops, find_goes_on, fails_at}
 
 -- ---- the variables with their begins
@@ -41,10 +42,6 @@ get_or-placed header align first n (v ∷ vs) (suc k) d h =
 pub length-placed : (header : Header) (align : Align) (first n : ℕ) (vs : List Var) → length (placed header align first n vs) ≡ length vs
 length-placed header align first n [] = refl
 length-placed header align first n (v ∷ vs) = ap (λ (m : ℕ). suc m) (length-placed header align first (suc n) vs)
-
--- the variables of the laid out header with their numbers
-pub numbered : Header → Align → ℕ → List Numbered
-numbered header align first = enumerate_from 0 (placed header align first 0 header.vars)
 
 numbered_at : (header : Header) (align : Align) (first k : ℕ) (v : Var) → k < length header.vars → v ≡ get_or header.vars k v
     → get_or (enumerate_from 0 (placed header align first 0 header.vars)) k (0, v) ≡ (k, in_place header align first k v)
@@ -75,19 +72,11 @@ begin_record header align first k v e =
 
 -- ---- one variable on
 
-not_false : (t : Bool) → t ≡ false → not t ≡ true
-not_false true e = cc
-not_false false e = refl
-
-not_true : (t : Bool) → t ≡ true → not t ≡ false
-not_true true e = refl
-not_true false e = cc
-
 pub fixed_end_more : (header : Header) (align : Align) (first k : ℕ) (v : Var) → k < length header.vars → v ≡ get_or header.vars k v → is_record header v ≡ false
     → fixed_end header align first (k + 1) ≡ round_up align.var (fixed_end header align first k) + vsize header v
 fixed_end_more header align first k v h e f =
     ap (λ vs. end_of_fixed header align.var (round_up align.header first) vs)
-    (filter_yes (λ w. not (is_record header w)) header.vars k v h (not_false _ (ap (λ (w : Var). is_record header w) (sym e) ∙ f)))
+    (filter_yes (λ w. not (is_record header w)) header.vars k v h (not_from_false _ (ap (λ (w : Var). is_record header w) (sym e) ∙ f)))
     ∙ fold_push (λ end w. round_up align.var end + vsize header w) (round_up align.header first) (fixed_variables header (take k header.vars)) (get_or header.vars k v)
     ∙ ap (λ (w : Var). round_up align.var (fixed_end header align first k) + vsize header w) (sym e)
 
@@ -95,7 +84,7 @@ pub fixed_end_same : (header : Header) (align : Align) (first k : ℕ) (v : Var)
     → fixed_end header align first (k + 1) ≡ fixed_end header align first k
 fixed_end_same header align first k v h e f =
     ap (λ vs. end_of_fixed header align.var (round_up align.header first) vs)
-    (filter_no (λ w. not (is_record header w)) header.vars k v h (not_true _ (ap (λ (w : Var). is_record header w) (sym e) ∙ f)))
+    (filter_no (λ w. not (is_record header w)) header.vars k v h (not_from_true _ (ap (λ (w : Var). is_record header w) (sym e) ∙ f)))
 
 pub records_more : (header : Header) (k : ℕ) (v : Var) → k < length header.vars → v ≡ get_or header.vars k v → is_record header v ≡ true
     → sum_by (λ w. vsize header w) (record_variables header (take (k + 1) header.vars))
@@ -151,7 +140,7 @@ pub fixed_stops : (header : Header) (align : Align) (first k end : ℕ) (v : Var
     → FixedSoFar header align first k end → far_fixed (begins header align first) ≡ Some (k, in_place header align first k v)
 fixed_stops header align first k end v h e f far so =
     find_stops (λ w. not (is_record header w.1)) (λ w. lies_too_far header w.1) (enumerate_from 0 (placed header align first 0 header.vars)) k (0, v)
-    (k, in_place header align first k v) (numbered_long header align first k h) (numbered_at header align first k v h e) so.none (not_false _ f)
+    (k, in_place header align first k v) (numbered_long header align first k h) (numbered_at header align first k v h e) so.none (not_from_false _ f)
     (ap (λ (n : ℕ). lies_too_far header (at_begin v n)) (begin_fixed header align first k v f ∙ ap (λ (n : ℕ). round_up align.var n) (sym so.place)) ∙ far)
 
 whole_list : (header : Header) (align : Align) (first n : ℕ) → length header.vars ≤ n
@@ -240,7 +229,7 @@ seam_at (n ∷ new) (o ∷ old) zero d l h = refl
 seam_at (n ∷ new) (o ∷ old) (suc k) d l h = seam_at new old k d (omega arith) (omega arith)
 
 pub near_end : (header : Header) (v : Var) → lies_too_far header v ≡ false → v.begin + vsize header v < 2 ^ 62
-near_end header v h = ltb-true _ _ (and_right _ _ (was_true _ h))
+near_end header v h = ltb-true _ _ (and_second _ _ (was_true _ h))
   where
     was_true : (t : Bool) → not t ≡ false → t ≡ true
     was_true true e = refl
@@ -250,7 +239,7 @@ pub fixed_fits : (header : Header) (align : Align) (first k : ℕ) (v : Var) →
     → v ≡ get_or header.vars k v → is_record header v ≡ false → lies_too_far header (in_place header align first k v) ≡ false
 fixed_fits header align first k v none h e f =
     fails_at (λ w. not (is_record header w.1)) (λ w. lies_too_far header w.1) (enumerate_from 0 (placed header align first 0 header.vars)) k (0, v)
-    (k, in_place header align first k v) (numbered_long header align first k h) (numbered_at header align first k v h e) none (not_false _ f)
+    (k, in_place header align first k v) (numbered_long header align first k h) (numbered_at header align first k v h e) none (not_from_false _ f)
 
 pub record_fits : (header : Header) (align : Align) (first k : ℕ) (v : Var) → far_record (begins header align first) ≡ None → k < length header.vars
     → v ≡ get_or header.vars k v → is_record header v ≡ true → lies_too_far header (in_place header align first k v) ≡ false

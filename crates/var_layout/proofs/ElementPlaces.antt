@@ -1,20 +1,22 @@
 -- Rows of elements, one dimension at a time, and where elements end.
 use Rattle.std.proofs.Common.{◌≡◌, ℕ, zero, suc, ◌+◌, ◌-◌, ◌*◌, ◌^◌, ◌<◌, ◌≤◌, List, [], ◌∷◌, length, drop, get_or, map, Bool, true, false, cond, Some, refl, sym, ap, subst, ◌∙◌, arith}
-use Rattle.std.specs.Prelude.{slice_get, MatchBool, nat_lt, ◌==◌}
-use Rattle.std.proofs.lemmas.List.{drop_more, drop_all}
+use Rattle.std.specs.Prelude.{slice_get, nat_lt, ◌==◌}
+use Rattle.std.proofs.lemmas.List.{drop_more}
 use Rattle.std.proofs.lemmas.Nat.{row_fits, mul-le}
 use Rattle.std.proofs.Math.Nat.{mul-le-mul_left}
 use Rattle.std.proofs.lemmas.Bool.Decides.{nat_tests}
+use Rattle.serial_spec.proofs.LengthLaws.{size_pos}
+use Rattle.serial_spec.proofs.RoomLaws.{slab_shared, end_fixed, slab_below}
+use Rattle.serial_spec.proofs.ApartLaws.{index_fixed, index_record}
 use Rattle.nc_base.specs.declared.header.Header.{Header}
 use Rattle.nc_base.specs.declared.header.Var.{Var}
 use Rattle.nc_base.specs.declared.header.NcType.{NcType}
-use Rattle.nc_base.specs.declared.header.NcType.TheVariants.{Byte, Char, Short, Int, Float, Double, UByte, UShort, UInt, Int64, UInt64}
 use Rattle.serial_spec.specs.ExternalForm.{size_of}
-use Rattle.serial_spec.specs.Layout.{product, greatest, is_record, inner_lengths, slab, vsize, recsize, record_slabs, last_share, end_of, end_of_var}
-use Rattle.serial_spec.specs.Place.{row, place, record_of, within_record, IsIndex, HasRecord, IsElement}
+use Rattle.serial_spec.specs.Layout.{product, greatest, is_record, inner_lengths, slab, vsize, recsize, last_share, end_of, end_of_var}
+use Rattle.serial_spec.specs.Place.{row, place, record_of, within_record, IsIndex, IsElement}
 use Rattle.serial_spec.proofs.RowLaws.{row_below}
 use Rattle.var_layout.specs.Reached.{records_for}
-use Rattle.var_layout.proofs.Soundness.{Keeps, slab_below, var_kept, header_short}
+use Rattle.var_layout.proofs.Soundness.{Keeps, var_kept, header_short}
 use Rattle.serial_spec.specs.HeaderGrammar.{is_sound, header_len}
 use borrow.Author.Tests.{ltb-true, ltb-false}
 
@@ -33,9 +35,6 @@ same_len (n ∷ lengths) (i ∷ index) h = ap (λ (k : ℕ). suc k) (same_len le
 pub record RowSoFar (lengths index : List ℕ) (k so_far : ℕ) : Type 0 where
   pub whole : so_far * product (drop k lengths) + row (drop k lengths) (drop k index) ≡ row lengths index
   pub valid : IsIndex (drop k lengths) (drop k index)
-
-pub no_row : (lengths index : List ℕ) → IsIndex lengths index → RowSoFar lengths index 0 0
-no_row lengths index h = record { whole = omega arith; valid = h }
 
 step_whole : (a n p i r : ℕ) → a * (n * p) + (i * p + r) ≡ (a * n + i) * p + r
 step_whole a n p i r = omega arith
@@ -63,20 +62,7 @@ so_far_below lengths index k so_far h =
     let e = h.whole in
     omega (arith, mul-le-mul_left so_far some)
 
-pub all_rows : (lengths index : List ℕ) (k so_far : ℕ) → length lengths ≤ k → RowSoFar lengths index k so_far → so_far ≡ row lengths index
-all_rows lengths index k so_far h so =
-    let none = ap (λ xs. so_far * product xs + row xs (drop k index)) (drop_all k lengths h) in
-    let e = so.whole in
-    omega arith
-
 -- ---- elements
-
-pub index_fixed : (header : Header) (v : Var) (index : List ℕ) → is_record header v ≡ false → IsElement header v index → IsIndex (inner_lengths header v) index
-index_fixed header v index e h = subst (λ (t : Bool). MatchBool t (HasRecord index × IsIndex (inner_lengths header v) (within_record index)) (IsIndex (inner_lengths header v) index)) e h
-
-pub index_record : (header : Header) (v : Var) (index : List ℕ) → is_record header v ≡ true → IsElement header v index
-    → HasRecord index × IsIndex (inner_lengths header v) (within_record index)
-index_record header v index e h = subst (λ (t : Bool). MatchBool t (HasRecord index × IsIndex (inner_lengths header v) (within_record index)) (IsIndex (inner_lengths header v) index)) e h
 
 pub place_fixed : (header : Header) (v : Var) (index : List ℕ) → is_record header v ≡ false
     → place header v index ≡ v.begin + row (inner_lengths header v) index * size_of v.kind
@@ -85,19 +71,6 @@ place_fixed header v index e = ap (λ (t : Bool). cond t (v.begin + record_of in
 pub place_record : (header : Header) (v : Var) (index : List ℕ) → is_record header v ≡ true
     → place header v index ≡ v.begin + record_of index * recsize header + row (inner_lengths header v) (within_record index) * size_of v.kind
 place_record header v index e = ap (λ (t : Bool). cond t (v.begin + record_of index * recsize header + row (inner_lengths header v) (within_record index) * size_of v.kind) (v.begin + row (inner_lengths header v) index * size_of v.kind)) e
-
-pub size_pos : (kind : NcType) → 1 ≤ size_of kind
-size_pos Byte = omega arith
-size_pos Char = omega arith
-size_pos Short = omega arith
-size_pos Int = omega arith
-size_pos Float = omega arith
-size_pos Double = omega arith
-size_pos UByte = omega arith
-size_pos UShort = omega arith
-size_pos UInt = omega arith
-size_pos Int64 = omega arith
-size_pos UInt64 = omega arith
 
 in_slab : (header : Header) (v : Var) (index : List ℕ) → IsIndex (inner_lengths header v) index
     → row (inner_lengths header v) index * size_of v.kind + size_of v.kind ≤ slab header v
@@ -114,16 +87,6 @@ greatest_holds : {A : Type 0} (f : A → ℕ) (xs : List A) (k : ℕ) (x : A) �
 greatest_holds f [] k x h = cc
 greatest_holds f (y ∷ xs) zero x h = let e : f y ≡ f x = cc in omega arith
 greatest_holds f (y ∷ xs) (suc k) x h = let l = greatest_holds f xs k x h in omega arith
-
-share_holds : (header : Header) (v : Var) → slab header v ≤ last_share header v
-share_holds header v = by_test (length (record_slabs header) == 1)
-  where
-    by_test : (t : Bool) → slab header v ≤ cond t (slab header v) (vsize header v)
-    by_test true = omega arith
-    by_test false = slab_below header v
-
-end_fixed : (header : Header) (n : ℕ) (v : Var) → is_record header v ≡ false → end_of_var header n v ≡ v.begin + vsize header v
-end_fixed header n v e = ap (λ (t : Bool). cond t (cond (n == 0) 0 (v.begin + (n - 1) * recsize header + last_share header v)) (v.begin + vsize header v)) e
 
 end_record : (header : Header) (n : ℕ) (v : Var) → is_record header v ≡ true → 0 < n → end_of_var header n v ≡ v.begin + (n - 1) * recsize header + last_share header v
 end_record header n v e h =
@@ -157,7 +120,7 @@ before_end_of_var header v index n h l = by_test (is_record header v) refl
         let p = place_record header v index e in
         let q = end_record header n v e (omega arith) in
         let s = in_slab header v (within_record index) (index_record header v index e h).1 in
-        let m = share_holds header v in
+        let m = slab_shared header v in
         let last : record_of index * recsize header ≤ (n - 1) * recsize header = mul-le (record_of index) (recsize header) (n - 1) (recsize header) (omega arith) (omega arith) in
         omega arith
 

@@ -1,5 +1,5 @@
 -- A laid out header is sound, and it can be written where its names and attributes can.
-use Rattle.std.proofs.Common.{◌≡◌, ℕ, zero, suc, ◌+◌, ◌-◌, ◌*◌, ◌^◌, ◌<◌, ◌≤◌, List, [], ◌∷◌, length, take, get_or, map, Bool, true, false, cond, ◌&&◌, ◌||◌, Option, Some, None, refl, sym, ap, subst, ◌∙◌, arith, max}
+use Rattle.std.proofs.Common.{◌≡◌, ℕ, zero, suc, ◌+◌, ◌-◌, ◌*◌, ◌^◌, ◌<◌, ◌≤◌, List, [], ◌∷◌, length, take, get_or, map, Bool, true, false, cond, ◌&&◌, ◌||◌, Some, None, refl, sym, ap, subst, ◌∙◌, arith, max}
 use Rattle.std.specs.Prelude.{filter, sum_by, not, nat_lt, nat_le, ◌==◌, option_map, is_none, slice_get, position}
 use Rattle.std.specs.List.{list_any, list_all, prefix_len}
 use Rattle.std.specs.Option.{option_or}
@@ -8,6 +8,10 @@ use Rattle.std.proofs.lemmas.Bool.Decides.{nat_tests}
 use Rattle.std.proofs.lemmas.List.{take_all, get_or_default, length-map}
 use Rattle.std.proofs.lemmas.List.Sums.{sum_by-cons}
 use Rattle.std.proofs.lemmas.Option.{slice_get_within, slice_get_read, get_or_from_slice_get}
+use Rattle.std.proofs.lemmas.Bool.{or_parts, not-true, and_from}
+use Rattle.serial_spec.proofs.RoomLaws.{slab_below}
+use Rattle.list_laws.proofs.Truth.{and_first, and_second}
+use Rattle.list_laws.proofs.Optional.{neither_some}
 use Rattle.nc_base.specs.declared.header.Header.{Header}
 use Rattle.nc_base.specs.declared.header.Var.{Var}
 use Rattle.nc_base.specs.declared.script.Align.{Align}
@@ -17,7 +21,7 @@ use Rattle.serial_spec.specs.Layout.{slab, vsize, is_record, recsize, record_siz
 use Rattle.serial_spec.specs.HeaderGrammar.{is_sound, first_check, header_len, two_record_dims, record_later, bad_id, is_too_large, all_ones, measure, past_bound, keeps_bound, counts_are_small, is_version, variable}
 use Rattle.var_layout.specs.Begins.{fixed_end, first_record, HasPlace}
 use Rattle.var_layout.specs.Unplaced.{is_unplaced}
-use Rattle.var_layout.proofs.Soundness.{and_left, and_right, slab_below, shares_are, recsize_shared}
+use Rattle.var_layout.proofs.Soundness.{shares_are, recsize_shared}
 use Rattle.var_layout.proofs.WrittenLengths.{list_len, variable_len, canon_len}
 use Rattle.var_layout.proofs.CreatedFiles.{at_begin, in_place, fixed_end_more, fixed_end_same, records_more, records_same, begin_fixed, begin_record, fixed_near, record_near}
 
@@ -73,14 +77,10 @@ laid_len header align first =
 
 -- ---- the checks of a whole header
 
-none_of : (t u : Bool) → (t || u) ≡ false → (t ≡ false) × (u ≡ false)
-none_of true u h = cc
-none_of false u h = (refl, h)
-
 none_len : {A : Type 0} (test : A → Bool) (xs : List A) → list_any test xs ≡ false → prefix_len (λ x. not (test x)) xs ≡ length xs
 none_len test [] h = refl
 none_len test (x ∷ xs) h =
-    let both = none_of (test x) (list_any test xs) h in
+    let both = or_parts (test x) (list_any test xs) h in
     let rest = none_len test xs both.1 in
     ap (λ (t : Bool). cond (not t) (1 + prefix_len (λ y. not (test y)) xs) 0) both.0 ∙ omega (arith, rest)
 
@@ -89,10 +89,6 @@ none_first {A} test xs h = by_len (prefix_len (λ x. not (test x)) xs) (none_len
   where
     by_len : (n : ℕ) → n ≡ length xs → cond (nat_lt n (length xs)) (Some n) None ≡ None
     by_len n e = ap (λ (t : Bool). cond t (Some n) None) (let f : nat_lt n (length xs) ≡ false = grind (arith, nat_tests) in f)
-
-not_true : (t : Bool) → not t ≡ true → t ≡ false
-not_true true e = cc
-not_true false e = refl
 
 pub record Unplaced (header : Header) : Type 0 where
   pub version : is_version header.version ≡ true
@@ -104,17 +100,17 @@ pub record Unplaced (header : Header) : Type 0 where
 
 pub unplaced : (header : Header) → is_unplaced header ≡ true → Unplaced header
 unplaced header h =
-    let a = and_left _ _ h in
-    let b = and_left _ _ a in
-    let c = and_left _ _ b in
-    let d = and_left _ _ c in
+    let a = and_first _ _ h in
+    let b = and_first _ _ a in
+    let c = and_first _ _ b in
+    let d = and_first _ _ c in
     record {
-      version = and_left _ _ d;
-      counts = and_right _ _ d;
-      one_record = not_true _ (and_right _ _ c);
-      record_first = not_true _ (and_right _ _ b);
-      ids = not_true _ (and_right _ _ a);
-      none = is_zero header.records (and_right _ _ h);
+      version = and_first _ _ d;
+      counts = and_second _ _ d;
+      one_record = not-true _ (and_second _ _ c);
+      record_first = not-true _ (and_second _ _ b);
+      ids = not-true _ (and_second _ _ a);
+      none = is_zero header.records (and_second _ _ h);
     }
   where
     is_zero : (n : ℕ) → (n == 0) ≡ true → n ≡ 0
@@ -259,7 +255,7 @@ header_low header align first k d pos pos' h =
 
 -- ---- each variable keeps its bound
 
-past_none : (header : Header) (vs : List Var) (before n : ℕ)
+pub past_none : (header : Header) (vs : List Var) (before n : ℕ)
     → ((k : ℕ) (v : Var) → slice_get vs k ≡ Some v → keeps_bound header (before + sum_by (λ w. record_share header w) (take k vs)) v ≡ true)
     → past_bound header before n vs ≡ None
 past_none header [] before n h = refl
@@ -273,10 +269,6 @@ past_none header (v ∷ vs) before n h =
     shifted : (b s r t : ℕ) → t ≡ s + r → b + s + r ≡ b + t
     shifted b s r t e = omega arith
 
-pub all_true : (a b : Bool) → a ≡ true → b ≡ true → (a && b) ≡ true
-all_true true b e f = f
-all_true false b e f = cc
-
 fits : (n : ℕ) → n < 2 ^ 62 → nat_lt n (2 ^ 62) ≡ true
 fits n h = grind (arith, nat_tests)
 
@@ -287,7 +279,7 @@ pub record Fits (header : Header) (before : ℕ) (v : Var) : Type 0 where
 keeps : (header : Header) (before : ℕ) (v : Var) → header.records ≡ 0 → Fits header before v → keeps_bound header before v ≡ true
 keeps header before v none h =
     let end = h.end in
-    all_true (nat_lt (vsize header v) (2 ^ 62) && nat_lt (v.begin + vsize header v) (2 ^ 62)) _ (all_true _ _ (fits (vsize header v) (omega arith)) (fits (v.begin + vsize header v) end))
+    and_from (nat_lt (vsize header v) (2 ^ 62) && nat_lt (v.begin + vsize header v) (2 ^ 62)) _ (and_from _ _ (fits (vsize header v) (omega arith)) (fits (v.begin + vsize header v) end))
     (by_test (is_record header v) refl)
   where
     past : Bool
@@ -299,7 +291,7 @@ keeps header before v none h =
         ap (λ (t : Bool). not t || (nat_lt (before + vsize header v) (2 ^ 62) && (header.records == 0 || nat_lt (v.begin + (header.records - 1) * recsize header + last_share header v) (2 ^ 62)))) e
     by_test true e =
         ap (λ (t : Bool). not t || (nat_lt (before + vsize header v) (2 ^ 62) && (header.records == 0 || nat_lt (v.begin + (header.records - 1) * recsize header + last_share header v) (2 ^ 62)))) e
-        ∙ all_true _ _ (fits (before + vsize header v) (h.records e))
+        ∙ and_from _ _ (fits (before + vsize header v) (h.records e))
         (ap (λ (n : ℕ). n == 0 || nat_lt (v.begin + (header.records - 1) * recsize header + last_share header v) (2 ^ 62)) none)
 
 pub laid_measure : (header : Header) (align : Align) (len first : ℕ) → header.records ≡ 0 → HasPlace header align len first → measure (begins header align len) ≡ None
@@ -342,10 +334,10 @@ shares_by t u a n b m size =
 fixed_apart : (a n b m size : ℕ) → a + n ≤ b → shares_by false false a n b m size ≡ false
 fixed_apart a n b m size h = ap (λ (t : Bool). t && nat_lt (max a b) (b + m)) (let e : nat_lt (max a b) (a + n) ≡ false = grind (arith, nat_tests) in e)
 
-fixed_then_record : (a n b m size : ℕ) → a + n ≤ b → shares_by false true a n b m size ≡ false
+pub fixed_then_record : (a n b m size : ℕ) → a + n ≤ b → shares_by false true a n b m size ≡ false
 fixed_then_record a n b m size h = let e : nat_lt b (a + n) ≡ false = grind (arith, nat_tests) in e
 
-record_then_fixed : (a n b m size : ℕ) → b + m ≤ a → shares_by true false a n b m size ≡ false
+pub record_then_fixed : (a n b m size : ℕ) → b + m ≤ a → shares_by true false a n b m size ≡ false
 record_then_fixed a n b m size h = let e : nat_lt a (b + m) ≡ false = grind (arith, nat_tests) in e
 
 records_apart : (a n b m size : ℕ) → a + n ≤ b → b + m ≤ a + size → shares_by true true a n b m size ≡ false
@@ -370,7 +362,7 @@ placed_slabs header align first n (v ∷ vs) = by_test (is_record header v) (pla
 laid_recsize : (header : Header) (align : Align) (first : ℕ) → recsize (begins header align first) ≡ recsize header
 laid_recsize header align first = ap (λ ns. record_size ns) (placed_slabs header align first 0 header.vars)
 
-count_one : {A : Type 0} (p : A → Bool) (xs : List A) (k : ℕ) (x : A) → slice_get xs k ≡ Some x → p x ≡ true → 1 ≤ length (filter p xs)
+pub count_one : {A : Type 0} (p : A → Bool) (xs : List A) (k : ℕ) (x : A) → slice_get xs k ≡ Some x → p x ≡ true → 1 ≤ length (filter p xs)
 count_one p [] k x h e = cc
 count_one p (y ∷ xs) zero x h e =
     let same : y ≡ x = cc in
@@ -382,7 +374,7 @@ count_one p (y ∷ xs) (suc k) x h e = by_test (p y) (count_one p xs k x h e)
     by_test true l = omega arith
     by_test false l = l
 
-count_two : {A : Type 0} (p : A → Bool) (xs : List A) (i j : ℕ) (x y : A) → i < j → slice_get xs i ≡ Some x → slice_get xs j ≡ Some y → p x ≡ true → p y ≡ true
+pub count_two : {A : Type 0} (p : A → Bool) (xs : List A) (i j : ℕ) (x y : A) → i < j → slice_get xs i ≡ Some x → slice_get xs j ≡ Some y → p x ≡ true → p y ≡ true
     → 2 ≤ length (filter p xs)
 count_two p [] i j x y l h g e f = cc
 count_two p (z ∷ xs) i zero x y l h g e f = absurd (omega arith)
@@ -458,12 +450,12 @@ laid_apart header align len first pos place i j v w l lies lies' true true e f =
     let b_low = b.low in
     records_apart (begin_of header align len i v) (slab header v) (begin_of header align len j w) (slab header w) (recsize header) (omega arith) (omega arith)
 
-no_sharing_with : (header : Header) (v : Var) (k m : ℕ) (ws : List Var) → ((j : ℕ) (w : Var) → slice_get ws j ≡ Some w → share header v w ≡ false) → sharing_with header v k m ws ≡ None
+pub no_sharing_with : (header : Header) (v : Var) (k m : ℕ) (ws : List Var) → ((j : ℕ) (w : Var) → slice_get ws j ≡ Some w → share header v w ≡ false) → sharing_with header v k m ws ≡ None
 no_sharing_with header v k m [] h = refl
 no_sharing_with header v k m (w ∷ ws) h =
     ap (λ (t : Bool). cond t (Some (k, m)) (sharing_with header v k (suc m) ws)) (h 0 w refl) ∙ no_sharing_with header v k (suc m) ws (λ j x g. h (suc j) x g)
 
-no_sharing_from : (header : Header) (first k : ℕ) (vs : List Var) → ((i : ℕ) (v : Var) → slice_get vs i ≡ Some v → first ≤ v.begin)
+pub no_sharing_from : (header : Header) (first k : ℕ) (vs : List Var) → ((i : ℕ) (v : Var) → slice_get vs i ≡ Some v → first ≤ v.begin)
     → ((i j : ℕ) (v w : Var) → i < j → slice_get vs i ≡ Some v → slice_get vs j ≡ Some w → share header v w ≡ false) → sharing_from header first k vs ≡ None
 no_sharing_from header first k [] low h = refl
 no_sharing_from header first k (v ∷ vs) low h =
@@ -506,19 +498,16 @@ laid_sharing header align len first pos pos' place =
 
 -- ---- the header is sound
 
-both_none : {A : Type 0} (a b : Option A) → a ≡ None → b ≡ None → option_or a b ≡ None
-both_none a b e f = ap (λ o. option_or o b) e ∙ f
-
 laid_checks : (header : Header) (align : Align) (len first : ℕ) → 0 < align.header → 0 < align.var → Unplaced header → HasPlace header align len first
     → first_check (begins header align len) ≡ None
 laid_checks header align len first pos pos' u place =
-    both_none _ _ (ap (λ (t : Bool). cond t (Some fault.TwoRecordDims) None) u.one_record)
-    (both_none _ _ (ap (λ o. option_map (λ k. fault.RecordDimNotFirst k) o) (none_first (record_later header) (placed header align len 0 header.vars)
+    neither_some _ _ (ap (λ (t : Bool). cond t (Some fault.TwoRecordDims) None) u.one_record)
+    (neither_some _ _ (ap (λ o. option_map (λ k. fault.RecordDimNotFirst k) o) (none_first (record_later header) (placed header align len 0 header.vars)
     (placed_any (record_later header) (λ v b. refl) header align len 0 header.vars ∙ u.record_first)))
-    (both_none _ _ (ap (λ o. option_map (λ k. fault.BadDimId k) o) (none_first (bad_id header) (placed header align len 0 header.vars)
+    (neither_some _ _ (ap (λ o. option_map (λ k. fault.BadDimId k) o) (none_first (bad_id header) (placed header align len 0 header.vars)
     (placed_any (bad_id header) (λ v b. refl) header align len 0 header.vars ∙ u.ids)))
-    (both_none _ _ (ap (λ (t : Bool). cond t (Some fault.Streaming) None) (ap (λ (n : ℕ). n == all_ones header.version) u.none ∙ no_stream header.version))
-    (both_none _ _ (ap (λ (t : Bool). cond t (Some fault.TooLarge) None) small)
+    (neither_some _ _ (ap (λ (t : Bool). cond t (Some fault.Streaming) None) (ap (λ (n : ℕ). n == all_ones header.version) u.none ∙ no_stream header.version))
+    (neither_some _ _ (ap (λ (t : Bool). cond t (Some fault.TooLarge) None) small)
     (ap (λ o. option_map (λ p. fault.Shared p.0 p.1) o) shared)))))
   where
     small : is_too_large (begins header align len) ≡ false
@@ -533,9 +522,9 @@ pub laid_sound : (header : Header) (align : Align) (len first : ℕ) → 0 < ali
     → is_sound (begins header align len) ≡ true
 laid_sound header align len first pos pos' h place =
     let u = unplaced header h in
-    all_true (is_version header.version && counts_are_small (begins header align len) && nat_le (header_len (begins header align len)) most_header_bytes) _
-    (all_true (is_version header.version && counts_are_small (begins header align len)) _
-    (all_true (is_version header.version) _ u.version (counts_kept header align len ∙ u.counts))
+    and_from (is_version header.version && counts_are_small (begins header align len) && nat_le (header_len (begins header align len)) most_header_bytes) _
+    (and_from (is_version header.version && counts_are_small (begins header align len)) _
+    (and_from (is_version header.version) _ u.version (counts_kept header align len ∙ u.counts))
     (let e = laid_len header align len in let l = place.length in let m = place.small in short (header_len (begins header align len)) (omega arith)))
     (ap (λ o. is_none o) (laid_checks header align len first pos pos' u place))
   where

@@ -1,5 +1,5 @@
 -- A laid out header can be written where its names, types and attributes can.
-use Rattle.std.proofs.Common.{◌≡◌, ℕ, zero, suc, ◌+◌, ◌-◌, ◌*◌, ◌^◌, ◌<◌, ◌≤◌, List, [], ◌∷◌, length, Bool, true, false, cond, ◌&&◌, ◌||◌, Option, Some, None, refl, sym, ap, ◌∙◌, arith}
+use Rattle.std.proofs.Common.{◌≡◌, ℕ, suc, ◌+◌, ◌-◌, ◌*◌, ◌^◌, ◌<◌, ◌≤◌, List, [], ◌∷◌, length, Bool, true, false, cond, ◌&&◌, Option, Some, None, refl, sym, ap, ◌∙◌, arith}
 use Rattle.std.specs.Prelude.{not, nat_lt, nat_le, ◌==◌, option_map, slice_get, position}
 use Rattle.std.specs.List.{list_any, list_all, prefix_len}
 use Rattle.std.specs.Int.{Width, w32, w64, byte_len}
@@ -7,6 +7,10 @@ use borrow.Author.Tests.{ltb-false}
 use Rattle.std.proofs.lemmas.Bool.Decides.{nat_tests}
 use Rattle.std.proofs.lemmas.List.Sums.{prefix_len_passes}
 use Rattle.std.proofs.lemmas.Option.{slice_get_within, get_or_from_slice_get}
+use Rattle.std.proofs.lemmas.Bool.{and_from, or_parts, leb-true}
+use Rattle.list_laws.proofs.Optional.{both_none}
+use Rattle.list_laws.proofs.Truth.{and_first, and_second}
+use Rattle.list_laws.proofs.Each.{passes_at, fails_at}
 use Rattle.nc_base.specs.declared.header.Header.{Header}
 use Rattle.nc_base.specs.declared.header.Var.{Var}
 use Rattle.nc_base.specs.declared.script.Align.{Align}
@@ -17,29 +21,14 @@ use Rattle.serial_spec.specs.HeaderGrammar.{bad_id, begin_width, is_sound, is_wr
 use Rattle.serial_spec.specs.Redefinition.{is_large_var, size_fault}
 use Rattle.var_layout.specs.Begins.{lies_too_far, HasPlace}
 use Rattle.var_layout.specs.Unplaced.{is_unplaced, has_writable_names, has_writable_parts}
-use Rattle.var_layout.proofs.Soundness.{and_left, and_right, neither}
 use Rattle.var_layout.proofs.CreatedFiles.{in_place, near_end, fixed_fits, record_fits, length-placed}
-use Rattle.var_layout.proofs.LaidOut.{Unplaced, unplaced, Lies, lies_at, get_there, all_true, laid_sound}
+use Rattle.var_layout.proofs.LaidOut.{Unplaced, unplaced, Lies, lies_at, get_there, laid_sound}
 
 -- ---- tests of lists
 
 all_at : {A : Type 0} (test : A → Bool) (xs : List A) → ((k : ℕ) (x : A) → slice_get xs k ≡ Some x → test x ≡ true) → list_all test xs ≡ true
 all_at test [] h = refl
-all_at test (x ∷ xs) h = all_true (test x) (list_all test xs) (h 0 x refl) (all_at test xs (λ k y g. h (suc k) y g))
-
-of_all : {A : Type 0} (test : A → Bool) (xs : List A) (k : ℕ) (x : A) → list_all test xs ≡ true → slice_get xs k ≡ Some x → test x ≡ true
-of_all test [] k x h g = cc
-of_all test (y ∷ xs) zero x h g = let same : y ≡ x = cc in sym (ap (λ z. test z) same) ∙ and_left _ _ h
-of_all test (y ∷ xs) (suc k) x h g = of_all test xs k x (and_right (test y) _ h) g
-
-none_of : (t u : Bool) → (t || u) ≡ false → (t ≡ false) × (u ≡ false)
-none_of true u h = cc
-none_of false u h = (refl, h)
-
-of_none : {A : Type 0} (test : A → Bool) (xs : List A) (k : ℕ) (x : A) → list_any test xs ≡ false → slice_get xs k ≡ Some x → test x ≡ false
-of_none test [] k x h g = cc
-of_none test (y ∷ xs) zero x h g = let same : y ≡ x = cc in sym (ap (λ z. test z) same) ∙ (none_of _ _ h).0
-of_none test (y ∷ xs) (suc k) x h g = of_none test xs k x (none_of (test y) _ h).1 g
+all_at test (x ∷ xs) h = and_from (test x) (list_all test xs) (h 0 x refl) (all_at test xs (λ k y g. h (suc k) y g))
 
 -- where the position of the first is none, each fails
 no_position : {A : Type 0} (test : A → Bool) (xs : List A) (k : ℕ) (x : A) → position test xs ≡ None → slice_get xs k ≡ Some x → test x ≡ false
@@ -61,10 +50,10 @@ no_position {A} test xs k x h g =
 
 -- ---- fields
 
-small_field : (w : Width) (n m : ℕ) → 256 ^ byte_len w ≡ m → 2 * n < m → fits_field w n ≡ true
+pub small_field : (w : Width) (n m : ℕ) → 256 ^ byte_len w ≡ m → 2 * n < m → fits_field w n ≡ true
 small_field w n m e h = ap (λ (k : ℕ). nat_lt (2 * n) k) e ∙ (let f : nat_lt (2 * n) m ≡ true = grind (arith, nat_tests) in f)
 
-small_count : (version n : ℕ) → n < 2 ^ 31 → fits_count version n ≡ true
+pub small_count : (version n : ℕ) → n < 2 ^ 31 → fits_count version n ≡ true
 small_count version n h = by_test (version == 5)
   where
     by_test : (t : Bool) → fits_field (cond t w64 w32) n ≡ true
@@ -72,7 +61,7 @@ small_count version n h = by_test (version == 5)
     by_test false = small_field w32 n (2 ^ 32) refl (omega arith)
 
 -- a vsize that the version can store
-vsize_fits : (header : Header) (v : Var) → vsize header v < 2 ^ 62 → is_large_var header v ≡ false → fits_count header.version (vsize header v) ≡ true
+pub vsize_fits : (header : Header) (v : Var) → vsize header v < 2 ^ 62 → is_large_var header v ≡ false → fits_count header.version (vsize header v) ≡ true
 vsize_fits header v l h = by_test (header.version == 5) h
   where
     by_test : (t : Bool) → (not t && nat_lt (2 ^ 31 - 4) (vsize header v)) ≡ false → fits_field (cond t w64 w32) (vsize header v) ≡ true
@@ -80,7 +69,7 @@ vsize_fits header v l h = by_test (header.version == 5) h
     by_test false e = let m = ltb-false (2 ^ 31 - 4) (vsize header v) e in small_field w32 (vsize header v) (2 ^ 32) refl (omega arith)
 
 begin_fits : (header : Header) (v : Var) → lies_too_far header v ≡ false → fits_field (begin_width header.version) v.begin ≡ true
-begin_fits header v h = by_test (header.version == 1) (and_left _ _ (was_true _ h)) (near_end header v h)
+begin_fits header v h = by_test (header.version == 1) (and_first _ _ (was_true _ h)) (near_end header v h)
   where
     was_true : (t : Bool) → not t ≡ false → t ≡ true
     was_true true e = refl
@@ -100,30 +89,27 @@ begin_fits header v h = by_test (header.version == 1) (and_left _ _ (was_true _ 
 ids_fit : (version count : ℕ) (ids : List ℕ) → count ≤ 1024 → list_any (λ id. nat_le count id) ids ≡ false → list_all (λ id. fits_count version id) ids ≡ true
 ids_fit version count [] l h = refl
 ids_fit version count (id ∷ ids) l h =
-    let both = none_of (nat_le count id) _ h in
-    all_true (fits_count version id) _ (small_count version id (below id both.0)) (ids_fit version count ids l both.1)
+    let both = or_parts (nat_le count id) _ h in
+    and_from (fits_count version id) _ (small_count version id (below id both.0)) (ids_fit version count ids l both.1)
   where
     below : (n : ℕ) → nat_le count n ≡ false → n < 2 ^ 31
     below n e = grind (arith, nat_tests)
-
-le_true : (a b : ℕ) → nat_le a b ≡ true → a ≤ b
-le_true a b h = grind (arith, nat_tests)
 
 -- ---- one variable
 
 laid_var : (header : Header) (align : Align) (len first k : ℕ) (v : Var) → Unplaced header → HasPlace header align len first → position (is_large_var header) header.vars ≡ None
     → list_all (has_writable_names header) header.vars ≡ true → Lies header k v → is_writable_var header (in_place header align len k v) ≡ true
 laid_var header align len first k v u place sizes names lies =
-    all_true (fits_count header.version (length v.name) && is_writable_list header.version (λ id. fits_count header.version id) v.dims
+    and_from (fits_count header.version (length v.name) && is_writable_list header.version (λ id. fits_count header.version id) v.dims
     && is_writable_list header.version (is_writable_attr header.version) v.attrs && is_type header.version v.kind && fits_count header.version (vsize header v)) _
-    (all_true (fits_count header.version (length v.name) && is_writable_list header.version (λ id. fits_count header.version id) v.dims
+    (and_from (fits_count header.version (length v.name) && is_writable_list header.version (λ id. fits_count header.version id) v.dims
     && is_writable_list header.version (is_writable_attr header.version) v.attrs && is_type header.version v.kind) _
-    (all_true (fits_count header.version (length v.name) && is_writable_list header.version (λ id. fits_count header.version id) v.dims
+    (and_from (fits_count header.version (length v.name) && is_writable_list header.version (λ id. fits_count header.version id) v.dims
     && is_writable_list header.version (is_writable_attr header.version) v.attrs) _
-    (all_true (fits_count header.version (length v.name) && is_writable_list header.version (λ id. fits_count header.version id) v.dims) _
-    (all_true (fits_count header.version (length v.name)) _ (and_left _ _ (and_left _ _ named)) dims)
-    (and_right _ _ (and_left _ _ named)))
-    (and_right _ _ named))
+    (and_from (fits_count header.version (length v.name) && is_writable_list header.version (λ id. fits_count header.version id) v.dims) _
+    (and_from (fits_count header.version (length v.name)) _ (and_first _ _ (and_first _ _ named)) dims)
+    (and_second _ _ (and_first _ _ named)))
+    (and_second _ _ named))
     (vsize_fits header v (let n = near_end header (in_place header align len k v) far in omega arith) (no_position (is_large_var header) header.vars k v sizes there)))
     (begin_fits header (in_place header align len k v) far)
   where
@@ -131,7 +117,7 @@ laid_var header align len first k v u place sizes names lies =
     there = get_there header k v lies
 
     named : has_writable_names header v ≡ true
-    named = of_all (has_writable_names header) header.vars k v names there
+    named = passes_at (has_writable_names header) header.vars names k v there
 
     far : lies_too_far header (in_place header align len k v) ≡ false
     far = by_test (is_record header v) refl
@@ -144,32 +130,32 @@ laid_var header align len first k v u place sizes names lies =
     dims =
         let limits = nat_le (length header.dims) most_dims && nat_le (length header.vars) most_vars in
         let each = list_all (λ w. nat_le (length w.dims) most_dims_of_var) header.vars in
-        let few = of_all (λ w. nat_le (length w.dims) most_dims_of_var) header.vars k v (and_right limits each u.counts) there in
-        let l : length v.dims ≤ 32 = le_true (length v.dims) 32 few in
+        let few = passes_at (λ w. nat_le (length w.dims) most_dims_of_var) header.vars (and_second limits each u.counts) k v there in
+        let l : length v.dims ≤ 32 = leb-true (length v.dims) 32 few in
         let all : length header.dims ≤ 1024 =
-        le_true (length header.dims) 1024 (and_left (nat_le (length header.dims) most_dims) (nat_le (length header.vars) most_vars) (and_left limits each u.counts)) in
-        all_true (fits_count header.version (length v.dims)) _ (small_count header.version (length v.dims) (omega arith))
-        (ids_fit header.version (length header.dims) v.dims all (of_none (bad_id header) header.vars k v u.ids there))
+        leb-true (length header.dims) 1024 (and_first (nat_le (length header.dims) most_dims) (nat_le (length header.vars) most_vars) (and_first limits each u.counts)) in
+        and_from (fits_count header.version (length v.dims)) _ (small_count header.version (length v.dims) (omega arith))
+        (ids_fit header.version (length header.dims) v.dims all (fails_at (bad_id header) header.vars k v u.ids there))
 
 pub laid_writable : (header : Header) (align : Align) (len first : ℕ) → 0 < align.header → 0 < align.var → is_unplaced header ≡ true → HasPlace header align len first
     → size_fault header ≡ None → has_writable_parts header ≡ true → is_writable (begins header align len) ≡ true
 laid_writable header align len first pos pos' h place sizes parts =
     let u = unplaced header h in
-    let large = no_map (position (is_large_var header) header.vars) (neither _ _ sizes).0 in
+    let large = no_map (position (is_large_var header) header.vars) (both_none _ _ sizes).0 in
     let few : length header.vars ≤ 8192 =
-    le_true (length header.vars) 8192 (and_right (nat_le (length header.dims) most_dims) (nat_le (length header.vars) most_vars)
-    (and_left _ (list_all (λ v. nat_le (length v.dims) most_dims_of_var) header.vars) u.counts)) in
-    all_true (is_sound (begins header align len) && fits_count header.version header.records
+    leb-true (length header.vars) 8192 (and_second (nat_le (length header.dims) most_dims) (nat_le (length header.vars) most_vars)
+    (and_first _ (list_all (λ v. nat_le (length v.dims) most_dims_of_var) header.vars) u.counts)) in
+    and_from (is_sound (begins header align len) && fits_count header.version header.records
     && is_writable_list header.version (is_writable_dim header.version) header.dims && is_writable_list header.version (is_writable_attr header.version) header.attrs) _
-    (all_true (is_sound (begins header align len) && fits_count header.version header.records && is_writable_list header.version (is_writable_dim header.version) header.dims) _
-    (all_true (is_sound (begins header align len) && fits_count header.version header.records) _
-    (all_true (is_sound (begins header align len)) _ (laid_sound header align len first pos pos' h place)
+    (and_from (is_sound (begins header align len) && fits_count header.version header.records && is_writable_list header.version (is_writable_dim header.version) header.dims) _
+    (and_from (is_sound (begins header align len) && fits_count header.version header.records) _
+    (and_from (is_sound (begins header align len)) _ (laid_sound header align len first pos pos' h place)
     (ap (λ (n : ℕ). fits_count header.version n) u.none ∙ small_count header.version 0 (omega arith)))
-    (and_left _ _ (and_left _ _ parts)))
-    (and_right _ _ (and_left _ _ parts)))
-    (all_true (fits_count header.version (length (placed header align len 0 header.vars))) _
+    (and_first _ _ (and_first _ _ parts)))
+    (and_second _ _ (and_first _ _ parts)))
+    (and_from (fits_count header.version (length (placed header align len 0 header.vars))) _
     (ap (λ (n : ℕ). fits_count header.version n) (length-placed header align len 0 header.vars) ∙ small_count header.version (length header.vars) (omega arith))
-    (all_at (is_writable_var (begins header align len)) (placed header align len 0 header.vars) (λ k w g. at k w (lies_at header align len k w g) u large (and_right _ _ parts))))
+    (all_at (is_writable_var (begins header align len)) (placed header align len 0 header.vars) (λ k w g. at k w (lies_at header align len k w g) u large (and_second _ _ parts))))
   where
     no_map : (o : Option ℕ) → option_map (λ k. fault.VarSize k) o ≡ None → o ≡ None
     no_map None e = refl

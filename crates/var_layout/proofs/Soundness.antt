@@ -1,11 +1,14 @@
 -- What a sound header bounds.
 use Rattle.std.proofs.Common.{◌≡◌, ℕ, zero, suc, ◌+◌, ◌-◌, ◌*◌, ◌^◌, ◌<◌, ◌≤◌, List, [], ◌∷◌, length, take, drop, get_or, map, Bool, true, false, cond, ◌&&◌, ◌||◌, Option, Some, None, refl, sym, ap, subst, ◌∙◌, arith}
-use Rattle.std.specs.Prelude.{count_by, sum_by, not, nat_lt, nat_le, ◌==◌, slice_get, is_none, IfSome}
+use Rattle.std.specs.Prelude.{count_by, sum_by, not, nat_lt, nat_le, ◌==◌, slice_get, IfSome}
 use borrow.Author.Tests.{ltb-true}
 use Rattle.std.proofs.lemmas.Bool.Decides.{nat_tests}
-use Rattle.std.specs.Option.{option_or}
 use Rattle.std.proofs.lemmas.List.{take_all, drop_more, length-map}
 use Rattle.std.proofs.lemmas.List.Sums.{length-filter, sum_by-cons, sum_by_more}
+use Rattle.std.proofs.lemmas.Bool.{not-false}
+use Rattle.serial_spec.proofs.RoomLaws.{slab_below}
+use Rattle.list_laws.proofs.Optional.{none_of_test, both_none, untold, told_unless}
+use Rattle.list_laws.proofs.Truth.{and_first, and_second, or_first_false}
 use Rattle.nc_base.specs.declared.header.Header.{Header}
 use Rattle.nc_base.specs.declared.header.Var.{Var}
 use Rattle.nc_base.specs.declared.errors.HeaderErr.TheVariants as fault
@@ -14,57 +17,23 @@ use Rattle.serial_spec.specs.Layout.{slab, vsize, is_record, recsize, record_siz
 use Rattle.serial_spec.specs.HeaderGrammar.{is_sound, header_len, first_check, fault_if, first_with, two_record_dims, record_later, bad_id, is_too_large, all_ones, measure, past_bound, keeps_bound}
 use Rattle.var_layout.specs.Capped.{capped}
 
--- ---- tests
-
-pub and_left : (a b : Bool) → (a && b) ≡ true → a ≡ true
-and_left true b h = refl
-and_left false b h = cc
-
-pub and_right : (a b : Bool) → (a && b) ≡ true → b ≡ true
-and_right true b h = h
-and_right false b h = cc
-
-pub no_some : {A : Type 0} (o : Option A) → is_none o ≡ true → o ≡ None
-no_some None h = refl
-no_some (Some x) h = cc
-
-or_left : (a b : Bool) → (a || b) ≡ false → a ≡ false
-or_left true b h = cc
-or_left false b h = refl
-
-not_true : (a : Bool) → not a ≡ false → a ≡ true
-not_true true h = refl
-not_true false h = cc
-
-pub neither : {A : Type 0} (a b : Option A) → option_or a b ≡ None → (a ≡ None) × (b ≡ None)
-neither None b h = (refl, h)
-neither (Some x) b h = cc
-
-no_fault : {A : Type 0} (t : Bool) (x : A) → cond t (Some x) None ≡ None → t ≡ false
-no_fault true x h = cc
-no_fault false x h = refl
-
 -- ---- each variable keeps its bound
 
 pub measured : (header : Header) → is_sound header ≡ true → measure header ≡ None
 measured header h =
-    let checks : first_check header ≡ None = no_some _ (and_right _ _ h) in
-    let a = (neither (fault_if (two_record_dims header) fault.TwoRecordDims) _ checks).1 in
-    let b = (neither (first_with (record_later header) (λ k. fault.RecordDimNotFirst k) header.vars) _ a).1 in
-    let c = (neither (first_with (bad_id header) (λ k. fault.BadDimId k) header.vars) _ b).1 in
-    let d = (neither (fault_if (header.records == all_ones header.version) fault.Streaming) _ c).1 in
-    let e = (neither (fault_if (is_too_large header) fault.TooLarge) _ d).0 in
-    no_some _ (not_true _ (or_left _ _ (no_fault (is_too_large header) fault.TooLarge e)))
+    let checks : first_check header ≡ None = none_of_test _ (and_second _ _ h) in
+    let a = (both_none (fault_if (two_record_dims header) fault.TwoRecordDims) _ checks).1 in
+    let b = (both_none (first_with (record_later header) (λ k. fault.RecordDimNotFirst k) header.vars) _ a).1 in
+    let c = (both_none (first_with (bad_id header) (λ k. fault.BadDimId k) header.vars) _ b).1 in
+    let d = (both_none (fault_if (header.records == all_ones header.version) fault.Streaming) _ c).1 in
+    let e = (both_none (fault_if (is_too_large header) fault.TooLarge) _ d).0 in
+    none_of_test _ (not-false _ (or_first_false _ _ (untold (is_too_large header) fault.TooLarge e)))
 
 pub header_short : (header : Header) → is_sound header ≡ true → header_len header ≤ 2 ^ 20
-header_short header h = short (header_len header) (and_right _ _ (and_left _ _ h))
+header_short header h = short (header_len header) (and_second _ _ (and_first _ _ h))
   where
     short : (n : ℕ) → nat_le n (2 ^ 20) ≡ true → n ≤ 2 ^ 20
     short n e = grind (arith, nat_tests)
-
-kept_or : {A : Type 0} (t : Bool) (o : Option A) (x : A) → cond t o (Some x) ≡ None → (t ≡ true) × (o ≡ None)
-kept_or true o x h = (refl, h)
-kept_or false o x h = cc
 
 pub record Keeps (header : Header) (before : ℕ) (v : Var) : Type 0 where
   pub size : vsize header v < 2 ^ 62
@@ -74,12 +43,12 @@ pub record Keeps (header : Header) (before : ℕ) (v : Var) : Type 0 where
 
 keeps : (header : Header) (before : ℕ) (v : Var) → keeps_bound header before v ≡ true → Keeps header before v
 keeps header before v h =
-    let first = and_left _ _ h in
+    let first = and_first _ _ h in
     record {
-      size = ltb-true _ _ (and_left _ _ first);
-      end = ltb-true _ _ (and_right _ _ first);
-      records = λ e. (of_record (is_record header v) e (and_right _ _ h)).0;
-      last = λ e. (of_record (is_record header v) e (and_right _ _ h)).1;
+      size = ltb-true _ _ (and_first _ _ first);
+      end = ltb-true _ _ (and_second _ _ first);
+      records = λ e. (of_record (is_record header v) e (and_second _ _ h)).0;
+      last = λ e. (of_record (is_record header v) e (and_second _ _ h)).1;
     }
   where
     last_one : (t : Bool) → (t ≡ true → header.records ≡ 0) → (t || nat_lt (v.begin + (header.records - 1) * recsize header + last_share header v) file_limit) ≡ true
@@ -93,22 +62,19 @@ keeps header before v h =
     of_record : (t : Bool) → t ≡ true → (not t || (nat_lt (before + vsize header v) file_limit
         && (header.records == 0 || nat_lt (v.begin + (header.records - 1) * recsize header + last_share header v) file_limit))) ≡ true
         → (before + vsize header v < 2 ^ 62) × (0 < header.records → v.begin + (header.records - 1) * recsize header + last_share header v < 2 ^ 62)
-    of_record true e k = (ltb-true _ _ (and_left _ _ k), last_one (header.records == 0) (is_zero header.records) (and_right _ _ k))
+    of_record true e k = (ltb-true _ _ (and_first _ _ k), last_one (header.records == 0) (is_zero header.records) (and_second _ _ k))
     of_record false e k = cc
 
 kept : (header : Header) (before n : ℕ) (vs : List Var) (k : ℕ) (v : Var) → past_bound header before n vs ≡ None → slice_get vs k ≡ Some v → (seen : ℕ) × Keeps header seen v
 kept header before n [] k v h g = cc
 kept header before n (w ∷ vs) zero v h g =
     let same : w ≡ v = cc in
-    let here = (kept_or (keeps_bound header before w) _ _ h).0 in
+    let here = (told_unless (keeps_bound header before w) _ _ h).0 in
     (before, keeps header before v (sym (ap (λ (x : Var). keeps_bound header before x) same) ∙ here))
-kept header before n (w ∷ vs) (suc k) v h g = kept header (before + record_share header w) (suc n) vs k v (kept_or (keeps_bound header before w) _ _ h).1 g
+kept header before n (w ∷ vs) (suc k) v h g = kept header (before + record_share header w) (suc n) vs k v (told_unless (keeps_bound header before w) _ _ h).1 g
 
 pub var_kept : (header : Header) (k : ℕ) (v : Var) → is_sound header ≡ true → slice_get header.vars k ≡ Some v → (seen : ℕ) × Keeps header seen v
 var_kept header k v h g = kept header 0 0 header.vars k v (measured header h) g
-
-pub slab_below : (header : Header) (v : Var) → slab header v ≤ vsize header v
-slab_below header v = omega arith
 
 pub vsize_small : (header : Header) (k : ℕ) (v : Var) → is_sound header ≡ true → slice_get header.vars k ≡ Some v → vsize header v < 2 ^ 62
 vsize_small header k v h g = (var_kept header k v h g).1.size
@@ -154,7 +120,7 @@ shares_small : (header : Header) (before n : ℕ) (vs : List Var) → past_bound
     → before + sum_by (λ v. record_share header v) vs < 2 ^ 62
 shares_small header before n [] h l = omega arith
 shares_small header before n (v ∷ vs) h l =
-    let both = kept_or (keeps_bound header before v) _ _ h in
+    let both = told_unless (keeps_bound header before v) _ _ h in
     let here = next (is_record header v) refl (keeps header before v both.0) in
     let rest = shares_small header (before + record_share header v) (suc n) vs both.1 here in
     let e = sum_by-cons (λ w. record_share header w) v vs in

@@ -4,25 +4,19 @@ use Rattle.std.specs.Prelude.{sum_by, ◌==◌, flat_map}
 use Rattle.std.specs.Int.{w32, w64, byte_len, to_be_bytes}
 use Rattle.std.proofs.lemmas.List.{length-append, take_all}
 use Rattle.std.proofs.lemmas.List.Concat.{length-flat_map}
+use Rattle.serial_spec.proofs.KeepLaws.{count_long}
 use Rattle.nc_base.specs.declared.header.Header.{Header}
 use Rattle.nc_base.specs.declared.header.Var.{Var}
 use Rattle.serial_spec.specs.Layout.{vsize}
 use Rattle.serial_spec.specs.HeaderGrammar.{count, count_width, begin_width, tag, list_of, name, number_of, dimension, attribute, variable, magic, canon, header_len}
 use Rattle.var_layout.specs.Capped.{capped}
 
-pub length-count : (version n : ℕ) → length (count version n) ≡ byte_len (count_width version)
-length-count version n = by_test (version == 5)
-  where
-    by_test : (t : Bool) → length (to_be_bytes (cond t w64 w32) n) ≡ byte_len (cond t w64 w32)
-    by_test true = refl
-    by_test false = refl
-
 pub list_len : {A : Type 0} (version t : ℕ) (entry : A → List ℕ) (xs : List A)
     → length (list_of version t entry xs) ≡ 4 + byte_len (count_width version) + sum_by (λ x. length (entry x)) xs
-list_len version t entry [] = length-append (tag 0) (count version 0) ∙ ap (λ (n : ℕ). 4 + n) (length-count version 0) ∙ omega arith
+list_len version t entry [] = length-append (tag 0) (count version 0) ∙ ap (λ (n : ℕ). 4 + n) (count_long version 0) ∙ omega arith
 list_len version t entry (x ∷ xs) =
     length-append (tag t ++ count version (length (x ∷ xs))) (flat_map entry (x ∷ xs))
-    ∙ ap (λ (n : ℕ). n + length (flat_map entry (x ∷ xs))) (length-append (tag t) (count version (length (x ∷ xs))) ∙ ap (λ (n : ℕ). 4 + n) (length-count version (length (x ∷ xs))))
+    ∙ ap (λ (n : ℕ). n + length (flat_map entry (x ∷ xs))) (length-append (tag t) (count version (length (x ∷ xs))) ∙ ap (λ (n : ℕ). 4 + n) (count_long version (length (x ∷ xs))))
     ∙ ap (λ (n : ℕ). 4 + byte_len (count_width version) + n) (length-flat_map entry (x ∷ xs))
 
 -- a list of entries, at the end of a loop
@@ -36,7 +30,7 @@ ids_len : (version : ℕ) (ids : List ℕ) → length (flat_map (λ id. count ve
 ids_len version [] = omega arith
 ids_len version (id ∷ ids) =
     length-append (count version id) (flat_map (λ i. count version i) ids)
-    ∙ ap (λ (n : ℕ). n + length (flat_map (λ i. count version i) ids)) (length-count version id)
+    ∙ ap (λ (n : ℕ). n + length (flat_map (λ i. count version i) ids)) (count_long version id)
     ∙ ap (λ (n : ℕ). byte_len (count_width version) + n) (ids_len version ids)
     ∙ omega arith
 
@@ -60,11 +54,11 @@ variable_len header v =
     (joined _ (tag (number_of v.kind)) _ _
     (joined _ (list_of header.version 12 (λ a. attribute header.version a) v.attrs) _ _
     (joined _ (flat_map (λ id. count header.version id) v.dims) _ _
-    (joined (name header.version v.name) (count header.version (length v.dims)) _ _ refl (length-count header.version (length v.dims)))
+    (joined (name header.version v.name) (count header.version (length v.dims)) _ _ refl (count_long header.version (length v.dims)))
     (ids_len header.version v.dims))
     refl)
     refl)
-    (length-count header.version (vsize header v)))
+    (count_long header.version (vsize header v)))
     (begin_len header.version v.begin)
 
 pub canon_len : (header : Header)
@@ -75,7 +69,7 @@ canon_len header =
     joined third (list_of header.version 11 (λ v. variable header v) header.vars) _ _
     (joined second (list_of header.version 12 (λ a. attribute header.version a) header.attrs) _ _
     (joined first (list_of header.version 10 (λ d. dimension header.version d) header.dims) _ _
-    (joined (magic header.version) (count header.version header.records) _ _ refl (length-count header.version header.records))
+    (joined (magic header.version) (count header.version header.records) _ _ refl (count_long header.version header.records))
     refl)
     refl)
     refl

@@ -1,5 +1,5 @@
 -- What is known of a region that a check accepts.
-use Rattle.std.proofs.Common.{◌≡◌, ℕ, ◌^◌, ◌<◌, ◌≤◌, ◌∙◌, ap, sym, refl, inl, inr, ◌⊎◌, List, [], ◌∷◌, length, Bool, true, false, not, cond, ltb, leb, eqb, ◌||◌, ◌&&◌, Option, Some, arith}
+use Rattle.std.proofs.Common.{◌≡◌, ℕ, ◌^◌, ◌<◌, ◌≤◌, ◌∙◌, ap, sym, refl, length, Bool, true, false, not, cond, ltb, leb, eqb, ◌||◌, ◌&&◌, Option, Some, arith}
 use Rattle.std.specs.Prelude.{slice_get}
 use Rattle.std.specs.List.{list_any}
 use Rattle.std.proofs.lemmas.Bool.{or_parts, leb-false}
@@ -15,26 +15,6 @@ use Rattle.serial_spec.specs.Limits.{most_elements, record_limit, file_limit}
 use Rattle.serial_spec.specs.Records.{records_of}
 use Rattle.serial_spec.specs.RegionCheck.{check_some, check_var, bounds, other_shape, some_start, some_edge, is_too_large, last_position}
 use Rattle.vara_extents.specs.Accepted.{IsAccepted}
-
-pub no_starts : (ends : List (Option ℕ)) (starts counts : List ℕ) → length starts ≡ 0 → some_start ends starts counts ≡ false
-no_starts [] starts counts h = refl
-no_starts (b ∷ ends) [] counts h = refl
-no_starts (b ∷ ends) (s ∷ starts) counts h = absurd (omega (arith, h))
-
-pub no_counts : (ends : List (Option ℕ)) (starts counts : List ℕ) → length counts ≡ 0 → some_start ends starts counts ≡ false
-no_counts [] starts counts h = refl
-no_counts (b ∷ ends) [] counts h = refl
-no_counts (b ∷ ends) (s ∷ starts) [] h = refl
-no_counts (b ∷ ends) (s ∷ starts) (n ∷ counts) h = absurd (omega (arith, h))
-
-pub no_edges : (ends : List (Option ℕ)) (starts counts strides : List ℕ) → (length starts ≡ 0) ⊎ ((length counts ≡ 0) ⊎ (length strides ≡ 0)) → some_edge ends starts counts strides ≡ false
-no_edges [] starts counts strides h = refl
-no_edges (b ∷ ends) [] counts strides h = refl
-no_edges (b ∷ ends) (s ∷ starts) [] strides h = refl
-no_edges (b ∷ ends) (s ∷ starts) (n ∷ counts) [] h = refl
-no_edges (b ∷ ends) (s ∷ starts) (n ∷ counts) (t ∷ strides) (inl h) = absurd (omega (arith, h))
-no_edges (b ∷ ends) (s ∷ starts) (n ∷ counts) (t ∷ strides) (inr (inl h)) = absurd (omega (arith, h))
-no_edges (b ∷ ends) (s ∷ starts) (n ∷ counts) (t ∷ strides) (inr (inr h)) = absurd (omega (arith, h))
 
 passes : (b : Bool) (c rest : Code) → (c ≡ code.Ok → ⊥) → cond b c rest ≡ code.Ok → (b ≡ false) × (rest ≡ code.Ok)
 passes true c rest n h = absurd (n h)

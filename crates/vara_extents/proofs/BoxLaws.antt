@@ -5,6 +5,7 @@ use Rattle.std.specs.List.{list_any, range_with_len}
 use Rattle.std.proofs.lemmas.Bool.{ltb-true, lt-ltb, leb-true, le-leb, eqb-true, eq-eqb, and_parts, and_from, or_cases, or_left, or_right, cases_lt, cases_eq}
 use Rattle.std.proofs.lemmas.List.Folds.{list_any-append}
 use Rattle.std.proofs.lemmas.List.{map-append}
+use Rattle.list_laws.proofs.Maps.{any_map}
 use Rattle.serial_spec.specs.Request.{coordinates, index_at}
 use Rattle.serial_spec.specs.RegionCheck.{has_index}
 use Rattle.vara_extents.specs.Boxes.{boxes_meet}
@@ -39,10 +40,6 @@ any_and true q (x ∷ xs) = ap (λ r. q x || r) (any_and true q xs)
 any_and false q [] = refl
 any_and false q (x ∷ xs) = any_and false q xs
 
-any_map : {A B : Type 0} (f : A → B) (q : B → Bool) (xs : List A) → list_any q (map f xs) ≡ list_any (λ x. q (f x)) xs
-any_map f q [] = refl
-any_map f q (x ∷ xs) = ap (λ r. q (f x) || r) (any_map f q xs)
-
 -- a test of an index that tests the first number and the rest
 split_any : (p : ℕ → Bool) (q all : List ℕ → Bool) → ((x : ℕ) (xs : List ℕ) → all (x ∷ xs) ≡ (p x && q xs))
     → (s : ℕ) (starts ones : List ℕ) (inner : List (List ℕ)) (is : List ℕ)
@@ -57,11 +54,11 @@ split_any p q all h s starts ones inner (i ∷ is) =
   where
     first : list_any all (map (λ c. index_at (s ∷ starts) (1 ∷ ones) c) (map (λ c. i ∷ c) inner)) ≡ (p (s + i * 1) && list_any q (map (λ c. index_at starts ones c) inner))
     first =
-        any_map (λ c. index_at (s ∷ starts) (1 ∷ ones) c) all (map (λ c. i ∷ c) inner)
-        ∙ any_map (λ c. i ∷ c) (λ c. all (index_at (s ∷ starts) (1 ∷ ones) c)) inner
+        any_map all (λ c. index_at (s ∷ starts) (1 ∷ ones) c) (map (λ c. i ∷ c) inner)
+        ∙ any_map (λ c. all (index_at (s ∷ starts) (1 ∷ ones) c)) (λ c. i ∷ c) inner
         ∙ (λ j. list_any (λ c. h (s + i * 1) (index_at starts ones c) j) inner)
         ∙ any_and (p (s + i * 1)) (λ c. q (index_at starts ones c)) inner
-        ∙ ap (λ r. p (s + i * 1) && r) (sym (any_map (λ c. index_at starts ones c) q inner))
+        ∙ ap (λ r. p (s + i * 1) && r) (sym (any_map q (λ c. index_at starts ones c) inner))
 
 -- ---- one dimension
 
@@ -175,9 +172,9 @@ parted h s i starts ones inner is =
   where
     first : list_any h (map (λ c. index_at (s ∷ starts) (1 ∷ ones) c) (map (λ c. i ∷ c) inner)) ≡ list_any (λ y. h ((s + i * 1) ∷ y)) (map (λ c. index_at starts ones c) inner)
     first =
-        any_map (λ c. index_at (s ∷ starts) (1 ∷ ones) c) h (map (λ c. i ∷ c) inner)
-        ∙ any_map (λ c. i ∷ c) (λ c. h (index_at (s ∷ starts) (1 ∷ ones) c)) inner
-        ∙ sym (any_map (λ c. index_at starts ones c) (λ y. h ((s + i * 1) ∷ y)) inner)
+        any_map h (λ c. index_at (s ∷ starts) (1 ∷ ones) c) (map (λ c. i ∷ c) inner)
+        ∙ any_map (λ c. h (index_at (s ∷ starts) (1 ∷ ones) c)) (λ c. i ∷ c) inner
+        ∙ sym (any_map (λ y. h ((s + i * 1) ∷ y)) (λ c. index_at starts ones c) inner)
 
 long_each : (f g : List ℕ → Bool) (s : ℕ) (starts ones : List ℕ) (inner : List (List ℕ))
     → ((x : ℕ) → list_any (λ y. f (x ∷ y)) (map (λ c. index_at starts ones c) inner) ≡ list_any (λ y. g (x ∷ y)) (map (λ c. index_at starts ones c) inner))

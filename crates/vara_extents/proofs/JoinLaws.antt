@@ -4,6 +4,7 @@ use Rattle.std.specs.Prelude.{slice_get}
 use Rattle.std.specs.List.{range_with_len, AllByRecursion}
 use Rattle.std.proofs.lemmas.Bool.{eq-eqb, ne_eqb, cases_eq}
 use Rattle.std.proofs.lemmas.List.{append_assoc}
+use Rattle.list_laws.proofs.Ranges.{range_append}
 use Rattle.nc_base.specs.declared.plan.Extent.{Extent}
 use Rattle.vara_extents.specs.Joined.{joined_to, joined, spans, IsNotNext, IsJoined}
 
@@ -140,24 +141,6 @@ joined_end n (e ∷ es) h = before e (joined es) h.0 (joined_end n es h.1)
         by_case (inl k) = let low = h.0 in subst (EndBy n) (sym (join_next e d ds k)) (omega arith, h.1)
         by_case (inr k) = subst (EndBy n) (sym (join_apart e d ds k)) (l, h)
 
-range_two : (a m n : ℕ) → range_with_len a (m + n) ≡ range_with_len a m ++ range_with_len (a + m) n
-range_two a zero n = (λ i. range_with_len (base i) (count i))
-  where
-    base : a ≡ a + 0
-    base = omega arith
-
-    count : 0 + n ≡ n
-    count = omega arith
-range_two a (suc m) n =
-    ap (λ (k : ℕ). range_with_len a k) count
-    ∙ ap (λ (xs : List ℕ). a ∷ xs) (range_two (a + 1) m n ∙ ap (λ (b : ℕ). range_with_len (a + 1) m ++ range_with_len b n) base)
-  where
-    base : a + 1 + m ≡ a + suc m
-    base = omega arith
-
-    count : suc m + n ≡ suc (m + n)
-    count = omega arith
-
 pub joined_spans : (es : List Extent) → spans (joined es) ≡ spans es
 joined_spans [] = refl
 joined_spans (e ∷ es) = before e (joined es) ∙ ap (λ (xs : List ℕ). range_with_len e.at e.len ++ xs) (joined_spans es)
@@ -169,7 +152,7 @@ joined_spans (e ∷ es) = before e (joined es) ∙ ap (λ (xs : List ℕ). range
         by_case : (d.at ≡ e.at + e.len) ⊎ (d.at ≡ e.at + e.len → ⊥) → spans (joined_to e (d ∷ ds)) ≡ range_with_len e.at e.len ++ spans (d ∷ ds)
         by_case (inl k) =
             ap spans (join_next e d ds k)
-            ∙ ap (λ (xs : List ℕ). xs ++ spans ds) (range_two e.at e.len d.len)
+            ∙ ap (λ (xs : List ℕ). xs ++ spans ds) (range_append e.at e.len d.len)
             ∙ append_assoc (range_with_len e.at e.len) (range_with_len (e.at + e.len) d.len) (spans ds)
             ∙ ap (λ (b : ℕ). range_with_len e.at e.len ++ (range_with_len b d.len ++ spans ds)) (sym k)
         by_case (inr k) = ap spans (join_apart e d ds k)

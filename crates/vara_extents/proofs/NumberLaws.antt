@@ -1,9 +1,9 @@
 -- The element with a number.
-use Rattle.std.proofs.Common.{◌≡◌, ℕ, zero, suc, ◌+◌, ◌*◌, ◌/◌, ◌%◌, ◌<◌, ◌≤◌, sym, ap, subst, ◌∙◌, List, [], ◌∷◌, length, drop, Some, arith}
+use Rattle.std.proofs.Common.{◌≡◌, ℕ, zero, suc, ◌+◌, ◌*◌, ◌/◌, ◌%◌, ◌<◌, ◌≤◌, sym, ap, ◌∙◌, List, [], ◌∷◌, length, drop, Some, arith}
 use Rattle.std.specs.Prelude.{slice_get}
-use Rattle.std.specs.List.{AllByRecursion}
 use Rattle.std.proofs.lemmas.Nat.{div-add-mod', div_below, mod_below, mul-le}
 use Rattle.std.proofs.Math.Nat.{lt_of_mul-lt-mul_right}
+use Rattle.std.proofs.lemmas.List.{length-map}
 use Rattle.nc_base.specs.declared.header.Header.{Header}
 use Rattle.nc_base.specs.declared.header.Var.{Var}
 use Rattle.nc_base.specs.declared.request.Region.{Region}
@@ -11,7 +11,7 @@ use Rattle.serial_spec.specs.ExternalForm.{size_of}
 use Rattle.serial_spec.specs.Layout.{product}
 use Rattle.serial_spec.specs.Place.{row, place, IsIndex}
 use Rattle.serial_spec.specs.Request.{coordinates, index_at, elements, places}
-use Rattle.serial_spec.proofs.ElementLaws.{get_map, map_long, length-coordinates, coordinates_at}
+use Rattle.serial_spec.proofs.ElementLaws.{get_map, length-coordinates, coordinates_at}
 use Rattle.vara_extents.specs.Joined.{element_extents, joined, joined_to}
 use Rattle.vara_extents.specs.Numbered.{coordinates_of, index_of, AreRuns}
 use Rattle.vara_extents.proofs.JoinLaws.{run_joined}
@@ -49,15 +49,10 @@ extent_at header v g k h = get_map (λ x. record { at = x; len = size_of v.kind 
 
 pub length-places : (header : Header) (v : Var) (g : Region) → length (places header v g) ≡ product g.count
 length-places header v g =
-    map_long (λ i. place header v i) (elements g) ∙ map_long (λ c. index_at g.start g.stride c) (coordinates g.count) ∙ length-coordinates g.count
+    length-map (elements g) (λ i. place header v i) ∙ length-map (coordinates g.count) (λ c. index_at g.start g.stride c) ∙ length-coordinates g.count
 
 pub length-element_extents : (header : Header) (v : Var) (g : Region) → length (element_extents header v g) ≡ product g.count
-length-element_extents header v g = map_long (λ x. record { at = x; len = size_of v.kind }) (places header v g) ∙ length-places header v g
-
-pub all_at : {A : Type 0} (P : A → Type 0) (xs : List A) (k : ℕ) (x : A) → AllByRecursion P xs → slice_get xs k ≡ Some x → P x
-all_at P [] k x h e = absurd cc
-all_at P (y ∷ xs) zero x h e = let same : y ≡ x = cc in subst P same h.0
-all_at P (y ∷ xs) (suc k) x h e = all_at P xs k x h.1 e
+length-element_extents header v g = length-map (places header v g) (λ x. record { at = x; len = size_of v.kind }) ∙ length-places header v g
 
 -- ---- the elements of a run are one extent
 

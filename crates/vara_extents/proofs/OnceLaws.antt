@@ -2,10 +2,12 @@
 use Rattle.std.proofs.Common.{◌≡◌, ℕ, zero, suc, ◌+◌, ◌*◌, ◌/◌, ◌%◌, ◌<◌, ◌≤◌, ◌⊎◌, inl, inr, refl, sym, ap, subst, ◌∙◌, List, [], ◌∷◌, ◌++◌, length, map, true, false, eqb, Option, Some, None, arith}
 use Rattle.std.specs.Prelude.{slice_get, flat_map}
 use Rattle.std.specs.List.{range_with_len, list_any}
-use Rattle.std.proofs.lemmas.Bool.{or_parts, eqb-false, cases_eq, cases_lt}
+use Rattle.std.proofs.lemmas.Bool.{or_parts, eqb-false, cases_eq}
 use Rattle.std.proofs.lemmas.Nat.{div-add-mod', mod_below}
 use Rattle.std.proofs.lemmas.Option.{slice_get_within, same_Some}
-use Rattle.std.proofs.Math.Nat.{mul-lt-mul_of_pos_right}
+use Rattle.std.proofs.lemmas.List.FromFn.{length-range_with_len}
+use Rattle.serial_spec.proofs.LengthLaws.{size_pos}
+use Rattle.list_laws.proofs.Numbers.{same_factor}
 use Rattle.nc_base.specs.declared.header.Header.{Header}
 use Rattle.nc_base.specs.declared.header.Var.{Var}
 use Rattle.nc_base.specs.declared.plan.Post.{Post}
@@ -19,7 +21,6 @@ use Rattle.serial_spec.specs.SharedByte.{bytes_of, bytes_of_some}
 use Rattle.serial_spec.proofs.AcceptLaws as accept
 use Rattle.serial_spec.proofs.ApartLaws.{elements_apart}
 use Rattle.serial_spec.proofs.ElementLaws.{get_left, get_right}
-use Rattle.var_layout.proofs.ElementPlaces.{size_pos}
 use Rattle.vara_extents.specs.Accepted.{IsAccepted}
 use Rattle.vara_extents.specs.Joined.{extents_of, element_extents, spans, IsOnce}
 use Rattle.vara_extents.specs.Numbered.{coordinates_of, index_of}
@@ -41,24 +42,12 @@ in_block f p l (x ∷ xs) (suc q) r b h e =
     let long : length (f x) ≡ p = l x in
     in_block f p l xs q r b h (sym (get_right (f x) (flat_map f xs) (q * p + r) (suc q * p + r) (omega arith)) ∙ e)
 
-range_long : (a n : ℕ) → length (range_with_len a n) ≡ n
-range_long a zero = refl
-range_long a (suc n) = ap suc (range_long (a + 1) n)
-
-range_at : (a n r b : ℕ) → slice_get (range_with_len a n) r ≡ Some b → b ≡ a + r
+pub range_at : (a n r b : ℕ) → slice_get (range_with_len a n) r ≡ Some b → b ≡ a + r
 range_at a zero r b e = absurd cc
 range_at a (suc n) zero b e = let same : a ≡ b = cc in omega arith
 range_at a (suc n) (suc r) b e = let later = range_at (a + 1) n r b e in omega arith
 
 -- ---- elements with other numbers are other elements
-
-same_factor : (i j t : ℕ) → 1 ≤ t → i * t ≡ j * t → i ≡ j
-same_factor i j t h e = by_order (cases_lt i j) (cases_lt j i)
-  where
-    by_order : (i < j) ⊎ (j ≤ i) → (j < i) ⊎ (i ≤ j) → i ≡ j
-    by_order (inl l) m = let less = mul-lt-mul_of_pos_right {m = i} {n = j} {k = t} l (omega arith) in absurd (omega arith)
-    by_order (inr l) (inl m) = let less = mul-lt-mul_of_pos_right {m = j} {n = i} {k = t} m (omega arith) in absurd (omega arith)
-    by_order (inr l) (inr m) = omega arith
 
 some_stride : (t : ℕ) → eqb t 0 ≡ false → 1 ≤ t
 some_stride zero e = absurd (eqb-false 0 0 e refl)
@@ -97,9 +86,9 @@ module _ (header : Header) (k : ℕ) (v : Var) (g : Region) (sound : is_sound he
   bytes_once i j x d e =
       let size = size_of v.kind in
       let some : 1 ≤ size_of v.kind = size_pos v.kind in
-      let first = in_block (λ y. range_with_len y size) size (λ y. range_long y size) (places header v g) (i / size) (i % size) x (mod_below i size some)
+      let first = in_block (λ y. range_with_len y size) size (λ y. length-range_with_len y size) (places header v g) (i / size) (i % size) x (mod_below i size some)
       (ap (λ (m : ℕ). slice_get (flat_map (λ y. range_with_len y size) (places header v g)) m) (div-add-mod' i size) ∙ d) in
-      let second = in_block (λ y. range_with_len y size) size (λ y. range_long y size) (places header v g) (j / size) (j % size) x (mod_below j size some)
+      let second = in_block (λ y. range_with_len y size) size (λ y. length-range_with_len y size) (places header v g) (j / size) (j % size) x (mod_below j size some)
       (ap (λ (m : ℕ). slice_get (flat_map (λ y. range_with_len y size) (places header v g)) m) (div-add-mod' j size) ∙ e) in
       sym (div-add-mod' i size)
       ∙ two (i / size) (i % size) (j / size) (j % size) first.0 second.0 first.1 second.1 (mod_below i size some) (mod_below j size some)

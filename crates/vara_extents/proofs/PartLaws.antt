@@ -24,7 +24,7 @@ use Rattle.vara_extents.proofs.BoxLaws.{box, boxes_share, any_of}
 
 -- ---- the first refusal
 
-ok_both : (c rest : Code) → cond (is_ok_code c) rest c ≡ code.Ok → (c ≡ code.Ok) × (rest ≡ code.Ok)
+pub ok_both : (c rest : Code) → cond (is_ok_code c) rest c ≡ code.Ok → (c ≡ code.Ok) × (rest ≡ code.Ok)
 ok_both code.Ok rest h = (refl, h)
 ok_both _ rest h = absurd cc
 
@@ -60,12 +60,6 @@ last_pick false share = refl
 not_picked : (small put share large : Bool) (c : Code) → (c ≡ code.Ok → ⊥) → pick (is_ok_code c) small put share large c ≡ c
 not_picked small put share large code.Ok n = absurd (n refl)
 not_picked small put share large _ n = refl
-
-picked : (header : Header) (var : Var) (parts : List Region) (known : ℕ) (direction : Direction)
-    → check_parts header var parts known direction
-    ≡ pick (is_ok_code (refusal_of header var parts known direction)) (leb (elements_of_all parts) most_elements) (is_put direction) (share_element parts)
-    (ltb most_elements (elements_of_all parts)) (refusal_of header var parts known direction)
-picked header var parts known direction = refl
 
 pub refused_first : (header : Header) (var : Var) (parts : List Region) (known : ℕ) (direction : Direction) (c : Code)
     → c ≡ refusal_of header var parts known direction → (c ≡ code.Ok → ⊥) → c ≡ check_parts header var parts known direction

@@ -1,8 +1,10 @@
 -- Where the elements of an accepted region lie.
-use Rattle.std.proofs.Common.{◌≡◌, ℕ, zero, suc, ◌+◌, ◌^◌, ◌<◌, ◌≤◌, sym, ap, ◌∙◌, List, [], ◌∷◌, length, map, true, false, not, ltb, leb, ◌||◌, ◌&&◌, Option, Some, arith}
+use Rattle.std.proofs.Common.{◌≡◌, ℕ, ◌+◌, ◌^◌, ◌<◌, ◌≤◌, sym, ap, ◌∙◌, List, [], ◌∷◌, map, true, false, not, ltb, leb, ◌||◌, ◌&&◌, Option, Some, arith}
 use Rattle.std.specs.Prelude.{slice_get}
 use Rattle.std.proofs.lemmas.Bool.{or_parts, leb-false, ltb-false}
 use Rattle.std.proofs.lemmas.Nat.{mul-le}
+use Rattle.serial_spec.proofs.LengthLaws.{size_pos}
+use Rattle.list_laws.proofs.Each.{each_map, each_weaker, each_at}
 use Rattle.nc_base.specs.declared.header.Header.{Header}
 use Rattle.nc_base.specs.declared.header.Var.{Var}
 use Rattle.nc_base.specs.declared.plan.Extent.{Extent}
@@ -16,25 +18,16 @@ use Rattle.serial_spec.specs.Place.{place, within_record, IsElement, IsElementBe
 use Rattle.serial_spec.specs.Records.{records_of}
 use Rattle.serial_spec.specs.RegionCheck.{check_some, check_var, is_too_large, last_position}
 use Rattle.serial_spec.specs.Request.{elements, places}
-use Rattle.serial_spec.proofs.AcceptLaws.{accepted_elements, all_map, all_same}
-use Rattle.serial_spec.proofs.ApartLaws.{slab_fits}
+use Rattle.serial_spec.proofs.AcceptLaws.{accepted_elements}
+use Rattle.serial_spec.proofs.ApartLaws.{slab_fits, index_record}
 use Rattle.serial_spec.proofs.RoomLaws.{element_inside}
-use Rattle.var_layout.proofs.ElementPlaces.{index_record, product_pos, size_pos}
+use Rattle.var_layout.proofs.ElementPlaces.{product_pos}
 use Rattle.vara_extents.specs.Accepted.{IsAccepted}
 use Rattle.vara_extents.specs.Joined.{element_extents, extents_of}
 use Rattle.vara_extents.specs.Numbered.{index_of}
 use Rattle.vara_extents.proofs.AcceptedLaws.{passed}
 use Rattle.vara_extents.proofs.JoinLaws.{AreSome, EndBy, joined_some, joined_end}
-use Rattle.vara_extents.proofs.NumberLaws.{element_at, all_at}
-
--- the variable of an accepted region is there
-pub accepted_there : (header : Header) (k : ℕ) (g : Region) → IsAccepted header k g → k < length header.vars
-accepted_there header k g h = by_var header.vars k (h.2)
-  where
-    by_var : (vars : List Var) (k : ℕ) → check_some header (slice_get vars k) g h.0 h.1 ≡ code.Ok → k < length vars
-    by_var [] k e = absurd cc
-    by_var (v ∷ vars) zero e = omega arith
-    by_var (v ∷ vars) (suc k) e = let l = by_var vars k e in omega arith
+use Rattle.vara_extents.proofs.NumberLaws.{element_at}
 
 pub accepted_var : (header : Header) (k : ℕ) (v : Var) (g : Region) → slice_get header.vars k ≡ Some v → (h : IsAccepted header k g) → check_var header v g h.0 h.1 ≡ code.Ok
 accepted_var header k v g is h = ap (λ (o : Option Var). check_some header o g h.0 h.1) (sym is) ∙ h.2
@@ -64,7 +57,7 @@ pub accepted_place : (header : Header) (k : ℕ) (v : Var) (g : Region) (n : ℕ
 accepted_place header k v g n sound is h below =
     let ok = accepted_var header k v g is h in
     let all = accepted_elements header k v g h.0 h.1 sound is ok in
-    let own : IsElementBelow header v (records_of header v g) (index_of g n) = all_at (IsElementBelow header v (records_of header v g)) (elements g) n (index_of g n) all (element_at g n below) in
+    let own : IsElementBelow header v (records_of header v g) (index_of g n) = each_at (IsElementBelow header v (records_of header v g)) (elements g) n (index_of g n) all (element_at g n below) in
     let end = element_inside header (header_len header) (records_of header v g) k v (index_of g n) is own in
     let small = accepted_small header v g (passed header v g h.0 h.1 ok).large in
     record { element = own.0; before_end = end; low = omega (arith, small.ends, end) }
@@ -83,9 +76,9 @@ pub extents_inside : (header : Header) (first k : ℕ) (v : Var) (g : Region) �
 extents_inside header first k v g sound is h =
     let n = end_of header first (records_of header v g) in
     joined_end n (element_extents header v g)
-    (all_map (λ (e : Extent). e.at + e.len ≤ n) (λ x. record { at = x; len = size_of v.kind }) (places header v g)
-    (all_map (λ x. x + size_of v.kind ≤ n) (λ i. place header v i) (elements g)
-    (all_same (IsElementBelow header v (records_of header v g)) (λ i. place header v i + size_of v.kind ≤ n)
+    (each_map (λ (e : Extent). e.at + e.len ≤ n) (λ x. record { at = x; len = size_of v.kind }) (places header v g)
+    (each_map (λ x. x + size_of v.kind ≤ n) (λ i. place header v i) (elements g)
+    (each_weaker (IsElementBelow header v (records_of header v g)) (λ i. place header v i + size_of v.kind ≤ n)
     (λ i b. element_inside header first (records_of header v g) k v i is b) (elements g)
     (accepted_elements header k v g h.0 h.1 sound is (accepted_var header k v g is h)))))
 

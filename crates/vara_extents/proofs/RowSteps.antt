@@ -5,16 +5,15 @@ use Rattle.std.proofs.lemmas.List.{take_rest}
 use Rattle.std.proofs.lemmas.Nat.{mod_below, mul-le}
 use Rattle.std.proofs.Math.Nat.{mul-le-mul_left}
 use Rattle.std.proofs.lemmas.Bool.{eqb-true, eqb-false}
+use Rattle.serial_spec.proofs.ApartLaws.{index_fixed, index_record}
 use Rattle.nc_base.specs.declared.header.Header.{Header}
 use Rattle.nc_base.specs.declared.header.Var.{Var}
-use Rattle.nc_base.specs.declared.header.NcType.{NcType}
-use Rattle.nc_base.specs.declared.header.NcType.TheVariants.{Byte, Char, Short, Int, Float, Double, UByte, UShort, UInt, Int64, UInt64}
 use Rattle.nc_base.specs.declared.request.Region.{Region}
 use Rattle.serial_spec.specs.ExternalForm.{size_of}
 use Rattle.serial_spec.specs.Layout.{product, length_of, recsize, is_record, starts_with_zero, without_record}
 use Rattle.serial_spec.specs.Place.{row, place, record_of, within_record, HasRecord, IsIndex, IsElement}
 use Rattle.serial_spec.specs.Request.{index_at}
-use Rattle.var_layout.proofs.ElementPlaces.{product_pos, index_fixed, index_record, place_fixed, place_record}
+use Rattle.var_layout.proofs.ElementPlaces.{product_pos, place_fixed, place_record}
 use Rattle.var_layout.specs.Capped.{capped}
 use Rattle.vara_extents.specs.Numbered.{coordinates_of, index_of, lengths_of, row_of, AreRuns}
 use Rattle.vara_extents.proofs.RunLaws.{kept, merged, same_runs, sized}
@@ -338,16 +337,3 @@ run_low header ids counts strides run h some =
     parts_low : (m : ℕ) → product counts ≡ m * run → run ≤ product counts
     parts_low zero e = absurd (omega arith)
     parts_low (suc m) e = omega arith
-
-pub size_low : (kind : NcType) → size_of kind ≤ 8
-size_low Byte = omega arith
-size_low Char = omega arith
-size_low Short = omega arith
-size_low Int = omega arith
-size_low Float = omega arith
-size_low Double = omega arith
-size_low UByte = omega arith
-size_low UShort = omega arith
-size_low UInt = omega arith
-size_low Int64 = omega arith
-size_low UInt64 = omega arith

@@ -93,7 +93,7 @@ cells_are : (size : ℕ) (xs bytes : List ℕ) → cut_by (map (λ x. record { a
 cells_are size [] bytes = refl
 cells_are size (x ∷ xs) bytes = ap (λ (cs : List Cell). (x, take size bytes) ∷ cs) (cells_are size xs (drop size bytes))
 
-bytes_are : (size : ℕ) (xs : List ℕ) → bytes_in (map (λ x. record { at = x; len = size }) xs) ≡ length xs * size
+pub bytes_are : (size : ℕ) (xs : List ℕ) → bytes_in (map (λ x. record { at = x; len = size }) xs) ≡ length xs * size
 bytes_are size [] = omega arith
 bytes_are size (x ∷ xs) = let rest = bytes_are size xs in omega arith
 

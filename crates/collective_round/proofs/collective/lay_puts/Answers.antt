@@ -1,6 +1,7 @@
 -- The entries make the file of the puts.
 use Rattle.std.proofs.Common.{ℕ, ◌^◌, ◌<◌, ◌∙◌, sym, subst, ap, List, None, map, arith}
 use Rattle.std.specs.Prelude.{flat_map}
+use Rattle.std.proofs.lemmas.Result.{on_ok_weaker}
 use Rattle.nc_base.specs.declared.plan.Extent.{Extent}
 use Rattle.overlay_laws.specs.Entries.{cell_of, ranges}
 use Rattle.overlay_laws.specs.Hulls.{written_over}
@@ -14,7 +15,7 @@ use Rattle.serial_spec.specs.Records.{needed_by}
 use Rattle.serial_spec.specs.SharedByte.{covered}
 use Rattle.collective_round.specs.Laid.{source_of}
 use Rattle.collective_round.specs.Rounds.{puts_in, setting}
-use Rattle.collective_round.proofs.PutLaws.{puts_needed, covered_below, lie_on, cover_ends, lawful, laid_over, laid_calls_by, none_windows, held_two, calls_two, on_ok}
+use Rattle.collective_round.proofs.PutLaws.{puts_needed, covered_below, lie_on, cover_ends, lawful, laid_over, laid_calls_by, none_windows, held_two, calls_two}
 use Rattle.collective_round.proofs.collective.lay_puts.Goals as goal
 
 pub grow_for-requires-clause-below : goal.grow_for-requires-clause-below
@@ -38,7 +39,7 @@ put_rounds-requires-clause-cover_ends g c κs within =
 
 pub returns-clause-bytes : goal.returns-clause-bytes
 returns-clause-bytes g c =
-    on_ok c.put_rounds.result (λ e. held_two (g.D.Disk.held c.args.disk.now) (g.D.Disk.held c.grow_for.new.disk) (g.D.Disk.held c.put_rounds.new.disk)
+    on_ok_weaker c.put_rounds.result (λ e. held_two (g.D.Disk.held c.args.disk.now) (g.D.Disk.held c.grow_for.new.disk) (g.D.Disk.held c.put_rounds.new.disk)
     (λ file. longer file (end_of c.args.header.now (header_len c.args.header.now) c.args.needed))
     (λ file. written_over file (map (λ o. cell_of (source_of 0 c.args.batches.now) o) c.args.list.now) (collective_windows c.args.hints.now (in_order (ranges c.args.list.now))))
     (after_puts (setting c.args.header.now c.args.hints.now) (puts_in c.args.batches.now) None)
@@ -51,7 +52,7 @@ returns-clause-bytes g c =
 
 pub returns-clause-calls : goal.returns-clause-calls
 returns-clause-calls g c =
-    on_ok c.put_rounds.result (λ e. calls_two (g.D.Disk.calls c.args.disk.now) (g.D.Disk.calls c.grow_for.new.disk) (g.D.Disk.calls c.put_rounds.new.disk)
+    on_ok_weaker c.put_rounds.result (λ e. calls_two (g.D.Disk.calls c.args.disk.now) (g.D.Disk.calls c.grow_for.new.disk) (g.D.Disk.calls c.put_rounds.new.disk)
     (grow_to (g.D.Disk.len c.args.disk.now) (end_of c.args.header.now (header_len c.args.header.now) c.args.needed))
     (flat_map overlays (collective_windows c.args.hints.now (in_order (ranges c.args.list.now)))) _
     c.in_ok-grow_for.ensures.calls e

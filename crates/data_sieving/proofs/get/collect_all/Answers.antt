@@ -1,9 +1,9 @@
 -- Each entry's bytes lie in its blob.
 use Rattle.std.proofs.Common.{◌+◌, ◌∙◌, refl, ap, List, map, get_or}
 use Rattle.std.proofs.lemmas.List.{take_all}
+use Rattle.overlay_laws.proofs.Members.{entry_in}
 use Rattle.nc_base.specs.declared.plan.Owned.{Owned}
 use Rattle.serial_spec.specs.Said.{write_cells}
-use Rattle.file_domains.proofs.CoverParts.{in_at}
 use Rattle.data_sieving.specs.Sieving.{of_slot, blob_at}
 use Rattle.data_sieving.specs.Serving.{buffer_cell}
 use Rattle.data_sieving.proofs.SplitSteps.{entry_ends}
@@ -21,16 +21,16 @@ collect_entry-requires-clause-end c = entry_ends c.args.entries.now c.loop-entry
 
 pub collect_entry-requires-clause-filled : goal.collect_entry-requires-clause-filled
 collect_entry-requires-clause-filled c =
-    c.requires.filled (get_or c.args.entries.now c.loop-entry.entry-index none) (in_at c.args.entries.now c.loop-entry.entry-index none c.loop-entry-test.true)
+    c.requires.filled (get_or c.args.entries.now c.loop-entry.entry-index none) (entry_in c.args.entries.now c.loop-entry.entry-index none c.loop-entry-test.true)
 
 pub collect_entry-requires-clause-fit : goal.collect_entry-requires-clause-fit
 collect_entry-requires-clause-fit c =
     fit_as_long c.args.blobs.now c.loop-entry.blobs c.args.entries.now c.loop-entry.invariant.long c.requires.fit
-    (get_or c.args.entries.now c.loop-entry.entry-index none) (in_at c.args.entries.now c.loop-entry.entry-index none c.loop-entry-test.true)
+    (get_or c.args.entries.now c.loop-entry.entry-index none) (entry_in c.args.entries.now c.loop-entry.entry-index none c.loop-entry-test.true)
 
 pub loop-entry-preserved : goal.loop-entry-preserved
 loop-entry-preserved c =
-    let inside = in_at c.args.entries.now c.loop-entry.entry-index none c.loop-entry-test.true in
+    let inside = entry_in c.args.entries.now c.loop-entry.entry-index none c.loop-entry-test.true in
     let fit = fit_as_long c.args.blobs.now c.loop-entry.blobs c.args.entries.now c.loop-entry.invariant.long c.requires.fit (get_or c.args.entries.now c.loop-entry.entry-index none) inside in
     let room = slot_below c.loop-entry.blobs (get_or c.args.entries.now c.loop-entry.entry-index none) (c.requires.filled (get_or c.args.entries.now c.loop-entry.entry-index none) inside) fit in
     record {

@@ -1,7 +1,7 @@
 -- Each entry's bytes lie in its post.
 use Rattle.std.proofs.Common.{get_or}
+use Rattle.overlay_laws.proofs.Members.{entry_in}
 use Rattle.nc_base.specs.declared.plan.Owned.{Owned}
-use Rattle.file_domains.proofs.CoverParts.{in_at}
 use Rattle.data_sieving.specs.Sieving.{source_of}
 use Rattle.data_sieving.proofs.SplitSteps.{entry_ends}
 use Rattle.data_sieving.proofs.PartSteps.{found_at}
@@ -14,7 +14,7 @@ pub lay_entry-requires-clause-end : goal.lay_entry-requires-clause-end
 lay_entry-requires-clause-end c = entry_ends c.args.entries.now c.loop-entry.entry-index none c.requires.ends c.loop-entry-test.true
 
 pub lay_entry-requires-clause-filled : goal.lay_entry-requires-clause-filled
-lay_entry-requires-clause-filled c = c.requires.filled (get_or c.args.entries.now c.loop-entry.entry-index none) (in_at c.args.entries.now c.loop-entry.entry-index none c.loop-entry-test.true)
+lay_entry-requires-clause-filled c = c.requires.filled (get_or c.args.entries.now c.loop-entry.entry-index none) (entry_in c.args.entries.now c.loop-entry.entry-index none c.loop-entry-test.true)
 
 pub lay_entry-requires-clause-found : goal.lay_entry-requires-clause-found
 lay_entry-requires-clause-found c = found_at (source_of c.args.puts.now) c.args.entries.now c.loop-entry.entry-index none c.loop-entry-test.true c.requires.found

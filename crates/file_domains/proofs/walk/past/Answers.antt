@@ -1,23 +1,23 @@
 -- The last extent that has begun goes past the place, or it does not.
-use Rattle.std.proofs.Common.{◌≡◌, ℕ, ◌+◌, ◌-◌, ◌<◌, ◌≤◌, Some, slice_get, slice_index_or, subst, sym, ◌∙◌, arith}
+use Rattle.std.proofs.Common.{◌+◌, ◌-◌, ◌≤◌, slice_index_or, subst, sym, ◌∙◌, arith}
+use Rattle.std.proofs.lemmas.Option.{same_Some, slice_get-get_or}
+use Rattle.overlay_laws.proofs.Members.{entry_in}
 use Rattle.nc_base.specs.declared.plan.Extent.{Extent}
-use Rattle.overlay_laws.proofs.SaidLaws.{same_some}
-use Rattle.overlay_laws.specs.Walks.{IsCover}
 use Rattle.file_domains.specs.Rounds.{IsLeft}
-use Rattle.file_domains.proofs.CoverParts.{in_at, got_at, left_from_last, left_from_next}
+use Rattle.file_domains.proofs.CoverParts.{left_from_last, left_from_next}
 use Rattle.file_domains.proofs.walk.past.Goals as goal
 use Rattle.file_domains.proofs.walk.past.Goals.{else-begun-gt0-via-then-begun-gt0+else-end_of-place, else-begun-gt0-via-else-begun-gt0}
 
 pub end_of-requires : goal.end_of-requires
 end_of-requires c =
-    let low = c.requires.ends _ (in_at c.args.cover.now (c.args.begun - 1) (record { at = 0; len = 0 }) (omega (arith, c.requires.bound))) in
+    let low = c.requires.ends _ (entry_in c.args.cover.now (c.args.begun - 1) (record { at = 0; len = 0 }) (omega (arith, c.requires.bound))) in
     omega arith
 
 pub returns-then-end_of-place : goal.returns-then-end_of-place
 returns-then-end_of-place c =
     subst (IsLeft c.args.place c.args.cover.now) (sym c.tail.ensures)
     (left_from_last c.args.begun c.args.place (slice_index_or c.args.cover.now (c.args.begun - 1) (record { at = 0; len = 0 })) c.args.cover.now
-    c.requires.cover c.requires.ends (omega arith) (got_at c.args.cover.now (c.args.begun - 1) (record { at = 0; len = 0 }) (omega (arith, c.requires.bound)))
+    c.requires.cover c.requires.ends (omega arith) (slice_get-get_or c.args.cover.now (c.args.begun - 1) (record { at = 0; len = 0 }) (omega (arith, c.requires.bound)))
     (omega arith) c.requires.before)
 
 pub returns-else-begun-gt0 : goal.returns-else-begun-gt0
@@ -26,8 +26,8 @@ returns-else-begun-gt0 c =
     (left_from_next c.args.begun c.args.place c.args.cover.now c.requires.cover c.requires.ends
     (elim c.else-begun-gt0.branch [
       | else-begun-gt0-via-then-begun-gt0+else-end_of-place w ↦ (λ e some g.
-          let at_last = got_at c.args.cover.now (c.args.begun - 1) (record { at = 0; len = 0 }) (omega (arith, c.requires.bound)) in
-          subst (λ (z : Extent). z.at + z.len ≤ c.args.place) (same_some _ e (sym at_last ∙ g)) (omega arith))
+          let at_last = slice_get-get_or c.args.cover.now (c.args.begun - 1) (record { at = 0; len = 0 }) (omega (arith, c.requires.bound)) in
+          subst (λ (z : Extent). z.at + z.len ≤ c.args.place) (same_Some _ e (sym at_last ∙ g)) (omega arith))
       | else-begun-gt0-via-else-begun-gt0 w ↦ (λ e some g. absurd (omega arith))
     ])
     c.requires.bound c.requires.after)

@@ -1,8 +1,9 @@
 -- The walk begins at the first covered byte of the domain.
-use Rattle.std.proofs.Common.{◌≡◌, Some, slice_get, ℕ, ◌+◌, ◌-◌, ◌^◌, ◌≤◌, List, ap, ◌∙◌, max, arith}
+use Rattle.std.proofs.Common.{◌≡◌, Some, slice_get, ℕ, ◌+◌, ◌-◌, ◌^◌, List, ap, ◌∙◌, max, arith}
+use Rattle.list_laws.proofs.Optional.{no_none_some}
 use Rattle.nc_base.specs.declared.plan.Extent.{Extent}
-use Rattle.overlay_laws.proofs.SaidLaws.{no_none_some, same_some}
 use Rattle.std.specs.Prelude.{filter, nat_lt, nat_le}
+use Rattle.std.proofs.lemmas.Option.{same_Some}
 use Rattle.overlay_laws.specs.Walks.{spans}
 use Rattle.file_domains.specs.Rounds.{windows_of}
 use Rattle.file_domains.proofs.CoverParts.{cover_rises, begun_low, begun_high}
@@ -22,7 +23,7 @@ past-cover-requires-clause-after c = begun_high c.args.cover.now c.args.domain.a
 begins : (c : goal.Joined-front) → (e : Extent) → slice_get c.past-cover.result.now 0 ≡ Some e → c.match-front.first ≡ max e.at c.args.domain.at
 begins c =
     elim c.match-front.branch [
-      | in-Some w ↦ (λ e g. w.first-is ∙ w.max-first.ensures ∙ ap (λ (z : Extent). max z.at c.args.domain.at) (same_some w.in-Some.extent e (w.in-Some.ensures ∙ g)))
+      | in-Some w ↦ (λ e g. w.first-is ∙ w.max-first.ensures ∙ ap (λ (z : Extent). max z.at c.args.domain.at) (same_Some w.in-Some.extent e (w.in-Some.ensures ∙ g)))
       | in-None w ↦ (λ e g. no_none_some e (w.in-None.ensures ∙ g))
     ]
 

@@ -1,6 +1,8 @@
 -- What is written of a variable is its filling.
 use Rattle.std.proofs.Common.{◌≡◌, ◌∙◌, sym, ap, false, true, arith}
 use Rattle.std.specs.Prelude.{slice_get}
+use Rattle.std.proofs.lemmas.Result.{on_ok_weaker}
+use Rattle.list_laws.proofs.Optional.{if_some_at}
 use Rattle.nc_outside.specs.Told.{after, with_end}
 use Rattle.serial_spec.specs.File.{written}
 use Rattle.serial_spec.specs.Fill.{fill_bytes}
@@ -9,8 +11,7 @@ use Rattle.serial_spec.specs.Layout.{is_record, slab}
 use Rattle.var_layout.proofs.ElementPlaces.{sound_end}
 use Rattle.var_layout.proofs.Soundness.{if_there}
 use Rattle.fill_records.specs.Filling.{repeated, filled_variable, variable_stores}
-use Rattle.fill_records.proofs.CutLaws.{on_ok}
-use Rattle.fill_records.proofs.VariableLaws.{got, from_some, room_long, fixed_end, record_kept, fixed_filled, record_stores, fixed_stores}
+use Rattle.fill_records.proofs.VariableLaws.{got, room_long, fixed_end, record_kept, fixed_filled, record_stores, fixed_stores}
 use Rattle.fill_records.proofs.WindowLaws.{told_begin, told_end, for_told, no_calls}
 use Rattle.fill_records.proofs.slabs.fill_variable.Goals as goal
 
@@ -42,7 +43,7 @@ pub write_value-requires-clause-long : goal.write_value-requires-clause-long
 write_value-requires-clause-long g c κs within =
     let own = got c.args.header.now.vars c.as_slice.result.now c.args.var c.index-as_slice-var.result c.as_slice.ensures c.requires.there c.index-as_slice-var.is in
     let end = fixed_end c.args.header.now (header_len c.args.header.now) c.args.var c.index-as_slice-var.result own (sym c.is_record.ensures ∙ c.if-is_record.false) in
-    let same = from_some (λ v. c.slab.result ≡ slab c.args.header.now v) (slice_get c.args.header.now.vars c.args.var) c.index-as_slice-var.result own c.slab.ensures.value in
+    let same = if_some_at (λ v. c.slab.result ≡ slab c.args.header.now v) (slice_get c.args.header.now.vars c.args.var) c.index-as_slice-var.result own c.slab.ensures.value in
     let long = c.requires.long in
     omega arith
 
@@ -50,7 +51,7 @@ pub write_value-requires-clause-end : goal.write_value-requires-clause-end
 write_value-requires-clause-end g c κs within =
     let own = got c.args.header.now.vars c.as_slice.result.now c.args.var c.index-as_slice-var.result c.as_slice.ensures c.requires.there c.index-as_slice-var.is in
     let end = fixed_end c.args.header.now (header_len c.args.header.now) c.args.var c.index-as_slice-var.result own (sym c.is_record.ensures ∙ c.if-is_record.false) in
-    let same = from_some (λ v. c.slab.result ≡ slab c.args.header.now v) (slice_get c.args.header.now.vars c.args.var) c.index-as_slice-var.result own c.slab.ensures.value in
+    let same = if_some_at (λ v. c.slab.result ≡ slab c.args.header.now v) (slice_get c.args.header.now.vars c.args.var) c.index-as_slice-var.result own c.slab.ensures.value in
     let low = sound_end c.args.header.now 0 c.requires.sound (omega arith) in
     omega arith
 
@@ -60,11 +61,11 @@ returns-clause-bytes g c =
     let fixed : is_record c.args.header.now c.index-as_slice-var.result ≡ false = sym c.is_record.ensures ∙ c.if-is_record.false in
     let end = fixed_end c.args.header.now (header_len c.args.header.now) c.args.var c.index-as_slice-var.result own fixed in
     let same : c.slab.result ≡ slab c.args.header.now c.index-as_slice-var.result =
-    from_some (λ v. c.slab.result ≡ slab c.args.header.now v) (slice_get c.args.header.now.vars c.args.var) c.index-as_slice-var.result own c.slab.ensures.value in
+    if_some_at (λ v. c.slab.result ≡ slab c.args.header.now v) (slice_get c.args.header.now.vars c.args.var) c.index-as_slice-var.result own c.slab.ensures.value in
     let value : c.fill_value.new.into ≡ fill_bytes c.index-as_slice-var.result =
-    from_some (λ v. c.fill_value.new.into ≡ fill_bytes v) (slice_get c.args.header.now.vars c.args.var) c.index-as_slice-var.result own c.fill_value.ensures in
+    if_some_at (λ v. c.fill_value.new.into ≡ fill_bytes v) (slice_get c.args.header.now.vars c.args.var) c.index-as_slice-var.result own c.fill_value.ensures in
     let long = c.requires.long in
-    on_ok c.write_value.result (λ told.
+    on_ok_weaker c.write_value.result (λ told.
     if_there (slice_get c.args.header.now.vars c.args.var) c.index-as_slice-var.result
     (λ v. g.D.Disk.held c.write_value.new.disk ≡ after (filled_variable c.args.header.now v) (g.D.Disk.held c.args.disk.now)) own
     (told_end (g.D.Disk.held c.args.disk.now) (g.D.Disk.held c.write_value.new.disk)
@@ -79,8 +80,8 @@ returns-clause-calls g c =
     let own = got c.args.header.now.vars c.as_slice.result.now c.args.var c.index-as_slice-var.result c.as_slice.ensures c.requires.there c.index-as_slice-var.is in
     let fixed : is_record c.args.header.now c.index-as_slice-var.result ≡ false = sym c.is_record.ensures ∙ c.if-is_record.false in
     let same : c.slab.result ≡ slab c.args.header.now c.index-as_slice-var.result =
-    from_some (λ v. c.slab.result ≡ slab c.args.header.now v) (slice_get c.args.header.now.vars c.args.var) c.index-as_slice-var.result own c.slab.ensures.value in
-    on_ok c.write_value.result (λ told.
+    if_some_at (λ v. c.slab.result ≡ slab c.args.header.now v) (slice_get c.args.header.now.vars c.args.var) c.index-as_slice-var.result own c.slab.ensures.value in
+    on_ok_weaker c.write_value.result (λ told.
     if_there (slice_get c.args.header.now.vars c.args.var) c.index-as_slice-var.result
     (λ v. g.D.Disk.calls c.write_value.new.disk ≡ with_end (g.D.Disk.calls c.args.disk.now) (variable_stores c.args.size c.args.header.now v)) own
     (told ∙ ap (λ calls. with_end (g.D.Disk.calls c.args.disk.now) calls)

@@ -1,5 +1,5 @@
 use Rattle.std.proofs.Common.{◌∙◌}
-use Rattle.ncmpi_cli.proofs.Created.{sound_written}
+use Rattle.redef_laws.proofs.MovedLaws.{writable_is_sound}
 use Rattle.ncmpi_cli.proofs.Keeping.{kept_created, kept_hints, kept_records}
 use Rattle.ncmpi_cli.proofs.Ready.{created_long, ready-created}
 use Rattle.ncmpi_cli.proofs.beginning.make_ready.Goals as goal
@@ -8,11 +8,11 @@ pub returns-in_ok-fill-clause-ready : goal.returns-in_ok-fill-clause-ready
 returns-in_ok-fill-clause-ready g c =
     ready-created c.args.script.now c.in_ok-header.header _ (g.D.Disk.held c.create.new.disk) _ _ (g.D.Disk.calls c.create.new.disk) _ c.if-script.true
     (kept_created c.args.script.now c.requires.kept c.if-script.true) c.in_ok-header.ensures.header
-    (sound_written c.in_ok-header.header c.in_ok-header.ensures.writable) c.in_ok-header.ensures.faultless c.in_ok-create.ensures.bytes c.in_ok-fill.ensures.bytes
+    (writable_is_sound c.in_ok-header.header c.in_ok-header.ensures.writable) c.in_ok-header.ensures.faultless c.in_ok-create.ensures.bytes c.in_ok-fill.ensures.bytes
     c.in_ok-create.ensures.calls c.in_ok-fill.ensures.calls
 
 pub fill-requires-clause-sound : goal.fill-requires-clause-sound
-fill-requires-clause-sound g c = λ _ _. sound_written c.in_ok-header.header c.in_ok-header.ensures.writable
+fill-requires-clause-sound g c = λ _ _. writable_is_sound c.in_ok-header.header c.in_ok-header.ensures.writable
 
 pub fill-requires-clause-hints : goal.fill-requires-clause-hints
 fill-requires-clause-hints g c = λ _ _. kept_hints c.args.script.now c.requires.kept

@@ -1,18 +1,19 @@
 use Rattle.std.proofs.Common.{◌≡◌, ◌-◌, ℕ, List, refl, arith, ◌∙◌, ap}
+use Rattle.redef_laws.proofs.MovedLaws.{writable_is_sound}
 use Rattle.nc_outside.specs.Told.{after}
 use Rattle.serial_spec.specs.File.{written}
 use Rattle.serial_spec.specs.Layout.{end_of}
 use Rattle.nc_base.specs.declared.header.Header.{Header}
 use Rattle.serial_spec.specs.HeaderGrammar.{canon, header_len}
 use Rattle.var_layout.proofs.ElementPlaces.{sound_end}
-use Rattle.ncmpi_cli.proofs.Created.{created, front_fits, sound_written}
+use Rattle.ncmpi_cli.proofs.Created.{created, front_fits}
 use Rattle.ncmpi_cli.proofs.creating.create.Goals as goal
 
 pub end_of-end-requires-clause-sound : goal.end_of-end-requires-clause-sound
-end_of-end-requires-clause-sound g c = sound_written c.args.header.now c.requires.writable
+end_of-end-requires-clause-sound g c = writable_is_sound c.args.header.now c.requires.writable
 
 pub end_of-end-requires-clause-below : goal.end_of-end-requires-clause-below
-end_of-end-requires-clause-below g c = sound_end c.args.header.now 0 (sound_written c.args.header.now c.requires.writable) (omega arith)
+end_of-end-requires-clause-below g c = sound_end c.args.header.now 0 (writable_is_sound c.args.header.now c.requires.writable) (omega arith)
 
 pub returns-clause-bytes : goal.returns-clause-bytes
 returns-clause-bytes g c =

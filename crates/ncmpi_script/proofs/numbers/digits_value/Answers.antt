@@ -1,7 +1,7 @@
-use Rattle.std.proofs.Common.{◌≡◌, ℕ, ◌<◌, ◌≤◌, ◌^◌, ◌+◌, ◌*◌, ◌-◌, arith, length, get_or, take, suc, add-one}
-use Rattle.std.proofs.lemmas.Grind.{common_steps}
+use Rattle.std.proofs.Common.{◌≡◌, ◌≤◌, ◌+◌, ◌*◌, ◌-◌, arith, get_or, take, add-one}
+use Rattle.script_spec.proofs.NumeralLaws.{tens-fits}
 use Rattle.script_spec.specs.ScriptWords.{digits_value}
-use Rattle.ncmpi_script.proofs.NumberLaws.{tens, tens-fits, digit_at, value_more}
+use Rattle.ncmpi_script.proofs.NumberLaws.{digit_at, value_more}
 use Rattle.ncmpi_script.proofs.numbers.digits_value.Goals as goal
 
 pub overflow_mul-n : goal.overflow_mul-n

@@ -1,6 +1,6 @@
 use Rattle.std.proofs.Common.{◌≡◌, ◌<◌, drop, fold, Some}
+use Rattle.script_spec.proofs.NumeralLaws.{sixteens}
 use Rattle.script_spec.specs.ScriptWords.{hex_sum}
-use Rattle.ncmpi_script.proofs.NumberLaws.{sixteens}
 use Rattle.ncmpi_script.proofs.numbers.hex_number.Given as goal
 
 abbrev pub invariant-loop-digit : goal.invariant-loop-digit

@@ -1,6 +1,7 @@
 -- Each entry is served up to where the next begins.
-use Rattle.std.proofs.Common.{◌≡◌, ℕ, suc, ◌+◌, ◌-◌, ◌^◌, ◌<◌, ◌≤◌, List, take, drop, get_or, subst, sym, ◌∙◌, arith}
+use Rattle.std.proofs.Common.{◌≡◌, ℕ, suc, ◌+◌, ◌-◌, ◌^◌, ◌≤◌, List, take, drop, get_or, subst, sym, arith}
 use Rattle.std.specs.BinaryHeap.{heap_items}
+use Rattle.overlay_laws.proofs.Members.{entry_in}
 use Rattle.nc_base.specs.declared.plan.Owned.{Owned}
 use Rattle.overlay_laws.specs.Entries.{In}
 use Rattle.overlay_laws.specs.Lines.{extents, IsInLine, EndBelow}
@@ -8,7 +9,7 @@ use Rattle.overlay_laws.specs.Origins.{IsResolved}
 use Rattle.overlap_report.specs.Parts.{IsPartOfOne}
 use Rattle.overlap_report.specs.Sweep.{entries_of}
 use Rattle.overlap_report.proofs.CoverSteps.{entry_ends}
-use Rattle.overlap_report.proofs.KeySteps.{nothing, next_at, in_at}
+use Rattle.overlap_report.proofs.KeySteps.{nothing, next_at}
 use Rattle.overlap_report.proofs.ClaimSteps.{pushed_fit, pushed_swept, at_dropped, later_begin, all_resolved, all_parts, all_ends}
 use Rattle.overlap_report.proofs.serial.resolve.Goals as goal
 
@@ -22,7 +23,7 @@ serve-requires-2-clause-order c = let low = c.loop-entry.invariant.bound in omeg
 pub loop-entry-preserved : goal.loop-entry-preserved
 loop-entry-preserved c =
     let ends = entry_ends c.args.list.now (2 ^ 62) c.loop-entry.entry-index nothing c.requires.ends c.loop-entry-test.true in
-    let found = c.requires.found (get_or c.args.list.now c.loop-entry.entry-index nothing) (in_at c.args.list.now c.loop-entry.entry-index nothing c.loop-entry-test.true) in
+    let found = c.requires.found (get_or c.args.list.now c.loop-entry.entry-index nothing) (entry_in c.args.list.now c.loop-entry.entry-index nothing c.loop-entry-test.true) in
     record {
       heap = c.in_ok-push.ensures.heap_order c.in_ok-serve.ensures.heap;
       fit = pushed_fit (heap_items c.serve.new.heap) (heap_items c.push.new.self) c.of.result (get_or c.args.list.now c.loop-entry.entry-index nothing)

@@ -1,16 +1,16 @@
 use Rattle.std.proofs.Common.{◌≡◌, ◌+◌, ◌<◌, ◌∙◌, ℕ, ap, sym, refl, List, [], ◌∷◌, length, drop, zip, Option, Some, arith}
 use Rattle.std.specs.Ordering.{nat_cmp}
 use Rattle.std.specs.BTreeMap.{get}
-use Rattle.nc_base.specs.declared.plan.Post.{Post}
+use Rattle.overlay_laws.proofs.Members.{read_in}
 use Rattle.nc_base.specs.declared.request.Values.{Values}
 use Rattle.serial_spec.specs.RankMachine.{got_values, values_for}
 use Rattle.serial_spec.specs.RankSide.{wanted}
-use Rattle.rank_core.proofs.HeardLaws.{shape, followed, added, added_next, got_more, got_shape, shapes_next, in_at, zip_next, same_at, same_long}
+use Rattle.rank_core.proofs.HeardLaws.{shape, followed, added, added_next, got_more, got_shape, shapes_next, zip_next, same_at, same_long}
 use Rattle.rank_core.proofs.hearing.values_by_id.Goals as goal
 
 pub values_of-requires-clause-accepted : goal.values_of-requires-clause-accepted
 values_of-requires-clause-accepted c =
-    (c.requires.gets.0, c.requires.gets.1.each c.index-gets-index.result (in_at c.args.gets.now c.loop-index.index c.index-gets-index.result c.loop-index-test.true c.index-gets-index.is))
+    (c.requires.gets.0, c.requires.gets.1.each c.index-gets-index.result (read_in c.args.gets.now c.loop-index.index c.index-gets-index.result c.loop-index-test.true c.index-gets-index.is))
 
 pub values_of-requires-clause-long : goal.values_of-requires-clause-long
 values_of-requires-clause-long c =
@@ -38,7 +38,7 @@ loop-index-preserved c =
     let one : got_values header ((g, b) ∷ []) ≡ (g.id, v) ∷ [] = ap (λ (x : List ℕ). got_values header ((g, x) ∷ [])) (sym c.as_slice.ensures) ∙ c.in_ok-values.ensures in
     let whole = ap (got_values header) (zip_next gets got i g b c.loop-index-test.true near c.index-gets-index.is c.index-got-index.is) ∙ got_more header g b v rest one in
     let of_var = got_shape header g b v one in
-    let here = in_at gets i g c.loop-index-test.true c.index-gets-index.is in
+    let here = read_in gets i g c.loop-index-test.true c.index-gets-index.is in
     let alike : (w : Values) → m g.id ≡ Some w → shape w ≡ shape v = λ w s. c.loop-index.invariant.shapes g.id w g s here refl ∙ sym of_var in
     let new : (q : ℕ) → get nat_cmp c.add.new.found q ≡ added m g.id v q = c.in_ok-add.ensures in
     record {

@@ -1,5 +1,6 @@
 -- The lists stand for all slabs, which rise below the new end.
 use Rattle.std.proofs.Common.{◌≡◌, ◌∙◌, subst, ap, length, List, ℕ, arith}
+use Rattle.std.proofs.lemmas.Result.{on_ok_weaker}
 use Rattle.serial_spec.specs.DeviceCalls.{Slab}
 use Rattle.serial_spec.specs.HeaderGrammar.{header_len}
 use Rattle.overlay_laws.specs.Entries.{In}
@@ -9,7 +10,7 @@ use Rattle.redef_mover.specs.Moves.{listed}
 use Rattle.redef_mover.proofs.CallsLaws.{carry_called}
 use Rattle.redef_mover.proofs.CarryLaws.{carriable_spaced}
 use Rattle.redef_mover.proofs.ListedLaws.{risen_up}
-use Rattle.redef_mover.proofs.ToldSteps.{on_ok, when_ok}
+use Rattle.redef_mover.proofs.ToldSteps.{when_ok}
 use Rattle.redef_mover.proofs.carrying.carry.Goals as goal
 
 pub move_all-requires-clause-slabs : goal.move_all-requires-clause-slabs
@@ -35,7 +36,7 @@ clear_gaps-requires-clause-spaced g c κs within =
 
 pub returns-clause-calls : goal.returns-clause-calls
 returns-clause-calls g c =
-    on_ok c.write_at.result
+    on_ok_weaker c.write_at.result
     (carry_called (g.D.Disk.held c.args.disk.now) (g.D.Disk.calls c.args.disk.now) (g.D.Disk.calls c.grow_to.new.disk) (g.D.Disk.calls c.move_all.new.disk) (g.D.Disk.calls c.clear_gaps.new.disk)
     (g.D.Disk.calls c.write_at.new.self) c.args.size c.args.old.now c.args.new.now (listed c.in_ok-slabs.slabs) c.len.result c.end_of-end.result (length c.as_slice.result.now)
     c.in_ok-slabs.ensures.all (c.len.ensures ∙ ap (λ (b : List ℕ). length b) c.in_ok-head.ensures) c.end_of-end.ensures

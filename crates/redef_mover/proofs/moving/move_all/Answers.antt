@@ -1,13 +1,13 @@
 -- The last of the records that are left is moved; the fixed variables come last.
 use Rattle.std.proofs.Common.{◌≡◌, ◌∙◌, ◌+◌, ◌-◌, sym, refl, subst, ap, List, ◌++◌, map, ℕ, arith}
 use Rattle.std.specs.Prelude.{reverse}
+use Rattle.std.proofs.lemmas.Result.{on_ok_weaker}
 use Rattle.nc_outside.specs.Told.{after, with_end}
 use Rattle.serial_spec.specs.DeviceCalls.{Slab}
 use Rattle.overlay_laws.specs.Entries.{In}
 use Rattle.redef_mover.specs.declared.slabs.Shift.{Shift}
 use Rattle.redef_mover.specs.Moves.{all_calls, all_moved, further, listed, slab_of}
 use Rattle.redef_mover.proofs.MovesLaws.{below, fixed_last, fixed_listed, last_called, last_moved, left_called, left_moved, record_first, record_listed}
-use Rattle.redef_mover.proofs.ToldSteps.{on_ok}
 use Rattle.redef_mover.proofs.moving.move_all.Goals as goal
 
 abbrev rest : List Shift → ℕ → ℕ → List Slab
@@ -61,7 +61,7 @@ pub returns-clause-bytes : goal.returns-clause-bytes
 returns-clause-bytes g c =
     let end : c.loop-record.record ≡ 0 = omega arith in
     let last = fixed_last c.args.slabs.now c.loop-record.record 0 0 end refl refl ∙ ap (λ (ss : List Shift). reverse (rest ss 0 0)) (sym c.deref-2.ensures.value) in
-    on_ok c.move_slabs-2.result
+    on_ok_weaker c.move_slabs-2.result
     (last_moved (after (λ file. all_moved file (reverse (listed c.args.slabs.now))) (g.D.Disk.held c.args.disk.now)) (g.D.Disk.held c.loop-record.disk)
     (g.D.Disk.held c.move_slabs-2.new.disk) (reverse (rest c.deref-2.result.now 0 0)) (below c.args.slabs.now c.loop-record.record) last c.loop-record.invariant.bytes)
     c.move_slabs-2.ensures.bytes
@@ -70,7 +70,7 @@ pub returns-clause-calls : goal.returns-clause-calls
 returns-clause-calls g c =
     let end : c.loop-record.record ≡ 0 = omega arith in
     let last = fixed_last c.args.slabs.now c.loop-record.record 0 0 end refl refl ∙ ap (λ (ss : List Shift). reverse (rest ss 0 0)) (sym c.deref-2.ensures.value) in
-    on_ok c.move_slabs-2.result
+    on_ok_weaker c.move_slabs-2.result
     (last_called (with_end (g.D.Disk.calls c.args.disk.now) (all_calls c.args.size (reverse (listed c.args.slabs.now)))) (g.D.Disk.calls c.loop-record.disk)
     (g.D.Disk.calls c.move_slabs-2.new.disk) c.args.size (reverse (rest c.deref-2.result.now 0 0)) (below c.args.slabs.now c.loop-record.record) last c.loop-record.invariant.calls)
     c.move_slabs-2.ensures.calls

@@ -1,5 +1,6 @@
 -- The laws of a redefinition, of the two headers.
 use Rattle.std.proofs.Common.{◌∙◌, ◌<◌, ap, List, arith}
+use Rattle.std.proofs.lemmas.Result.{on_ok_weaker}
 use Rattle.nc_base.specs.declared.header.Header.{Header}
 use Rattle.nc_base.specs.declared.script.Extra.{Extra}
 use Rattle.nc_outside.specs.Told.{with_end}
@@ -11,7 +12,7 @@ use Rattle.redef_laws.proofs.RisingLaws.{rising_all}
 use Rattle.redef_laws.proofs.WrittenLaws.{written}
 use Rattle.redef_mover.specs.Carried.{carried}
 use Rattle.redef_mover.proofs.AppliedLaws.{has_laws, HasLaws, relocated, relocation_called}
-use Rattle.redef_mover.proofs.ToldSteps.{for_told, on_ok}
+use Rattle.redef_mover.proofs.ToldSteps.{for_told}
 use Rattle.redef_mover.proofs.relocating.relocate.Goals as goal
 
 laws : (old new : Header) (extras : List Extra) → IsApplied old extras new → HasLaws old new
@@ -24,7 +25,7 @@ carry-requires-clause-carriable g c κs within = (laws c.args.old.now c.args.new
 
 pub returns-clause-bytes : goal.returns-clause-bytes
 returns-clause-bytes g c =
-    on_ok c.carry.result
+    on_ok_weaker c.carry.result
     (λ told. told ∙ after-same (carried c.args.old.now c.args.new.now) (λ file. redefined file c.args.old.now c.args.new.now) (g.D.Disk.held c.args.disk.now)
     (relocated c.args.old.now c.args.new.now (laws c.args.old.now c.args.new.now c.requires.applied.0 c.requires.applied.1)))
     c.carry.ensures.bytes
@@ -32,7 +33,7 @@ returns-clause-bytes g c =
 pub returns-clause-calls : goal.returns-clause-calls
 returns-clause-calls g c =
     let some : 0 < c.args.size = omega arith in
-    on_ok c.carry.result
+    on_ok_weaker c.carry.result
     (λ calls. for_told (g.D.Disk.held c.args.disk.now)
     (λ file told. told ∙ ap (λ more. with_end (g.D.Disk.calls c.args.disk.now) more)
     (relocation_called c.args.size c.args.old.now c.args.new.now file (laws c.args.old.now c.args.new.now c.requires.applied.0 c.requires.applied.1) some)) calls)

@@ -1,11 +1,11 @@
 use Rattle.std.proofs.Common.{◌≡◌, ℕ, List, sym, ap, subst, ◌∙◌}
+use Rattle.list_laws.proofs.Optional.{both_none}
 use Rattle.nc_base.specs.declared.header.Header.{Header}
 use Rattle.nc_base.specs.declared.header.Var.{Var}
 use Rattle.nc_base.specs.declared.script.Align.{Align}
 use Rattle.serial_spec.specs.Layout.{begins, placed}
 use Rattle.serial_spec.specs.HeaderGrammar.{is_sound, is_writable}
 use Rattle.var_layout.specs.Begins.{HasPlace}
-use Rattle.var_layout.proofs.Soundness.{neither}
 use Rattle.var_layout.proofs.LaidOut.{laid_sound}
 use Rattle.var_layout.proofs.LaidWritable.{laid_writable}
 use Rattle.var_layout.proofs.placing.lay_out.Goals as goal
@@ -35,4 +35,4 @@ returns-clause-writable c =
     λ parts.
     ap (λ h. is_writable h) (left c.args.header.now c.args.align.now c.header_len-len.result c.take-vars.result c.with_begins.result c.take-vars.ensures.taken c.with_begins.ensures)
     ∙ laid_writable c.args.header.now c.args.align.now c.header_len-len.result c.in_ok-first.first c.requires.header_align.0 c.requires.var_align.0 c.requires.unplaced c.in_ok-first.ensures.fits
-    (neither _ _ (sym c.in_ok-first.ensures.fault)).0 parts
+    (both_none _ _ (sym c.in_ok-first.ensures.fault)).0 parts

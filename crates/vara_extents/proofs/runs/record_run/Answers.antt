@@ -1,11 +1,12 @@
 -- The runs of a record, and those of records that touch.
 use Rattle.std.proofs.Common.{◌*◌, ◌^◌, ℕ, List, length, get_or, ap, sym, subst, ◌∙◌, arith}
 use Rattle.std.proofs.lemmas.Nat.{mul-le}
+use Rattle.serial_spec.proofs.LengthLaws.{size_most}
 use Rattle.serial_spec.specs.ExternalForm.{size_of}
 use Rattle.serial_spec.specs.Layout.{product}
 use Rattle.serial_spec.specs.Place.{place}
 use Rattle.vara_extents.specs.Numbered.{index_of, AreRuns}
-use Rattle.vara_extents.proofs.RowSteps.{rest, inner_small, record_kept, record_merged, same_have_rests, run_low, size_low}
+use Rattle.vara_extents.proofs.RowSteps.{rest, inner_small, record_kept, record_merged, same_have_rests, run_low}
 use Rattle.vara_extents.proofs.runs.record_run.Goals as goal
 
 pub overflow_mul-touching : goal.overflow_mul-touching
@@ -13,7 +14,7 @@ overflow_mul-touching c =
     let counts = ap product c.as_slice-2.ensures in
     let inner = inner_small c.as_slice-2.result.now 0 c.in-len1-up-as_slice.len_at_least (omega (arith, counts, c.requires.some)) (omega (arith, counts, c.requires.small)) in
     let run = run_low c.args.header.now (rest c.as_slice.result.now) (rest c.as_slice-2.result.now) (rest c.as_slice-3.result.now) c.inner_run-inner.result.elements c.inner_run-inner.ensures.runs inner.0 in
-    let size = size_low c.args.var.now.kind in
+    let size = size_most c.args.var.now.kind in
     let most = mul-le c.inner_run-inner.result.elements c.size_of.result (2 ^ 20) 8 (omega (arith, run, inner.1)) (omega (arith, size, c.size_of.ensures)) in
     omega (arith, most)
 

@@ -1,10 +1,11 @@
 -- The window is that of the entries that have begun before its end.
 use Rattle.std.proofs.Common.{◌≤◌, List, length, subst, sym, arith}
+use Rattle.overlay_laws.proofs.Members.{in_taken}
 use Rattle.nc_base.specs.declared.plan.Owned.{Owned}
 use Rattle.overlay_laws.specs.Entries.{In}
 use Rattle.overlay_laws.specs.Lines.{extents, IsByPlace}
 use Rattle.data_sieving.specs.Serving.{IsPast, AreLeft, AreBegun}
-use Rattle.data_sieving.proofs.SplitSteps.{none_got, in_taken, sorted_taken, extents_taken, taken_begun, dropped_past, dropped_left, some_taken}
+use Rattle.data_sieving.proofs.SplitSteps.{none_got, sorted_taken, extents_taken, taken_begun, dropped_past, dropped_left, some_taken}
 use Rattle.data_sieving.proofs.NextSteps.{first_below, stop_past, is_next}
 use Rattle.data_sieving.proofs.walk.SieveWalk.next_window.Goals as goal
 

@@ -1,8 +1,8 @@
 -- A window is the first of those left.
-use Rattle.std.proofs.Common.{◌≡◌, ℕ, ◌+◌, ◌-◌, ◌^◌, ◌<◌, ◌≤◌, Some, slice_get, sym, ◌∙◌, ap, min, arith}
-use Rattle.nc_base.specs.declared.plan.Extent.{Extent}
+use Rattle.std.proofs.Common.{ℕ, ◌-◌, ◌^◌, sym, ◌∙◌, ap, min, arith}
+use Rattle.overlay_laws.proofs.Members.{entry_in, at_in}
 use Rattle.file_domains.specs.Rounds.{IsWalk, windows_left}
-use Rattle.file_domains.proofs.CoverParts.{in_at, get_is, got_in, long_enough}
+use Rattle.file_domains.proofs.CoverParts.{get_is, long_enough}
 use Rattle.file_domains.proofs.WalkSteps.{next_window_at, empty_left, none_left_at, goes_on, first_ends, stops_past}
 use Rattle.file_domains.proofs.walk.WindowWalkIterator.next.Goals as goal
 
@@ -17,7 +17,7 @@ end_of-requires c =
     let some = get_is c.args.self.now.cover.now 0 c.in-Some.extent (sym c.in-Some.ensures) in
     let long = some.0 in
     let bound = c.begun_before-begun.ensures.bound in
-    let low = c.requires.ends _ (in_at c.args.self.now.cover.now (c.begun_before-begun.result - 1) (record { at = 0; len = 0 }) (omega arith)) in
+    let low = c.requires.ends _ (entry_in c.args.self.now.cover.now (c.begun_before-begun.result - 1) (record { at = 0; len = 0 }) (omega arith)) in
     omega arith
 
 pub overflow_sub-window-2 : goal.overflow_sub-window-2
@@ -25,7 +25,7 @@ overflow_sub-window-2 c =
     let some = get_is c.args.self.now.cover.now 0 c.in-Some.extent (sym c.in-Some.ensures) in
     let long = some.0 in
     let bound = c.begun_before-begun.ensures.bound in
-    let inside = got_in c.args.self.now.cover.now 0 c.in-Some.extent (sym c.in-Some.ensures) in
+    let inside = at_in c.args.self.now.cover.now 0 c.in-Some.extent (sym c.in-Some.ensures) in
     let left = c.requires.left c.in-Some.extent inside in
     let len = long_enough c.args.self.now.cover.now c.in-Some.extent c.requires.cover inside in
     let ends = first_ends c.args.self.now.cover.now (c.begun_before-begun.result - 1) c.in-Some.extent (record { at = 0; len = 0 }) c.requires.cover (sym c.in-Some.ensures) (omega arith) in

@@ -1,5 +1,5 @@
-use Rattle.std.proofs.Common.{◌≡◌, ◌∙◌, sym, ap, bytes_eq, position}
-use Rattle.ncmpi_script.proofs.NameLaws.{position_map}
+use Rattle.std.proofs.Common.{◌∙◌, sym, ap, bytes_eq, position}
+use Rattle.list_laws.proofs.Maps.{position_map}
 use Rattle.ncmpi_script.proofs.names.Names.find.Goals as goal
 
 pub returns-clause-value : goal.returns-clause-value

@@ -1,7 +1,7 @@
-use Rattle.std.proofs.Common.{◌≡◌, ◌∙◌, sym, ap}
+use Rattle.std.proofs.Common.{◌∙◌, sym, ap}
 use Rattle.std.specs.List.{list_any}
+use Rattle.list_laws.proofs.Maps.{any_map}
 use Rattle.script_spec.specs.ScriptDefinitions.{same_title}
-use Rattle.ncmpi_script.proofs.NameLaws.{any_map}
 use Rattle.ncmpi_script.proofs.titles.Titles.contains.Goals as goal
 
 pub returns : goal.returns

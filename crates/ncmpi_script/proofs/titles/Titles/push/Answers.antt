@@ -1,7 +1,8 @@
-use Rattle.std.proofs.Common.{◌≡◌, ◌∙◌, List, [], ◌∷◌, ◌++◌, sym, ap}
+use Rattle.std.proofs.Common.{◌∙◌, List, [], ◌∷◌, ◌++◌, sym, ap}
 use Rattle.std.specs.List.{list_any}
+use Rattle.list_laws.proofs.Maps.{any_map}
 use Rattle.script_spec.specs.ScriptDefinitions.{Title, same_title}
-use Rattle.ncmpi_script.proofs.NameLaws.{any_map, pushed}
+use Rattle.ncmpi_script.proofs.NameLaws.{pushed}
 use Rattle.ncmpi_script.proofs.titles.Titles.push.Goals as goal
 
 pub returns : goal.returns

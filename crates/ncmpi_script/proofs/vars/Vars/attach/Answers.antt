@@ -1,8 +1,7 @@
 use Rattle.std.proofs.Common.{◌≡◌, ◌∙◌, List, ◌++◌, ◌∷◌, [], slice_set, length, refl, sym, ap, arith}
+use Rattle.std.proofs.lemmas.Result.{on_ok_weaker}
 use Rattle.nc_base.specs.declared.header.Attr.{Attr}
-use Rattle.nc_base.specs.declared.header.Var.{Var}
 use Rattle.script_spec.specs.ScriptDefinitions.{with_attr_at}
-use Rattle.ncmpi_script.proofs.FoundLaws.{on_ok}
 use Rattle.ncmpi_script.proofs.VarLaws.{names_kept, attached}
 use Rattle.ncmpi_script.proofs.vars.Vars.attach.Goals as goal
 
@@ -14,7 +13,7 @@ invariant_of-self c =
 pub returns : goal.returns
 returns c =
     let v = c.index_mut.result.now in
-    on_ok c.push.result
+    on_ok_weaker c.push.result
     (λ (more : c.push.new.self ≡ v.attrs ++ c.args.attr ∷ []).
     ap (λ (attrs : List Attr). slice_set c.self.inside.list.items c.args.place (record v { attrs = attrs })) more
     ∙ attached c.self.inside.list.items c.args.place v c.args.attr c.index_mut.ensures.value (omega (arith, ap length c.self.view_is))

@@ -1,7 +1,7 @@
 use Rattle.std.proofs.Common.{List, ℕ, ap, map, ◌∙◌}
 use Rattle.std.specs.Prelude.{bytes_eq, position}
+use Rattle.list_laws.proofs.Maps.{position_map}
 use Rattle.nc_base.specs.declared.header.Dim.{Dim}
-use Rattle.rank_core.proofs.NameLaws.{position-map}
 use Rattle.rank_core.proofs.names.Names.find_dim.Goals as goal
 
 pub returns-clause-found : goal.returns-clause-found
@@ -9,4 +9,4 @@ returns-clause-found c =
     let test = λ (n : List ℕ). bytes_eq n c.args.name.now in
     c.first_named.ensures.found
     ∙ ap (λ (ds : List Dim). position test (map (λ d. d.name) ds)) c.as_slice.ensures
-    ∙ position-map (λ (d : Dim). d.name) test c.args.header.now.dims
+    ∙ position_map test (λ (d : Dim). d.name) c.args.header.now.dims

@@ -1,7 +1,8 @@
--- Members of lists: of filtered, mapped, numbered and paired ones.
-use Rattle.std.proofs.Common.{◌≡◌, ℕ, zero, suc, ◌+◌, refl, ◌∙◌, ap, inl, inr, List, [], ◌∷◌, map, Bool, true, false, cond, Some, arith}
+-- Members of lists: of filtered, mapped, numbered and paired ones, by place, of a list's first entries.
+use Rattle.std.proofs.Common.{◌≡◌, ℕ, zero, suc, ◌+◌, ◌<◌, refl, subst, length, take, get_or, ◌∙◌, ap, inl, inr, List, [], ◌∷◌, map, Bool, true, false, cond, Some, arith}
 use Rattle.std.specs.Prelude.{filter, zip, slice_get}
-use Rattle.std.specs.List.{enumerate_from}
+use Rattle.std.specs.List.{enumerate_from, AllByRecursion}
+use Rattle.std.proofs.lemmas.Option.{slice_get_read}
 use Rattle.overlay_laws.specs.Entries.{In}
 
 pub in_filter : {X : Type 0} (t : X → Bool) (xs : List X) (x : X) → In xs x → t x ≡ true → In (filter t xs) x
@@ -27,6 +28,38 @@ map_in f [] y h = absurd h
 map_in f (x ∷ xs) y (inl e) = (x, inl refl, e)
 map_in f (x ∷ xs) y (inr h) = let r = map_in f xs y h in (r.0, inr r.1, r.2)
 
+pub each_in : {X : Type 0} (P : X → Type 0) (xs : List X) (x : X) → AllByRecursion P xs → In xs x → P x
+each_in P [] x h m = absurd m
+each_in P (y ∷ ys) x h (inl e) = subst P e h.0
+each_in P (y ∷ ys) x h (inr m) = each_in P ys x h.1 m
+
+-- ---- by place
+
+pub in_at : {X : Type 0} (xs : List X) (x : X) → In xs x → (k : ℕ) × (slice_get xs k ≡ Some x)
+in_at [] x h = absurd h
+in_at (y ∷ xs) x (inl e) = (0, ap Some e)
+in_at (y ∷ xs) x (inr h) = let r = in_at xs x h in (suc r.0, r.1)
+
+pub at_in : {X : Type 0} (xs : List X) (k : ℕ) (x : X) → slice_get xs k ≡ Some x → In xs x
+at_in [] k x h = absurd cc
+at_in (y ∷ xs) zero x h = inl cc
+at_in (y ∷ xs) (suc k) x h = inr (at_in xs k x h)
+
+-- an entry that is read is a member
+pub read_in : {X : Type 0} (xs : List X) (i : ℕ) (x : X) → i < length xs → x ≡ get_or xs i x → In xs x
+read_in xs i x there is = at_in xs i x (slice_get_read xs (length xs) i x refl there is)
+
+pub entry_in : {X : Type 0} (xs : List X) (i : ℕ) (d : X) → i < length xs → In xs (get_or xs i d)
+entry_in [] i d h = absurd (omega arith)
+entry_in (x ∷ xs) zero d h = inl refl
+entry_in (x ∷ xs) (suc i) d h = inr (entry_in xs i d (omega arith))
+
+pub in_taken : {X : Type 0} (n : ℕ) (xs : List X) (x : X) → In (take n xs) x → In xs x
+in_taken zero xs x h = absurd h
+in_taken (suc n) [] x h = absurd h
+in_taken (suc n) (y ∷ xs) x (inl e) = inl e
+in_taken (suc n) (y ∷ xs) x (inr h) = inr (in_taken n xs x h)
+
 -- ---- numbers
 
 numbered : {X : Type 0} (n : ℕ) (xs : List X) (k : ℕ) (x : X) → slice_get xs k ≡ Some x → slice_get (enumerate_from n xs) k ≡ Some (n + k, x)
@@ -44,15 +77,10 @@ numbered_at xs k x h =
     let plain : 0 + k ≡ k = omega arith in
     numbered 0 xs k x h ∙ (λ t. Some (plain t, x))
 
-pub at_in : {X : Type 0} (xs : List X) (k : ℕ) (x : X) → slice_get xs k ≡ Some x → In xs x
-at_in [] k x h = absurd cc
-at_in (y ∷ xs) zero x h = inl cc
-at_in (y ∷ xs) (suc k) x h = inr (at_in xs k x h)
-
 pub in_numbered : {X : Type 0} (xs : List X) (k : ℕ) (x : X) → slice_get xs k ≡ Some x → In (enumerate_from 0 xs) (k, x)
 in_numbered xs k x h = at_in (enumerate_from 0 xs) k (k, x) (numbered_at xs k x h)
 
-numbered_from : {X : Type 0} (n : ℕ) (xs : List X) (p : ℕ × X) → In (enumerate_from n xs) p → (k : ℕ) × (p.0 ≡ n + k) × (slice_get xs k ≡ Some p.1)
+pub numbered_from : {X : Type 0} (n : ℕ) (xs : List X) (p : ℕ × X) → In (enumerate_from n xs) p → (k : ℕ) × (p.0 ≡ n + k) × (slice_get xs k ≡ Some p.1)
 numbered_from n [] p h = absurd h
 numbered_from {X} n (y ∷ xs) p (inl e) =
     let number : p.0 ≡ n + 0 = omega (arith, ap (λ (q : ℕ × X). q.0) e) in

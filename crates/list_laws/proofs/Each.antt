@@ -1,0 +1,59 @@
+-- What holds of each entry of a list, and the tests that tell it.
+use Rattle.std.proofs.Common.{◌≡◌, ℕ, zero, suc, List, [], ◌∷◌, ◌++◌, drop, map, Bool, true, false, refl, subst, Some, slice_get}
+use Rattle.std.specs.List.{AllByRecursion, list_any, list_all}
+use Rattle.std.specs.Prelude.{flat_map}
+use Rattle.std.proofs.lemmas.Bool.{and_from, or_from}
+use Rattle.list_laws.proofs.Truth.{and_first, and_second, or_first_false, or_second_false}
+
+pub each_weaker : {A : Type 0} (P Q : A → Type 0) → ((x : A) → P x → Q x) → (xs : List A) → AllByRecursion P xs → AllByRecursion Q xs
+each_weaker P Q f [] h = tt
+each_weaker P Q f (x ∷ xs) h = (f x h.0, each_weaker P Q f xs h.1)
+
+pub each_push : {A : Type 0} (P : A → Type 0) (xs : List A) (x : A) → AllByRecursion P xs → P x → AllByRecursion P (xs ++ x ∷ [])
+each_push P [] x h p = (p, tt)
+each_push P (y ∷ ys) x h p = (h.0, each_push P ys x h.1 p)
+
+pub each_append : {A : Type 0} (P : A → Type 0) (xs ys : List A) → AllByRecursion P xs → AllByRecursion P ys → AllByRecursion P (xs ++ ys)
+each_append P [] ys h k = k
+each_append P (x ∷ xs) ys h k = (h.0, each_append P xs ys h.1 k)
+
+pub each_map : {A B : Type 0} (P : B → Type 0) (f : A → B) (xs : List A) → AllByRecursion (λ x. P (f x)) xs → AllByRecursion P (map f xs)
+each_map P f [] h = tt
+each_map P f (x ∷ xs) h = (h.0, each_map P f xs h.1)
+
+pub each_flat_map : {A B : Type 0} (P : B → Type 0) (f : A → List B) (xs : List A) → AllByRecursion (λ x. AllByRecursion P (f x)) xs → AllByRecursion P (flat_map f xs)
+each_flat_map P f [] h = tt
+each_flat_map P f (x ∷ xs) h = each_append P (f x) (flat_map f xs) h.0 (each_flat_map P f xs h.1)
+
+pub each_later : {A : Type 0} (P : A → Type 0) (xs : List A) → AllByRecursion P xs → AllByRecursion P (drop 1 xs)
+each_later P [] h = tt
+each_later P (x ∷ xs) h = h.1
+
+pub each_at : {A : Type 0} (P : A → Type 0) (xs : List A) (k : ℕ) (x : A) → AllByRecursion P xs → slice_get xs k ≡ Some x → P x
+each_at P [] k x h e = absurd cc
+each_at P (y ∷ ys) zero x h e = let same : y ≡ x = cc in subst P same h.0
+each_at P (y ∷ ys) (suc k) x h e = each_at P ys k x h.1 e
+
+-- ---- tests of all entries
+
+pub each_passes : {A : Type 0} (test : A → Bool) (xs : List A) → AllByRecursion (λ x. test x ≡ true) xs → list_all test xs ≡ true
+each_passes test [] h = refl
+each_passes test (x ∷ xs) h = and_from (test x) (list_all test xs) h.0 (each_passes test xs h.1)
+
+pub passes_each : {A : Type 0} (test : A → Bool) (xs : List A) → list_all test xs ≡ true → AllByRecursion (λ x. test x ≡ true) xs
+passes_each test [] h = tt
+passes_each test (x ∷ xs) h = (and_first (test x) (list_all test xs) h, passes_each test xs (and_second (test x) (list_all test xs) h))
+
+pub each_fails : {A : Type 0} (test : A → Bool) (xs : List A) → AllByRecursion (λ x. test x ≡ false) xs → list_any test xs ≡ false
+each_fails test [] h = refl
+each_fails test (x ∷ xs) h = or_from (test x) (list_any test xs) h.0 (each_fails test xs h.1)
+
+pub fails_each : {A : Type 0} (test : A → Bool) (xs : List A) → list_any test xs ≡ false → AllByRecursion (λ x. test x ≡ false) xs
+fails_each test [] h = tt
+fails_each test (x ∷ xs) h = (or_first_false (test x) (list_any test xs) h, fails_each test xs (or_second_false (test x) (list_any test xs) h))
+
+pub passes_at : {X : Type 0} (p : X → Bool) (xs : List X) → list_all p xs ≡ true → (k : ℕ) (x : X) → slice_get xs k ≡ Some x → p x ≡ true
+passes_at p xs h k x e = each_at (λ y. p y ≡ true) xs k x (passes_each p xs h) e
+
+pub fails_at : {X : Type 0} (p : X → Bool) (xs : List X) (k : ℕ) (x : X) → list_any p xs ≡ false → slice_get xs k ≡ Some x → p x ≡ false
+fails_at p xs k x h e = each_at (λ y. p y ≡ false) xs k x (fails_each p xs h) e

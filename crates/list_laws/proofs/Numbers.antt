@@ -1,0 +1,10 @@
+-- Products and quotients of natural numbers.
+use Rattle.std.proofs.Common.{◌≡◌, ℕ, zero, suc, ◌*◌, ◌/◌, ◌<◌, ◌≤◌, sym, ◌∙◌, ap, arith}
+use Rattle.std.proofs.Math.Nat.{mul-div_cancel}
+
+pub some_factor : (n size x : ℕ) → x < n * size → 0 < size
+some_factor n zero x h = absurd (omega arith)
+some_factor n (suc size) x h = omega arith
+
+pub same_factor : (x y t : ℕ) → 1 ≤ t → x * t ≡ y * t → x ≡ y
+same_factor x y t h f = sym (mul-div_cancel x {n = t} h) ∙ ap (λ (k : ℕ). k / t) f ∙ mul-div_cancel y {n = t} h

@@ -1,0 +1,42 @@
+-- The parts of a test: of a conjunction that holds, of a disjunction that doesn't.
+use Rattle.std.proofs.Common.{◌≡◌, ℕ, suc, ◌<◌, Bool, true, false, ◌&&◌, ◌||◌, refl, arith}
+use Rattle.std.specs.Prelude.{◌==◌}
+use Rattle.std.proofs.lemmas.Bool.Decides.{nat_tests}
+
+pub no_false : {A : Type 0} → false ≡ true → A
+no_false h = absurd cc
+
+pub and_first : (a b : Bool) → (a && b) ≡ true → a ≡ true
+and_first true b h = refl
+and_first false b h = cc
+
+pub and_second : (a b : Bool) → (a && b) ≡ true → b ≡ true
+and_second true b h = h
+and_second false b h = cc
+
+pub or_first_false : (a b : Bool) → (a || b) ≡ false → a ≡ false
+or_first_false true b h = cc
+or_first_false false b h = refl
+
+pub or_second_false : (a b : Bool) → (a || b) ≡ false → b ≡ false
+or_second_false true b h = cc
+or_second_false false b h = h
+
+pub equal_true : (a b : ℕ) → a ≡ b → (a == b) ≡ true
+equal_true a b h = grind (arith, nat_tests)
+
+pub equal_itself : (n : ℕ) → (n == n) ≡ true
+equal_itself n = grind (arith, nat_tests)
+
+-- two numbers of which one is less
+pub equal_above : (a b : ℕ) → b < a → (a == b) ≡ false
+equal_above a b h = grind (arith, nat_tests)
+
+pub equal_below : (a b : ℕ) → a < b → (a == b) ≡ false
+equal_below a b h = grind (arith, nat_tests)
+
+pub equal_zero : {A : Type 0} → (0 == 0) ≡ false → A
+equal_zero h = absurd cc
+
+pub equal_suc : (n : ℕ) → (suc n == 0) ≡ false
+equal_suc n = grind (arith, nat_tests)

@@ -1,0 +1,34 @@
+-- Lines of a text, steps that tell a fault, and the ids that are posted.
+use Rattle.std.proofs.Common.{◌≡◌, ℕ, ◌<◌, List, [], ◌∷◌, length, map, Option, Some, None, Result, Ok, Err, refl, arith}
+use Rattle.nc_base.specs.declared.errors.ScriptErr.{ScriptErr}
+use Rattle.nc_base.specs.declared.errors.ScriptKind.{ScriptKind}
+use Rattle.nc_base.specs.declared.request.Call.{Call}
+use Rattle.serial_spec.specs.History.{kinds}
+use Rattle.script_spec.specs.ScriptWords.{Line, without_empty_end}
+use Rattle.script_spec.specs.ScriptSteps.{or_fault}
+use Rattle.script_spec.specs.ScriptCalls.{posted, id_of_post, mismatch}
+use Rattle.script_spec.specs.ScriptGrammar.{finish}
+
+pub first_line_kept : (x : List ℕ) (zs : List (List ℕ)) → 0 < length zs → without_empty_end (x ∷ zs) ≡ x ∷ without_empty_end zs
+first_line_kept x [] h = absurd (omega arith)
+first_line_kept x (z ∷ zs) h = refl
+
+pub faultless_some : {A : Type 0} (e : ScriptKind) (o : Option A) (x : A) → or_fault e o ≡ Ok x → o ≡ Some x
+faultless_some e None x h = absurd (cc)
+faultless_some e (Some y) x h = cc
+
+pub one_posted : (c : Call) (id : ℕ) → id_of_post c ≡ Some id → posted (c ∷ []) ≡ id ∷ []
+one_posted c id h = rw h refl
+
+pub none_posted : (c : Call) → id_of_post c ≡ None → posted (c ∷ []) ≡ []
+none_posted c h = rw h refl
+
+-- ---- the end of a script
+
+no_fault : (o : Option ScriptKind) (n : ℕ) (u : Unit {0}) → elim o as (λ _. Result (Unit {0}) ScriptErr) [ None ↦ Ok tt | Some e ↦ Err (record { line = n; kind = e }) ] ≡ Ok u → o ≡ None
+no_fault None n u h = refl
+no_fault (Some e) n u h = absurd (cc)
+
+pub finished : (n : ℕ) (calls : List (List Call)) (ls : List Line) (u : Unit {0}) → finish n calls ls ≡ Ok u → mismatch (map (λ own. kinds own) calls) ≡ None
+finished n calls (l ∷ ls) u h = absurd (cc)
+finished n calls [] u h = no_fault (mismatch (map (λ own. kinds own) calls)) n u h
