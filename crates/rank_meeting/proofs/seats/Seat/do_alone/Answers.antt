@@ -11,6 +11,14 @@ use Rattle.rank_meeting.proofs.AloneLaws.{alone_led, alone_waits, arrived_free, 
 use Rattle.rank_meeting.specs.Counts.{IsCount}
 use Rattle.rank_meeting.specs.Seated.{asking, between, calls_of}
 use Rattle.rank_meeting.specs.Stages.{arrived}
+use Rattle.rank_meeting.specs.Cuts.{MayFollow}
+use Rattle.std.proofs.Common.{length, [], ◌∷◌, ◌++◌}
+use Rattle.std.proofs.lemmas.Result.{err_from_is_err_and}
+use Rattle.nc_base.specs.declared.step.Mark.TheVariants.{Solo}
+use Rattle.nc_base.specs.declared.step.Reply.{Reply}
+use Rattle.serial_spec.specs.FileStep.{puts_of, told}
+use Rattle.collective_round.proofs.TornLaws.{done_torn}
+use Rattle.rank_meeting.proofs.CutLaws.{stopped_solo, stopped_unheard, memory_of, own_is}
 use Rattle.rank_meeting.proofs.seats.Seat.do_alone.Goals as goal
 use Rattle.std.proofs.Common.{None, ℕ}
 
@@ -77,3 +85,43 @@ returns-clause-gone g c =
 
 pub returns-clause-grown : goal.returns-clause-grown
 returns-clause-grown g c = grown_one _ _ _ _ c.in_ok-push.ensures.ok
+
+-- a reply to try an offer with
+some_reply : Reply
+some_reply = record { pair = None; records = 0; got = [] }
+
+pub returns-in_err-reply-clause-cut : goal.returns-in_err-reply-clause-cut
+returns-in_err-reply-clause-cut g c e is records ranks at =
+    let script = c.args.script.now in
+    let own = calls_of script c.args.number in
+    stopped_solo (MayFollow script c.args.number c.args.order.now) (setting_of script c.args.header.now) e c.args.number (length c.args.self.now.answers) c.args.order.now c.args.order.now
+    (g.D.Disk.held c.args.disk.now) (g.D.Disk.held c.solo_reply.new.disk) (asking own c.args.self.now) c.args.offer
+    (own_is c.args.number (length c.args.self.now.answers), alone_done script c.args.header.now c.args.order.now c.args.number _ c.args.offer some_reply c.requires.asks)
+    refl c.in_err-reply.ensures.refused records ranks at
+
+pub returns-in_err-push-clause-cut : goal.returns-in_err-push-clause-cut
+returns-in_err-push-clause-cut g c e is records ranks at =
+    let script = c.args.script.now in
+    let own = calls_of script c.args.number in
+    let s = setting_of script c.args.header.now in
+    stopped_solo (MayFollow script c.args.number c.push.new.self) s e c.args.number (length c.args.self.now.answers) c.args.order.now c.push.new.self
+    (g.D.Disk.held c.args.disk.now) (g.D.Disk.held c.solo_reply.new.disk) (asking own c.args.self.now) c.args.offer (
+      own_is c.args.number (length c.args.self.now.answers),
+      subst (λ (ms : List Mark). HasRest script (ms ++ Solo c.args.number (length c.args.self.now.answers) ∷ []) c.args.number) (sym c.in_err-push.ensures.err)
+          (alone_done script c.args.header.now c.args.order.now c.args.number _ c.args.offer some_reply c.requires.asks),
+    )
+    c.in_err-push.ensures.err
+    (done_torn s (puts_of (c.args.number, c.args.offer)) (told s (puts_of (c.args.number, c.args.offer))) (g.D.Disk.held c.args.disk.now) (g.D.Disk.held c.solo_reply.new.disk)
+    c.in_ok-reply.ensures.bytes)
+    records ranks at
+
+pub returns-in_err-hear-clause-cut : goal.returns-in_err-hear-clause-cut
+returns-in_err-hear-clause-cut g c e is records ranks at =
+    let script = c.args.script.now in
+    let own = calls_of script c.args.number in
+    let p = err_from_is_err_and c.from_residual-in_err-hear.result c.from_residual-in_err-hear.ensures.1 in
+    stopped_unheard (MayFollow script c.args.number c.push.new.self) (setting_of script c.args.header.now) e c.args.number (length c.args.self.now.answers) c.args.order.now c.push.new.self
+    (g.D.Disk.held c.args.disk.now) (g.D.Disk.held c.solo_reply.new.disk) (asking own c.args.self.now) c.args.offer
+    (memory_of c.from_residual-in_err-hear.result e p.0 is p.1 p.2)
+    (order_is _ _ c.args.self.now.answers c.args.order.now c.push.new.self c.in_ok-push.ensures.ok c.len.ensures)
+    c.in_ok-reply.ensures.bytes records ranks at
