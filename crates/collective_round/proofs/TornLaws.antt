@@ -482,10 +482,6 @@ pub own_torn : (s : Setting) (puts : Puts) (held now : Option (List ℕ)) → to
 own_torn s puts held now none b =
     subst (λ (o : Option Pair). BothTold (λ old left. IsTorn (covered s.header puts) 0 old (after_puts s puts o old) left) held now) (sym none) b
 
-pub on_err_by : {T E P Q : Type 0} (r : Result T E) → (P → Q) → OnErr r P → OnErr r Q
-on_err_by (Ok x) f h = tt
-on_err_by (Err e) f h = f h
-
 -- all was written, and a later call was refused
 pub done_torn : (s : Setting) (puts : Puts) (pair : Option Pair) (held now : Option (List ℕ)) → now ≡ after (after_puts s puts pair) held
     → BothTold (λ old left. IsTorn (covered s.header puts) 0 old (after_puts s puts pair old) left) held now
