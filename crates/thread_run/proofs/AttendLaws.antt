@@ -3,6 +3,7 @@ use Rattle.std.proofs.Common.{◌≡◌, ℕ, ◌+◌, ap, sym, subst, refl, ◌
 use Rattle.std.specs.Prelude.{filter, is_err}
 use Rattle.std.proofs.lemmas.List.{append-nil}
 use Rattle.std.proofs.lemmas.List.Elements.{filter-append}
+use Rattle.nc_base.specs.declared.answer.Answer.{Answer}
 use Rattle.nc_base.specs.declared.header.Header.{Header}
 use Rattle.nc_base.specs.declared.memory.Memory.{Memory}
 use Rattle.nc_base.specs.declared.request.Call.{Call}
@@ -17,12 +18,14 @@ use Rattle.nc_base.specs.declared.step.Reply.{Reply}
 use Rattle.serial_spec.specs.Desk.{offers_in}
 use Rattle.serial_spec.specs.History.{is_offer}
 use Rattle.serial_spec.specs.RankMachine as machine
+use Rattle.serial_spec.specs.RankMachine.{hear}
 use Rattle.serial_spec.specs.RankSide.{end_by, fits_offer, offered, offered_by, rank_end, rank_stop, stop_by, waiting, waiting_end, waiting_stop}
 use Rattle.serial_spec.specs.SerialEnd.{Going, advance, first_going, hears}
-use Rattle.thread_run.specs.Attending.{HasAttended, HasStood, IsAccounted, Stands}
+use Rattle.thread_run.specs.Attending.{HasAttended, HasStood, IsAccounted, IsBroken, Stands}
 use Rattle.turn_run.specs.Seated.{asking, between, going_of}
 use Rattle.turn_run.specs.declared.seats.Seat.{Seat}
 use Rattle.turn_run.proofs.AloneLaws.{going_free, going_held}
+use Rattle.turn_run.proofs.SeatLaws.{answers_begin}
 
 -- ---- a reply that fits
 
@@ -165,24 +168,52 @@ stood_misfit header own put taken g o y seat h fits e f =
 
 -- ---- want of memory
 
-broken : (header : Header) (own : List Call) (put : List RankItem) (taken : List OwnerItem) (seat : Seat) (result : Result RankStop Memory) (unsent : List RankItem)
-    → is_err result ≡ true → length taken ≡ offers_in put → put ++ unsent ≡ offered header (first_going header own) taken → HasStood header own put taken seat result
-broken header own put taken seat result unsent e one h = record { one_each = one; stands = by result e }
+broken : (header : Header) (own : List Call) (put : List RankItem) (taken : List OwnerItem) (seat : Seat) (result : Result RankStop Memory) → is_err result ≡ true
+    → length taken ≡ offers_in put → IsBroken header own put taken seat.answers → HasStood header own put taken seat result
+broken header own put taken seat result e one h = record { one_each = one; stands = by result e }
   where
     by : (r : Result RankStop Memory) → is_err r ≡ true → Stands header own put taken seat r
     by (Ok end) k = absurd cc
-    by (Err m) k = (unsent, h)
+    by (Err m) k = h
 
-pub broken_first : (header : Header) (own : List Call) (seat : Seat) (result : Result RankStop Memory) → is_err result ≡ true → HasStood header own [] [] seat result
-broken_first header own seat result e = broken header own [] [] seat result (offered header (first_going header own) []) e refl refl
+pub broken_first : (header : Header) (own : List Call) (seat : Seat) (result : Result RankStop Memory) → is_err result ≡ true
+    → (rest : List Answer) × (seat.answers ++ rest ≡ (advance header (first_going header own)).0.answers) → HasStood header own [] [] seat result
+broken_first header own seat result e (rest, h) =
+    broken header own [] [] seat result e refl
+    (record { unsent = offered header (first_going header own) []; begins = refl; unanswered = rest; answers = h ∙ at_once (advance header (first_going header own)) })
+  where
+    at_once : (a : Going × Option Offer) → a.0.answers ≡ (end_by header a []).answers
+    at_once (g, None) = refl
+    at_once (g, Some o) = refl
 
-pub broken_at : (header : Header) (own : List Call) (put : List RankItem) (taken : List OwnerItem) (g : Going) (o : Offer) (x : OwnerItem) (seat : Seat) (result : Result RankStop Memory)
-    → IsAccounted header own put taken (g, Some o) → is_err result ≡ true
-    → HasStood header own (put ++ item.Offer (length g.answers) o ∷ []) (taken ++ x ∷ []) seat result
-broken_at header own put taken g o x seat result h e =
-    broken header own (put ++ item.Offer (length g.answers) o ∷ []) (taken ++ x ∷ []) seat result (waiting header g o (x ∷ [])) e
-    (one_more put taken (length g.answers) o x h.one_each)
-    (append_assoc put (item.Offer (length g.answers) o ∷ []) (waiting header g o (x ∷ [])) ∙ sym (h.offers (x ∷ [])))
+-- after a reply that fits
+pub broken_at : (header : Header) (own : List Call) (put : List RankItem) (taken : List OwnerItem) (g : Going) (o : Offer) (y : Reply) (seat : Seat) (result : Result RankStop Memory)
+    → IsAccounted header own put taken (g, Some o) → fits_offer header o y ≡ true → is_err result ≡ true
+    → (rest : List Answer) × (seat.answers ++ rest ≡ (advance header (hears header g y)).0.answers)
+    → HasStood header own (put ++ item.Offer (length g.answers) o ∷ []) (taken ++ owner.Reply y ∷ []) seat result
+broken_at header own put taken g o y seat result h fits e (rest, k) =
+    let here = accounted_on header own put taken g o y (advance header (hears header g y)) h fits refl in
+    broken header own (put ++ item.Offer (length g.answers) o ∷ []) (taken ++ owner.Reply y ∷ []) seat result e here.one_each
+    (record {
+      unsent = offered_by header (advance header (hears header g y)) [];
+      begins = sym (here.offers []) ∙ ap (λ (back : List OwnerItem). offered header (first_going header own) back) (append-nil (taken ++ owner.Reply y ∷ []));
+      unanswered = rest;
+      answers = k ∙ at_once (advance header (hears header g y)) ∙ sym (ap (λ (s : Going). s.answers) (here.ends []))
+          ∙ ap (λ (back : List OwnerItem). (rank_end header (first_going header own) back).answers) (append-nil (taken ++ owner.Reply y ∷ []));
+    })
+  where
+    at_once : (a : Going × Option Offer) → a.0.answers ≡ (end_by header a []).answers
+    at_once (g', None) = refl
+    at_once (g', Some p) = refl
+
+-- what it heard is not among its answers yet
+pub unheard_begins : (header : Header) (g : Going) (y : Reply) (answers : List Answer) → answers ≡ g.answers
+    → (rest : List Answer) × (answers ++ rest ≡ (advance header (hears header g y)).0.answers)
+unheard_begins header g y answers e =
+    let heard = hears header g y in
+    let b = answers_begin header heard.rank heard.answers heard.calls in
+    let a = (hear header g.rank y).1 in
+    (a ∷ b.0, ap (λ (as' : List Answer). as' ++ a ∷ b.0) e ∙ sym (append_assoc g.answers (a ∷ []) b.0) ∙ b.1)
 
 -- ---- the last item
 
@@ -211,5 +242,5 @@ pub attended_broken : (header : Header) (own : List Call) (put : List RankItem) 
 attended_broken header own put taken seat m known pending h = record {
   one_each = no_offer put taken true h.one_each;
   finished = λ k. absurd (k refl);
-  broken = λ k. record { sent = put; unsent = h.stands.0; put_some = refl; begins = h.stands.1 };
+  broken = λ k. record { sent = put; unsent = h.stands.unsent; put_some = refl; begins = h.stands.begins; unanswered = h.stands.unanswered; answers = h.stands.answers };
 }

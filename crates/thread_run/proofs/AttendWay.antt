@@ -4,6 +4,7 @@ use Rattle.std.specs.Prelude.{slice_get, is_some, IfSome}
 use Rattle.std.proofs.lemmas.Slice.Eq.{bytes_eq-Decides}
 use Rattle.nc_base.specs.declared.header.Header.{Header}
 use Rattle.nc_base.specs.declared.header.Var.{Var}
+use Rattle.nc_base.specs.declared.answer.Answer.{Answer}
 use Rattle.nc_base.specs.declared.answer.Code.TheVariants as code
 use Rattle.nc_base.specs.declared.request.Call.{Call}
 use Rattle.nc_base.specs.declared.request.Direction.{Direction}
@@ -19,7 +20,7 @@ use Rattle.serial_spec.specs.Lawful.{is_lawful, most_calls}
 use Rattle.serial_spec.specs.RankMachine.{Open, hear}
 use Rattle.serial_spec.specs.RankSide.{fits_offer, wanted}
 use Rattle.serial_spec.specs.RegionCheck.{check_some}
-use Rattle.serial_spec.specs.SerialEnd.{Going, first_going}
+use Rattle.serial_spec.specs.SerialEnd.{Going, advance, first_going, hears}
 use Rattle.rank_core.specs.Fitting.{fits_gets}
 use Rattle.rank_core.specs.Offered.{IsSoundOffer}
 use Rattle.rank_core.proofs.SeparateLaws.{at_in}
@@ -36,7 +37,7 @@ use Rattle.turn_run.specs.Steps.{first_seat}
 use Rattle.turn_run.specs.declared.seats.Seat.{Seat}
 use Rattle.turn_run.proofs.AloneLaws.{alone_waits, going_held}
 use Rattle.turn_run.proofs.ListLaws.{get_there}
-use Rattle.turn_run.proofs.SeatLaws.{alone_heard, answered_is}
+use Rattle.turn_run.proofs.SeatLaws.{alone_heard, answered_is, heard_seat}
 
 -- ---- before the first call
 
@@ -51,6 +52,19 @@ first_way script header r own seat lawful below e f =
     let is : own ≡ there.0 = e ∙ ap (λ (m : Option (List Call)). elim m [ None ↦ [] | Some calls ↦ calls ]) there.1 in
     subst (λ (g : Going). IsOnWay script [] r g None) (ap (λ (calls : List Call). first_going header calls) (sym is) ∙ sym (first_between header own seat f))
     (way_begins script header r there.0 lawful there.1)
+
+-- its answers begin those at its first offer
+pub first_some : (header : Header) (own calls : List Call) (seat : Seat) (answers : List Answer) → own ≡ calls → seat ≡ first_seat header header.records
+    → (rest : List Answer) × (answers ++ rest ≡ (advance header (between own seat)).0.answers) → (rest : List Answer) × (answers ++ rest ≡ (advance header (first_going header calls)).0.answers)
+first_some header own calls seat answers e f (rest, h) =
+    (rest, h ∙ ap (λ (g : Going). (advance header g).0.answers) (first_between header own seat f ∙ ap (λ (cs : List Call). first_going header cs) e))
+
+-- and after a reply, those at its next
+pub later_some : (header : Header) (own : List Call) (before mid : Seat) (reply : Reply) (answers : List Answer) → before.rank.header ≡ header → HasHeard before mid reply
+    → (rest : List Answer) × (answers ++ rest ≡ (advance header (between own mid)).0.answers)
+    → (rest : List Answer) × (answers ++ rest ≡ (advance header (hears header (asking own before) reply)).0.answers)
+later_some header own before mid reply answers e heard (rest, h) =
+    (rest, h ∙ ap (λ (g : Going). (advance header g).0.answers) (heard_seat header own before mid reply e heard))
 
 -- ---- at an offer
 

@@ -104,7 +104,7 @@ module _ (script : Script) (header : Header) (arrivals : List Arrival) (given : 
           → IsBeginning (own_items r arrivals) (offered header (first_going header own) (takes r))
       begins r own o = by (broke_or_not o.end.end)
         where
-          broken : HasBroken header own (puts r) (takes r) → IsBeginning (own_items r arrivals) (offered header (first_going header own) (takes r))
+          broken : HasBroken header own (puts r) (takes r) o.end.answers → IsBeginning (own_items r arrivals) (offered header (first_going header own) (takes r))
           broken b = in_two (front_or_all (own_items r arrivals) b.sent (item.Ended true) (o.arrived_of.0, o.arrived_of.1 ∙ b.put_some))
             where
               in_two : IsPrefix (own_items r arrivals) b.sent ⊎ (own_items r arrivals ≡ b.sent ++ item.Ended true ∷ [])

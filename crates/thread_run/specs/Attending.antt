@@ -1,9 +1,10 @@
 -- A rank's side of a run with threads. (own)
 --     IsAccounted header own put taken at     what was put and taken so far brought the rank there
 --     HasFinished .. end                      what the rank put and came to, by the items that it took
---     HasBroken ..                            what it put until it wanted memory
+--     HasBroken .. answered                   what it put, and its answers, until it wanted memory
 --     HasAttended .. end                      the one or the other, and one item taken for each offer
 use Rattle.std.specs.Prelude.{◌≡◌, List, [], ◌∷◌, ◌++◌, length, true, false, Option, Some, Ok, Err, Result}
+use Rattle.nc_base.specs.declared.answer.Answer.{Answer}
 use Rattle.nc_base.specs.declared.header.Header.{Header}
 use Rattle.nc_base.specs.declared.memory.Memory.{Memory}
 use Rattle.nc_base.specs.declared.request.Call.{Call}
@@ -34,16 +35,18 @@ pub record HasFinished (header : Header) (own : List Call) (put : List RankItem)
   pub known : end.known ≡ (rank_end header (first_going header own) taken).rank.known
   pub pending : end.pending ≡ machine.pending (rank_end header (first_going header own) taken).rank
 
-pub record HasBroken (header : Header) (own : List Call) (put : List RankItem) (taken : List OwnerItem) : Type 0 where
+pub record HasBroken (header : Header) (own : List Call) (put : List RankItem) (taken : List OwnerItem) (answered : List Answer) : Type 0 where
   pub sent : List RankItem
   pub unsent : List RankItem
   pub put_some : put ≡ sent ++ item.Ended true ∷ []
   pub begins : sent ++ unsent ≡ offered header (first_going header own) taken
+  pub unanswered : List Answer
+  pub answers : answered ++ unanswered ≡ (rank_end header (first_going header own) taken).answers
 
 pub record HasAttended (header : Header) (own : List Call) (put : List RankItem) (taken : List OwnerItem) (end : RankEnd) : Type 0 where
   pub one_each : length taken ≡ offers_in put
   pub finished : (end.end ≡ stop.Memory → ⊥) → HasFinished header own put taken end
-  pub broken : end.end ≡ stop.Memory → HasBroken header own put taken
+  pub broken : end.end ≡ stop.Memory → HasBroken header own put taken end.answers
 
 -- ---- before the last item is put
 
@@ -54,9 +57,16 @@ pub record IsThrough (header : Header) (own : List Call) (put : List RankItem) (
   pub answers : seat.answers ≡ (rank_end header (first_going header own) taken).answers
   pub state : seat.rank.state ≡ (rank_end header (first_going header own) taken).rank
 
+-- the offers put and the answers that it has begin those by the items that it took
+pub record IsBroken (header : Header) (own : List Call) (put : List RankItem) (taken : List OwnerItem) (answered : List Answer) : Type 0 where
+  pub unsent : List RankItem
+  pub begins : put ++ unsent ≡ offered header (first_going header own) taken
+  pub unanswered : List Answer
+  pub answers : answered ++ unanswered ≡ (rank_end header (first_going header own) taken).answers
+
 abbrev pub Stands : Header → List Call → List RankItem → List OwnerItem → Seat → Result RankStop Memory → Type 0
 Stands header own put taken seat (Ok end) = IsThrough header own put taken seat end
-Stands header own put taken seat (Err e) = (unsent : List RankItem) × (put ++ unsent ≡ offered header (first_going header own) taken)
+Stands header own put taken seat (Err e) = IsBroken header own put taken seat.answers
 
 pub record HasStood (header : Header) (own : List Call) (put : List RankItem) (taken : List OwnerItem) (seat : Seat) (result : Result RankStop Memory) : Type 0 where
   pub one_each : length taken ≡ offers_in put

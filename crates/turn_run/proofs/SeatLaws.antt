@@ -1,5 +1,6 @@
 -- How the rank of a seat goes on.
-use Rattle.std.proofs.Common.{◌≡◌, ℕ, zero, suc, ◌+◌, ◌*◌, ◌^◌, ◌<◌, ◌≤◌, refl, sym, ◌∙◌, ap, subst, List, [], ◌∷◌, ◌++◌, length, map, set, drop, get_or, Bool, true, false, Option, Some, None, length-append, arith}
+use Rattle.std.proofs.Common.{◌≡◌, ℕ, zero, suc, ◌+◌, ◌*◌, ◌^◌, ◌<◌, ◌≤◌, refl, sym, ◌∙◌, ap, subst, List, [], ◌∷◌, ◌++◌, length, map, set, drop, get_or, Bool, true, false, Option, Some, None, length-append, append_assoc, arith}
+use Rattle.std.proofs.lemmas.List.{append-nil}
 use Rattle.std.specs.Prelude.{slice_get, IfSome, is_some, filter}
 use Rattle.std.specs.List.{list_all}
 use Rattle.nc_base.specs.declared.header.Header.{Header}
@@ -60,6 +61,28 @@ pub advance_on : (header : Header) (own : List Call) (rank next : machine.Rank) 
 advance_on header own rank next answers more a c g e m =
     sym (comes_on header (at own rank answers) (at own rank answers) next a c (drop (suc (length answers)) own) refl (drop_get own (length answers) c g) e)
     ∙ ap (advance header) (answered_is own rank next answers more a m)
+
+-- a rank that goes on adds to its answers
+pub answers_begin : (header : Header) (rank : machine.Rank) (answers : List Answer) (calls : List Call) → (rest : List Answer) × (answers ++ rest ≡ (go header rank answers calls).0.answers)
+answers_begin header rank answers [] = ([], append-nil answers)
+answers_begin header rank answers (c ∷ calls) = by (step header rank c) (λ r more. answers_begin header r more calls)
+  where
+    by : (next : machine.Rank × Want) → ((r : machine.Rank) (more : List Answer) → (rest : List Answer) × (more ++ rest ≡ (go header r more calls).0.answers))
+        → (rest : List Answer) × (answers ++ rest ≡ (elim next.1 as (λ (x : Want). Going × Option Offer) [
+          | want.Answered a ↦ go header next.0 (answers ++ a ∷ []) calls
+          | want.Meet p ↦ (record { rank = next.0; answers = answers; calls = calls }, Some p)
+          | want.Solo p ↦ (record { rank = next.0; answers = answers; calls = calls }, Some p)
+        ]).0.answers)
+    by (r, want.Answered a) again = let e = again r (answers ++ a ∷ []) in (a ∷ e.0, sym (append_assoc answers (a ∷ []) e.0) ∙ e.1)
+    by (r, want.Meet p) again = ([], append-nil answers)
+    by (r, want.Solo p) again = ([], append-nil answers)
+
+-- so the answers that it has begin those that it comes to
+pub answers_on_way : (header : Header) (from : Going × Option Offer) (own : List Call) (rank : machine.Rank) (answers now : List Answer) → from ≡ advance header (at own rank answers) → now ≡ answers
+    → (rest : List Answer) × (now ++ rest ≡ from.0.answers)
+answers_on_way header from own rank answers now e f =
+    let b = answers_begin header rank answers (drop (length answers) own) in
+    (b.0, ap (λ (as' : List Answer). as' ++ b.0) f ∙ b.1 ∙ sym (ap (λ (a : Going × Option Offer). a.0.answers) e))
 
 -- the call that is next
 pub next_call : (own : List Call) (answers : List Answer) (n : ℕ) (c : Call) → n ≡ length answers → n < length own → c ≡ get_or own n c → slice_get own (length answers) ≡ Some c

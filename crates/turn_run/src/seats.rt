@@ -1,5 +1,6 @@
 // A rank that goes through its calls.
 ghost use Rattle.std.specs.Prelude.{◌≡◌, ◌+◌, ◌<◌, ◌≤◌, ◌∷◌, ◌++◌, [], ℕ, List, length, map, max, drop, filter, None, Some, true, is_some, slice_get, IfNone, IfSome, IfOk, OnOk, OnErr, MatchOption, Err};
+ghost use Rattle.nc_base.specs.declared.answer.Answer.{Answer};
 ghost use Rattle.nc_base.specs.declared.step.Mark.{Mark};
 ghost use Rattle.nc_base.specs.declared.step.StepErr.{StepErr as Fault};
 ghost use Rattle.nc_base.specs.declared.step.OfferKind.TheVariants as kind;
@@ -118,6 +119,7 @@ impl<'a> Seat<'a> {
         ensures asked { OnOk result (IfSome self.new.held (IsAsked header.now self.new.rank.state.known)) }
         ensures advanced { OnOk result (advance header.now (between calls.now self.old) ≡ (going_of calls.now self.new, self.new.held)) }
         ensures ended { OnOk result (self.new.held ≡ None → drop (length self.new.answers) calls.now ≡ []) }
+        ensures some { OnErr result ((rest : List Answer) × (self.new.answers ++ rest ≡ (advance header.now (between calls.now self.old)).0.answers)) }
     {
         'calls: while self.answers.len() < calls.len() {
             let next = self.answers.len();
@@ -193,6 +195,7 @@ impl<'a> Seat<'a> {
         ensures header { self.new.rank.header ≡ self.old.rank.header }
         ensures held { self.new.held ≡ self.old.held }
         ensures heard { OnOk result (HasHeard self.old self.new reply) }
+        ensures kept { OnErr result (self.new.answers ≡ self.old.answers) }
     {
         let answer = self.rank.hear(reply)?;
         self.answers.push(answer)?;

@@ -11,8 +11,8 @@ use Rattle.thread_run.specs.Attending.{HasStood}
 use Rattle.turn_run.specs.Seated.{asking, between, calls_of, going_of}
 use Rattle.turn_run.specs.declared.seats.Seat.{Seat}
 use Rattle.turn_run.proofs.AloneLaws.{fits_open}
-use Rattle.thread_run.proofs.AttendLaws.{accounted_first, accounted_free, accounted_held, accounted_on, broken_at, broken_first, stood_done, stood_misfit, stood_stopped}
-use Rattle.thread_run.proofs.AttendWay.{asked_own, first_between, first_way, fits_is, fits_long, items_more, placed_heard, placed_held, placed_number, placed_waits}
+use Rattle.thread_run.proofs.AttendLaws.{accounted_first, accounted_free, accounted_held, accounted_on, broken_at, broken_first, stood_done, stood_misfit, stood_stopped, unheard_begins}
+use Rattle.thread_run.proofs.AttendWay.{asked_own, first_between, first_some, first_way, fits_is, fits_long, items_more, later_some, placed_heard, placed_held, placed_number, placed_waits}
 use Rattle.turn_run.proofs.SeatLaws.{heard_seat}
 use Rattle.thread_run.proofs.attending.make_calls.Goals as goal
 
@@ -24,8 +24,15 @@ go_on-requires-clause-way g c κs within = (
 )
 
 pub returns-in_err-go_on-clause-stood : goal.returns-in_err-go_on-clause-stood
-returns-in_err-go_on-clause-stood g c =
-    ([], [], sym (append-nil _), sym (append-nil _), broken_first c.args.header.now (calls_of c.args.script.now c.args.out.now.number) c.go_on.new.self c.from_residual.result c.from_residual.ensures.0)
+returns-in_err-go_on-clause-stood g c = (
+  [],
+  [],
+  sym (append-nil _),
+  sym (append-nil _),
+  broken_first c.args.header.now (calls_of c.args.script.now c.args.out.now.number) c.go_on.new.self c.from_residual.result c.from_residual.ensures.0
+      (first_some c.args.header.now c.own_calls-calls.result.now (calls_of c.args.script.now c.args.out.now.number) c.args.seat.now c.go_on.new.self.answers
+      (c.own_calls-calls.ensures ∙ ap (calls_of c.args.script.now) c.number-number.ensures) c.requires.first c.in_err-go_on.ensures.some),
+)
 
 pub offers-init : goal.offers-init
 offers-init g c =
@@ -138,6 +145,10 @@ returns-in_err-hear-clause-stood g c =
     let here = accounted_held header own account.0 account.1 seat o (sym c.in-Some.ensures.value) account.4 in
     let sent : c.offer.result ≡ item.Offer (length seat.answers) o = c.offer.ensures ∙ ap (λ (n : ℕ). item.Offer n o) c.len.ensures in
     let all = c.own_calls-calls.ensures ∙ ap (calls_of c.args.script.now) c.number-number.ensures in
+    let placed = c.offers.invariant.placed in
+    let with_offer = placed_held c.args.script.now header placed.0 c.number-number.result own seat o (sym c.in-Some.ensures.value) placed.1 in
+    let waits = placed_waits c.args.script.now header placed.0 c.number-number.result (asking own seat) o with_offer in
+    let fits = fits_is seat.rank.state.«open» header seat.rank.header o c.in-Reply.reply c.fits.result c.offers.invariant.of_header waits c.fits.ensures in
     let put = account.0 ++ item.Offer (length seat.answers) o ∷ [] in
     let taken = account.1 ++ (owner.Reply c.in-Reply.reply) ∷ [] in (
       put,
@@ -145,7 +156,8 @@ returns-in_err-hear-clause-stood g c =
       items_more c.args.out.now.items c.offers.out.items c.put.new.self.items account.0 _ _ account.2 c.put.ensures.items sent,
       items_more c.args.back.now.items c.offers.back.items c.take-in-Some.new.self.items account.1 _ _ account.3 c.in-Reply.ensures.items refl,
       subst (λ (cs : List Call). HasStood header cs put taken c.hear.new.self c.from_residual-in_err-hear.result) all
-          (broken_at header own account.0 account.1 (asking own seat) o (owner.Reply c.in-Reply.reply) c.hear.new.self c.from_residual-in_err-hear.result here c.from_residual-in_err-hear.ensures.0),
+          (broken_at header own account.0 account.1 (asking own seat) o c.in-Reply.reply c.hear.new.self c.from_residual-in_err-hear.result here (sym fits ∙ c.if-not-fits.false)
+          c.from_residual-in_err-hear.ensures.0 (unheard_begins header (asking own seat) c.in-Reply.reply c.hear.new.self.answers c.in_err-hear.ensures.kept)),
     )
 
 pub go_on-requires-in-Some-clause-way : goal.go_on-requires-in-Some-clause-way
@@ -218,6 +230,11 @@ returns-in_err-go_on-2-clause-stood g c =
     let here = accounted_held header own account.0 account.1 seat o (sym c.in-Some.ensures.value) account.4 in
     let sent : c.offer.result ≡ item.Offer (length seat.answers) o = c.offer.ensures ∙ ap (λ (n : ℕ). item.Offer n o) c.len.ensures in
     let all = c.own_calls-calls.ensures ∙ ap (calls_of c.args.script.now) c.number-number.ensures in
+    let placed = c.offers.invariant.placed in
+    let with_offer = placed_held c.args.script.now header placed.0 c.number-number.result own seat o (sym c.in-Some.ensures.value) placed.1 in
+    let waits = placed_waits c.args.script.now header placed.0 c.number-number.result (asking own seat) o with_offer in
+    let fits = fits_is seat.rank.state.«open» header seat.rank.header o c.in-Reply.reply c.fits.result c.offers.invariant.of_header waits c.fits.ensures in
+    let before : Seat = record { rank = seat.rank; answers = seat.answers; held = c.take.new.self } in
     let put = account.0 ++ item.Offer (length seat.answers) o ∷ [] in
     let taken = account.1 ++ (owner.Reply c.in-Reply.reply) ∷ [] in (
       put,
@@ -225,7 +242,9 @@ returns-in_err-go_on-2-clause-stood g c =
       items_more c.args.out.now.items c.offers.out.items c.put.new.self.items account.0 _ _ account.2 c.put.ensures.items sent,
       items_more c.args.back.now.items c.offers.back.items c.take-in-Some.new.self.items account.1 _ _ account.3 c.in-Reply.ensures.items refl,
       subst (λ (cs : List Call). HasStood header cs put taken c.go_on-in-Some.new.self c.from_residual-in_err-go_on-2.result) all
-          (broken_at header own account.0 account.1 (asking own seat) o (owner.Reply c.in-Reply.reply) c.go_on-in-Some.new.self c.from_residual-in_err-go_on-2.result here c.from_residual-in_err-go_on-2.ensures.0),
+          (broken_at header own account.0 account.1 (asking own seat) o c.in-Reply.reply c.go_on-in-Some.new.self c.from_residual-in_err-go_on-2.result here (sym fits ∙ c.if-not-fits.false)
+          c.from_residual-in_err-go_on-2.ensures.0 (later_some header own before c.hear.new.self c.in-Reply.reply c.go_on-in-Some.new.self.answers c.offers.invariant.of_header c.in_ok-hear.ensures.heard
+          c.in_err-go_on-2.ensures.some)),
     )
 
 pub returns-clause-stood : goal.returns-clause-stood
