@@ -1,0 +1,293 @@
+-- An order that a script's ranks have begun can be gone on with to one of its histories: the ranks meet as often, one as the other.
+use Rattle.std.proofs.lemmas.Bool.{and_from}
+use Rattle.std.proofs.Common.{◌≡◌, ℕ, zero, suc, ◌+◌, ◌-◌, ◌<◌, ◌≤◌, ◌≢◌, refl, sym, ◌∙◌, ap, subst, inl, inr, ◌⊎◌, List, [], ◌∷◌, ◌++◌, length, Bool, true, false, cond, ◌&&◌, Option, Some, None, arith, append_assoc}
+use Rattle.std.proofs.lemmas.List.Elements.{filter-append}
+use Rattle.std.proofs.lemmas.List.Sums.{sum_by-cons}
+use Rattle.std.proofs.lemmas.Bool.Decides.{eqb_tells, nat_tests}
+use Rattle.std.specs.Prelude.{slice_get, ◌==◌, filter, is_some, nat_lt}
+use Rattle.std.specs.List.{list_all, cons_option}
+use borrow.Author.Tests.{ltb-true, ltb-false, eqb-true}
+use Rattle.nc_base.specs.declared.request.Call.{Call}
+use Rattle.nc_base.specs.declared.request.Call.TheVariants as call
+use Rattle.nc_base.specs.declared.script.Script.{Script}
+use Rattle.nc_base.specs.declared.step.Mark.{Mark}
+use Rattle.nc_base.specs.declared.step.Mark.TheVariants.{Meet, Solo}
+use Rattle.nc_base.specs.declared.step.MeetKind.{MeetKind}
+use Rattle.serial_spec.specs.History.{kinds, marks, marks_from, concerns, is_of_rank_below, kind_of_call, mode_after, is_collective, is_data, IsLegal}
+use Rattle.serial_spec.specs.Lawful.{is_lawful}
+use Rattle.run_laws.specs.Standing.{is_solo_of}
+use Rattle.run_laws.specs.Ways.{is_meeting, meetings, kinds_of}
+use Rattle.run_laws.proofs.LawfulLaws.{own_lawful, ranks_lawful}
+use Rattle.list_laws.proofs.Truth.{and_first, and_second}
+
+-- ---- what is left to a rank: its own steps, and n meetings from the k-th on
+
+abbrev pub IsRest : ℕ → ℕ → ℕ → List Mark → Type 0
+IsRest r k zero xs = list_all (is_solo_of r) xs ≡ true
+IsRest r k (suc n) xs =
+    (solos : List Mark) × (later : List Mark) × (xs ≡ solos ++ Meet k ∷ later) × (list_all (is_solo_of r) solos ≡ true) × IsRest r (suc k) n later
+
+rest_solo : (r k n : ℕ) (m : Mark) (xs : List Mark) → is_solo_of r m ≡ true → IsRest r k n xs → IsRest r k n (m ∷ xs)
+rest_solo r k zero m xs e h = and_from _ _ e h
+rest_solo r k (suc n) m xs e h = (m ∷ h.0, h.1, ap (λ (ys : List Mark). m ∷ ys) h.2, and_from _ _ e h.3, h.4)
+
+same_self : (r : ℕ) → (r == r) ≡ true
+same_self r = grind (arith, nat_tests)
+
+collective_kind : (c : Call) → is_collective c ≡ is_some (kind_of_call c)
+collective_kind (call.Put true name given vs) = refl
+collective_kind (call.Put false name given vs) = refl
+collective_kind (call.Get true name given) = refl
+collective_kind (call.Get false name given) = refl
+collective_kind (call.Wait true ch) = refl
+collective_kind (call.Wait false ch) = refl
+collective_kind c = refl
+
+marks_rest : (r c k : ℕ) (ind : Bool) (calls : List Call) → IsRest r k (length (kinds calls)) (marks_from r c k ind calls)
+marks_rest r c k ind [] = refl
+marks_rest r c k ind (x ∷ calls) =
+    by_kind (kind_of_call x) (collective_kind x) (marks_rest r (suc c) k ind calls) (marks_rest r (suc c) (suc k) (mode_after ind x) calls)
+  where
+    left : Bool → List Mark
+    left t = elim t [
+      | true ↦ Meet k ∷ marks_from r (suc c) (suc k) (mode_after ind x) calls
+      | false ↦ cond (ind && is_data x) (Solo r c ∷ []) [] ++ marks_from r (suc c) k ind calls
+    ]
+
+    alone : IsRest r k (length (kinds calls)) (marks_from r (suc c) k ind calls) → (t : Bool)
+        → IsRest r k (length (kinds calls)) (cond t (Solo r c ∷ []) [] ++ marks_from r (suc c) k ind calls)
+    alone h true = rest_solo r k (length (kinds calls)) (Solo r c) (marks_from r (suc c) k ind calls) (same_self r) h
+    alone h false = h
+
+    by_kind : (o : Option MeetKind) → is_collective x ≡ is_some o → IsRest r k (length (kinds calls)) (marks_from r (suc c) k ind calls)
+        → IsRest r (suc k) (length (kinds calls)) (marks_from r (suc c) (suc k) (mode_after ind x) calls)
+        → IsRest r k (length (cons_option o (kinds calls))) (elim (is_collective x) [
+          | true ↦ Meet k ∷ marks_from r (suc c) (suc k) (mode_after ind x) calls
+          | false ↦ cond (ind && is_data x) (Solo r c ∷ []) [] ++ marks_from r (suc c) k ind calls
+        ])
+    by_kind None e a b = subst (λ (t : Bool). IsRest r k (length (kinds calls)) (left t)) (sym e) (alone a (ind && is_data x))
+    by_kind (Some kind) e a b =
+        let long : suc (length (kinds calls)) ≡ length (kind ∷ kinds calls) = omega arith in
+        subst (λ (n : ℕ). IsRest r k n (left (is_collective x))) long
+        (subst (λ (t : Bool). IsRest r k (suc (length (kinds calls))) (left t)) (sym e)
+        ([], marks_from r (suc c) (suc k) (mode_after ind x) calls, refl, refl, b))
+
+-- ---- what is left after some of it
+
+meetings_solo : (r : ℕ) (m : Mark) (p : List Mark) → is_solo_of r m ≡ true → meetings (m ∷ p) ≡ meetings p
+meetings_solo r (Meet k) p e = cc
+meetings_solo r (Solo q n) p e = refl
+
+meetings_meet : (k : ℕ) (p : List Mark) → meetings (Meet k ∷ p) ≡ 1 + meetings p
+meetings_meet k p = sum_by-cons (λ (m : Mark). cond (is_meeting m) 1 0) (Meet k) p
+
+abbrev Left : ℕ → ℕ → ℕ → ℕ → List Mark → Type 0
+Left r k n met rest = (m : ℕ) × (met + m ≡ n) × IsRest r (k + met) m rest
+
+rest_after : (p rest : List Mark) (r k n : ℕ) → IsRest r k n (p ++ rest) → Left r k n (meetings p) rest
+rest_after [] rest r k n h = (n, omega arith, (let e : k ≡ k + 0 = omega arith in subst (λ (j : ℕ). IsRest r j n rest) e h))
+rest_after (m ∷ p) rest r k zero h =
+    let e : meetings (m ∷ p) ≡ meetings p = meetings_solo r m p (and_first _ _ h) in
+    subst (λ (j : ℕ). Left r k zero j rest) (sym e) (rest_after p rest r k zero (and_second (is_solo_of r m) _ h))
+rest_after (m ∷ p) rest r k (suc n) h =
+    by_front h.0 h.2 h.3 (λ i. rest_after p rest r (suc k) n i) (λ i. rest_after p rest r k (suc n) i)
+  where
+    by_front : (solos : List Mark) → m ∷ (p ++ rest) ≡ solos ++ Meet k ∷ h.1 → list_all (is_solo_of r) solos ≡ true
+        → (IsRest r (suc k) n (p ++ rest) → Left r (suc k) n (meetings p) rest) → (IsRest r k (suc n) (p ++ rest) → Left r k (suc n) (meetings p) rest)
+        → Left r k (suc n) (meetings (m ∷ p)) rest
+    by_front [] e all met own =
+        let first : m ≡ Meet k = cc in
+        let tail : h.1 ≡ p ++ rest = cc in
+        let l = met (subst (λ (xs : List Mark). IsRest r (suc k) n xs) tail h.4) in
+        let count : meetings (m ∷ p) ≡ 1 + meetings p = ap (λ (x : Mark). meetings (x ∷ p)) first ∙ meetings_meet k p in
+        let sum = l.1 in
+        let place : suc k + meetings p ≡ k + meetings (m ∷ p) = omega arith in
+        (l.0, omega arith, subst (λ (j : ℕ). IsRest r j l.0 rest) place l.2)
+    by_front (s ∷ solos) e all met own =
+        let first : s ≡ m = cc in
+        let tail : p ++ rest ≡ solos ++ Meet k ∷ h.1 = cc in
+        let count : meetings (m ∷ p) ≡ meetings p = meetings_solo r m p (ap (λ (x : Mark). is_solo_of r x) (sym first) ∙ and_first _ _ all) in
+        subst (λ (j : ℕ). Left r k (suc n) j rest) (sym count) (own (solos, h.1, tail, and_second (is_solo_of r s) _ all, h.4))
+
+-- ---- the ranks' own steps, one rank after another
+
+own_kept : (r : ℕ) (xs : List Mark) → list_all (is_solo_of r) xs ≡ true → filter (concerns r) xs ≡ xs
+own_kept r [] h = refl
+own_kept r (Meet k ∷ xs) h = cc
+own_kept r (Solo q n ∷ xs) h =
+    ap (λ (b : Bool). cond b (Solo q n ∷ filter (concerns r) xs) (filter (concerns r) xs)) (and_first (q == r) _ h)
+    ∙ ap (λ (ys : List Mark). Solo q n ∷ ys) (own_kept r xs (and_second (q == r) _ h))
+
+not_same : (q r s : ℕ) → (q == s) ≡ true → s ≢ r → (q == r) ≡ false
+not_same q r s e n = by_tells (eqb_tells q r)
+  where
+    by_tells : (((q == r) ≡ true) × (q ≡ r)) ⊎ (((q == r) ≡ false) × (q ≡ r → ⊥)) → (q == r) ≡ false
+    by_tells (inl (f, g)) = absurd (n (sym (eqb-true _ _ e) ∙ g))
+    by_tells (inr (f, g)) = f
+
+others_dropped : (s r : ℕ) (xs : List Mark) → s ≢ r → list_all (is_solo_of s) xs ≡ true → filter (concerns r) xs ≡ []
+others_dropped s r [] n h = refl
+others_dropped s r (Meet k ∷ xs) n h = cc
+others_dropped s r (Solo q c ∷ xs) n h =
+    ap (λ (b : Bool). cond b (Solo q c ∷ filter (concerns r) xs) (filter (concerns r) xs)) (not_same q r s (and_first (q == s) _ h) n)
+    ∙ others_dropped s r xs n (and_second (q == s) _ h)
+
+own_known : (s ranks : ℕ) (xs : List Mark) → s < ranks → list_all (is_solo_of s) xs ≡ true → list_all (is_of_rank_below ranks) xs ≡ true
+own_known s ranks [] l h = refl
+own_known s ranks (Meet k ∷ xs) l h = cc
+own_known s ranks (Solo q c ∷ xs) l h =
+    let same : q ≡ s = eqb-true _ _ (and_first (q == s) _ h) in
+    let low : nat_lt s ranks ≡ true = grind (arith, nat_tests) in
+    and_from _ _ (ap (λ (j : ℕ). nat_lt j ranks) same ∙ low) (own_known s ranks xs l (and_second (q == s) _ h))
+
+all_joined : (f : Mark → Bool) (xs ys : List Mark) → list_all f xs ≡ true → list_all f ys ≡ true → list_all f (xs ++ ys) ≡ true
+all_joined f [] ys h k = k
+all_joined f (x ∷ xs) ys h k = and_from _ _ (and_first (f x) _ h) (all_joined f xs ys (and_second (f x) _ h) k)
+
+record AreSolos (m ranks : ℕ) (fronts : ℕ → List Mark) : Type 0 where
+  pub all : List Mark
+  pub known : list_all (is_of_rank_below ranks) all ≡ true
+  pub own : (r : ℕ) → r < m → filter (concerns r) all ≡ fronts r
+  pub others : (r : ℕ) → m ≤ r → filter (concerns r) all ≡ []
+
+solos_of : (m ranks : ℕ) (fronts : ℕ → List Mark) → ((r : ℕ) → list_all (is_solo_of r) (fronts r) ≡ true) → m ≤ ranks → AreSolos m ranks fronts
+solos_of zero ranks fronts h l = record { all = []; known = refl; own = λ r k. absurd (omega arith); others = λ r k. refl }
+solos_of (suc m) ranks fronts h l = more (solos_of m ranks fronts h (omega arith))
+  where
+    more : AreSolos m ranks fronts → AreSolos (suc m) ranks fronts
+    more s = record {
+      all = s.all ++ fronts m;
+      known = all_joined (is_of_rank_below ranks) s.all (fronts m) s.known (own_known m ranks (fronts m) (omega arith) (h m));
+      own = λ r k. by_place r k (nat_lt r m) refl;
+      others = λ r k. filter-append (concerns r) s.all (fronts m) ∙ ap (λ (ys : List Mark). ys ++ filter (concerns r) (fronts m)) (s.others r (omega arith))
+          ∙ others_dropped m r (fronts m) (λ e. absurd (omega arith)) (h m);
+    }
+      where
+        no_more : (xs : List Mark) → xs ++ [] ≡ xs
+        no_more [] = refl
+        no_more (x ∷ xs) = ap (λ (ys : List Mark). x ∷ ys) (no_more xs)
+
+        by_place : (r : ℕ) → r < suc m → (t : Bool) → nat_lt r m ≡ t → filter (concerns r) (s.all ++ fronts m) ≡ fronts r
+        by_place r k true e =
+            let low : r < m = ltb-true _ _ e in
+            filter-append (concerns r) s.all (fronts m) ∙ ap (λ (ys : List Mark). filter (concerns r) s.all ++ ys) (others_dropped m r (fronts m) (λ f. absurd (omega arith)) (h m))
+            ∙ no_more (filter (concerns r) s.all) ∙ s.own r low
+        by_place r k false e =
+            let high : m ≤ r = ltb-false _ _ e in
+            let same : m ≡ r = omega arith in
+            filter-append (concerns r) s.all (fronts m) ∙ ap (λ (ys : List Mark). ys ++ filter (concerns r) (fronts m)) (s.others r high)
+            ∙ subst (λ (j : ℕ). filter (concerns j) (fronts m) ≡ fronts j) same (own_kept m (fronts m) (h m))
+
+-- ---- all that is left
+
+record AreLast (ranks : ℕ) (rests : ℕ → List Mark) : Type 0 where
+  pub later : List Mark
+  pub known : list_all (is_of_rank_below ranks) later ≡ true
+  pub own : (r : ℕ) → r < ranks → filter (concerns r) later ≡ rests r
+
+last_of : (n k ranks : ℕ) (rests : ℕ → List Mark) → ((r : ℕ) → IsRest r k n (rests r)) → AreLast ranks rests
+last_of zero k ranks rests h = ended (solos_of ranks ranks rests h (omega arith))
+  where
+    ended : AreSolos ranks ranks rests → AreLast ranks rests
+    ended s = record { later = s.all; known = s.known; own = s.own }
+last_of (suc n) k ranks rests h =
+    met (solos_of ranks ranks (λ r. (h r).0) (λ r. (h r).3) (omega arith)) (last_of n (suc k) ranks (λ r. (h r).1) (λ r. (h r).4))
+  where
+    met : AreSolos ranks ranks (λ r. (h r).0) → AreLast ranks (λ r. (h r).1) → AreLast ranks rests
+    met s l = record {
+      later = s.all ++ Meet k ∷ l.later;
+      known = all_joined (is_of_rank_below ranks) s.all (Meet k ∷ l.later) s.known l.known;
+      own = λ r low. filter-append (concerns r) s.all (Meet k ∷ l.later)
+          ∙ (λ i. s.own r low i ++ Meet k ∷ l.own r low i) ∙ sym (h r).2;
+    }
+
+-- ---- an order that was begun
+
+meetings_kept : (r : ℕ) (order : List Mark) → meetings (filter (concerns r) order) ≡ meetings order
+meetings_kept r [] = refl
+meetings_kept r (Meet k ∷ order) = meetings_meet k (filter (concerns r) order) ∙ ap (λ (n : ℕ). 1 + n) (meetings_kept r order) ∙ sym (meetings_meet k order)
+meetings_kept r (Solo q c ∷ order) = by_own (q == r) ∙ meetings_kept r order
+  where
+    by_own : (t : Bool) → meetings (cond t (Solo q c ∷ filter (concerns r) order) (filter (concerns r) order)) ≡ meetings (filter (concerns r) order)
+    by_own true = refl
+    by_own false = refl
+
+-- as many meetings, and nothing else
+filler : ℕ → ℕ → List Mark
+filler k zero = []
+filler k (suc n) = Meet k ∷ filler (suc k) n
+
+filler_rest : (r k n : ℕ) → IsRest r k n (filler k n)
+unfolding filler
+filler_rest r k zero = refl
+filler_rest r k (suc n) = ([], filler (suc k) n, refl, refl, filler_rest r (suc k) n)
+
+missing : (xs : List (List Call)) (i : ℕ) → i < length xs → slice_get xs i ≡ None → ⊥
+missing [] i h f = absurd (omega arith)
+missing (x ∷ xs) zero h f = cc
+missing (x ∷ xs) (suc i) h f = missing xs i (omega arith) f
+
+record HasRest (script : Script) (order : List Mark) (r : ℕ) : Type 0 where
+  pub rest : List Mark
+  pub is_rest : IsRest r (meetings order) (length (kinds_of script) - meetings order) rest
+  pub whole : r < script.ranks → filter (concerns r) order ++ rest ≡ marks script.calls r
+
+rest_of : (script : Script) (order : List Mark) (r : ℕ) → is_lawful script ≡ true
+    → (r < script.ranks → (rest : List Mark) × (filter (concerns r) order ++ rest ≡ marks script.calls r)) → HasRest script order r
+rest_of script order r lawful each = by_rank (nat_lt r script.ranks) refl
+  where
+    at_own : (given : (rest : List Mark) × (filter (concerns r) order ++ rest ≡ marks script.calls r)) (o : Option (List Call)) → slice_get script.calls r ≡ o
+        → r < script.ranks → HasRest script order r
+    at_own given None e low = let l = (ranks_lawful script lawful).one_each in absurd (missing script.calls r (omega arith) e)
+    at_own given (Some own) e low =
+        let w = own_lawful script r own lawful e in
+        let is : marks script.calls r ≡ marks_from r 0 0 false own = ap (λ (o : Option (List Call)). elim o [ None ↦ [] | Some calls ↦ marks_from r 0 0 false calls ]) e in
+        let whole : IsRest r 0 (length (kinds_of script)) (filter (concerns r) order ++ given.0) =
+        subst (λ (xs : List Mark). IsRest r 0 (length (kinds_of script)) xs) (sym (given.1 ∙ is))
+        (subst (λ (ks : List MeetKind). IsRest r 0 (length ks) (marks_from r 0 0 false own)) w.agreed (marks_rest r 0 0 false own)) in
+        let l = rest_after (filter (concerns r) order) given.0 r 0 (length (kinds_of script)) whole in
+        let same = meetings_kept r order in
+        let sum = l.1 in
+        let place : 0 + meetings (filter (concerns r) order) ≡ meetings order = omega arith in
+        let many : l.0 ≡ length (kinds_of script) - meetings order = omega arith in
+        record {
+          rest = given.0;
+          is_rest = subst (λ (j : ℕ). IsRest r j (length (kinds_of script) - meetings order) given.0) place
+              (subst (λ (n : ℕ). IsRest r (0 + meetings (filter (concerns r) order)) n given.0) many l.2);
+          whole = λ h. given.1;
+        }
+
+    by_rank : (t : Bool) → nat_lt r script.ranks ≡ t → HasRest script order r
+    by_rank true e = let low : r < script.ranks = ltb-true _ _ e in at_own (each low) (slice_get script.calls r) refl low
+    by_rank false e =
+        let high : script.ranks ≤ r = ltb-false _ _ e in
+        record {
+          rest = filler (meetings order) (length (kinds_of script) - meetings order);
+          is_rest = filler_rest r (meetings order) (length (kinds_of script) - meetings order);
+          whole = λ h. absurd (omega arith);
+        }
+
+pub completed : (script : Script) (order : List Mark) → is_lawful script ≡ true → list_all (is_of_rank_below script.ranks) order ≡ true
+    → ((r : ℕ) → r < script.ranks → (rest : List Mark) × (filter (concerns r) order ++ rest ≡ marks script.calls r))
+    → (later : List Mark) × IsLegal script (order ++ later)
+completed script order lawful known each =
+    by_last (last_of (length (kinds_of script) - meetings order) (meetings order) script.ranks (λ r. (rest_of script order r lawful (each r)).rest)
+    (λ r. (rest_of script order r lawful (each r)).is_rest))
+  where
+    by_last : AreLast script.ranks (λ r. (rest_of script order r lawful (each r)).rest) → (later : List Mark) × IsLegal script (order ++ later)
+    by_last l = (
+      l.later,
+      record {
+        known_ranks = all_joined (is_of_rank_below script.ranks) order l.later known l.known;
+        each_rank = λ r low. filter-append (concerns r) order l.later ∙ ap (λ (xs : List Mark). filter (concerns r) order ++ xs) (l.own r low)
+            ∙ (rest_of script order r lawful (each r)).whole low;
+      },
+    )
+
+-- the next mark may be named
+pub completed_by : (script : Script) (order : List Mark) (m : Mark) → is_lawful script ≡ true → list_all (is_of_rank_below script.ranks) (order ++ m ∷ []) ≡ true
+    → ((r : ℕ) → r < script.ranks → (rest : List Mark) × (filter (concerns r) (order ++ m ∷ []) ++ rest ≡ marks script.calls r))
+    → (later : List Mark) × IsLegal script (order ++ m ∷ later)
+completed_by script order m lawful known each =
+    let c = completed script (order ++ m ∷ []) lawful known each in
+    (c.0, subst (λ (xs : List Mark). IsLegal script xs) (append_assoc order (m ∷ []) c.0) c.1)

@@ -1,0 +1,68 @@
+-- Items that are alike, one list after another; and lines on which items are put one after another.
+use Rattle.std.proofs.Common.{◌≡◌, ℕ, zero, suc, ◌+◌, ◌<◌, refl, sym, ◌∙◌, ap, subst, List, [], ◌∷◌, ◌++◌, length, map, drop, replicate, Option, Some, None, append_assoc, arith}
+use Rattle.std.proofs.lemmas.List.{append-nil}
+use Rattle.std.specs.Prelude.{slice_get}
+use Rattle.nc_base.specs.declared.step.OwnerItem.{OwnerItem}
+use Rattle.nc_base.specs.declared.step.OwnerItem.TheVariants.{Reply, Stop}
+use Rattle.nc_base.specs.declared.step.Reply as reply
+use Rattle.ruled_line.specs.Ends.{End}
+use Rattle.join_laws.specs.Alike.{AreAlike, TellAlike}
+use Rattle.thread_run.specs.Owned.{Grows}
+use Rattle.turn_run.proofs.ListLaws.{get_there}
+
+-- ---- alike
+
+tells_same : (y : reply.Reply) → TellAlike y y
+tells_same y = record { pair = refl; records = refl; lengths = refl }
+
+pub alike_same : (items : List OwnerItem) → AreAlike items items
+alike_same [] = tt
+alike_same (Stop ∷ items) = (tt, alike_same items)
+alike_same (Reply y ∷ items) = (tells_same y, alike_same items)
+
+pub alike_two : (a b c d : List OwnerItem) → AreAlike a b → AreAlike c d → AreAlike (a ++ c) (b ++ d)
+alike_two [] [] c d v w = w
+alike_two [] (j ∷ b) c d v w = absurd v
+alike_two (i ∷ a) [] c d v w = absurd v
+alike_two (i ∷ a) (j ∷ b) c d v w = (v.0, alike_two a b c d v.1 w)
+
+pub alike_by : (a b c d : List OwnerItem) → a ≡ b → d ≡ c → AreAlike b c → AreAlike a d
+alike_by a b c d e f w = subst (λ (x : List OwnerItem). AreAlike x d) (sym e) (subst (λ (x : List OwnerItem). AreAlike b x) (sym f) w)
+
+pub alike_long : (a b : List OwnerItem) → AreAlike a b → length a ≡ length b
+alike_long [] [] w = refl
+alike_long [] (j ∷ b) w = absurd w
+alike_long (i ∷ a) [] w = absurd w
+alike_long (i ∷ a) (j ∷ b) w = let again = alike_long a b w.1 in omega arith
+
+-- ---- lines
+
+abbrev Lines : Type 0
+Lines = List (End OwnerItem)
+
+pub lines_twice : (old mid now : Lines) (more last : ℕ → List OwnerItem) → Grows old more mid → Grows mid last now → Grows old (λ q. more q ++ last q) now
+lines_twice old mid now more last g h = record {
+  long = h.long ∙ g.long;
+  each = λ q end e.
+      h.each q (record { of = end.of; items = end.items ++ more q }) (g.each q end e)
+      ∙ ap (λ (items : List OwnerItem). Some (record { of = end.of; items = items })) (append_assoc end.items (more q) (last q));
+}
+
+pub lines_none : (old now : Lines) → now ≡ old → Grows old (λ q. []) now
+lines_none old now e = record {
+  long = ap (λ (l : Lines). length l) e;
+  each = λ q end f.
+      ap (λ (l : Lines). slice_get l q) e ∙ f ∙ ap (λ (items : List OwnerItem). Some (record { of = end.of; items = items })) (sym (append-nil end.items));
+}
+
+-- as much by another word
+pub lines_as : (old now : Lines) (more last : ℕ → List OwnerItem) → ((q : ℕ) → q < length old → last q ≡ more q) → Grows old more now → Grows old last now
+lines_as old now more last same g = record {
+  long = g.long;
+  each = λ q end e. g.each q end e ∙ ap (λ (items : List OwnerItem). Some (record { of = end.of; items = end.items ++ items })) (sym (same q (long old q end e)));
+}
+  where
+    long : (xs : Lines) (q : ℕ) (end : End OwnerItem) → slice_get xs q ≡ Some end → q < length xs
+    long [] q end e = absurd cc
+    long (x ∷ xs) zero end e = omega arith
+    long (x ∷ xs) (suc q) end e = let h = long xs q end e in omega arith

@@ -1,0 +1,246 @@
+-- What a rank put and took, from one offer to the next.
+use Rattle.std.proofs.Common.{◌≡◌, ℕ, ◌+◌, ap, sym, subst, refl, ◌∙◌, List, [], ◌∷◌, ◌++◌, length, Bool, true, false, Option, Some, None, Ok, Err, Result, append_assoc, length-append}
+use Rattle.std.specs.Prelude.{filter, is_err}
+use Rattle.std.proofs.lemmas.List.{append-nil}
+use Rattle.std.proofs.lemmas.List.Elements.{filter-append}
+use Rattle.nc_base.specs.declared.answer.Answer.{Answer}
+use Rattle.nc_base.specs.declared.header.Header.{Header}
+use Rattle.nc_base.specs.declared.memory.Memory.{Memory}
+use Rattle.nc_base.specs.declared.request.Call.{Call}
+use Rattle.nc_base.specs.declared.run.RankStop.{RankStop}
+use Rattle.nc_base.specs.declared.run.RankStop.TheVariants as stop
+use Rattle.nc_base.specs.declared.step.Offer.{Offer}
+use Rattle.nc_base.specs.declared.step.OwnerItem.{OwnerItem}
+use Rattle.nc_base.specs.declared.step.OwnerItem.TheVariants as owner
+use Rattle.nc_base.specs.declared.step.RankItem.{RankItem}
+use Rattle.nc_base.specs.declared.step.RankItem.TheVariants as item
+use Rattle.nc_base.specs.declared.step.Reply.{Reply}
+use Rattle.serial_spec.specs.Desk.{offers_in}
+use Rattle.serial_spec.specs.History.{is_offer}
+use Rattle.serial_spec.specs.RankMachine as machine
+use Rattle.serial_spec.specs.RankMachine.{hear}
+use Rattle.serial_spec.specs.RankSide.{end_by, fits_offer, offered, offered_by, rank_end, rank_stop, stop_by, waiting, waiting_end, waiting_stop}
+use Rattle.serial_spec.specs.SerialEnd.{Going, advance, first_going, hears}
+use Rattle.thread_run.specs.Attending.{HasAttended, HasStood, IsAccounted, IsBroken, Stands}
+use Rattle.turn_run.specs.Seated.{asking, between, going_of}
+use Rattle.turn_run.specs.declared.seats.Seat.{Seat}
+use Rattle.turn_run.proofs.AloneLaws.{going_free, going_held}
+use Rattle.turn_run.proofs.SeatLaws.{answers_begin}
+
+-- ---- a reply that fits
+
+offered_on : (header : Header) (g : Going) (o : Offer) (y : Reply) (later : List OwnerItem) → fits_offer header o y ≡ true
+    → waiting header g o (owner.Reply y ∷ later) ≡ offered_by header (advance header (hears header g y)) later
+offered_on header g o y later fits =
+    ap (λ (b : Bool). elim b [
+      | false ↦ item.Ended false ∷ []
+      | true ↦ let a = advance header (hears header g y) in elim a.1 [ None ↦ item.Ended false ∷ [] | Some p ↦ item.Offer (length a.0.answers) p ∷ waiting header a.0 p later ]
+    ]) fits
+    ∙ by_pair (advance header (hears header g y))
+  where
+    by_pair : (a : Going × Option Offer)
+        → elim (a.1) [ None ↦ item.Ended false ∷ [] | Some p ↦ item.Offer (length a.0.answers) p ∷ waiting header a.0 p later ] ≡ offered_by header a later
+    by_pair (t, None) = refl
+    by_pair (t, Some p) = refl
+
+ends_on : (header : Header) (g : Going) (o : Offer) (y : Reply) (later : List OwnerItem) → fits_offer header o y ≡ true
+    → waiting_end header g o (owner.Reply y ∷ later) ≡ end_by header (advance header (hears header g y)) later
+ends_on header g o y later fits =
+    ap (λ (b : Bool). elim b [
+      | false ↦ g
+      | true ↦ let a = advance header (hears header g y) in elim a.1 [ None ↦ a.0 | Some p ↦ waiting_end header a.0 p later ]
+    ]) fits
+    ∙ by_pair (advance header (hears header g y))
+  where
+    by_pair : (a : Going × Option Offer) → elim (a.1) [ None ↦ a.0 | Some p ↦ waiting_end header a.0 p later ] ≡ end_by header a later
+    by_pair (t, None) = refl
+    by_pair (t, Some p) = refl
+
+stops_on : (header : Header) (g : Going) (o : Offer) (y : Reply) (later : List OwnerItem) → fits_offer header o y ≡ true
+    → waiting_stop header g o (owner.Reply y ∷ later) ≡ stop_by header (advance header (hears header g y)) later
+stops_on header g o y later fits =
+    ap (λ (b : Bool). elim b [
+      | false ↦ Some stop.Misfit
+      | true ↦ let a = advance header (hears header g y) in elim a.1 [ None ↦ Some stop.Done | Some p ↦ waiting_stop header a.0 p later ]
+    ]) fits
+    ∙ by_pair (advance header (hears header g y))
+  where
+    by_pair : (a : Going × Option Offer) → elim (a.1) [ None ↦ Some stop.Done | Some p ↦ waiting_stop header a.0 p later ] ≡ stop_by header a later
+    by_pair (t, None) = refl
+    by_pair (t, Some p) = refl
+
+-- ---- accounts
+
+pub accounted_first : (header : Header) (own : List Call) (at : Going × Option Offer) → advance header (first_going header own) ≡ at → IsAccounted header own [] [] at
+accounted_first header own at e = record {
+  offers = λ later. ap (λ (a : Going × Option Offer). offered_by header a later) e;
+  ends = λ later. ap (λ (a : Going × Option Offer). end_by header a later) e;
+  stops = λ later. ap (λ (a : Going × Option Offer). stop_by header a later) e;
+  one_each = refl;
+}
+
+pub accounted_held : (header : Header) (own : List Call) (put : List RankItem) (taken : List OwnerItem) (seat : Seat) (o : Offer) → seat.held ≡ Some o
+    → IsAccounted header own put taken (going_of own seat, seat.held) → IsAccounted header own put taken (asking own seat, Some o)
+accounted_held header own put taken seat o e h =
+    subst (λ (a : Going × Option Offer). IsAccounted header own put taken a) (let f = going_held own seat o e in λ i. (f i, e i)) h
+
+pub accounted_free : (header : Header) (own : List Call) (put : List RankItem) (taken : List OwnerItem) (seat : Seat) → seat.held ≡ None
+    → IsAccounted header own put taken (going_of own seat, seat.held) → IsAccounted header own put taken (between own seat, None)
+accounted_free header own put taken seat e h =
+    subst (λ (a : Going × Option Offer). IsAccounted header own put taken a) (let f = going_free own seat e in λ i. (f i, e i)) h
+
+-- one offer and one item more
+one_more : (put : List RankItem) (taken : List OwnerItem) (n : ℕ) (o : Offer) (x : OwnerItem) → length taken ≡ offers_in put
+    → length (taken ++ x ∷ []) ≡ offers_in (put ++ item.Offer n o ∷ [])
+one_more put taken n o x h =
+    length-append taken (x ∷ []) ∙ ap (λ (k : ℕ). k + 1) h
+    ∙ sym (ap (λ (xs : List RankItem). length xs) (filter-append is_offer put (item.Offer n o ∷ [])) ∙ length-append (filter is_offer put) (item.Offer n o ∷ []))
+
+pub accounted_on : (header : Header) (own : List Call) (put : List RankItem) (taken : List OwnerItem) (g : Going) (o : Offer) (y : Reply) (to : Going × Option Offer)
+    → IsAccounted header own put taken (g, Some o) → fits_offer header o y ≡ true → advance header (hears header g y) ≡ to
+    → IsAccounted header own (put ++ item.Offer (length g.answers) o ∷ []) (taken ++ owner.Reply y ∷ []) to
+accounted_on header own put taken g o y to h fits e = record {
+  offers = λ later.
+      ap (λ (back : List OwnerItem). offered header (first_going header own) back) (append_assoc taken (owner.Reply y ∷ []) later)
+      ∙ h.offers (owner.Reply y ∷ later)
+      ∙ ap (λ (more : List RankItem). put ++ item.Offer (length g.answers) o ∷ more)
+      (offered_on header g o y later fits ∙ ap (λ (a : Going × Option Offer). offered_by header a later) e)
+      ∙ sym (append_assoc put (item.Offer (length g.answers) o ∷ []) (offered_by header to later));
+  ends = λ later.
+      ap (λ (back : List OwnerItem). rank_end header (first_going header own) back) (append_assoc taken (owner.Reply y ∷ []) later)
+      ∙ h.ends (owner.Reply y ∷ later)
+      ∙ ends_on header g o y later fits ∙ ap (λ (a : Going × Option Offer). end_by header a later) e;
+  stops = λ later.
+      ap (λ (back : List OwnerItem). rank_stop header (first_going header own) back) (append_assoc taken (owner.Reply y ∷ []) later)
+      ∙ h.stops (owner.Reply y ∷ later)
+      ∙ stops_on header g o y later fits ∙ ap (λ (a : Going × Option Offer). stop_by header a later) e;
+  one_each = one_more put taken (length g.answers) o (owner.Reply y) h.one_each;
+}
+
+-- ---- the end of the calls
+
+-- it has made its calls
+pub stood_done : (header : Header) (own : List Call) (put : List RankItem) (taken : List OwnerItem) (g : Going) (seat : Seat) → IsAccounted header own put taken (g, None)
+    → seat.answers ≡ g.answers → seat.rank.state ≡ g.rank → HasStood header own put taken seat (Ok stop.Done)
+stood_done header own put taken g seat h e f =
+    let whole = append-nil taken in
+    let ended = sym (h.ends []) ∙ ap (λ (back : List OwnerItem). rank_end header (first_going header own) back) whole in
+    record {
+      one_each = h.one_each;
+      stands = record {
+        not_broken = λ k. cc;
+        put_all = sym (h.offers []) ∙ ap (λ (back : List OwnerItem). offered header (first_going header own) back) whole;
+        stop = sym (h.stops []) ∙ ap (λ (back : List OwnerItem). rank_stop header (first_going header own) back) whole;
+        answers = e ∙ ap (λ (s : Going). s.answers) ended;
+        state = f ∙ ap (λ (s : Going). s.rank) ended;
+      };
+    }
+
+-- it took an item after which it goes on no more
+stood_left : (header : Header) (own : List Call) (put : List RankItem) (taken : List OwnerItem) (g : Going) (o : Offer) (x : OwnerItem) (end : RankStop) (seat : Seat)
+    → IsAccounted header own put taken (g, Some o) → (end ≡ stop.Memory → ⊥) → waiting header g o (x ∷ []) ≡ item.Ended false ∷ [] → waiting_end header g o (x ∷ []) ≡ g
+    → waiting_stop header g o (x ∷ []) ≡ Some end → seat.answers ≡ g.answers → seat.rank.state ≡ g.rank
+    → HasStood header own (put ++ item.Offer (length g.answers) o ∷ []) (taken ++ x ∷ []) seat (Ok end)
+stood_left header own put taken g o x end seat h not_broken last ended stopped e f =
+    let at_end = sym ended ∙ sym (h.ends (x ∷ [])) in
+    record {
+      one_each = one_more put taken (length g.answers) o x h.one_each;
+      stands = record {
+        not_broken = not_broken;
+        put_all = append_assoc put (item.Offer (length g.answers) o ∷ []) (item.Ended false ∷ [])
+            ∙ ap (λ (more : List RankItem). put ++ item.Offer (length g.answers) o ∷ more) (sym last) ∙ sym (h.offers (x ∷ []));
+        stop = sym stopped ∙ sym (h.stops (x ∷ []));
+        answers = e ∙ ap (λ (s : Going). s.answers) at_end;
+        state = f ∙ ap (λ (s : Going). s.rank) at_end;
+      };
+    }
+
+pub stood_stopped : (header : Header) (own : List Call) (put : List RankItem) (taken : List OwnerItem) (g : Going) (o : Offer) (seat : Seat)
+    → IsAccounted header own put taken (g, Some o) → seat.answers ≡ g.answers → seat.rank.state ≡ g.rank
+    → HasStood header own (put ++ item.Offer (length g.answers) o ∷ []) (taken ++ owner.Stop ∷ []) seat (Ok stop.Stopped)
+stood_stopped header own put taken g o seat h e f = stood_left header own put taken g o owner.Stop stop.Stopped seat h (λ k. cc) refl refl refl e f
+
+pub stood_misfit : (header : Header) (own : List Call) (put : List RankItem) (taken : List OwnerItem) (g : Going) (o : Offer) (y : Reply) (seat : Seat)
+    → IsAccounted header own put taken (g, Some o) → fits_offer header o y ≡ false → seat.answers ≡ g.answers → seat.rank.state ≡ g.rank
+    → HasStood header own (put ++ item.Offer (length g.answers) o ∷ []) (taken ++ owner.Reply y ∷ []) seat (Ok stop.Misfit)
+stood_misfit header own put taken g o y seat h fits e f =
+    stood_left header own put taken g o (owner.Reply y) stop.Misfit seat h (λ k. cc) (rw (fits, waiting) refl) (rw (fits, waiting_end) refl) (rw (fits, waiting_stop) refl) e f
+
+-- ---- want of memory
+
+broken : (header : Header) (own : List Call) (put : List RankItem) (taken : List OwnerItem) (seat : Seat) (result : Result RankStop Memory) → is_err result ≡ true
+    → length taken ≡ offers_in put → IsBroken header own put taken seat.answers → HasStood header own put taken seat result
+broken header own put taken seat result e one h = record { one_each = one; stands = by result e }
+  where
+    by : (r : Result RankStop Memory) → is_err r ≡ true → Stands header own put taken seat r
+    by (Ok end) k = absurd cc
+    by (Err m) k = h
+
+pub broken_first : (header : Header) (own : List Call) (seat : Seat) (result : Result RankStop Memory) → is_err result ≡ true
+    → (rest : List Answer) × (seat.answers ++ rest ≡ (advance header (first_going header own)).0.answers) → HasStood header own [] [] seat result
+broken_first header own seat result e (rest, h) =
+    broken header own [] [] seat result e refl
+    (record { unsent = offered header (first_going header own) []; begins = refl; unanswered = rest; answers = h ∙ at_once (advance header (first_going header own)) })
+  where
+    at_once : (a : Going × Option Offer) → a.0.answers ≡ (end_by header a []).answers
+    at_once (g, None) = refl
+    at_once (g, Some o) = refl
+
+-- after a reply that fits
+pub broken_at : (header : Header) (own : List Call) (put : List RankItem) (taken : List OwnerItem) (g : Going) (o : Offer) (y : Reply) (seat : Seat) (result : Result RankStop Memory)
+    → IsAccounted header own put taken (g, Some o) → fits_offer header o y ≡ true → is_err result ≡ true
+    → (rest : List Answer) × (seat.answers ++ rest ≡ (advance header (hears header g y)).0.answers)
+    → HasStood header own (put ++ item.Offer (length g.answers) o ∷ []) (taken ++ owner.Reply y ∷ []) seat result
+broken_at header own put taken g o y seat result h fits e (rest, k) =
+    let here = accounted_on header own put taken g o y (advance header (hears header g y)) h fits refl in
+    broken header own (put ++ item.Offer (length g.answers) o ∷ []) (taken ++ owner.Reply y ∷ []) seat result e here.one_each
+    (record {
+      unsent = offered_by header (advance header (hears header g y)) [];
+      begins = sym (here.offers []) ∙ ap (λ (back : List OwnerItem). offered header (first_going header own) back) (append-nil (taken ++ owner.Reply y ∷ []));
+      unanswered = rest;
+      answers = k ∙ at_once (advance header (hears header g y)) ∙ sym (ap (λ (s : Going). s.answers) (here.ends []))
+          ∙ ap (λ (back : List OwnerItem). (rank_end header (first_going header own) back).answers) (append-nil (taken ++ owner.Reply y ∷ []));
+    })
+  where
+    at_once : (a : Going × Option Offer) → a.0.answers ≡ (end_by header a []).answers
+    at_once (g', None) = refl
+    at_once (g', Some p) = refl
+
+-- what it heard is not among its answers yet
+pub unheard_begins : (header : Header) (g : Going) (y : Reply) (answers : List Answer) → answers ≡ g.answers
+    → (rest : List Answer) × (answers ++ rest ≡ (advance header (hears header g y)).0.answers)
+unheard_begins header g y answers e =
+    let heard = hears header g y in
+    let b = answers_begin header heard.rank heard.answers heard.calls in
+    let a = (hear header g.rank y).1 in
+    (a ∷ b.0, ap (λ (as' : List Answer). as' ++ a ∷ b.0) e ∙ sym (append_assoc g.answers (a ∷ []) b.0) ∙ b.1)
+
+-- ---- the last item
+
+no_offer : (put : List RankItem) (taken : List OwnerItem) (memory : Bool) → length taken ≡ offers_in put → length taken ≡ offers_in (put ++ item.Ended memory ∷ [])
+no_offer put taken memory h =
+    h ∙ sym (ap (λ (xs : List RankItem). length xs) (filter-append is_offer put (item.Ended memory ∷ []) ∙ append-nil (filter is_offer put)))
+
+pub attended_through : (header : Header) (own : List Call) (put : List RankItem) (taken : List OwnerItem) (seat : Seat) (end : RankStop) (known pending : ℕ)
+    → HasStood header own put taken seat (Ok end) → known ≡ seat.rank.state.known → pending ≡ machine.pending seat.rank.state
+    → HasAttended header own (put ++ item.Ended false ∷ []) taken (record { known = known; pending = pending; answers = seat.answers; end = end })
+attended_through header own put taken seat end known pending h e f = record {
+  one_each = no_offer put taken false h.one_each;
+  finished = λ k. record {
+    put_all = h.stands.put_all;
+    stop = h.stands.stop;
+    answers = h.stands.answers;
+    known = e ∙ ap (λ (r : machine.Rank). r.known) h.stands.state;
+    pending = f ∙ ap (λ (r : machine.Rank). machine.pending r) h.stands.state;
+  };
+  broken = λ k. absurd (h.stands.not_broken k);
+}
+
+pub attended_broken : (header : Header) (own : List Call) (put : List RankItem) (taken : List OwnerItem) (seat : Seat) (m : Memory) (known pending : ℕ)
+    → HasStood header own put taken seat (Err m)
+    → HasAttended header own (put ++ item.Ended true ∷ []) taken (record { known = known; pending = pending; answers = seat.answers; end = stop.Memory })
+attended_broken header own put taken seat m known pending h = record {
+  one_each = no_offer put taken true h.one_each;
+  finished = λ k. absurd (k refl);
+  broken = λ k. record { sent = put; unsent = h.stands.unsent; put_some = refl; begins = h.stands.begins; unanswered = h.stands.unanswered; answers = h.stands.answers };
+}

@@ -1,0 +1,142 @@
+-- A rank at its offer: what it waits for, and its way after the reply.
+use Rattle.std.proofs.Common.{◌≡◌, ℕ, ◌<◌, ap, sym, subst, refl, ◌∙◌, List, [], ◌∷◌, ◌++◌, length, map, Bool, true, Option, Some, None, append_assoc, arith}
+use Rattle.std.specs.Prelude.{slice_get, is_some, IfSome}
+use Rattle.std.proofs.lemmas.Slice.Eq.{bytes_eq-Decides}
+use Rattle.overlay_laws.proofs.Members.{at_in}
+use Rattle.list_laws.proofs.Truth.{and_first}
+use Rattle.nc_base.specs.declared.header.Header.{Header}
+use Rattle.nc_base.specs.declared.header.Var.{Var}
+use Rattle.nc_base.specs.declared.answer.Answer.{Answer}
+use Rattle.nc_base.specs.declared.answer.Code.TheVariants as code
+use Rattle.nc_base.specs.declared.request.Call.{Call}
+use Rattle.nc_base.specs.declared.request.Direction.{Direction}
+use Rattle.nc_base.specs.declared.request.Region.{Region}
+use Rattle.nc_base.specs.declared.script.Script.{Script}
+use Rattle.nc_base.specs.declared.step.Mark.{Mark}
+use Rattle.nc_base.specs.declared.step.Mark.TheVariants.{Meet, Solo}
+use Rattle.nc_base.specs.declared.step.Offer.{Offer}
+use Rattle.nc_base.specs.declared.step.OfferKind.{OfferKind}
+use Rattle.nc_base.specs.declared.step.OfferKind.TheVariants as offer
+use Rattle.nc_base.specs.declared.step.Reply.{Reply}
+use Rattle.serial_spec.specs.Lawful.{is_lawful, most_calls}
+use Rattle.serial_spec.specs.RankMachine.{Open, hear}
+use Rattle.serial_spec.specs.RankSide.{fits_offer, wanted}
+use Rattle.serial_spec.specs.RegionCheck.{check_some}
+use Rattle.serial_spec.specs.SerialEnd.{Going, advance, first_going, hears}
+use Rattle.rank_core.specs.Fitting.{fits_gets}
+use Rattle.rank_core.specs.Offered.{IsSoundOffer}
+use Rattle.rank_items.specs.Own.{HasOwnElements}
+use Rattle.rank_items.proofs.OwnLaws.{own_elements}
+use Rattle.run_laws.specs.Ways.{IsOnWay, meetings}
+use Rattle.run_laws.proofs.CallLaws.{Keeps}
+use Rattle.run_laws.proofs.LawfulLaws.{ranks_lawful}
+use Rattle.run_laws.proofs.TogetherLaws.{call_number, call_waits}
+use Rattle.run_laws.proofs.WayLaws.{way_begins, way_hears}
+use Rattle.turn_run.specs.Counts.{IsAsked}
+use Rattle.turn_run.specs.Seated.{asking, between, calls_of, going_of, HasHeard, IsPlaced, IsPlacedWith}
+use Rattle.turn_run.specs.Steps.{first_seat}
+use Rattle.turn_run.specs.declared.seats.Seat.{Seat}
+use Rattle.turn_run.proofs.AloneLaws.{alone_waits, going_held}
+use Rattle.turn_run.proofs.ListLaws.{get_there}
+use Rattle.turn_run.proofs.SeatLaws.{alone_heard, answered_is, heard_seat}
+
+-- ---- before the first call
+
+pub first_between : (header : Header) (own : List Call) (seat : Seat) → seat ≡ first_seat header header.records → between own seat ≡ first_going header own
+first_between header own seat e = ap (λ (s : Seat). between own s) e
+
+pub first_way : (script : Script) (header : Header) (r : ℕ) (own : List Call) (seat : Seat) → is_lawful script ≡ true → r < script.ranks → own ≡ calls_of script r
+    → seat ≡ first_seat header header.records → IsOnWay script [] r (between own seat) None
+first_way script header r own seat lawful below e f =
+    let long = (ranks_lawful script lawful).one_each in
+    let there = get_there script.calls r (omega arith) in
+    let is : own ≡ there.0 = e ∙ ap (λ (m : Option (List Call)). elim m [ None ↦ [] | Some calls ↦ calls ]) there.1 in
+    subst (λ (g : Going). IsOnWay script [] r g None) (ap (λ (calls : List Call). first_going header calls) (sym is) ∙ sym (first_between header own seat f))
+    (way_begins script header r there.0 lawful there.1)
+
+-- its answers begin those at its first offer
+pub first_some : (header : Header) (own calls : List Call) (seat : Seat) (answers : List Answer) → own ≡ calls → seat ≡ first_seat header header.records
+    → (rest : List Answer) × (answers ++ rest ≡ (advance header (between own seat)).0.answers) → (rest : List Answer) × (answers ++ rest ≡ (advance header (first_going header calls)).0.answers)
+first_some header own calls seat answers e f (rest, h) =
+    (rest, h ∙ ap (λ (g : Going). (advance header g).0.answers) (first_between header own seat f ∙ ap (λ (cs : List Call). first_going header cs) e))
+
+-- and after a reply, those at its next
+pub later_some : (header : Header) (own : List Call) (before mid : Seat) (reply : Reply) (answers : List Answer) → before.rank.header ≡ header → HasHeard before mid reply
+    → (rest : List Answer) × (answers ++ rest ≡ (advance header (between own mid)).0.answers)
+    → (rest : List Answer) × (answers ++ rest ≡ (advance header (hears header (asking own before) reply)).0.answers)
+later_some header own before mid reply answers e heard (rest, h) =
+    (rest, h ∙ ap (λ (g : Going). (advance header g).0.answers) (heard_seat header own before mid reply e heard))
+
+-- ---- at an offer
+
+pub placed_held : (script : Script) (header : Header) (order : List Mark) (r : ℕ) (own : List Call) (seat : Seat) (o : Offer) → seat.held ≡ Some o
+    → IsPlaced script header order r (going_of own seat) seat.held → IsPlacedWith script header order r (asking own seat) o o.kind
+placed_held script header order r own seat o e w =
+    subst (λ (s : Going). IsPlaced script header order r s (Some o)) (going_held own seat o e)
+    (subst (λ (m : Option Offer). IsPlaced script header order r (going_of own seat) m) e w)
+
+pub placed_waits : (script : Script) (header : Header) (order : List Mark) (r : ℕ) (s : Going) (o : Offer) → IsPlacedWith script header order r s o o.kind → Keeps s.rank.«open» o
+placed_waits script header order r s o w = by o.kind w
+  where
+    by : (k : OfferKind) → IsPlacedWith script header order r s o k → Keeps s.rank.«open» o
+    by offer.Solo h = alone_waits script header order r s o h
+    by (offer.Meet kind) h = call_waits script order r s o h
+
+pub placed_number : (script : Script) (header : Header) (order : List Mark) (r : ℕ) (s : Going) (o : Offer) → IsPlacedWith script header order r s o o.kind
+    → length s.answers < most_calls
+placed_number script header order r s o w = by o.kind w
+  where
+    by : (k : OfferKind) → IsPlacedWith script header order r s o k → length s.answers < most_calls
+    by offer.Solo h = call_number script order r _ h.call _ h.way refl
+    by (offer.Meet kind) h = let few = h.few in omega arith
+
+-- ---- after its reply
+
+pub placed_heard : (script : Script) (header : Header) (order : List Mark) (r : ℕ) (own : List Call) (before now : Seat) (o : Offer) (reply : Reply) → before.rank.header ≡ header
+    → IsPlacedWith script header order r (asking own before) o o.kind → HasHeard before now reply → (later : List Mark) × IsOnWay script later r (between own now) None
+placed_heard script header order r own before now o reply e w h = by o.kind w
+  where
+    said : (now.rank.state, h.answer) ≡ hear header before.rank.state reply
+    said = h.heard ∙ ap (λ (k : Header). hear k before.rank.state reply) e
+
+    by : (k : OfferKind) → IsPlacedWith script header order r (asking own before) o k → (later : List Mark) × IsOnWay script later r (between own now) None
+    by offer.Solo way = (order ++ Solo r (length before.answers) ∷ [], alone_heard script header order r own before now o reply e way h)
+    by (offer.Meet kind) way = (
+      order ++ Meet (meetings order) ∷ [],
+      subst (λ (s : Going). IsOnWay script (order ++ Meet (meetings order) ∷ []) r s None)
+          (answered_is own before.rank.state now.rank.state before.answers now.answers h.answer h.answers)
+          (way_hears script order r header (asking own before) now.rank.state o reply h.answer way said),
+    )
+
+-- ---- a reply that fits
+
+pub fits_is : (m : Option Open) (header same : Header) (o : Offer) (reply : Reply) (fits : Bool) → same ≡ header → Keeps m o
+    → IfSome m (λ w. fits ≡ fits_gets same w.gets reply) → fits ≡ fits_offer header o reply
+fits_is None header same o reply fits e keeps h = absurd cc
+fits_is (Some w) header same o reply fits e (some, gets) h = h ∙ (λ i. fits_gets (e i) (gets i) reply)
+
+pub fits_long : (header : Header) (o : Offer) (reply : Reply) → fits_offer header o reply ≡ true → map (λ (blob : List ℕ). length blob) reply.got ≡ map (wanted header) o.batch.gets
+fits_long header o reply fits =
+    (bytes_eq-Decides (map (λ (blob : List ℕ). length blob) reply.got) (map (wanted header) o.batch.gets)).0 (and_first _ _ fits)
+
+-- ---- the puts of an offer
+
+var_known : (m : Option Var) (header : Header) (g : Region) (known : ℕ) (direction : Direction) → check_some header m g known direction ≡ code.Ok → is_some m ≡ true
+var_known None header g known direction e = absurd cc
+var_known (Some v) header g known direction e = refl
+
+pub own_puts : (header : Header) (o : Offer) → IsSoundOffer header o → HasOwnElements o.batch.puts
+own_puts header o h =
+    own_elements header o.batch.puts 0 (λ i p e. var_known (slice_get header.vars p.var) header p.region o.known _ (h.puts p (at_in o.batch.puts i p e)).accepted) (h.own 0)
+
+pub asked_own : (header : Header) (known : ℕ) (m : Option Offer) (o : Offer) → m ≡ Some o → IfSome m (IsAsked header known) → HasOwnElements o.batch.puts
+asked_own header known None o e h = absurd cc
+asked_own header known (Some p) o e h =
+    let same : p ≡ o = cc in
+    subst (λ (q : Offer). HasOwnElements q.batch.puts) same (own_puts header p h.sound)
+
+-- ---- items that come behind others
+
+pub items_more : {X : Type 0} (first mid now some : List X) (x y : X) → mid ≡ first ++ some → now ≡ mid ++ x ∷ [] → x ≡ y → now ≡ first ++ (some ++ y ∷ [])
+items_more {X} first mid now some x y e f g =
+    f ∙ ap (λ (xs : List X). xs ++ x ∷ []) e ∙ append_assoc first some (x ∷ []) ∙ ap (λ (z : X). first ++ (some ++ z ∷ [])) g

@@ -1,0 +1,403 @@
+-- What the owner's ends tell when it is done.
+use Rattle.std.proofs.Common.{◌≡◌, ℕ, zero, suc, ◌+◌, ◌<◌, ◌≤◌, refl, sym, ◌∙◌, ap, subst, inl, inr, List, [], ◌∷◌, ◌++◌, length, map, replicate, drop, Bool, true, false, ◌&&◌, Option, Some, None, append_assoc, arith}
+use Rattle.std.proofs.Math.Seq.{drop-append_seam}
+use Rattle.std.proofs.lemmas.List.{append-nil, length-append, length-map, length-replicate}
+use Rattle.std.specs.Prelude.{slice_get, nat_lt, filter, IfSome, IsTrue}
+use Rattle.std.specs.List.{list_all}
+use Rattle.nc_base.specs.declared.script.Hints.{Hints}
+use Rattle.nc_base.specs.declared.step.DiskCall.{DiskCall}
+use Rattle.nc_base.specs.declared.step.Mark.{Mark}
+use Rattle.nc_base.specs.declared.step.Offer.{Offer}
+use Rattle.nc_base.specs.declared.step.OwnerItem.{OwnerItem}
+use Rattle.nc_base.specs.declared.step.OwnerItem.TheVariants.{Stop}
+use Rattle.nc_base.specs.declared.step.RankItem.{RankItem}
+use Rattle.nc_base.specs.declared.step.StepErr.{StepErr}
+use Rattle.nc_outside.specs.Told.{with_end}
+use Rattle.overlay_laws.specs.Entries.{In}
+use Rattle.ruled_line.specs.Ends.{End, Receiver}
+use Rattle.serial_spec.specs.Desk.{Desk, Seat, free_seat, given_along, is_strange, offers_in, owed, own_items, served, stop_held, stops}
+use Rattle.serial_spec.specs.FileStep.{Setting}
+use Rattle.serial_spec.specs.History.{Arrival, is_offer}
+use Rattle.serial_spec.specs.Joined.{HasEnd}
+use Rattle.collective_round.specs.Rounds.{counted}
+use Rattle.join_laws.specs.Alike.{AreAlike}
+use Rattle.thread_run.specs.Halted.{of_fault, of_stranger, HasFinished, HasHalted, HasSeenAll, IsHaltAt, IsLeft, IsNoMore, IsStrangeAt}
+use Rattle.thread_run.specs.Owned.{desk_at, desk_calls, opening_standing, run, AreSingle, GoesSo, Grows, HasRun, HoldSingle, Standing}
+use Rattle.thread_run.specs.Serving.{arrived, gained, more_on, opening, HasFailed, HasTaken, HavePut, IsCutOff, IsDone, IsDoneSo}
+use Rattle.thread_run.specs.Stopping.{stops_for, AllHaveEnded, HaveEnded, IsMore}
+use Rattle.thread_run.specs.declared.serving.Halt.{Halt}
+use Rattle.thread_run.specs.declared.serving.Halt.TheVariants as halt
+use Rattle.thread_run.proofs.AlikeLaws.{alike_by, alike_long, alike_same, alike_two, lines_as, lines_twice}
+use Rattle.thread_run.proofs.DeskRuns.{calls_stop, goes_on, owed_stop, stops_at, GoesOn}
+use Rattle.turn_run.proofs.ListLaws.{get_replicate, get_there}
+use Rattle.join_laws.proofs.TieLaws.{one_if, owed_count}
+use Rattle.thread_run.proofs.StopLaws.{filter_joined, own_joined, stops_joined}
+
+-- ---- what ends gained
+
+pub gained_is : (old now : List (End OwnerItem)) (more : ℕ → List OwnerItem) (q : ℕ) → Grows old more now → q < length old → gained old now q ≡ more q
+gained_is old now more q g l =
+    let end = get_there old q l in
+    (λ i. more_on (end.1 i) (g.each q end.0 end.1 i)) ∙ drop-append_seam end.0.items (more q)
+
+pub have_put : (old now : List (End OwnerItem)) (more : ℕ → List OwnerItem) → Grows old more now → HavePut old now
+have_put old now more g = record {
+  long = g.long;
+  each = λ q end e. g.each q end e ∙ ap (λ (items : List OwnerItem). Some (record { of = end.of; items = end.items ++ items })) (sym (gained_is old now more q g (low old q end e)));
+}
+  where
+    low : (xs : List (End OwnerItem)) (q : ℕ) (end : End OwnerItem) → slice_get xs q ≡ Some end → q < length xs
+    low [] q end e = absurd cc
+    low (x ∷ xs) zero end e = omega arith
+    low (x ∷ xs) (suc q) end e = let h = low xs q end e in omega arith
+
+arrived_is : (old now : Receiver RankItem) (more : List Arrival) → IsMore old more now → arrived old now ≡ more
+arrived_is old now more h = ap (drop (length old.items)) h.items ∙ drop-append_seam old.items more
+
+-- ---- all that was taken
+
+pub record Outcome (hints : Hints) (s : Setting) (old now : Receiver RankItem) (left : List Bool) (before : Standing) (n : ℕ) (held : Option (List ℕ)) (made : Option (List DiskCall)) (marks : List Mark)
+    (lines : List (End OwnerItem)) (halt : Halt) : Type 0 where
+  pub first : List Arrival
+  pub last : List Arrival
+  pub middle : Standing
+  pub taken : IsMore old (first ++ last) now
+  pub ended : HaveEnded left (first ++ last)
+  pub all : AllHaveEnded old.senders left
+  pub run : HasRun hints s first before middle
+  pub order : marks ≡ middle.order
+  pub stopped : Grows middle.lines (stops (desk_at middle []) last) lines
+  pub later : List Arrival
+  pub more : List Arrival
+  pub parts : last ≡ later ++ more
+  pub halted : IsHaltAt s middle later n held made halt
+  pub none : IsNoMore more halt
+
+numbers_joined : (n : ℕ) (xs ys : List Arrival) → list_all (λ (a : Arrival). nat_lt a.0 n) xs ≡ true → list_all (λ (a : Arrival). nat_lt a.0 n) ys ≡ true → list_all (λ (a : Arrival). nat_lt a.0 n) (xs ++ ys) ≡ true
+numbers_joined n [] ys h k = k
+numbers_joined n (x ∷ xs) ys h k = by (nat_lt x.0 n) h (λ g. numbers_joined n xs ys g k)
+  where
+    by : (t : Bool) → (t && list_all (λ (a : Arrival). nat_lt a.0 n) xs) ≡ true → (list_all (λ (a : Arrival). nat_lt a.0 n) xs ≡ true → list_all (λ (a : Arrival). nat_lt a.0 n) (xs ++ ys) ≡ true)
+        → (t && list_all (λ (a : Arrival). nat_lt a.0 n) (xs ++ ys)) ≡ true
+    by true g again = again g
+    by false g again = absurd cc
+
+more_twice : (old mid now : Receiver RankItem) (first more : List Arrival) → IsMore old first mid → IsMore mid more now → IsMore old (first ++ more) now
+more_twice old mid now first more h g = record {
+  items = g.items ∙ ap (λ (xs : List Arrival). xs ++ more) h.items ∙ append_assoc old.items first more;
+  senders = g.senders ∙ h.senders;
+  of = g.of ∙ h.of;
+  numbers = numbers_joined old.senders first more h.numbers (subst (λ (n : ℕ). list_all (λ (a : Arrival). nat_lt a.0 n) more ≡ true) h.senders g.numbers);
+}
+
+pub outcome : (hints : Hints) (s : Setting) (old mid now : Receiver RankItem) (flags left : List Bool) (before : Standing) (n : ℕ) (held : Option (List ℕ)) (made : Option (List DiskCall)) (marks : List Mark)
+    (mid_lines lines : List (End OwnerItem)) (h : Halt) → HasHalted hints s old mid flags before n held made marks mid_lines h → HasFinished mid now mid_lines lines flags left h
+    → Outcome hints s old now left before n held made marks lines h
+outcome hints s old mid now flags left before n held made marks mid_lines lines h a b = record {
+  first = a.first;
+  last = a.later ++ b.more;
+  middle = a.middle;
+  taken = subst (λ (xs : List Arrival). IsMore old xs now) (append_assoc a.first a.later b.more) (more_twice old mid now (a.first ++ a.later) b.more a.taken b.taken);
+  ended = subst (λ (xs : List Arrival). HaveEnded left xs) (append_assoc a.first a.later b.more) (b.noted (a.first ++ a.later) a.ended);
+  all = subst (λ (k : ℕ). AllHaveEnded k left) a.taken.senders b.all;
+  run = a.run;
+  order = a.order;
+  stopped = lines_as a.middle.lines lines (λ q. stops (desk_at a.middle []) a.later q ++ stops_for b.more q) (stops (desk_at a.middle []) (a.later ++ b.more)) (λ q l. joined q)
+      (lines_twice a.middle.lines mid_lines lines (stops (desk_at a.middle []) a.later) (stops_for b.more) a.stopped b.stopped);
+  later = a.later;
+  more = b.more;
+  parts = refl;
+  halted = a.halted;
+  none = b.last;
+}
+  where
+    joined : (q : ℕ) → stops (desk_at a.middle []) (a.later ++ b.more) q ≡ stops (desk_at a.middle []) a.later q ++ stops_for b.more q
+    joined q = ap (λ (items : List OwnerItem). stop_held (slice_get a.middle.seats q) ++ items) (stops_joined q a.later b.more) ∙ sym (append_assoc (stop_held (slice_get a.middle.seats q)) (stops_for a.later q) (stops_for b.more q))
+
+-- ---- where nothing more is done
+
+record StoppedAt (hints : Hints) (s : Setting) (d : Desk) (last : List Arrival) (number : Option ℕ) : Type 0 where
+  desk : (served s d last).desk ≡ d
+  marks : (served s d last).marks ≡ []
+  stranger : (served s d last).stranger ≡ number
+  owes : (q : ℕ) → owed s d last q ≡ stops d last q
+  calls : desk_calls hints s d last ≡ []
+
+stopped_none : (hints : Hints) (s : Setting) (d : Desk) (last : List Arrival) → last ≡ [] → StoppedAt hints s d last None
+stopped_none hints s d last e =
+    subst (λ (xs : List Arrival). StoppedAt hints s d xs None) (sym e) (record { desk = refl; marks = refl; stranger = refl; owes = λ q. refl; calls = refl })
+
+stopped_strange : (hints : Hints) (s : Setting) (d : Desk) (a : Arrival) (rest last : List Arrival) → last ≡ a ∷ rest → is_strange s d a ≡ true → StoppedAt hints s d last (Some a.0)
+stopped_strange hints s d a rest last e f =
+    let at = stops_at s d a rest f in
+    subst (λ (xs : List Arrival). StoppedAt hints s d xs (Some a.0)) (sym e)
+    (record { desk = at.desk; marks = at.marks; stranger = at.stranger; owes = λ q. owed_stop s d a rest q f; calls = calls_stop hints s d a rest f })
+
+no_fault : {A : Type 0} (e : StepErr) → of_fault (halt.Fault e) ≡ None → A
+no_fault e f = absurd cc
+
+-- the desk that the first arrivals lead to
+abbrev reached_at : Setting → Standing → List Arrival → List ℕ → Desk
+reached_at s before first file = (served s (desk_at before file) first).desk
+
+stopped_at : (hints : Hints) (s : Setting) (before middle : Standing) (first later more last : List Arrival) (n : ℕ) (held : Option (List ℕ)) (made : Option (List DiskCall)) (h : Halt) (file : List ℕ)
+    → HasRun hints s first before middle → last ≡ later ++ more → IsHaltAt s middle later n held made h → IsNoMore more h → of_fault h ≡ None
+    → StoppedAt hints s (served s (desk_at before file) first).desk last (of_stranger h)
+stopped_at hints s before middle first later more last n held made halt.Ended file run parts at none f =
+    stopped_none hints s (reached_at s before first file) last (parts ∙ (λ i. at.0 i ++ none i))
+stopped_at hints s before middle first later more last n held made (halt.Stranger number) file run parts at none f =
+    stopped_strange hints s (reached_at s before first file) (number, at.0.item) more last (parts ∙ ap (λ (xs : List Arrival). xs ++ more) at.0.last)
+    (ap (λ (d : Desk). is_strange s d (number, at.0.item)) (run.moved.alike file).desk ∙ at.0.strange (reached_at s before first file).state.file)
+stopped_at hints s before middle first later more last n held made (halt.Fault e) file run parts at none f = no_fault e f
+
+left_at : (s : Setting) (middle : Standing) (later : List Arrival) (n : ℕ) (held : Option (List ℕ)) (made : Option (List DiskCall)) (h : Halt) → IsHaltAt s middle later n held made h → of_fault h ≡ None → IsLeft middle n held made
+left_at s middle later n held made halt.Ended at f = at.1
+left_at s middle later n held made (halt.Stranger number) at f = at.1
+left_at s middle later n held made (halt.Fault e) at f = no_fault e f
+
+-- ---- the clauses
+
+module _ (hints : Hints) (s : Setting) (old now : Receiver RankItem) (left : List Bool) (before : Standing) (n : ℕ) (held : Option (List ℕ)) (made : Option (List DiskCall)) (marks : List Mark) (lines : List (End OwnerItem))
+    (h : Halt) (o : Outcome hints s old now left before n held made marks lines h) where
+  all_lines : Grows before.lines (λ q. o.run.moved.more q ++ stops (desk_at o.middle []) o.last q) lines
+  all_lines = lines_twice before.lines o.middle.lines lines o.run.moved.more (stops (desk_at o.middle []) o.last) o.run.moved.lines o.stopped
+
+  arrivals_are : arrived old now ≡ o.first ++ o.last
+  arrivals_are = arrived_is old now (o.first ++ o.last) o.taken
+
+  pub out_taken : HasTaken old now
+  out_taken = record {
+    items = o.taken.items ∙ ap (λ (xs : List Arrival). old.items ++ xs) (sym arrivals_are);
+    senders = o.taken.senders;
+    of = o.taken.of;
+    numbers = subst (λ (xs : List Arrival). IsTrue (list_all (λ a. nat_lt a.0 old.senders) xs)) (sym arrivals_are) o.taken.numbers;
+    ended = λ q l. o_ended q l;
+  }
+    where
+      o_ended : (q : ℕ) → q < old.senders → HasEnd (own_items q (arrived old now))
+      o_ended q l = subst (λ (xs : List Arrival). HasEnd (own_items q xs)) (sym arrivals_are) (o.ended q (o.all q l))
+
+  pub out_put : HavePut before.lines lines
+  out_put = have_put before.lines lines (λ q. o.run.moved.more q ++ stops (desk_at o.middle []) o.last q) all_lines
+
+  gains : (q : ℕ) → q < length before.lines → gained before.lines lines q ≡ o.run.moved.more q ++ stops (desk_at o.middle []) o.last q
+  gains q l = gained_is before.lines lines (λ q. o.run.moved.more q ++ stops (desk_at o.middle []) o.last q) q all_lines l
+
+  on : (file : List ℕ) → GoesOn hints s (desk_at before file) o.first o.last
+  on file = goes_on hints s (desk_at before file) o.first o.last (o.run.none_strange file)
+
+  at : (file : List ℕ) → of_fault h ≡ None → StoppedAt hints s (served s (desk_at before file) o.first).desk o.last (of_stranger h)
+  at file f = stopped_at hints s before o.middle o.first o.later o.more o.last n held made h file o.run o.parts o.halted o.none f
+
+  -- the stops are those of the desk that was reached
+  owes_stops : (file : List ℕ) (q : ℕ) → of_fault h ≡ None → owed s (desk_at before file) (o.first ++ o.last) q ≡ given_along s (desk_at before file) o.first q ++ stops (desk_at o.middle []) o.last q
+  owes_stops file q f =
+      (on file).owed_items q
+      ∙ ap (λ (items : List OwnerItem). given_along s (desk_at before file) o.first q ++ items)
+      ((at file f).owes q ∙ ap (λ (d : Desk). stops d o.last q) (o.run.moved.alike file).desk)
+
+  pub out_done : before.order ≡ [] → of_fault h ≡ None → (file : List ℕ) → IsDone s (desk_at before file) (arrived old now) (length before.lines) (gained before.lines lines) marks (of_stranger h)
+  out_done none f file = subst (λ (xs : List Arrival). IsDone s (desk_at before file) xs (length before.lines) (gained before.lines lines) marks (of_stranger h)) (sym arrivals_are) (record {
+    order = o.order ∙ (o.run.moved.alike file).marks ∙ ap (λ (ms : List Mark). ms ++ (served s (desk_at before file) o.first).marks) none
+        ∙ sym ((on file).marks ∙ ap (λ (ms : List Mark). (served s (desk_at before file) o.first).marks ++ ms) (at file f).marks ∙ append-nil (served s (desk_at before file) o.first).marks);
+    stranger = sym ((on file).stranger ∙ (at file f).stranger);
+    given = λ q l.
+        alike_by (gained before.lines lines q) (o.run.moved.more q ++ stops (desk_at o.middle []) o.last q) (given_along s (desk_at before file) o.first q ++ stops (desk_at o.middle []) o.last q)
+        (owed s (desk_at before file) (o.first ++ o.last) q) (gains q l) (owes_stops file q f)
+        (alike_two (o.run.moved.more q) (given_along s (desk_at before file) o.first q) (stops (desk_at o.middle []) o.last q) (stops (desk_at o.middle []) o.last q)
+        ((o.run.moved.alike file).given q l) (alike_same (stops (desk_at o.middle []) o.last q)));
+  })
+
+  told_so : (m : Option (List ℕ)) → before.told ≡ m → IfSome m (λ file. GoesSo (HoldSingle before.seats × AreSingle o.first) (run s (desk_at before file) o.first) (desk_calls hints s (desk_at before file) o.first) o.run.moved.more before o.middle)
+  told_so m e = subst (λ (t : Option (List ℕ)). IfSome t (λ file. GoesSo (HoldSingle before.seats × AreSingle o.first) (run s (desk_at before file) o.first) (desk_calls hints s (desk_at before file) o.first) o.run.moved.more before o.middle)) e o.run.moved.exact
+
+  pub out_bytes : of_fault h ≡ None → (m : Option (List ℕ)) → before.told ≡ m → IfSome m (λ file. IsDoneSo s (desk_at before file) (arrived old now) (length before.lines) (gained before.lines lines) held n)
+  out_bytes f None e = tt
+  out_bytes f (Some file) e =
+      let g = told_so (Some file) e in
+      let same = (on file).desk ∙ (at file f).desk in
+      let was = left_at s o.middle o.later n held made h o.halted f in
+      subst (λ (xs : List Arrival). IsDoneSo s (desk_at before file) xs (length before.lines) (gained before.lines lines) held n) (sym arrivals_are) (record {
+        told = was.told ∙ g.told ∙ ap (λ (d : Desk). Some d.state.file) (sym same);
+        records = was.records ∙ sym (ap (λ (d : Desk). d.state.records) (o.run.moved.alike file).desk) ∙ ap (λ (d : Desk). d.state.records) (sym same);
+        given = λ q l. gains q l ∙ ap (λ (items : List OwnerItem). items ++ stops (desk_at o.middle []) o.last q) (g.given q l) ∙ sym (owes_stops file q f);
+      })
+
+  single_first : AreSingle (arrived old now) → AreSingle o.first
+  single_first alone a i = alone a (subst (λ (xs : List Arrival). In xs a) (sym arrivals_are) (joined o.first i))
+    where
+      joined : (xs : List Arrival) → In xs a → In (xs ++ o.last) a
+      joined [] i = absurd i
+      joined (x ∷ xs) (inl e) = inl e
+      joined (x ∷ xs) (inr i) = inr (joined xs i)
+
+  pub out_calls : of_fault h ≡ None → HoldSingle before.seats → AreSingle (arrived old now) → (m : Option (List ℕ)) → before.told ≡ m
+      → IfSome m (λ file. made ≡ with_end before.calls (desk_calls hints s (desk_at before file) (arrived old now)))
+  out_calls f free alone None e = tt
+  out_calls f free alone (Some file) e =
+      let g = told_so (Some file) e in
+      (left_at s o.middle o.later n held made h o.halted f).calls ∙ g.calls (free, single_first alone)
+      ∙ ap (λ (cs : List DiskCall). with_end before.calls cs)
+      (sym ((on file).calls ∙ ap (λ (cs : List DiskCall). desk_calls hints s (desk_at before file) o.first ++ cs) (at file f).calls ∙ append-nil (desk_calls hints s (desk_at before file) o.first)))
+      ∙ ap (λ (xs : List Arrival). with_end before.calls (desk_calls hints s (desk_at before file) xs)) (sym arrivals_are)
+
+  -- ---- one item for each offer
+
+  stops_long : (d : Desk) (q : ℕ) (later : List Arrival) → length (stops d later q) ≡ length (stops d [] q) + offers_in (own_items q later)
+  stops_long d q later =
+      let a = length-append (stop_held (slice_get d.seats q)) (stops_for later q) in
+      let b = length-map (filter is_offer (own_items q later)) (λ (i : RankItem). Stop) in
+      let c = length-append (stop_held (slice_get d.seats q)) (stops_for [] q) in
+      let e : length (stops_for [] q) ≡ 0 = refl in
+      omega arith
+
+  offers_long : (q : ℕ) (xs ys : List Arrival) → offers_in (own_items q (xs ++ ys)) ≡ offers_in (own_items q xs) + offers_in (own_items q ys)
+  offers_long q xs ys =
+      ap (λ (items : List RankItem). offers_in items) (own_joined q xs ys) ∙ ap (λ (items : List RankItem). length items) (filter_joined (own_items q xs) (own_items q ys))
+      ∙ length-append (filter is_offer (own_items q xs)) (filter is_offer (own_items q ys))
+
+  numbers_front : (k : ℕ) (xs ys : List Arrival) → list_all (λ (a : Arrival). nat_lt a.0 k) (xs ++ ys) ≡ true → list_all (λ (a : Arrival). nat_lt a.0 k) xs ≡ true
+  numbers_front k [] ys e = refl
+  numbers_front k (x ∷ xs) ys e = by (nat_lt x.0 k) e (λ g. numbers_front k xs ys g)
+    where
+      by : (t : Bool) → (t && list_all (λ (a : Arrival). nat_lt a.0 k) (xs ++ ys)) ≡ true → (list_all (λ (a : Arrival). nat_lt a.0 k) (xs ++ ys) ≡ true → list_all (λ (a : Arrival). nat_lt a.0 k) xs ≡ true)
+          → (t && list_all (λ (a : Arrival). nat_lt a.0 k) xs) ≡ true
+      by true g again = again g
+      by false g again = absurd cc
+
+  all_given : (q : ℕ) → owed s (desk_at before []) o.first q ≡ given_along s (desk_at before []) o.first q ++ stops (desk_at o.middle []) [] q
+  all_given q =
+      ap (λ (xs : List Arrival). owed s (desk_at before []) xs q) (sym (append-nil o.first))
+      ∙ (goes_on hints s (desk_at before []) o.first [] (o.run.none_strange [])).owed_items q
+      ∙ ap (λ (d : Desk). given_along s (desk_at before []) o.first q ++ stops d [] q) (o.run.moved.alike []).desk
+
+  one_item_each : (senders : ℕ) → before.seats ≡ replicate senders free_seat → length before.lines ≡ senders → senders ≡ old.senders → (q : ℕ) → q < length before.lines
+      → length (gained before.lines lines q) ≡ offers_in (own_items q (o.first ++ o.last))
+  one_item_each senders seats long same q l =
+      let seat = get_there before.seats q (seats_long q l) in
+      let free : seat.0.held ≡ None = ap (λ (x : Seat). x.held) (get_replicate senders q free_seat seat.0 (ap (λ (ss : List Seat). slice_get ss q) (sym seats) ∙ seat.1)) in
+      let count = owed_count s (desk_at before []) o.first q seat.0 numbers seat.1 in
+      let none = held_none seat.0.held free in
+      let given = ap (λ (items : List OwnerItem). length items) (all_given q) ∙ length-append (given_along s (desk_at before []) o.first q) (stops (desk_at o.middle []) [] q) in
+      let like = alike_long (o.run.moved.more q) (given_along s (desk_at before []) o.first q) ((o.run.moved.alike []).given q l) in
+      let whole = ap (λ (items : List OwnerItem). length items) (gains q l) ∙ length-append (o.run.moved.more q) (stops (desk_at o.middle []) o.last q) in
+      let stops = stops_long (desk_at o.middle []) q o.last in
+      let both = offers_long q o.first o.last in
+      omega arith
+    where
+      seats_are_long : length before.seats ≡ senders
+      seats_are_long = ap (λ (ss : List Seat). length ss) seats ∙ length-replicate senders free_seat
+
+      seats_long : (k : ℕ) → k < length before.lines → k < length before.seats
+      seats_long k m = omega (arith, seats_are_long, long)
+
+      numbers : list_all (λ (a : Arrival). nat_lt a.0 (length before.seats)) o.first ≡ true
+      numbers = subst (λ (k : ℕ). list_all (λ (a : Arrival). nat_lt a.0 k) o.first ≡ true) (sym (seats_are_long ∙ same)) (numbers_front old.senders o.first o.last o.taken.numbers)
+
+      held_none : (m : Option Offer) → m ≡ None → one_if m ≡ 0
+      held_none None e = refl
+      held_none (Some p) e = absurd cc
+
+  only_stops : (m : Option Seat) (xs : List RankItem) → (k : ℕ) × (stop_held m ++ map (λ (i : RankItem). Stop) xs ≡ replicate k Stop)
+  only_stops m xs = by_seat m
+    where
+      stops_are : (ys : List RankItem) → map (λ (i : RankItem). Stop) ys ≡ replicate (length ys) Stop
+      stops_are [] = refl
+      stops_are (y ∷ ys) = ap (λ (items : List OwnerItem). Stop ∷ items) (stops_are ys)
+
+      by_held : (held : Option Offer) (ended : Option Bool) → (k : ℕ) × (stop_held (Some (record { held = held; ended = ended })) ++ map (λ (i : RankItem). Stop) xs ≡ replicate k Stop)
+      by_held None ended = (length xs, stops_are xs)
+      by_held (Some p) ended = (suc (length xs), ap (λ (items : List OwnerItem). Stop ∷ items) (stops_are xs))
+
+      by_seat : (seat : Option Seat) → (k : ℕ) × (stop_held seat ++ map (λ (i : RankItem). Stop) xs ≡ replicate k Stop)
+      by_seat None = (length xs, stops_are xs)
+      by_seat (Some x) = by_held x.held x.ended
+
+  pub out_failed : (senders k : ℕ) → ((file : List ℕ) → desk_at before file ≡ opening senders (counted file k)) → before.order ≡ [] → before.seats ≡ replicate senders free_seat → length before.lines ≡ senders → senders ≡ old.senders
+      → of_stranger h ≡ None → HasFailed s (opening senders) k (arrived old now) (length before.lines) (gained before.lines lines) marks (of_stranger h)
+  out_failed senders k is none seats long same number = record {
+    first = o.first;
+    later = o.last;
+    all = arrivals_are;
+    cut_off = λ file. subst (λ (d : Desk). IsCutOff s d o.first (length before.lines) (gained before.lines lines) marks) (is file) (record {
+      none_strange = o.run.none_strange file;
+      order = o.order ∙ (o.run.moved.alike file).marks ∙ ap (λ (ms : List Mark). ms ++ (served s (desk_at before file) o.first).marks) none;
+      given = λ q l.
+          let stops = only_stops (slice_get o.middle.seats q) (filter is_offer (own_items q o.last)) in (
+            stops.0,
+            alike_by (gained before.lines lines q) (o.run.moved.more q ++ replicate stops.0 Stop) (given_along s (desk_at before file) o.first q ++ replicate stops.0 Stop)
+                (given_along s (desk_at before file) o.first q ++ replicate stops.0 Stop)
+                (gains q l ∙ ap (λ (items : List OwnerItem). o.run.moved.more q ++ items) stops.1) refl
+                (alike_two (o.run.moved.more q) (given_along s (desk_at before file) o.first q) (replicate stops.0 Stop) (replicate stops.0 Stop) ((o.run.moved.alike file).given q l) (alike_same (replicate stops.0 Stop))),
+          );
+    });
+    one_each = λ q l. one_item_each senders seats long same q l ∙ ap (λ (xs : List Arrival). offers_in (own_items q xs)) (sym arrivals_are);
+    stranger = number;
+  }
+
+-- ---- from the opening
+
+pub halted_lines : (hints : Hints) (s : Setting) (old now : Receiver RankItem) (flags : List Bool) (before : Standing) (n : ℕ) (held : Option (List ℕ)) (made : Option (List DiskCall)) (marks : List Mark) (lines : List (End OwnerItem))
+    (h : Halt) → HasHalted hints s old now flags before n held made marks lines h → length before.lines ≡ old.senders → length lines ≡ now.senders
+halted_lines hints s old now flags before n held made marks lines h a l = a.stopped.long ∙ a.run.moved.lines.long ∙ l ∙ sym a.taken.senders
+
+pub seen_all : (k m : ℕ) (flags : List Bool) (h : Halt) → k ≡ m → HasSeenAll k flags h → HasSeenAll m flags h
+seen_all k m flags h e a = subst (λ (j : ℕ). HasSeenAll j flags h) e a
+
+module _ (hints : Hints) (s : Setting) (old now : Receiver RankItem) (left : List Bool) (n0 : ℕ) (held0 : Option (List ℕ)) (made0 : Option (List DiskCall)) (order0 : List Mark) (back0 : List (End OwnerItem))
+    (n : ℕ) (held : Option (List ℕ)) (made : Option (List DiskCall)) (marks : List Mark) (lines : List (End OwnerItem)) (h : Halt)
+    (o : Outcome hints s old now left (opening_standing old.senders n0 held0 made0 order0 back0) n held made marks lines h) (none : order0 ≡ []) (k : ℕ) (same : n0 ≡ k) (long : length back0 ≡ old.senders) where
+  first_standing : Standing
+  first_standing = opening_standing old.senders n0 held0 made0 order0 back0
+
+  opened : (file : List ℕ) → desk_at (opening_standing old.senders n0 held0 made0 order0 back0) file ≡ opening old.senders (counted file k)
+  opened file = ap (λ (m : ℕ). opening old.senders (counted file m)) same
+
+  pub end_taken : HasTaken old now
+  end_taken = out_taken hints s old now left (opening_standing old.senders n0 held0 made0 order0 back0) n held made marks lines h o
+
+  pub end_put : HavePut back0 lines
+  end_put = out_put hints s old now left (opening_standing old.senders n0 held0 made0 order0 back0) n held made marks lines h o
+
+  pub end_done : (fault : Option StepErr) (number : Option ℕ) → fault ≡ of_fault h → number ≡ of_stranger h → fault ≡ None → (file : List ℕ)
+      → IsDone s (opening old.senders (counted file k)) (arrived old now) old.senders (gained back0 lines) marks number
+  end_done fault number e f g file =
+      subst (λ (m : Option ℕ). IsDone s (opening old.senders (counted file k)) (arrived old now) old.senders (gained back0 lines) marks m) (sym f)
+      (subst (λ (l : ℕ). IsDone s (opening old.senders (counted file k)) (arrived old now) l (gained back0 lines) marks (of_stranger h)) long
+      (subst (λ (d : Desk). IsDone s d (arrived old now) (length back0) (gained back0 lines) marks (of_stranger h)) (opened file)
+      (out_done hints s old now left (opening_standing old.senders n0 held0 made0 order0 back0) n held made marks lines h o none (sym e ∙ g) file)))
+
+  pub end_bytes : (fault : Option StepErr) → fault ≡ of_fault h → fault ≡ None
+      → IfSome held0 (λ file. IsDoneSo s (opening old.senders (counted file k)) (arrived old now) old.senders (gained back0 lines) held n)
+  end_bytes fault e g = by held0 (out_bytes hints s old now left (opening_standing old.senders n0 held0 made0 order0 back0) n held made marks lines h o (sym e ∙ g) held0 refl)
+    where
+      by : (m : Option (List ℕ)) → IfSome m (λ file. IsDoneSo s (desk_at (opening_standing old.senders n0 held0 made0 order0 back0) file) (arrived old now) (length back0) (gained back0 lines) held n)
+          → IfSome m (λ file. IsDoneSo s (opening old.senders (counted file k)) (arrived old now) old.senders (gained back0 lines) held n)
+      by None i = tt
+      by (Some file) i =
+          subst (λ (l : ℕ). IsDoneSo s (opening old.senders (counted file k)) (arrived old now) l (gained back0 lines) held n) long
+          (subst (λ (d : Desk). IsDoneSo s d (arrived old now) (length back0) (gained back0 lines) held n) (opened file) i)
+
+  none_single : HoldSingle (replicate old.senders free_seat)
+  none_single r x p e f = let free = get_replicate old.senders r free_seat x e in let no : x.held ≡ None = ap (λ (y : Seat). y.held) free in absurd cc
+
+  pub end_calls : (fault : Option StepErr) → fault ≡ of_fault h → fault ≡ None → AreSingle (arrived old now)
+      → IfSome held0 (λ file. made ≡ with_end made0 (desk_calls hints s (opening old.senders (counted file k)) (arrived old now)))
+  end_calls fault e g alone = by held0 (out_calls hints s old now left (opening_standing old.senders n0 held0 made0 order0 back0) n held made marks lines h o (sym e ∙ g) none_single alone held0 refl)
+    where
+      by : (m : Option (List ℕ)) → IfSome m (λ file. made ≡ with_end made0 (desk_calls hints s (desk_at (opening_standing old.senders n0 held0 made0 order0 back0) file) (arrived old now)))
+          → IfSome m (λ file. made ≡ with_end made0 (desk_calls hints s (opening old.senders (counted file k)) (arrived old now)))
+      by None i = tt
+      by (Some file) i = i ∙ ap (λ (d : Desk). with_end made0 (desk_calls hints s d (arrived old now))) (opened file)
+
+  strangers_none : (g : Halt) (e : StepErr) → Some e ≡ of_fault g → of_stranger g ≡ None
+  strangers_none halt.Ended e f = refl
+  strangers_none (halt.Stranger number) e f = absurd cc
+  strangers_none (halt.Fault d) e f = refl
+
+  pub end_failed : (fault : Option StepErr) (number : Option ℕ) (e : StepErr) → fault ≡ of_fault h → number ≡ of_stranger h → fault ≡ Some e
+      → HasFailed s (opening old.senders) k (arrived old now) old.senders (gained back0 lines) marks number
+  end_failed fault number e f g is =
+      subst (λ (m : Option ℕ). HasFailed s (opening old.senders) k (arrived old now) old.senders (gained back0 lines) marks m) (sym g)
+      (subst (λ (l : ℕ). HasFailed s (opening old.senders) k (arrived old now) l (gained back0 lines) marks (of_stranger h)) long
+      (out_failed hints s old now left (opening_standing old.senders n0 held0 made0 order0 back0) n held made marks lines h o old.senders k opened none refl long refl (strangers_none h e (sym is ∙ f))))

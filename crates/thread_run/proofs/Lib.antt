@@ -1,0 +1,25 @@
+pub mod EndLaws
+pub mod HaltLaws
+pub mod StopLaws
+pub mod ArriveSteps
+pub mod PutLaws
+pub mod AloneSteps
+pub mod HeldLaws
+pub mod TogetherSteps
+pub mod StrangeLaws
+pub mod AlikeLaws
+pub mod DeskRuns
+pub mod RunLaws
+pub mod AttendLaws
+pub mod AttendWay
+mod ThreadCalls
+mod ThreadEnds
+mod ThreadKnown
+mod ThreadWhole
+mod ThreadRuns
+mod ThreadStarts
+mod ThreadJoins
+mod ThreadAll
+mod ThreadSettles
+mod ThreadLists
+mod ThreadTies

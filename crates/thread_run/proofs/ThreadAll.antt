@@ -1,0 +1,163 @@
+-- A run on threads, from what the owner tells and what the close tells.
+use Rattle.std.proofs.Common.{◌≡◌, ℕ, ◌+◌, ◌-◌, ◌^◌, ◌<◌, ◌≤◌, refl, sym, ◌∙◌, ap, subst, inl, inr, ◌⊎◌, List, [], ◌∷◌, ◌++◌, length, map, max, min, replicate, true, Option, Some, None, arith}
+use Rattle.std.specs.Prelude.{slice_get, nat_lt, IfSome}
+use Rattle.nc_base.specs.declared.header.Header.{Header}
+use Rattle.nc_base.specs.declared.run.RankEnd.{RankEnd}
+use Rattle.nc_base.specs.declared.run.RunEnd.{RunEnd}
+use Rattle.nc_base.specs.declared.run.ServeEnd.{ServeEnd}
+use Rattle.nc_base.specs.declared.script.Script.{Script}
+use Rattle.nc_base.specs.declared.step.DiskCall.{DiskCall}
+use Rattle.nc_base.specs.declared.step.Mark.{Mark}
+use Rattle.nc_base.specs.declared.step.OwnerItem.{OwnerItem}
+use Rattle.nc_base.specs.declared.step.StepErr.{StepErr}
+use Rattle.nc_base.specs.declared.step.StepErr.TheVariants as fault
+use Rattle.nc_outside.specs.Cause.{Rose}
+use Rattle.nc_outside.specs.Told.{after, with_end}
+use Rattle.serial_spec.specs.Desk.{Desk, Ending, first_desk, free_seat, served}
+use Rattle.serial_spec.specs.DeviceCalls.{run_calls, store_records}
+use Rattle.serial_spec.specs.FileStep.{raised}
+use Rattle.serial_spec.specs.HeaderGrammar.{is_sound}
+use Rattle.serial_spec.specs.History.{Arrival, IsLegal}
+use Rattle.serial_spec.specs.Joined.{opening_desk, run_of}
+use Rattle.serial_spec.specs.Lawful.{is_lawful}
+use Rattle.serial_spec.specs.SerialEnd.{serial_from, setting_of}
+use Rattle.collective_round.specs.Rounds.{as_setting, counted}
+use Rattle.turn_run.specs.Begun.{HasBegun}
+use Rattle.thread_run.specs.Owned.{AreSingle, desk_calls}
+use Rattle.thread_run.specs.Serving.{HasFailed, IsDone, IsDoneSo, opening}
+use Rattle.thread_run.specs.Threads.{HasClosed, IsRun, NoneBroke, most_known_of}
+use Rattle.turn_run.proofs.StageLaws.{ended_twice}
+use Rattle.thread_run.proofs.ThreadRuns.{Finished, FinishedSo, finished, finished_so}
+use Rattle.thread_run.proofs.ThreadTies.{Told, begun}
+
+-- what the owner tells
+pub record Owner (script : Script) (header : Header) (arrivals : List Arrival) (given : ℕ → List OwnerItem) (held : Option (List ℕ)) (calls : Option (List DiskCall)) (faults : ℕ)
+    (left : Option (List ℕ)) (made : Option (List DiskCall)) (failed records : ℕ) (end : ServeEnd) : Type 0 where
+  pub done : end.fault ≡ None → (file : List ℕ) → IsDone (setting_of script header) (opening script.ranks (counted file header.records)) arrivals script.ranks given end.order end.stranger
+  pub bytes : end.fault ≡ None → IfSome held (λ file. IsDoneSo (setting_of script header) (opening script.ranks (counted file header.records)) arrivals script.ranks given left records)
+  pub device : end.fault ≡ None → AreSingle arrivals → IfSome held (λ file. made ≡ with_end calls (desk_calls script.hints (setting_of script header) (opening script.ranks (counted file header.records)) arrivals))
+  pub cut_off : (e : StepErr) → end.fault ≡ Some e → HasFailed (setting_of script header) (opening script.ranks) header.records arrivals script.ranks given end.order end.stranger
+  pub cause : end.fault ≡ Some fault.Disk → Rose faults failed
+  pub later : faults ≤ failed
+
+-- what the close tells
+pub record Closing (header : Header) (ends : List RankEnd) (before : ServeEnd) (held : Option (List ℕ)) (calls : Option (List DiskCall)) (faults count : ℕ)
+    (left : Option (List ℕ)) (made : Option (List DiskCall)) (failed records : ℕ) (end : RunEnd) : Type 0 where
+  pub order : end.order ≡ before.order
+  pub went : end.fault ≡ None → (before.fault ≡ None) × NoneBroke ends
+  pub closed : end.fault ≡ None → HasClosed header (most_known_of ends) count held calls records left made
+  pub sound : end.fault ≡ None → is_sound (record header { records = records }) ≡ true
+  pub answers : end.fault ≡ None → end.answers ≡ map (λ x. x.answers) ends
+  pub pending : end.fault ≡ None → end.pending ≡ map (λ x. x.pending) ends
+  pub first : (e : StepErr) → before.fault ≡ Some e → end.fault ≡ Some fault.Disk → e ≡ fault.Disk
+  pub cause : before.fault ≡ None → end.fault ≡ Some fault.Disk → Rose faults failed
+  pub later : faults ≤ failed
+
+some_fault : (m : Option StepErr) → (m ≡ None) ⊎ ((e : StepErr) × (m ≡ Some e))
+some_fault None = inl refl
+some_fault (Some e) = inr (e, refl)
+
+if_both : {X : Type 0} {P Q R : X → Type 0} (m : Option X) → IfSome m P → IfSome m Q → ((x : X) → P x → Q x → R x) → IfSome m R
+if_both None p q f = tt
+if_both (Some x) p q f = f x p q
+
+rose_later : (a b c : ℕ) → Rose a b → b ≤ c → Rose a c
+rose_later a b c h l = omega arith
+
+rose_before : (a b c : ℕ) → a ≤ b → Rose b c → Rose a c
+rose_before a b c l h = omega arith
+
+module _ (script : Script) (header : Header) (arrivals : List Arrival) (given : ℕ → List OwnerItem) (ends : List RankEnd)
+    (sound : is_sound header ≡ true) (lawful : is_lawful script ≡ true) (t : Told script header arrivals given ends) where
+  desk_at : (file : List ℕ) → opening script.ranks (counted file header.records) ≡ opening_desk script header file
+  desk_at file = ap (λ (n : ℕ). first_desk (replicate n free_seat) (counted file header.records)) (sym t.calls)
+
+  -- the owner's order begins one of the script's
+  pub order_begun : (held : Option (List ℕ)) (calls : Option (List DiskCall)) (faults : ℕ) (left : Option (List ℕ)) (made : Option (List DiskCall)) (failed records : ℕ) (end : ServeEnd)
+      → Owner script header arrivals given held calls faults left made failed records end → HasBegun script end.order
+  order_begun held calls faults left made failed records end o = by (some_fault end.fault)
+    where
+      append_none : (xs : List Arrival) → xs ≡ xs ++ []
+      append_none [] = refl
+      append_none (x ∷ xs) = ap (λ (v : List Arrival). x ∷ v) (append_none xs)
+
+      by : (end.fault ≡ None) ⊎ ((e : StepErr) × (end.fault ≡ Some e)) → HasBegun script end.order
+      by (inl none) =
+          let e : end.order ≡ (run_of script header [] arrivals).marks = (o.done none []).order ∙ ap (λ (d : Desk). (served (setting_of script header) d arrivals).marks) (desk_at []) in
+          subst (λ (ms : List Mark). HasBegun script ms) (sym e) (begun script header arrivals given ends t [] arrivals [] (append_none arrivals) lawful)
+      by (inr (x, some)) =
+          let h = o.cut_off x some in
+          let e : end.order ≡ (run_of script header [] h.first).marks = (h.cut_off []).order ∙ ap (λ (d : Desk). (served (setting_of script header) d h.first).marks) (desk_at []) in
+          subst (λ (ms : List Mark). HasBegun script ms) (sym e) (begun script header arrivals given ends t [] h.first h.later h.all lawful)
+
+  pub known_sound : (end : ServeEnd) → ((file : List ℕ) → IsDone (setting_of script header) (opening script.ranks (counted file header.records)) arrivals script.ranks given end.order end.stranger)
+      → NoneBroke ends → is_sound (record header { records = most_known_of ends }) ≡ true
+  known_sound end done whole = (finished script header arrivals given ends end.order end.stranger sound lawful t whole done).sound
+
+  pub run_all : (held : Option (List ℕ)) (calls : Option (List DiskCall)) (faults : ℕ) (held' : Option (List ℕ)) (calls' : Option (List DiskCall)) (faults' count : ℕ) (before : ServeEnd)
+      (left : Option (List ℕ)) (made : Option (List DiskCall)) (failed records : ℕ) (end : RunEnd)
+      → Owner script header arrivals given held calls faults held' calls' faults' count before → Closing header ends before held' calls' faults' count left made failed records end
+      → IsRun script header held calls faults left made failed records end
+  run_all held calls faults held' calls' faults' count before left made failed records end o c = record {
+    legal = λ none. subst (λ (ms : List Mark). IsLegal script ms) (sym c.order) (fin none).legal;
+    bytes = λ none. if_both held (o.bytes (c.went none).0) (o.bytes (c.went none).0) (λ file so more.
+        (c.closed none).bytes ∙ ap (λ (m : Option (List ℕ)). after (λ f. (raised (as_setting header) (counted f count) (most_known_of ends)).file) m) so.told
+        ∙ (λ i. Some (raised (as_setting header) (counted (state file).desk.state.file (so.records i)) (most_known_of ends)).file)
+        ∙ ap (λ (f : List ℕ). Some f) (fin_so none file so).bytes ∙ ap (λ (ms : List Mark). Some (serial_from script header file ms).bytes) (sym c.order));
+    count = λ none. if_both held (o.bytes (c.went none).0) (o.bytes (c.went none).0) (λ file so more.
+        counts none file so ∙ ap (λ (ms : List Mark). (serial_from script header file ms).records) (sym c.order));
+    answers = λ none. if_both held (o.bytes (c.went none).0) (o.bytes (c.went none).0) (λ file so more.
+        c.answers none ∙ (fin_so none file so).answers ∙ ap (λ (ms : List Mark). (serial_from script header file ms).answers) (sym c.order));
+    pending = λ none. if_both held (o.bytes (c.went none).0) (o.bytes (c.went none).0) (λ file so more.
+        c.pending none ∙ (fin_so none file so).pending ∙ ap (λ (ms : List Mark). (serial_from script header file ms).pending) (sym c.order));
+    device = λ none. if_both held (o.bytes (c.went none).0) (o.device (c.went none).0 (fin none).single) (λ file so made_so.
+        (c.closed none).device ∙ ap (λ (m : Option (List DiskCall)). with_end m (store_records (as_setting header) (nat_lt count records))) made_so
+        ∙ ended_twice calls (desk_calls script.hints (setting_of script header) (opening script.ranks (counted file header.records)) arrivals) (store_records (setting_of script header) (nat_lt count records))
+        ∙ (λ i. with_end calls (desk_calls script.hints (setting_of script header) (opening script.ranks (counted file header.records)) arrivals
+        ++ store_records (setting_of script header) (nat_lt (so.records i) (counts none file so i))))
+        ∙ ap (λ (cs : List DiskCall). with_end calls cs) (sym (fin_so none file so).calls) ∙ ap (λ (ms : List Mark). with_end calls (run_calls script header file ms)) (sym c.order));
+    sound = c.sound;
+    begun = subst (λ (ms : List Mark). HasBegun script ms) (sym c.order) (order_begun held calls faults held' calls' faults' count before o);
+    cause = λ disk. cause disk (some_fault before.fault);
+    later = le_both faults faults' failed o.later c.later;
+  }
+    where
+      le_both : (a b d : ℕ) → a ≤ b → b ≤ d → a ≤ d
+      le_both a b d h k = omega arith
+
+      state : List ℕ → Ending
+      state file = served (setting_of script header) (opening script.ranks (counted file header.records)) arrivals
+
+      fin : end.fault ≡ None → Finished script header arrivals ends before.order
+      fin none = finished script header arrivals given ends before.order before.stranger sound lawful t (c.went none).1 (o.done (c.went none).0)
+
+      fin_so : end.fault ≡ None → (file : List ℕ) → IsDoneSo (setting_of script header) (opening script.ranks (counted file header.records)) arrivals script.ranks given held' count
+          → FinishedSo script header arrivals ends before.order file (served (setting_of script header) (opening script.ranks (counted file header.records)) arrivals).desk
+      fin_so none file so = finished_so script header arrivals given ends before.order before.stranger sound lawful t (c.went none).1 (o.done (c.went none).0) file held' count so
+
+      counts : end.fault ≡ None → (file : List ℕ) → IsDoneSo (setting_of script header) (opening script.ranks (counted file header.records)) arrivals script.ranks given held' count
+          → records ≡ (serial_from script header file before.order).records
+      counts none file so = (c.closed none).count ∙ ap (λ (n : ℕ). max n (most_known_of ends)) so.records ∙ (fin_so none file so).records
+
+      cause : end.fault ≡ Some fault.Disk → (before.fault ≡ None) ⊎ ((e : StepErr) × (before.fault ≡ Some e)) → Rose faults failed
+      cause disk (inl none) = rose_before faults faults' failed o.later (c.cause none disk)
+      cause disk (inr (e, some)) =
+          let same : Some e ≡ Some fault.Disk = ap (λ (x : StepErr). Some x) (c.first e some disk) in
+          rose_later faults faults' failed (o.cause (some ∙ same)) c.later
+
+-- the owner of as many senders as there are ranks
+pub owner_of : (script : Script) (header : Header) (arrivals : List Arrival) (given : ℕ → List OwnerItem) (held : Option (List ℕ)) (calls : Option (List DiskCall)) (faults : ℕ)
+    (left : Option (List ℕ)) (made : Option (List DiskCall)) (failed records : ℕ) (end : ServeEnd) (n : ℕ) → n ≡ script.ranks
+    → (end.fault ≡ None → (file : List ℕ) → IsDone (setting_of script header) (opening n (counted file header.records)) arrivals n given end.order end.stranger)
+    → (end.fault ≡ None → IfSome held (λ file. IsDoneSo (setting_of script header) (opening n (counted file header.records)) arrivals n given left records))
+    → (end.fault ≡ None → AreSingle arrivals → IfSome held (λ file. made ≡ with_end calls (desk_calls script.hints (setting_of script header) (opening n (counted file header.records)) arrivals)))
+    → ((e : StepErr) → end.fault ≡ Some e → HasFailed (setting_of script header) (opening n) header.records arrivals n given end.order end.stranger)
+    → (end.fault ≡ Some fault.Disk → Rose faults failed) → faults ≤ failed → Owner script header arrivals given held calls faults left made failed records end
+owner_of script header arrivals given held calls faults left made failed records end n e done bytes device cut_off cause later = record {
+  done = λ none file. subst (λ (m : ℕ). IsDone (setting_of script header) (opening m (counted file header.records)) arrivals m given end.order end.stranger) e (done none file);
+  bytes = λ none. subst (λ (m : ℕ). IfSome held (λ file. IsDoneSo (setting_of script header) (opening m (counted file header.records)) arrivals m given left records)) e (bytes none);
+  device = λ none single. subst (λ (m : ℕ). IfSome held (λ file. made ≡ with_end calls (desk_calls script.hints (setting_of script header) (opening m (counted file header.records)) arrivals))) e (device none single);
+  cut_off = λ x some. subst (λ (m : ℕ). HasFailed (setting_of script header) (opening m) header.records arrivals m given end.order end.stranger) e (cut_off x some);
+  cause = cause;
+  later = later;
+}

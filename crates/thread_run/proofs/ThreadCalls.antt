@@ -1,0 +1,221 @@
+-- The owner's run beside the serial run, one arrival after another: its device calls, its offers, and what its ranks know.
+use Rattle.std.proofs.Common.{◌≡◌, ℕ, ◌<◌, refl, sym, ◌∙◌, ap, subst, inl, inr, ◌⊎◌, List, [], ◌∷◌, ◌++◌, length, map, set, Bool, true, false, Option, Some, None}
+use Rattle.std.proofs.lemmas.List.{append-nil, length-set}
+use Rattle.std.specs.Prelude.{slice_get, fold, nat_lt}
+use Rattle.std.specs.List.{list_all}
+use Rattle.std.proofs.lemmas.Option.{same_Some}
+use borrow.Author.Tests.{ltb-true}
+use Rattle.list_laws.proofs.Places.{entry_below}
+use Rattle.list_laws.proofs.Truth.{and_first, and_second}
+use Rattle.nc_base.specs.declared.header.Header.{Header}
+use Rattle.nc_base.specs.declared.answer.Answer.{Answer}
+use Rattle.nc_base.specs.declared.request.Call.{Call}
+use Rattle.nc_base.specs.declared.script.Hints.{Hints}
+use Rattle.nc_base.specs.declared.step.Mark.{Mark}
+use Rattle.nc_base.specs.declared.step.Mark.TheVariants.{Solo}
+use Rattle.nc_base.specs.declared.step.MeetKind.{MeetKind}
+use Rattle.nc_base.specs.declared.step.Offer.{Offer}
+use Rattle.nc_base.specs.declared.step.OfferKind.{OfferKind}
+use Rattle.nc_base.specs.declared.step.OfferKind.TheVariants as offer
+use Rattle.nc_base.specs.declared.step.RankItem.{RankItem}
+use Rattle.nc_base.specs.declared.step.RankItem.TheVariants as item
+use Rattle.nc_base.specs.declared.step.Want.{Want}
+use Rattle.nc_base.specs.declared.step.Want.TheVariants as want
+use Rattle.overlay_laws.specs.Entries.{In}
+use Rattle.serial_spec.specs.Desk.{Desk, Event, Seat, at_item, at_offer, event, holds, is_strange, meets_if, own_items, owed, served}
+use Rattle.serial_spec.specs.DeviceCalls.{mark_calls, meeting_calls, solo_calls}
+use Rattle.serial_spec.specs.FileStep.{Counted, Setting}
+use Rattle.serial_spec.specs.History.{Arrival, is_offer}
+use Rattle.serial_spec.specs.RankMachine.{Rank, step}
+use Rattle.serial_spec.specs.SerialEnd.{Going, advance, after_mark, go, offers_of, rank_offer}
+use Rattle.run_laws.specs.Standing.{calls_so_far}
+use Rattle.run_laws.proofs.OrderLaws.{calls_more}
+use Rattle.join_laws.proofs.EventLaws.{Stepped, get_set, item_steps, own_here, seated_same}
+use Rattle.join_laws.proofs.JoinLaws.{Stands, join, owed_on, served_on, stranger_on}
+use Rattle.join_laws.proofs.ListLaws.{get_beside}
+use Rattle.join_laws.proofs.StepLaws.{same_offers}
+use Rattle.join_laws.proofs.StrangeLaws.{event_is, not_ended, strange_alone}
+use Rattle.join_laws.proofs.StreamLaws.{Lasting, Sits, offered_now, seat_held}
+use Rattle.join_laws.proofs.TurnLaws.{Seated, seated_after}
+use Rattle.thread_run.specs.Owned.{AreSingle, IsSingle, calls_at, calls_at_offer, calls_if, desk_calls, event_calls, IsSingleOffer}
+use Rattle.turn_run.proofs.QuietLaws.{IsQuiet, quiet_step}
+
+-- ---- one arrival
+
+pub record Onward (s : Setting) (Good : ℕ → Going → Type 0) (d : Desk) (goings : List Going) (r : ℕ) (i : RankItem) (rest : List Arrival) : Type 0 where
+  pub not_strange : is_strange s d (r, i) ≡ false
+  pub kinds_left : List MeetKind
+  pub after : List Going
+  pub folded : fold (after_mark s) (d.state, goings) (event s d (r, i)).marks ≡ ((event s d (r, i)).desk.state, after)
+  pub stands : Stands s Good kinds_left (event s d (r, i)).desk after rest
+  pub seat : Seat
+  pub going : Going
+  pub at_seat : slice_get d.seats r ≡ Some seat
+  pub at_going : slice_get goings r ≡ Some going
+  pub offers : (c : ℕ) (o : Offer) → i ≡ item.Offer c o → (advance s.header going).1 ≡ Some o
+  pub is : event s d (r, i) ≡ at_item s d r seat i
+
+not_strange_of : (s : Setting) (d : Desk) (a : Arrival) (rest : List Arrival) → (served s d (a ∷ rest)).stranger ≡ None → is_strange s d a ≡ false
+not_strange_of s d a rest e = by (is_strange s d a) refl
+  where
+    by : (t : Bool) → is_strange s d a ≡ t → is_strange s d a ≡ false
+    by true f = absurd (never (sym (stranger_on s d a rest f) ∙ e))
+      where
+        never : Some a.0 ≡ None → ⊥
+        never z = cc
+    by false f = f
+
+pub onward : (s : Setting) (Good : ℕ → Going → Type 0) (lasting : Lasting s.header Good) (ks : List MeetKind) (d : Desk) (goings : List Going) (r : ℕ) (i : RankItem) (rest : List Arrival)
+    → Stands s Good ks d goings ((r, i) ∷ rest) → Onward s Good d goings r i rest
+onward s Good lasting ks d goings r i rest t = by (entry_below goings r low)
+  where
+    low : r < length goings
+    low = ltb-true r (length goings) (and_first (nat_lt r (length goings)) (list_all (λ a. nat_lt a.0 (length goings)) rest) t.numbers)
+
+    e : is_strange s d (r, i) ≡ false
+    e = not_strange_of s d (r, i) rest (join s Good lasting ks d goings ((r, i) ∷ rest) t).no_stranger
+
+    by_two : (x : Seat) (g : Going) → slice_get d.seats r ≡ Some x → slice_get goings r ≡ Some g → Onward s Good d goings r i rest
+    by_two x g a b = record {
+      not_strange = e;
+      kinds_left = stepped.kinds_left;
+      after = stepped.after;
+      folded = stepped.folded;
+      stands = stands;
+      seat = x;
+      going = g;
+      at_seat = a;
+      at_going = b;
+      offers = offers;
+      is = event_is s d r i x a;
+    }
+      where
+        mine : Sits s.header Good ks d.reached x g (i ∷ own_items r rest) (owed s d ((r, i) ∷ rest) r)
+        mine = subst (λ (u : List RankItem). Sits s.header Good ks d.reached x g u (owed s d ((r, i) ∷ rest) r)) (own_here r i rest) (t.seated.sits r x g a b)
+
+        ended : x.ended ≡ None
+        ended = not_ended s.header Good ks d.reached x g i (own_items r rest) (owed s d ((r, i) ∷ rest) r) mine
+
+        offers : (c : ℕ) (o : Offer) → i ≡ item.Offer c o → (advance s.header g).1 ≡ Some o
+        offers c o f =
+            (offered_now s.header Good ks d.reached x g c o (own_items r rest) (owed s d ((r, i) ∷ rest) r) ended
+            (strange_alone s d r i x a e (ap (λ (z : RankItem). is_offer z) f))
+            (subst (λ (z : RankItem). Sits s.header Good ks d.reached x g (z ∷ own_items r rest) (owed s d ((r, i) ∷ rest) r)) f mine)).is
+
+        stepped : Stepped s Good d goings rest (event s d (r, i))
+        stepped = subst (λ (u : Event). Stepped s Good d goings rest u) (sym (event_is s d r i x a))
+            (item_steps s Good lasting ks d goings r i rest x g a b ended
+            (strange_alone s d r i x a e) t.counted t.small t.not_full (and_first (nat_lt r (length goings)) (list_all (λ a. nat_lt a.0 (length goings)) rest) t.numbers)
+            (seated_same s.header Good ks d.reached d.seats goings (λ q. own_items q ((r, i) ∷ rest)) (owed s d ((r, i) ∷ rest)) (λ q. (at_item s d r x i).given q ++ owed s (at_item s d r x i).desk rest q)
+            (λ q. owed_on s d (r, i) rest q e ∙ ap (λ (u : Event). u.given q ++ owed s u.desk rest q) (event_is s d r i x a)) t.seated))
+
+        stands : Stands s Good stepped.kinds_left (event s d (r, i)).desk stepped.after rest
+        stands = record {
+          seated = seated_after s.header Good stepped.kinds_left (event s d (r, i)).desk.reached d.met (event s d (r, i)).desk.met d.seats goings (event s d (r, i)).desk.seats stepped.after
+              (λ q. own_items q rest) (owed s (event s d (r, i)).desk rest) (event s d (r, i)).given (event s d (r, i)).marks t.seated.long stepped.changes;
+          counted = stepped.counted;
+          small = stepped.small;
+          not_full = stepped.not_full;
+          numbers = ap (λ (n : ℕ). list_all (λ a. nat_lt a.0 n) rest) stepped.changes.same_ranks
+              ∙ and_second (nat_lt r (length goings)) (list_all (λ a. nat_lt a.0 (length goings)) rest) t.numbers;
+        }
+
+    by : (g : Going) × (slice_get goings r ≡ Some g) → Onward s Good d goings r i rest
+    by (g, b) = let x = get_beside goings d.seats r g (sym t.seated.long) b in by_two x.0 g x.1 b
+
+-- ---- device calls
+
+module _ (hints : Hints) (s : Setting) (d : Desk) (goings : List Going) (r : ℕ) (x : Seat) (g : Going) (at_seat : slice_get d.seats r ≡ Some x) (at_going : slice_get goings r ≡ Some g)
+    (long : length d.seats ≡ length goings)
+    (waits : (q : ℕ) (x' : Seat) (g' : Going) (o : Offer) → slice_get d.seats q ≡ Some x' → slice_get goings q ≡ Some g' → x'.held ≡ Some o → (advance s.header g').1 ≡ Some o) where
+  solo_is : (c : ℕ) (o : Offer) → (advance s.header g).1 ≡ Some o → solo_calls hints s r o d.state ≡ calls_so_far hints s (d.state, goings) (Solo r c ∷ [])
+  solo_is c o e =
+      let offered : rank_offer s goings r ≡ Some o = ap (λ (m : Option Going). elim m [ None ↦ None | Some h ↦ (advance s.header h).1 ]) at_going ∙ e in
+      sym (append-nil (mark_calls hints s (d.state, goings) (Solo r c)) ∙ ap (λ (m : Option Offer). elim m [ None ↦ [] | Some p ↦ solo_calls hints s r p d.state ]) offered)
+
+  meets_is : (o : Offer) (t : Bool) → (advance s.header g).1 ≡ Some o → list_all holds (set d.seats r (seat_held x o)) ≡ t
+      → calls_if hints s d (set d.seats r (seat_held x o)) t ≡ calls_so_far hints s (d.state, goings) (meets_if s d (set d.seats r (seat_held x o)) t).marks
+  meets_is o false e h = refl
+  meets_is o true e h =
+      sym (append-nil (meeting_calls hints s (offers_of (map (advance s.header) goings)) d.state)
+      ∙ ap (λ (offers : List Offer). meeting_calls hints s offers d.state)
+      (same_offers s.header (set d.seats r (seat_held x o)) goings (length-set d.seats r (seat_held x o) ∙ long) h held))
+    where
+      held : (q : ℕ) (x' : Seat) (g' : Going) (o' : Offer) → slice_get (set d.seats r (seat_held x o)) q ≡ Some x' → slice_get goings q ≡ Some g' → x'.held ≡ Some o'
+          → (advance s.header g').1 ≡ Some o'
+      held q x' g' o' a b w = by (get_set d.seats r q (seat_held x o) x' a)
+        where
+          by : ((q ≡ r) × (x' ≡ seat_held x o)) ⊎ (slice_get d.seats q ≡ Some x') → (advance s.header g').1 ≡ Some o'
+          by (inl (n, f)) =
+              let same : g' ≡ g = same_Some g' g (sym b ∙ ap (λ (k : ℕ). slice_get goings k) n ∙ at_going) in
+              ap (λ (z : Going). (advance s.header z).1) same ∙ e ∙ sym (ap (λ (z : Seat). z.held) f) ∙ w
+          by (inr f) = waits q x' g' o' f b w
+
+  offer_is : (c : ℕ) (o : Offer) (k : OfferKind) → (advance s.header g).1 ≡ Some o → calls_at_offer hints s d r o x k ≡ calls_so_far hints s (d.state, goings) (at_offer s d r c o x k).marks
+  offer_is c o offer.Solo e = solo_is c o e
+  offer_is c o (offer.Meet kind) e = meets_is o (list_all holds (set d.seats r (seat_held x o))) e refl
+
+  item_is : (i : RankItem) → ((c : ℕ) (o : Offer) → i ≡ item.Offer c o → (advance s.header g).1 ≡ Some o)
+      → calls_at hints s d r i (Some x) ≡ calls_so_far hints s (d.state, goings) (at_item s d r x i).marks
+  item_is (item.Ended memory) f = refl
+  item_is (item.Offer c o) f = offer_is c o o.kind (f c o refl)
+
+calls_on : (hints : Hints) (s : Setting) (d : Desk) (a : Arrival) (rest : List Arrival) → is_strange s d a ≡ false
+    → desk_calls hints s d (a ∷ rest) ≡ event_calls hints s d a ++ desk_calls hints s (event s d a).desk rest
+calls_on hints s d a rest e = rw (e, desk_calls) refl
+
+-- the owner's device calls are those of the serial run, without the close
+pub calls_along : (hints : Hints) (s : Setting) (Good : ℕ → Going → Type 0) (lasting : Lasting s.header Good) (ks : List MeetKind) (d : Desk) (goings : List Going) (arrivals : List Arrival)
+    → Stands s Good ks d goings arrivals → desk_calls hints s d arrivals ≡ calls_so_far hints s (d.state, goings) (served s d arrivals).marks
+calls_along hints s Good lasting ks d goings [] t = refl
+calls_along hints s Good lasting ks d goings ((r, i) ∷ rest) t =
+    by (onward s Good lasting ks d goings r i rest t) (λ ks' d' goings' u. calls_along hints s Good lasting ks' d' goings' rest u)
+  where
+    by : Onward s Good d goings r i rest
+        → ((ks' : List MeetKind) (d' : Desk) (goings' : List Going) → Stands s Good ks' d' goings' rest → desk_calls hints s d' rest ≡ calls_so_far hints s (d'.state, goings') (served s d' rest).marks)
+        → desk_calls hints s d ((r, i) ∷ rest) ≡ calls_so_far hints s (d.state, goings) (served s d ((r, i) ∷ rest)).marks
+    by o again =
+        let here : event_calls hints s d (r, i) ≡ calls_so_far hints s (d.state, goings) (event s d (r, i)).marks =
+        ap (λ (m : Option Seat). calls_at hints s d r i m) o.at_seat
+        ∙ item_is hints s d goings r o.seat o.going o.at_seat o.at_going t.seated.long (λ q x' g' o' a b w. ((t.seated.sits q x' g' a b).waits o' w).0) i o.offers
+        ∙ ap (λ (u : Event). calls_so_far hints s (d.state, goings) u.marks) (sym o.is) in
+        let later = again o.kinds_left (event s d (r, i)).desk o.after o.stands in
+        calls_on hints s d (r, i) rest o.not_strange
+        ∙ (λ j. here j ++ later j)
+        ∙ ap (λ (z : Counted × List Going). calls_so_far hints s (d.state, goings) (event s d (r, i)).marks ++ calls_so_far hints s z (served s (event s d (r, i)).desk rest).marks) (sym o.folded)
+        ∙ sym (calls_more hints s (d.state, goings) (event s d (r, i)).marks (served s (event s d (r, i)).desk rest).marks)
+        ∙ ap (λ (ms : List Mark). calls_so_far hints s (d.state, goings) ms) (sym (served_on s d (r, i) rest o.not_strange).marks)
+
+-- ---- offers that raise the count by their kind bring no puts
+
+single_go : (header : Header) (o : Offer) (calls : List Call) (r : Rank) (answers : List Answer) → (go header r answers calls).1 ≡ Some o → IsSingleOffer o
+single_go header o [] r answers e = absurd (never e)
+  where
+    never : None ≡ Some o → ⊥
+    never z = cc
+single_go header o (c ∷ calls) r answers e = by (step header r c) (quiet_step header r c) (λ r' answers' f. single_go header o calls r' answers' f) e
+  where
+    by : (next : Rank × Want) → IsQuiet next → ((r' : Rank) (answers' : List Answer) → (go header r' answers' calls).1 ≡ Some o → IsSingleOffer o)
+        → (elim next.1 as (λ (x : Want). Going × Option Offer) [
+          | want.Answered a ↦ go header next.0 (answers ++ a ∷ []) calls
+          | want.Meet p ↦ (record { rank = next.0; answers = answers; calls = calls }, Some p)
+          | want.Solo p ↦ (record { rank = next.0; answers = answers; calls = calls }, Some p)
+        ]).1 ≡ Some o → IsSingleOffer o
+    by (r', want.Answered a) q again f = again r' (answers ++ a ∷ []) f
+    by (r', want.Meet p) q again f = subst (λ (z : Offer). IsSingleOffer z) (same_Some p o f) q
+    by (r', want.Solo p) q again f = subst (λ (z : Offer). IsSingleOffer z) (same_Some p o f) q
+
+single_item : (header : Header) (g : Going) (i : RankItem) → ((c : ℕ) (o : Offer) → i ≡ item.Offer c o → (advance header g).1 ≡ Some o) → IsSingle i
+single_item header g (item.Ended memory) f = tt
+single_item header g (item.Offer c o) f = single_go header o g.calls g.rank g.answers (f c o refl)
+
+pub single_along : (s : Setting) (Good : ℕ → Going → Type 0) (lasting : Lasting s.header Good) (ks : List MeetKind) (d : Desk) (goings : List Going) (arrivals : List Arrival)
+    → Stands s Good ks d goings arrivals → AreSingle arrivals
+single_along s Good lasting ks d goings [] t a h = absurd h
+single_along s Good lasting ks d goings ((r, i) ∷ rest) t a h =
+    by (onward s Good lasting ks d goings r i rest t) (λ ks' d' goings' u. single_along s Good lasting ks' d' goings' rest u) h
+  where
+    by : Onward s Good d goings r i rest → ((ks' : List MeetKind) (d' : Desk) (goings' : List Going) → Stands s Good ks' d' goings' rest → AreSingle rest)
+        → ((r, i) ≡ a) ⊎ In rest a → IsSingle a.1
+    by o again (inl e) = subst (λ (b : Arrival). IsSingle b.1) e (single_item s.header o.going i o.offers)
+    by o again (inr e) = again o.kinds_left (event s d (r, i)).desk o.after o.stands a e

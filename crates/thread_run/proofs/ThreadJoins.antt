@@ -1,0 +1,51 @@
+-- Threads as they are joined.
+use Rattle.std.proofs.Common.{◌≡◌, ℕ, refl, sym, ◌∙◌, ap, subst, inl, inr, ◌⊎◌, List, [], ◌∷◌, ◌++◌, length, map, Some, None, arith}
+use Rattle.std.proofs.lemmas.List.{append-nil, length-map}
+use Rattle.std.specs.Prelude.{slice_get}
+use Rattle.std.proofs.lemmas.Option.{same_Some}
+use Rattle.nc_base.specs.declared.run.RankEnd.{RankEnd}
+use Rattle.nc_base.specs.declared.step.OwnerItem.{OwnerItem}
+use Rattle.nc_base.specs.declared.step.RankItem.{RankItem}
+use Rattle.ruled_line.specs.Ends.{End, items_under}
+use Rattle.thread_run.specs.Resident.{IsSettledOf}
+use Rattle.thread_run.specs.declared.resident.Resident.{Resident}
+use Rattle.thread_run.proofs.ThreadStarts.{get_push, get_low}
+
+pub map_snoc : {P X : Type 0} (f : P → X) (ps : List P) (p : P) (xs : List X) → map f (ps ++ p ∷ []) ++ xs ≡ map f ps ++ f p ∷ xs
+map_snoc f [] p xs = refl
+map_snoc f (q ∷ ps) p xs = ap (λ (v : List _). f q ∷ v) (map_snoc f ps p xs)
+
+abbrev pub AreSettledSoFar : List (ℕ × RankItem) → List Resident → List (End OwnerItem) → List RankEnd → Type 0
+AreSettledSoFar arrivals ones lines ends = (r : ℕ) (one : Resident) (line : End OwnerItem) (end : RankEnd) → slice_get ones r ≡ Some one → slice_get lines r ≡ Some line → slice_get ends r ≡ Some end
+    → IsSettledOf one (items_under r arrivals) line.items end
+
+pub settled_first : (arrivals : List (ℕ × RankItem)) (ones : List Resident) (lines : List (End OwnerItem)) (ends : List RankEnd) → ends ≡ [] → AreSettledSoFar arrivals ones lines ends
+settled_first arrivals ones lines ends e r one line end a b d = absurd (never (sym (ap (λ (v : List RankEnd). slice_get v r) e) ∙ d))
+  where
+    never : None ≡ Some end → ⊥
+    never z = cc
+
+pub settled_push : (arrivals now : List (ℕ × RankItem)) (ones : List Resident) (lines : List (End OwnerItem)) (ends ends' : List RankEnd) (n : ℕ) (one : Resident) (line : End OwnerItem) (end : RankEnd)
+    → ends' ≡ ends ++ end ∷ [] → length ends ≡ n → now ≡ arrivals → one.child.promise.ends.value.out.number ≡ n → slice_get ones n ≡ Some one → slice_get lines n ≡ Some line
+    → IsSettledOf one (items_under one.child.promise.ends.value.out.number now) line.items end → AreSettledSoFar arrivals ones lines ends → AreSettledSoFar arrivals ones lines ends'
+settled_push arrivals now ones lines ends ends' n one line end e l same number at_one at_line k h r x y z a b d = by (get_push ends end z r (sym (ap (λ (v : List RankEnd). slice_get v r) e) ∙ d))
+  where
+    by : (slice_get ends r ≡ Some z) ⊎ ((r ≡ length ends) × (end ≡ z)) → IsSettledOf x (items_under r arrivals) y.items z
+    by (inl f) = h r x y z a b f
+    by (inr (m, f)) =
+        let place : r ≡ n = m ∙ l in
+        let first : one ≡ x = same_Some one x (sym at_one ∙ ap (slice_get ones) (sym place) ∙ a) in
+        let second : line ≡ y = same_Some line y (sym at_line ∙ ap (slice_get lines) (sym place) ∙ b) in
+        let here : IsSettledOf one (items_under r arrivals) line.items end =
+        subst (λ (q : ℕ). IsSettledOf one (items_under q arrivals) line.items end) (number ∙ sym place) (subst (λ (v : List (ℕ × RankItem)). IsSettledOf one (items_under one.child.promise.ends.value.out.number v) line.items end) same k) in
+        subst (λ (w : RankEnd). IsSettledOf x (items_under r arrivals) y.items w) f
+        (subst (λ (w : End OwnerItem). IsSettledOf x (items_under r arrivals) w.items end) second (subst (λ (w : Resident). IsSettledOf w (items_under r arrivals) line.items end) first here))
+
+pub of_either : {A B P : Type 0} → A ⊎ B → (A → P) → (B → P) → P
+of_either (inl a) f h = f a
+of_either (inr b) f h = h b
+
+-- nothing is left
+pub none_left : {P X : Type 0} (f : P → X) (ps : List P) (rest xs : List X) → map f ps ++ rest ≡ xs → length rest ≡ 0 → length ps ≡ length xs
+none_left f ps [] xs e l = sym (length-map ps f) ∙ ap (λ (v : List _). length v) (sym (append-nil (map f ps)) ∙ e)
+none_left f ps (y ∷ rest) xs e l = absurd (omega arith)

@@ -1,0 +1,228 @@
+-- The counts that the ranks know at their ends are such that the header can have.
+use Rattle.std.proofs.Common.{◌≡◌, ℕ, suc, ◌*◌, ◌^◌, ◌<◌, refl, sym, ◌∙◌, ap, subst, inl, inr, ◌⊎◌, List, [], ◌∷◌, ◌++◌, length, map, max, set, Bool, true, false, Option, Some, None, arith}
+use Rattle.std.proofs.lemmas.Bool.Decides.{eqb_tells, nat_tests}
+use Rattle.std.proofs.lemmas.List.{length-set, map-append}
+use Rattle.std.specs.Prelude.{slice_get, flat_map, fold, not, nat_lt, ◌==◌, IfSome}
+use Rattle.std.specs.List.{enumerate_from, list_all, list_any}
+use Rattle.std.proofs.lemmas.Option.{same_Some}
+use Rattle.list_laws.proofs.Truth.{or_first_false, or_second_false}
+use Rattle.nc_base.specs.declared.answer.Code.{Code}
+use Rattle.nc_base.specs.declared.answer.Code.TheVariants as code
+use Rattle.nc_base.specs.declared.answer.Pair.{Pair}
+use Rattle.nc_base.specs.declared.header.Header.{Header}
+use Rattle.nc_base.specs.declared.header.Var.{Var}
+use Rattle.nc_base.specs.declared.plan.Post.{Post}
+use Rattle.nc_base.specs.declared.request.Direction.TheVariants as way
+use Rattle.nc_base.specs.declared.step.Mark.{Mark}
+use Rattle.nc_base.specs.declared.step.MeetKind.{MeetKind}
+use Rattle.nc_base.specs.declared.step.Offer.{Offer}
+use Rattle.nc_base.specs.declared.step.OfferKind.{OfferKind}
+use Rattle.nc_base.specs.declared.step.OfferKind.TheVariants as offer
+use Rattle.nc_base.specs.declared.step.RankItem.{RankItem}
+use Rattle.nc_base.specs.declared.step.RankItem.TheVariants as item
+use Rattle.serial_spec.specs.Desk.{Desk, Event, Seat, at_item, at_offer, event, holds, meets_if, needed_now, offers_held, refused, served, strange_offer}
+use Rattle.serial_spec.specs.ExternalForm.{size_of}
+use Rattle.serial_spec.specs.FileStep.{Counted, Setting, needs, puts_of, told}
+use Rattle.serial_spec.specs.HeaderGrammar.{header_len, is_sound}
+use Rattle.serial_spec.specs.History.{Arrival}
+use Rattle.serial_spec.specs.Layout.{end_of, greatest, product}
+use Rattle.serial_spec.specs.Limits.{record_limit}
+use Rattle.serial_spec.specs.Records.{needed}
+use Rattle.serial_spec.specs.RegionCheck.{is_ok_code}
+use Rattle.serial_spec.specs.SerialEnd.{Going, advance, after_mark}
+use Rattle.serial_spec.specs.SharedByte.{Puts}
+use Rattle.var_layout.proofs.ElementPlaces.{sound_end}
+use Rattle.collective_round.proofs.CountedLaws.{put_needed}
+use Rattle.join_laws.proofs.CountLaws.{bad_none, bad_put}
+use Rattle.join_laws.proofs.EventLaws.{get_set}
+use Rattle.join_laws.proofs.JoinLaws.{Stands, served_on}
+use Rattle.join_laws.proofs.ListLaws.{get_beside}
+use Rattle.join_laws.proofs.StepLaws.{offer_at, offers_long}
+use Rattle.join_laws.proofs.StreamLaws.{Lasting, seat_held}
+use Rattle.join_laws.proofs.TieLaws.{one_held}
+use Rattle.thread_run.proofs.ThreadCalls.{Onward, onward}
+
+-- ---- counts whose file does not end too far
+
+module _ (header : Header) (sound : is_sound header ≡ true) where
+  unfoldable pub EndsNear : ℕ → Type 0
+  EndsNear n = end_of header (header_len header) n < 2 ^ 62
+
+  pub near_first : EndsNear header.records
+  unfolding EndsNear
+  near_first = sound_end header header.records sound (omega arith)
+
+  near_zero : EndsNear 0
+  unfolding EndsNear
+  near_zero = sound_end header 0 sound (omega arith)
+
+  near_max : (a b : ℕ) → EndsNear a → EndsNear b → EndsNear (max a b)
+  near_max a b h k = by (nat_lt a b) refl
+    where
+      by : (t : Bool) → nat_lt a b ≡ t → EndsNear (max a b)
+      by true e = let n : b ≡ max a b = grind (arith, nat_tests) in subst (λ (m : ℕ). EndsNear m) n k
+      by false e = let n : a ≡ max a b = grind (arith, nat_tests) in subst (λ (m : ℕ). EndsNear m) n h
+
+  near_post : (known : ℕ) (post : Post) → bad_put header known post ≡ false → EndsNear (needed header post)
+  unfolding EndsNear
+  near_post known post h = (put_needed header post (record { accepted = (known, way.Put, ok_is _ (or_first_false _ _ h)); whole = whole (slice_get header.vars post.var) (or_second_false (refused header known way.Put post) _ h) })).1
+    where
+      ok_is : (c : Code) → not (is_ok_code c) ≡ false → c ≡ code.Ok
+      ok_is code.Ok e = refl
+      ok_is c e = absurd cc
+
+      same : (a b : ℕ) → not (a == b) ≡ false → a ≡ b
+      same a b e = by (eqb_tells a b)
+        where
+          by : (((a == b) ≡ true) × (a ≡ b)) ⊎ (((a == b) ≡ false) × (a ≡ b → ⊥)) → a ≡ b
+          by (inl (f, n)) = n
+          by (inr (f, n)) = absurd (never (sym (ap not f) ∙ e))
+            where
+              never : true ≡ false → ⊥
+              never z = cc
+
+      whole : (o : Option Var) → elim o [ None ↦ true | Some var ↦ not (length post.bytes == product post.region.count * size_of var.kind) ] ≡ false
+          → IfSome o (λ v. length post.bytes ≡ product post.region.count * size_of v.kind)
+      whole None e = tt
+      whole (Some v) e = same (length post.bytes) (product post.region.count * size_of v.kind) e
+
+  most_needed : Puts → ℕ
+  most_needed puts = greatest (map (λ p. needed header p.1) puts)
+
+  near_posts : (known rank : ℕ) (posts : List Post) → list_any (bad_put header known) posts ≡ false → EndsNear (most_needed (map (λ post. (rank, post)) posts))
+  unfolding most_needed
+  near_posts known rank [] h = near_zero
+  near_posts known rank (p ∷ posts) h =
+      near_max (needed header p) (greatest (map (λ q. needed header q.1) (map (λ post. (rank, post)) posts)))
+      (near_post known p (or_first_false _ _ h)) (near_posts known rank posts (or_second_false (bad_put header known p) _ h))
+
+  near_greatest : (xs ys : List ℕ) → EndsNear (greatest xs) → EndsNear (greatest ys) → EndsNear (greatest (xs ++ ys))
+  near_greatest [] ys h k = k
+  near_greatest (x ∷ xs) ys h k =
+      let a = near_max (greatest (x ∷ xs)) (greatest ys) h k in
+      let e : max (greatest (x ∷ xs)) (greatest ys) ≡ greatest ((x ∷ xs) ++ ys) = sym (greatest_two (x ∷ xs) ys) in
+      subst (λ (m : ℕ). EndsNear m) e a
+    where
+      greatest_two : (xs ys : List ℕ) → greatest (xs ++ ys) ≡ max (greatest xs) (greatest ys)
+      greatest_two [] ys = omega arith
+      greatest_two (x ∷ xs) ys = let a = greatest_two xs ys in omega arith
+
+  near_two : (a b : Puts) → EndsNear (most_needed a) → EndsNear (most_needed b) → EndsNear (most_needed (a ++ b))
+  unfolding most_needed
+  near_two a b h k =
+      subst (λ (xs : List ℕ). EndsNear (greatest xs)) (sym (map-append (λ (p : ℕ × Post). needed header p.1) a b))
+      (near_greatest (map (λ p. needed header p.1) a) (map (λ p. needed header p.1) b) h k)
+
+  near_all : (n : ℕ) (offers : List Offer) (a : ℕ) → ((q : ℕ) (o : Offer) → slice_get offers q ≡ Some o → strange_offer header n (Some o) ≡ false)
+      → EndsNear (most_needed (flat_map puts_of (enumerate_from a offers)))
+  unfolding most_needed
+  near_all n [] a f = near_zero
+  near_all n (o ∷ offers) a f =
+      near_two (puts_of (a, o)) (flat_map puts_of (enumerate_from _ offers)) (near_posts o.known a o.batch.puts (bad_none header n o (f 0 o refl)))
+      (near_all n offers _ (λ q p e. f (suc q) p e))
+
+near_needs : (s : Setting) (sound : is_sound s.header ≡ true) (puts : Puts) → EndsNear s.header sound (most_needed s.header sound puts) → EndsNear s.header sound (needed_now s puts)
+unfolding most_needed
+near_needs s sound puts h = by (told s puts)
+  where
+    by : (pair : Option Pair) → EndsNear s.header sound (needs s puts pair)
+    by None = h
+    by (Some p) = near_zero s.header sound
+
+-- ---- what an arrival brings
+
+module _ (s : Setting) (sound : is_sound s.header ≡ true) (d : Desk) (goings : List Going) (r : ℕ) (x : Seat) (g : Going)
+    (at_seat : slice_get d.seats r ≡ Some x) (at_going : slice_get goings r ≡ Some g) (long : length d.seats ≡ length goings)
+    (fits : (q : ℕ) (g' : Going) (o : Offer) → slice_get goings q ≡ Some g' → (advance s.header g').1 ≡ Some o → strange_offer s.header d.reached (Some o) ≡ false)
+    (waits : (q : ℕ) (x' : Seat) (g' : Going) (o : Offer) → slice_get d.seats q ≡ Some x' → slice_get goings q ≡ Some g' → x'.held ≡ Some o → (advance s.header g').1 ≡ Some o)
+    (near : EndsNear s.header sound d.reached) where
+  near_meets : (o : Offer) (t : Bool) → (advance s.header g).1 ≡ Some o → list_all holds (set d.seats r (seat_held x o)) ≡ t
+      → EndsNear s.header sound (meets_if s d (set d.seats r (seat_held x o)) t).desk.reached
+  near_meets o false e h = near
+  near_meets o true e h =
+      near_max s.header sound d.reached (needed_now s (flat_map puts_of (enumerate_from 0 (offers_held (set d.seats r (seat_held x o)))))) near
+      (near_needs s sound (flat_map puts_of (enumerate_from 0 (offers_held (set d.seats r (seat_held x o)))))
+      (near_all s.header sound d.reached (offers_held (set d.seats r (seat_held x o))) 0 each))
+    where
+      held : (q : ℕ) (x' : Seat) (g' : Going) (o' : Offer) → slice_get (set d.seats r (seat_held x o)) q ≡ Some x' → slice_get goings q ≡ Some g' → x'.held ≡ Some o'
+          → (advance s.header g').1 ≡ Some o'
+      held q x' g' o' a b w = by (get_set d.seats r q (seat_held x o) x' a)
+        where
+          by : ((q ≡ r) × (x' ≡ seat_held x o)) ⊎ (slice_get d.seats q ≡ Some x') → (advance s.header g').1 ≡ Some o'
+          by (inl (n, f)) =
+              let same : g' ≡ g = same_Some g' g (sym b ∙ ap (λ (k : ℕ). slice_get goings k) n ∙ at_going) in
+              ap (λ (z : Going). (advance s.header z).1) same ∙ e ∙ sym (ap (λ (z : Seat). z.held) f) ∙ w
+          by (inr f) = waits q x' g' o' f b w
+
+      each : (q : ℕ) (o' : Offer) → slice_get (offers_held (set d.seats r (seat_held x o))) q ≡ Some o' → strange_offer s.header d.reached (Some o') ≡ false
+      each q o' a =
+          let y = get_beside (offers_held (set d.seats r (seat_held x o))) (set d.seats r (seat_held x o)) q o' (offers_long (set d.seats r (seat_held x o)) h) a in
+          let z = get_beside (set d.seats r (seat_held x o)) goings q y.0 (length-set d.seats r (seat_held x o) ∙ long) y.1 in
+          let w = one_held (set d.seats r (seat_held x o)) q y.0 h y.1 in
+          let same : w.0 ≡ o' = same_Some w.0 o' (sym (offer_at (set d.seats r (seat_held x o)) q y.0 w.0 h y.1 w.1) ∙ a) in
+          subst (λ (p : Offer). strange_offer s.header d.reached (Some p) ≡ false) same (fits q z.0 w.0 z.1 (held q y.0 z.0 w.0 y.1 z.1 w.1))
+
+  near_offer : (c : ℕ) (o : Offer) (k : OfferKind) → (advance s.header g).1 ≡ Some o → EndsNear s.header sound (at_offer s d r c o x k).desk.reached
+  near_offer c o offer.Solo e =
+      near_max s.header sound d.reached (needed_now s (puts_of (r, o))) near
+      (near_needs s sound (puts_of (r, o)) (near_posts s.header sound o.known r o.batch.puts (bad_none s.header d.reached o (fits r g o at_going e))))
+  near_offer c o (offer.Meet kind) e = near_meets o (list_all holds (set d.seats r (seat_held x o))) e refl
+
+  near_item : (i : RankItem) → ((c : ℕ) (o : Offer) → i ≡ item.Offer c o → (advance s.header g).1 ≡ Some o) → EndsNear s.header sound (at_item s d r x i).desk.reached
+  near_item (item.Ended memory) f = near
+  near_item (item.Offer c o) f = near_offer c o o.kind (f c o refl)
+
+-- ---- along all arrivals
+
+pub near_along : (s : Setting) (sound : is_sound s.header ≡ true) (Good : ℕ → Going → Type 0) (lasting : Lasting s.header Good) (ks : List MeetKind) (d : Desk) (goings : List Going) (arrivals : List Arrival)
+    → Stands s Good ks d goings arrivals → EndsNear s.header sound d.reached → EndsNear s.header sound (served s d arrivals).desk.reached
+near_along s sound Good lasting ks d goings [] t near = near
+near_along s sound Good lasting ks d goings ((r, i) ∷ rest) t near =
+    by (onward s Good lasting ks d goings r i rest t) (λ ks' d' goings' u n. near_along s sound Good lasting ks' d' goings' rest u n)
+  where
+    by : Onward s Good d goings r i rest
+        → ((ks' : List MeetKind) (d' : Desk) (goings' : List Going) → Stands s Good ks' d' goings' rest → EndsNear s.header sound d'.reached → EndsNear s.header sound (served s d' rest).desk.reached)
+        → EndsNear s.header sound (served s d ((r, i) ∷ rest)).desk.reached
+    by o again =
+        let here = near_item s sound d goings r o.seat o.going o.at_seat o.at_going t.seated.long (λ q g' p b e. fits q g' p b e) (λ q x' g' p a b w. ((t.seated.sits q x' g' a b).waits p w).0) near i o.offers in
+        subst (λ (z : Desk). EndsNear s.header sound z.reached) (sym (served_on s d (r, i) rest o.not_strange).desk)
+        (again o.kinds_left (event s d (r, i)).desk o.after o.stands (subst (λ (u : Event). EndsNear s.header sound u.desk.reached) (sym o.is) here))
+      where
+        fits : (q : ℕ) (g' : Going) (p : Offer) → slice_get goings q ≡ Some g' → (advance s.header g').1 ≡ Some p → strange_offer s.header d.reached (Some p) ≡ false
+        fits q g' p b e = let y = get_beside goings d.seats q g' (sym t.seated.long) b in lasting.fits d.reached g' p (t.seated.sits q y.0 g' y.1 b).good e
+
+fold_two : (s : Setting) (state : Counted × List Going) (a b : List Mark) → fold (after_mark s) state (a ++ b) ≡ fold (after_mark s) (fold (after_mark s) state a) b
+fold_two s state [] b = refl
+fold_two s state (m ∷ a) b = fold_two s (after_mark s state m) a b
+
+-- what is true of the ranks at their ends
+pub good_along : (s : Setting) (Good : ℕ → Going → Type 0) (lasting : Lasting s.header Good) (ks : List MeetKind) (d : Desk) (goings : List Going) (arrivals : List Arrival)
+    → Stands s Good ks d goings arrivals → (q : ℕ) (g : Going) → slice_get (fold (after_mark s) (d.state, goings) (served s d arrivals).marks).1 q ≡ Some g → Good (served s d arrivals).desk.reached g
+good_along s Good lasting ks d goings [] t q g b = let y = get_beside goings d.seats q g (sym t.seated.long) b in (t.seated.sits q y.0 g y.1 b).good
+good_along s Good lasting ks d goings ((r, i) ∷ rest) t q g b =
+    by (onward s Good lasting ks d goings r i rest t) (λ ks' d' goings' u b'. good_along s Good lasting ks' d' goings' rest u q g b')
+  where
+    by : Onward s Good d goings r i rest
+        → ((ks' : List MeetKind) (d' : Desk) (goings' : List Going) → Stands s Good ks' d' goings' rest → slice_get (fold (after_mark s) (d'.state, goings') (served s d' rest).marks).1 q ≡ Some g
+        → Good (served s d' rest).desk.reached g)
+        → Good (served s d ((r, i) ∷ rest)).desk.reached g
+    by o again =
+        let on = served_on s d (r, i) rest o.not_strange in
+        let same : fold (after_mark s) (d.state, goings) (served s d ((r, i) ∷ rest)).marks ≡ fold (after_mark s) ((event s d (r, i)).desk.state, o.after) (served s (event s d (r, i)).desk rest).marks =
+        ap (λ (m : List Mark). fold (after_mark s) (d.state, goings) m) on.marks ∙ fold_two s (d.state, goings) (event s d (r, i)).marks (served s (event s d (r, i)).desk rest).marks
+        ∙ ap (λ (u : Counted × List Going). fold (after_mark s) u (served s (event s d (r, i)).desk rest).marks) o.folded in
+        subst (λ (z : Desk). Good z.reached g) (sym on.desk)
+        (again o.kinds_left (event s d (r, i)).desk o.after o.stands (sym (ap (λ (u : Counted × List Going). slice_get u.1 q) same) ∙ b))
+
+pub small_along : (s : Setting) (Good : ℕ → Going → Type 0) (lasting : Lasting s.header Good) (ks : List MeetKind) (d : Desk) (goings : List Going) (arrivals : List Arrival)
+    → Stands s Good ks d goings arrivals → (served s d arrivals).desk.reached < record_limit s.header.version
+small_along s Good lasting ks d goings [] t = t.small
+small_along s Good lasting ks d goings ((r, i) ∷ rest) t =
+    by (onward s Good lasting ks d goings r i rest t) (λ ks' d' goings' u. small_along s Good lasting ks' d' goings' rest u)
+  where
+    by : Onward s Good d goings r i rest
+        → ((ks' : List MeetKind) (d' : Desk) (goings' : List Going) → Stands s Good ks' d' goings' rest → (served s d' rest).desk.reached < record_limit s.header.version)
+        → (served s d ((r, i) ∷ rest)).desk.reached < record_limit s.header.version
+    by o again =
+        subst (λ (z : Desk). z.reached < record_limit s.header.version) (sym (served_on s d (r, i) rest o.not_strange).desk)
+        (again o.kinds_left (event s d (r, i)).desk o.after o.stands)

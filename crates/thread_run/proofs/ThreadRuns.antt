@@ -1,0 +1,138 @@
+-- A run on threads without a fault is the serial run of its order.
+use Rattle.std.proofs.Common.{◌≡◌, ℕ, ◌+◌, ◌<◌, sym, ◌∙◌, ap, subst, List, [], ◌++◌, map, max, replicate, true, Option, Some, arith}
+use Rattle.std.specs.Prelude.{slice_get, nat_lt}
+use Rattle.std.specs.List.{enumerate_from}
+use Rattle.std.proofs.lemmas.Option.{same_Some}
+use Rattle.nc_base.specs.declared.header.Header.{Header}
+use Rattle.nc_base.specs.declared.request.Call.{Call}
+use Rattle.nc_base.specs.declared.run.RankEnd.{RankEnd}
+use Rattle.nc_base.specs.declared.script.Script.{Script}
+use Rattle.nc_base.specs.declared.step.Mark.{Mark}
+use Rattle.nc_base.specs.declared.step.OwnerItem.{OwnerItem}
+use Rattle.serial_spec.specs.Desk.{Desk, first_desk, free_seat, owed, served}
+use Rattle.serial_spec.specs.DeviceCalls.{run_calls, store_records}
+use Rattle.serial_spec.specs.FileStep.{Counted, raised}
+use Rattle.serial_spec.specs.HeaderGrammar.{is_sound}
+use Rattle.serial_spec.specs.History.{Arrival, IsLegal}
+use Rattle.serial_spec.specs.Joined.{IsJoined, back_of, close_by, opening_desk, rank_ends, run_of}
+use Rattle.serial_spec.specs.Lawful.{is_lawful}
+use Rattle.serial_spec.specs.Layout.{greatest}
+use Rattle.serial_spec.specs.RankMachine as machine
+use Rattle.serial_spec.specs.RankSide.{rank_end}
+use Rattle.serial_spec.specs.SerialEnd.{End, Going, first_going, serial_from, setting_of}
+use Rattle.collective_round.specs.Rounds.{as_setting, counted}
+use Rattle.join_laws.specs.Alike.{AreAlike}
+use Rattle.join_laws.proofs.AlikeLaws.{end_alike}
+use Rattle.join_laws.proofs.WholeLaws.{lawful_agrees, whole_run}
+use Rattle.join_laws.specs.Alike as own
+use Rattle.thread_run.specs.Attending.{HasFinished}
+use Rattle.thread_run.specs.Owned.{AreSingle, desk_calls}
+use Rattle.thread_run.specs.Serving.{IsDone, IsDoneSo, opening}
+use Rattle.thread_run.specs.Threads.{most_known_of, NoneBroke}
+use Rattle.turn_run.proofs.MeetFile.{raised_records}
+use Rattle.thread_run.proofs.ThreadLists.{alike_from, map_two, rows_same}
+use Rattle.thread_run.proofs.ThreadTies.{Told, finished_of, joined, low_rank, own_of, puts, takes, took_all}
+use Rattle.thread_run.proofs.ThreadWhole.{calls_all, known_sound, single_all}
+
+-- what is told of the run, whether its bytes are told or not
+pub record Finished (script : Script) (header : Header) (arrivals : List Arrival) (ends : List RankEnd) (order : List Mark) : Type 0 where
+  pub legal : IsLegal script order
+  pub sound : is_sound (record header { records = most_known_of ends }) ≡ true
+  pub single : AreSingle arrivals
+
+-- from these bytes
+pub record FinishedSo (script : Script) (header : Header) (arrivals : List Arrival) (ends : List RankEnd) (order : List Mark) (file : List ℕ) (desk : Desk) : Type 0 where
+  pub bytes : (raised (as_setting header) (counted desk.state.file desk.state.records) (most_known_of ends)).file ≡ (serial_from script header file order).bytes
+  pub records : max desk.state.records (most_known_of ends) ≡ (serial_from script header file order).records
+  pub answers : map (λ end. end.answers) ends ≡ (serial_from script header file order).answers
+  pub pending : map (λ end. end.pending) ends ≡ (serial_from script header file order).pending
+  pub calls : run_calls script header file order
+      ≡ desk_calls script.hints (setting_of script header) (opening script.ranks (counted file header.records)) arrivals
+      ++ store_records (setting_of script header) (nat_lt desk.state.records (serial_from script header file order).records)
+
+module _ (script : Script) (header : Header) (arrivals : List Arrival) (given : ℕ → List OwnerItem) (ends : List RankEnd) (order : List Mark) (stranger : Option ℕ)
+    (sound : is_sound header ≡ true) (lawful : is_lawful script ≡ true) (t : Told script header arrivals given ends) (whole : NoneBroke ends)
+    (done : (file : List ℕ) → IsDone (setting_of script header) (opening script.ranks (counted file header.records)) arrivals script.ranks given order stranger) where
+  desk_is : (file : List ℕ) → opening script.ranks (counted file header.records) ≡ opening_desk script header file
+  desk_is file = ap (λ (n : ℕ). first_desk (replicate n free_seat) (counted file header.records)) (sym t.calls)
+
+  alike : (file : List ℕ) (q : ℕ) → q < script.ranks → AreAlike (given q) (back_of script header file arrivals q)
+  alike file q low =
+      alike_from (given q) (back_of script header file arrivals q)
+      (subst (λ (d : Desk). own.AreAlike (given q) (owed (setting_of script header) d arrivals q)) (desk_is file) ((done file).given q low))
+
+  order_is : (file : List ℕ) → order ≡ (run_of script header file arrivals).marks
+  order_is file = (done file).order ∙ ap (λ (d : Desk). (served (setting_of script header) d arrivals).marks) (desk_is file)
+
+  joined_at : (file : List ℕ) → IsJoined script header file arrivals
+  joined_at file = joined script header arrivals given ends t (lawful_agrees script lawful) whole file (alike file)
+
+  -- ---- the ends
+
+  -- one rank's end, by what came back to it
+  each_end : {X : Type 0} (f : RankEnd → X) (h : Going → X) (back : ℕ → List OwnerItem)
+      → ((r : ℕ) (own : List Call) (e : slice_get script.calls r ≡ Some own) → f (own_of script header arrivals given ends t r own e).end ≡ h (rank_end header (first_going header own) (back r)))
+      → map f ends ≡ map h (map (λ p. rank_end header (first_going header p.1) (back p.0)) (enumerate_from 0 script.calls))
+  each_end f h back k =
+      rows_same f (λ (p : ℕ × List Call). h (rank_end header (first_going header p.1) (back p.0))) ends script.calls 0 (t.long ∙ sym t.calls)
+      (λ r end own a e.
+      let o = own_of script header arrivals given ends t r own e in
+      let same : r ≡ 0 + r = omega arith in
+      ap f (same_Some end o.end (sym a ∙ o.at_end)) ∙ k r own e ∙ ap (λ (q : ℕ). h (rank_end header (first_going header own) (back q))) same)
+      ∙ sym (map_two h (λ (p : ℕ × List Call). rank_end header (first_going header p.1) (back p.0)) (enumerate_from 0 script.calls))
+
+  known_is : (file : List ℕ) → most_known_of ends ≡ greatest (map (λ g. g.rank.known) (rank_ends script header file arrivals))
+  known_is file =
+      ap greatest (each_end (λ end. end.known) (λ g. g.rank.known) (back_of script header file arrivals)
+      (λ r own e.
+      let agreed = lawful_agrees script lawful in
+      let took = took_all script header arrivals given ends t agreed whole file (alike file) r own e in
+      let near = alike file r (low_rank script header arrivals given ends t r own e) in
+      (finished_of script header arrivals given ends t agreed whole file (alike file) r own e).known
+      ∙ ap (λ (v : List OwnerItem). (rank_end header (first_going header own) v).rank.known) took
+      ∙ ap (λ (k : machine.Rank). k.known) (end_alike header (first_going header own) (given r) (back_of script header file arrivals r) near).rank))
+
+  pub finished : Finished script header arrivals ends order
+  finished = record {
+    legal = subst (λ (ms : List Mark). IsLegal script ms) (sym (order_is [])) (whole_run script header [] arrivals sound lawful (joined_at [])).legal;
+    sound = subst (λ (n : ℕ). is_sound (record header { records = n }) ≡ true) (sym (known_is [])) (known_sound script header [] arrivals sound lawful (joined_at []));
+    single = single_all script header [] arrivals sound lawful (joined_at []);
+  }
+
+  pub finished_so : (file : List ℕ) (told : Option (List ℕ)) (records : ℕ)
+      → IsDoneSo (setting_of script header) (opening script.ranks (counted file header.records)) arrivals script.ranks given told records
+      → FinishedSo script header arrivals ends order file (served (setting_of script header) (opening script.ranks (counted file header.records)) arrivals).desk
+  finished_so file told records so = subst (λ (d : Desk). FinishedSo script header arrivals ends order file (served (setting_of script header) d arrivals).desk) (sym (desk_is file)) (record {
+    bytes = ap (λ (n : ℕ). (raised (as_setting header) (counted state.file state.records) n).file) (known_is file) ∙ sym (ap (λ (e : End). e.bytes) last);
+    records = ap (λ (n : ℕ). max state.records n) (known_is file)
+        ∙ sym (raised_records (setting_of script header) state (greatest (map (λ g. g.rank.known) (rank_ends script header file arrivals)))) ∙ sym (ap (λ (e : End). e.records) last);
+    answers = each_end (λ end. end.answers) (λ g. g.answers) (back_of script header file arrivals)
+        (λ r own e. (fin r own e).answers ∙ ap (λ (v : List OwnerItem). (rank_end header (first_going header own) v).answers) (back r own e)) ∙ sym (ap (λ (e : End). e.answers) last);
+    pending = each_end (λ end. end.pending) (λ g. machine.pending g.rank) (back_of script header file arrivals)
+        (λ r own e. (fin r own e).pending ∙ ap (λ (v : List OwnerItem). machine.pending (rank_end header (first_going header own) v).rank) (back r own e)) ∙ sym (ap (λ (e : End). e.pending) last);
+    calls = calls;
+  })
+    where
+      state : Counted
+      state = (run_of script header file arrivals).desk.state
+
+      last : serial_from script header file order ≡ close_by (setting_of script header) (run_of script header file arrivals).desk.state (rank_ends script header file arrivals)
+      last = ap (λ (ms : List Mark). serial_from script header file ms) (order_is file) ∙ (whole_run script header file arrivals sound lawful (joined_at file)).ends
+
+      fin : (r : ℕ) (own : List Call) (e : slice_get script.calls r ≡ Some own)
+          → HasFinished header own (puts script header arrivals given ends t r) (takes script header arrivals given ends t r) (own_of script header arrivals given ends t r own e).end
+      fin r own e = finished_of script header arrivals given ends t (lawful_agrees script lawful) whole file (alike file) r own e
+
+      back : (r : ℕ) (own : List Call) → slice_get script.calls r ≡ Some own → takes script header arrivals given ends t r ≡ back_of script header file arrivals r
+      back r own e =
+          took_all script header arrivals given ends t (lawful_agrees script lawful) whole file (alike file) r own e
+          ∙ so.given r (low_rank script header arrivals given ends t r own e)
+          ∙ ap (λ (d : Desk). owed (setting_of script header) d arrivals r) (desk_is file)
+
+      calls : run_calls script header file order
+          ≡ desk_calls script.hints (setting_of script header) (opening script.ranks (counted file header.records)) arrivals
+          ++ store_records (setting_of script header) (nat_lt (run_of script header file arrivals).desk.state.records (serial_from script header file order).records)
+      calls =
+          ap (λ (ms : List Mark). run_calls script header file ms) (order_is file) ∙ calls_all script header file arrivals sound lawful (joined_at file)
+          ∙ (λ i. desk_calls script.hints (setting_of script header) (sym (desk_is file) i) arrivals
+          ++ store_records (setting_of script header) (nat_lt (run_of script header file arrivals).desk.state.records (serial_from script header file (sym (order_is file) i)).records))

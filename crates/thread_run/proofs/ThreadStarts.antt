@@ -1,0 +1,111 @@
+-- Lists that grow by one, and what stands in their middle: threads as they are started and joined.
+use Rattle.std.proofs.Common.{◌≡◌, ℕ, zero, suc, ◌+◌, ◌<◌, ◌≤◌, refl, sym, ◌∙◌, ap, subst, inl, inr, ◌⊎◌, List, [], ◌∷◌, ◌++◌, All, length, map, Option, Some, None, arith}
+use Rattle.std.proofs.lemmas.List.{length-map}
+use Rattle.std.proofs.lemmas.List.Elements.{All-head, All-tail}
+use Rattle.std.specs.Prelude.{slice_get}
+use Rattle.std.specs.List.{range_with_len}
+use Rattle.nc_base.specs.declared.header.Header.{Header}
+use Rattle.nc_base.specs.declared.run.RankEnd.{RankEnd}
+use Rattle.nc_base.specs.declared.script.Script.{Script}
+use Rattle.nc_base.specs.declared.step.OwnerItem.{OwnerItem}
+use Rattle.nc_base.specs.declared.step.RankItem.{RankItem}
+use Rattle.ruled_line.specs.Ends.{End, Line}
+use Rattle.thread_run.specs.Resident.{AreOf, AreResidents, IsOf, IsResident}
+use Rattle.thread_run.specs.declared.resident.Resident.{Resident}
+use Rattle.thread_run.specs.declared.resident.Word.{Word}
+
+-- ---- the middle of a list
+
+pub get_middle : {X : Type 0} (ys : List X) (z : X) (zs xs : List X) → ys ++ z ∷ zs ≡ xs → slice_get xs (length ys) ≡ Some z
+get_middle ys z zs xs e = subst (λ (v : List _). slice_get v (length ys) ≡ Some z) e (at ys)
+  where
+    at : (ys : List _) → slice_get (ys ++ z ∷ zs) (length ys) ≡ Some z
+    at [] = refl
+    at (y ∷ ys) = at ys
+
+pub get_mapped : {P X : Type 0} (f : P → X) (ps : List P) (z : X) (zs xs : List X) → map f ps ++ z ∷ zs ≡ xs → slice_get xs (length ps) ≡ Some z
+get_mapped f ps z zs xs e = ap (λ (n : ℕ). slice_get xs n) (sym (length-map ps f)) ∙ get_middle (map f ps) z zs xs e
+
+pub all_middle : {X : Type 0} (P : X → Type 0) (ys : List X) (z : X) (zs xs : List X) → ys ++ z ∷ zs ≡ xs → All P xs → P z
+all_middle P ys z zs xs e h = at ys (subst (λ (v : List _). All P v) (sym e) h)
+  where
+    at : (ys : List _) → All P (ys ++ z ∷ zs) → P z
+    at [] k = All-head P z zs k
+    at (y ∷ ys) k = at ys (All-tail P y (ys ++ z ∷ zs) k)
+
+-- numbers that count from 0
+pub number_middle : {X : Type 0} (f : X → ℕ) (ys : List X) (z : X) (zs xs : List X) (n : ℕ) → ys ++ z ∷ zs ≡ xs → map f xs ≡ range_with_len 0 n → (f z ≡ length ys) × (length ys < n)
+number_middle f ys z zs xs n e h = let a = at ys 0 n (ap (map f) e ∙ h) in let b = a.0 in (omega arith, a.1)
+  where
+    at : (ys : List _) (from n : ℕ) → map f (ys ++ z ∷ zs) ≡ range_with_len from n → (f z ≡ from + length ys) × (length ys < n)
+    at [] from zero k = absurd (never k)
+      where
+        never : f z ∷ map f zs ≡ [] → ⊥
+        never w = cc
+    at [] from (suc n) k = let a : f z ≡ from = cc in (omega arith, omega arith)
+    at (y ∷ ys) from zero k = absurd (never k)
+      where
+        never : f y ∷ map f (ys ++ z ∷ zs) ≡ [] → ⊥
+        never w = cc
+    at (y ∷ ys) from (suc n) k = let a = at ys (from + 1) n cc in let b = a.0 in let c = a.1 in (omega arith, omega arith)
+
+pub snoc_append : {X : Type 0} (xs : List X) (x : X) (ys : List X) → (xs ++ x ∷ []) ++ ys ≡ xs ++ x ∷ ys
+snoc_append [] x ys = refl
+snoc_append (z ∷ xs) x ys = ap (λ (v : List _). z ∷ v) (snoc_append xs x ys)
+
+pub long_push : {X : Type 0} (xs : List X) (x : X) → length (xs ++ x ∷ []) ≡ suc (length xs)
+long_push [] x = refl
+long_push (z ∷ xs) x = let a = long_push xs x in omega arith
+
+pub both_long : {X Y : Type 0} (xs now : List X) (x : X) (ys : List Y) (y : Y) → now ≡ xs ++ x ∷ [] → length xs ≡ length ys → length now ≡ length (ys ++ y ∷ [])
+both_long xs now x ys y e l = ap (λ (v : List _). length v) e ∙ long_push xs x ∙ ap (λ (n : ℕ). suc n) l ∙ sym (long_push ys y)
+
+pub get_push : {X : Type 0} (xs : List X) (x y : X) (q : ℕ) → slice_get (xs ++ x ∷ []) q ≡ Some y → (slice_get xs q ≡ Some y) ⊎ ((q ≡ length xs) × (x ≡ y))
+get_push [] x y zero e = inr (refl, cc)
+get_push [] x y (suc q) e = cc
+get_push (z ∷ xs) x y zero e = inl e
+get_push (z ∷ xs) x y (suc q) e = by (get_push xs x y q e)
+  where
+    by : (slice_get xs q ≡ Some y) ⊎ ((q ≡ length xs) × (x ≡ y)) → (slice_get xs q ≡ Some y) ⊎ ((suc q ≡ length (z ∷ xs)) × (x ≡ y))
+    by (inl f) = inl f
+    by (inr (a, f)) = inr (omega arith, f)
+
+pub get_low : {X : Type 0} (xs : List X) (q : ℕ) (x : X) → slice_get xs q ≡ Some x → q < length xs
+get_low [] q x e = cc
+get_low (z ∷ xs) zero x e = omega arith
+get_low (z ∷ xs) (suc q) x e = let a = get_low xs q x e in omega arith
+
+-- ---- threads
+
+pub of_push : (header : Header) (script : Script) (ones now : List Resident) (one : Resident) → now ≡ ones ++ one ∷ [] → AreOf header script ones → IsOf header script one → AreOf header script now
+of_push header script ones now one e h k r x f = by (get_push ones one x r (sym (ap (λ (v : List Resident). slice_get v r) e) ∙ f))
+  where
+    by : (slice_get ones r ≡ Some x) ⊎ ((r ≡ length ones) × (one ≡ x)) → IsOf header script x
+    by (inl g) = h r x g
+    by (inr (a, g)) = subst (λ (z : Resident). IsOf header script z) g k
+
+pub residents_push : (inbox : Line (ℕ × RankItem)) (words : List Word) (ones ones' : List Resident) (lines lines' : List (End OwnerItem)) (one : Resident) (line : End OwnerItem)
+    → ones' ≡ ones ++ one ∷ [] → lines' ≡ lines ++ line ∷ [] → AreResidents inbox words ones lines → IsResident inbox (length ones) words one line → AreResidents inbox words ones' lines'
+residents_push inbox words ones ones' lines lines' one line e f h k = record {
+  long = both_long ones ones' one lines line e h.long ∙ sym (ap (λ (v : List (End OwnerItem)). length v) f);
+  each = λ r x y a b.
+      by r x y (get_push ones one x r (sym (ap (λ (v : List Resident). slice_get v r) e) ∙ a)) (get_push lines line y r (sym (ap (λ (v : List (End OwnerItem)). slice_get v r) f) ∙ b));
+}
+  where
+    by : (r : ℕ) (x : Resident) (y : End OwnerItem) → (slice_get ones r ≡ Some x) ⊎ ((r ≡ length ones) × (one ≡ x)) → (slice_get lines r ≡ Some y) ⊎ ((r ≡ length lines) × (line ≡ y))
+        → IsResident inbox r words x y
+    by r x y (inl a) (inl b) = h.each r x y a b
+    by r x y (inl a) (inr (n, b)) = let l = get_low ones r x a in let w = h.long in absurd (omega arith)
+    by r x y (inr (n, a)) (inl b) = let l = get_low lines r y b in let w = h.long in absurd (omega arith)
+    by r x y (inr (n, a)) (inr (m, b)) =
+        subst (λ (q : ℕ). IsResident inbox q words x y) (sym n)
+        (subst (λ (z : Resident). IsResident inbox (length ones) words z y) a (subst (λ (z : End OwnerItem). IsResident inbox (length ones) words one z) b k))
+
+pub resident_at : (inbox of : Line (ℕ × RankItem)) (r number : ℕ) (words : List Word) (one : Resident) (line : End OwnerItem) → number ≡ r → of ≡ inbox → IsResident of number words one line → IsResident inbox r words one line
+resident_at inbox of r number words one line e f k = subst (λ (q : ℕ). IsResident inbox q words one line) e (subst (λ (l : Line (ℕ × RankItem)). IsResident l number words one line) f k)
+
+-- its own number is the one that it was given
+pub own_number : (inbox now : Line (ℕ × RankItem)) (r : ℕ) (words : List Word) (one : Resident) (line : End OwnerItem) → inbox ≡ now → IsResident inbox r words one line
+    → IsResident now one.child.promise.ends.value.out.number words one line
+own_number inbox now r words one line e k =
+    record { number = refl; of_inbox = k.of_inbox ∙ e; word = k.word; back = k.back; told = k.told }

@@ -1,0 +1,176 @@
+-- What each rank's thread and the owner tell by themselves, and that it ties them.
+use Rattle.std.proofs.Common.{◌≡◌, ℕ, ◌<◌, refl, sym, ◌∙◌, ap, subst, inl, inr, ◌⊎◌, List, [], ◌∷◌, ◌++◌, length, take, drop, true, Option, Some, None, arith}
+use Rattle.std.proofs.lemmas.Option.{slice_get_within}
+use mathlib.Core.List.{IsPrefix}
+use Rattle.std.specs.Prelude.{slice_get, nat_lt, IsTrue}
+use Rattle.std.specs.List.{list_all}
+use Rattle.list_laws.proofs.Places.{entry_below}
+use Rattle.nc_base.specs.declared.header.Header.{Header}
+use Rattle.nc_base.specs.declared.request.Call.{Call}
+use Rattle.nc_base.specs.declared.run.RankEnd.{RankEnd}
+use Rattle.nc_base.specs.declared.run.RankStop.{RankStop}
+use Rattle.nc_base.specs.declared.run.RankStop.TheVariants as stop
+use Rattle.nc_base.specs.declared.script.Script.{Script}
+use Rattle.nc_base.specs.declared.step.OwnerItem.{OwnerItem}
+use Rattle.nc_base.specs.declared.step.RankItem.{RankItem}
+use Rattle.nc_base.specs.declared.step.RankItem.TheVariants as item
+use Rattle.serial_spec.specs.Desk.{own_items}
+use Rattle.serial_spec.specs.History.{Arrival}
+use Rattle.serial_spec.specs.Joined.{HasEnd, IsAgreed, IsJoined, IsTied, back_of, run_of}
+use Rattle.serial_spec.specs.Lawful.{is_lawful}
+use Rattle.serial_spec.specs.RankSide.{offered}
+use Rattle.serial_spec.specs.SerialEnd.{first_going}
+use Rattle.join_laws.specs.Alike.{AreAlike}
+use Rattle.join_laws.specs.Begun.{HasOffered, IsBeginning}
+use Rattle.join_laws.proofs.AlikeLaws.{offered_alike}
+use Rattle.join_laws.proofs.BegunLaws.{begun_each, begun_known}
+use Rattle.join_laws.proofs.TieLaws.{long_whole, tied_each, tied_joins}
+use Rattle.thread_run.specs.Attending.{HasAttended, HasBroken, HasFinished}
+use Rattle.turn_run.specs.Begun.{HasBegun}
+use Rattle.thread_run.specs.Resident.{IsSettled}
+use Rattle.turn_run.specs.Seated.{calls_of}
+use Rattle.thread_run.specs.Threads.{NoneBroke}
+use Rattle.thread_run.proofs.ThreadLists.{first_of, take_drop, long_take, prefix_long, front_or_all, alike_take, alike_long}
+
+-- what the threads came to, and what the owner took
+pub record Told (script : Script) (header : Header) (arrivals : List Arrival) (given : ℕ → List OwnerItem) (ends : List RankEnd) : Type 0 where
+  pub numbers : IsTrue (list_all (λ a. nat_lt a.0 script.ranks) arrivals)
+  pub ended : (q : ℕ) → q < script.ranks → HasEnd (own_items q arrivals)
+  pub long : length ends ≡ script.ranks
+  pub calls : length script.calls ≡ script.ranks
+  pub each : (r : ℕ) (end : RankEnd) → slice_get ends r ≡ Some end → IsSettled header (calls_of script r) (own_items r arrivals) (given r) end
+
+calls_at : (script : Script) (r : ℕ) (own : List Call) → slice_get script.calls r ≡ Some own → calls_of script r ≡ own
+calls_at script r own e = ap (λ (m : Option (List Call)). elim m [ None ↦ [] | Some z ↦ z ]) e
+
+broke_or_not : (x : RankStop) → (x ≡ stop.Memory) ⊎ (x ≡ stop.Memory → ⊥)
+broke_or_not stop.Memory = inl refl
+broke_or_not stop.Done = inr (λ e. cc)
+broke_or_not stop.Stopped = inr (λ e. cc)
+broke_or_not stop.Misfit = inr (λ e. cc)
+
+-- one rank of the script
+pub record Own (header : Header) (own : List Call) (arrived : List RankItem) (given : List OwnerItem) (ends : List RankEnd) (r : ℕ) (put : List RankItem) (taken : List OwnerItem) : Type 0 where
+  pub end : RankEnd
+  pub at_end : slice_get ends r ≡ Some end
+  pub attended : HasAttended header own put taken end
+  pub arrived_of : IsPrefix arrived put
+  pub came_back : IsPrefix taken given
+
+module _ (script : Script) (header : Header) (arrivals : List Arrival) (given : ℕ → List OwnerItem) (ends : List RankEnd) (t : Told script header arrivals given ends) where
+  put_in : (r : ℕ) (m : Option RankEnd) → slice_get ends r ≡ m → List RankItem
+  put_in r None e = []
+  put_in r (Some end) e = (t.each r end e).put
+
+  taken_in : (r : ℕ) (m : Option RankEnd) → slice_get ends r ≡ m → List OwnerItem
+  taken_in r None e = []
+  taken_in r (Some end) e = (t.each r end e).taken
+
+  pub puts : ℕ → List RankItem
+  puts r = put_in r (slice_get ends r) refl
+
+  pub takes : ℕ → List OwnerItem
+  takes r = taken_in r (slice_get ends r) refl
+
+  pub low_rank : (r : ℕ) (own : List Call) → slice_get script.calls r ≡ Some own → r < script.ranks
+  low_rank r own e = let a = slice_get_within script.calls r own e in let b = t.calls in omega arith
+
+  pub own_of : (r : ℕ) (own : List Call) → slice_get script.calls r ≡ Some own → Own header own (own_items r arrivals) (given r) ends r (puts r) (takes r)
+  unfolding put_in taken_in puts takes
+  own_of r own e = by (slice_get ends r) refl
+    where
+      low : r < length ends
+      low = let a = low_rank r own e in let b = t.long in omega arith
+
+      by : (m : Option RankEnd) (q : slice_get ends r ≡ m) → Own header own (own_items r arrivals) (given r) ends r (put_in r m q) (taken_in r m q)
+      by None q = absurd (none_some (sym q ∙ (entry_below ends r low).1))
+        where
+          none_some : {x : RankEnd} → None ≡ Some x → ⊥
+          none_some z = cc
+      by (Some end) q = record {
+        end = end;
+        at_end = q;
+        attended = subst (λ (cs : List Call). HasAttended header cs (t.each r end q).put (t.each r end q).taken end) (calls_at script r own e) (t.each r end q).attended;
+        arrived_of = (t.each r end q).arrived_of;
+        came_back = (t.each r end q).came_back;
+      }
+
+  -- ---- where the run may have been cut off
+
+  pub offered_all : HasOffered script header arrivals takes
+  offered_all = record { numbers = t.numbers; each = λ r own e. begins r own (own_of r own e) }
+    where
+      begins : (r : ℕ) (own : List Call) → Own header own (own_items r arrivals) (given r) ends r (puts r) (takes r)
+          → IsBeginning (own_items r arrivals) (offered header (first_going header own) (takes r))
+      begins r own o = by (broke_or_not o.end.end)
+        where
+          broken : HasBroken header own (puts r) (takes r) o.end.answers → IsBeginning (own_items r arrivals) (offered header (first_going header own) (takes r))
+          broken b = in_two (front_or_all (own_items r arrivals) b.sent (item.Ended true) (o.arrived_of.0, o.arrived_of.1 ∙ b.put_some))
+            where
+              in_two : IsPrefix (own_items r arrivals) b.sent ⊎ (own_items r arrivals ≡ b.sent ++ item.Ended true ∷ [])
+                  → IsBeginning (own_items r arrivals) (offered header (first_going header own) (takes r))
+              in_two (inl (rest, f)) = (own_items r arrivals, (rest ++ b.unsent, sym (append_assoc (own_items r arrivals) rest b.unsent) ∙ ap (λ (v : List RankItem). v ++ b.unsent) f ∙ b.begins), inl refl)
+                where
+                  append_assoc : (xs ys zs : List RankItem) → (xs ++ ys) ++ zs ≡ xs ++ (ys ++ zs)
+                  append_assoc [] ys zs = refl
+                  append_assoc (x ∷ xs) ys zs = ap (λ (v : List RankItem). x ∷ v) (append_assoc xs ys zs)
+              in_two (inr f) = (b.sent, (b.unsent, b.begins), inr f)
+
+          by : (o.end.end ≡ stop.Memory) ⊎ (o.end.end ≡ stop.Memory → ⊥) → IsBeginning (own_items r arrivals) (offered header (first_going header own) (takes r))
+          by (inl m) = broken (o.attended.broken m)
+          by (inr n) = (own_items r arrivals, (o.arrived_of.0, o.arrived_of.1 ∙ (o.attended.finished n).put_all), inl refl)
+
+  pub begun : (file : List ℕ) (first later : List Arrival) → arrivals ≡ first ++ later → is_lawful script ≡ true → HasBegun script (run_of script header file first).marks
+  begun file first later all lawful =
+      let h = subst (λ (u : List Arrival). HasOffered script header u takes) all offered_all in
+      record { known_ranks = begun_known script header file first later takes h; each_rank = begun_each script header file first later takes lawful h }
+
+  -- ---- where no rank ended for want of memory, and the lines gained what is owed but for the bytes of gets
+
+  module _ (agreed : IsAgreed script) (whole : NoneBroke ends) (file : List ℕ)
+      (alike : (q : ℕ) → q < script.ranks → AreAlike (given q) (back_of script header file arrivals q)) where
+    -- as many of what the owner owes as were taken
+    taken_of : ℕ → List OwnerItem
+    taken_of r = take (length (takes r)) (back_of script header file arrivals r)
+
+    pub finished_of : (r : ℕ) (own : List Call) (e : slice_get script.calls r ≡ Some own) → HasFinished header own (puts r) (takes r) (own_of r own e).end
+    finished_of r own e = let o = own_of r own e in o.attended.finished (whole r o.end o.at_end)
+
+    taken_alike : (r : ℕ) (own : List Call) → slice_get script.calls r ≡ Some own → AreAlike (takes r) (taken_of r)
+    unfolding taken_of
+    taken_alike r own e =
+        let o = own_of r own e in
+        subst (λ (v : List OwnerItem). AreAlike v (taken_of r)) (sym (first_of (takes r) (given r) o.came_back))
+        (alike_take (length (takes r)) (given r) (back_of script header file arrivals r) (alike r (low_rank r own e)))
+
+    taken_long : (r : ℕ) (own : List Call) → slice_get script.calls r ≡ Some own → length (taken_of r) ≡ length (takes r)
+    unfolding taken_of
+    taken_long r own e =
+        let o = own_of r own e in
+        let a = prefix_long (takes r) (given r) o.came_back in
+        let b = alike_long (given r) (back_of script header file arrivals r) (alike r (low_rank r own e)) in
+        long_take (length (takes r)) (back_of script header file arrivals r) (omega arith)
+
+    tied : IsTied script header file arrivals puts taken_of
+    unfolding taken_of
+    tied = record {
+      numbers = t.numbers;
+      puts = λ r own e. (finished_of r own e).put_all ∙ offered_alike header (first_going header own) (takes r) (taken_of r) (taken_alike r own e);
+      one_each = λ r own e. taken_long r own e ∙ (own_of r own e).attended.one_each;
+      ended = λ r own e. t.ended r (low_rank r own e);
+      arrived = λ r own e. (own_of r own e).arrived_of;
+      came_back = λ r own e. (drop (length (takes r)) (back_of script header file arrivals r), take_drop (length (takes r)) (back_of script header file arrivals r));
+    }
+
+    pub joined : IsJoined script header file arrivals
+    joined = tied_joins script header file arrivals puts taken_of agreed tied
+
+    -- each took all that its line gained
+    pub took_all : (r : ℕ) (own : List Call) → slice_get script.calls r ≡ Some own → takes r ≡ given r
+    took_all r own e =
+        let o = own_of r own e in
+        let same = tied_each script header file arrivals puts taken_of agreed tied r own e in
+        let a = taken_long r own e in
+        let b = ap (λ (v : List OwnerItem). length v) same.back in
+        let c = alike_long (given r) (back_of script header file arrivals r) (alike r (low_rank r own e)) in
+        long_whole (takes r) o.came_back.0 (given r) o.came_back.1 (omega arith)

@@ -1,0 +1,35 @@
+-- The step is done, and its reply is put.
+use Rattle.std.proofs.Common.{ℕ, sym, refl, subst, inr}
+use Rattle.nc_base.specs.declared.step.OwnerItem.TheVariants.{Reply}
+use Rattle.collective_round.specs.Rounds.{setting}
+use Rattle.turn_run.specs.Counts.{IsCount}
+use Rattle.thread_run.specs.Owned.{standing}
+use Rattle.thread_run.proofs.AloneSteps.{alone}
+use Rattle.turn_run.proofs.CountLaws.{count_longer, count_max, count_still}
+use Rattle.thread_run.proofs.PutLaws.{one_put}
+use Rattle.thread_run.proofs.desk.Desk.reply_alone.Goals as goal
+
+pub returns-clause-done : goal.returns-clause-done
+returns-clause-done g c records =
+    alone (setting c.args.header.now c.args.hints.now) c.args.hints.now c.args.number c.args.call c.args.offer.now
+    (standing c.args.self.now records (g.D.Disk.held c.args.disk.now) (g.D.Disk.calls c.args.disk.now) c.args.order.now c.args.back.now) _ c.in_ok-reply.reply (record {
+      known_low = c.requires.known;
+      pair = c.in_ok-reply.ensures.told;
+      records = c.in_ok-reply.ensures.records;
+      fits = c.in_ok-reply.ensures.fits;
+      reply = c.in_ok-reply.ensures.reply;
+      bytes = c.in_ok-reply.ensures.bytes;
+      calls = c.in_ok-reply.ensures.calls;
+      order = c.in_ok-push.ensures.ok;
+      seats = refl;
+      same_met = refl;
+      same_records = refl;
+      reached = c.max-self.ensures;
+      lines = one_put c.args.back.now c.put_on.new.self c.args.number (Reply c.in_ok-reply.reply) c.put_on.ensures.here c.put_on.ensures.others c.put_on.ensures.len;
+    })
+
+pub returns-clause-reached : goal.returns-clause-reached
+returns-clause-reached g c h =
+    subst (λ (n : ℕ). IsCount c.args.header.now (g.D.Disk.len c.solo_reply.new.disk) n) (sym c.max-self.ensures)
+    (count_max c.args.header.now (g.D.Disk.len c.solo_reply.new.disk) c.args.self.now.reached c.in_ok-reply.reply.records
+    (count_longer c.args.header.now (g.D.Disk.len c.args.disk.now) (g.D.Disk.len c.solo_reply.new.disk) c.args.self.now.reached c.in_ok-reply.ensures.longer h) (inr c.in_ok-reply.ensures.count))

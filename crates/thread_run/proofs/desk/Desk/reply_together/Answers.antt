@@ -1,0 +1,56 @@
+-- The meeting is done, and its replies are put.
+use Rattle.std.proofs.Common.{ℕ, ◌+◌, ◌++◌, ◌∷◌, [], sym, ◌∙◌, ap, subst, length, map, max, List}
+use Rattle.std.proofs.lemmas.List.{length-map}
+use Rattle.nc_base.specs.declared.plan.Batch.{Batch}
+use Rattle.nc_base.specs.declared.step.Offer.{Offer}
+use Rattle.nc_base.specs.declared.step.Mark.TheVariants.{Meet}
+use Rattle.serial_spec.specs.Desk.{offers_held}
+use Rattle.serial_spec.specs.RankSide.{wanted}
+use Rattle.collective_round.specs.Rounds.{setting}
+use Rattle.turn_run.specs.Counts.{IsRise}
+use Rattle.thread_run.specs.Owned.{standing}
+use Rattle.turn_run.specs.Steps.{IsJob}
+use Rattle.thread_run.proofs.HeldLaws.{held_job, held_long, held_low, held_once, held_rise, steady_freed}
+use Rattle.thread_run.proofs.TogetherSteps.{together}
+use Rattle.thread_run.proofs.desk.Desk.reply_together.Goals as goal
+
+pub meet_on_file-requires-clause-job : goal.meet_on_file-requires-clause-job
+meet_on_file-requires-clause-job g c κs within = subst (λ (bs : List Batch). IsJob c.args.header.now (g.D.Disk.len c.args.disk.now) bs) (sym c.in_ok-job.ensures.batches) (held_job c.args.header.now (g.D.Disk.len c.args.disk.now) (standing c.args.self.now c.args.records.now (g.D.Disk.held c.args.disk.now) (g.D.Disk.calls c.args.disk.now) c.args.order.now c.args.back.now) c.requires.steady)
+
+pub meet_on_file-requires-clause-known : goal.meet_on_file-requires-clause-known
+meet_on_file-requires-clause-known g c κs within = subst (λ (n : ℕ). IsRise c.args.header.now (g.D.Disk.len c.args.disk.now) n) (sym c.in_ok-job.ensures.known) (held_rise c.args.header.now (g.D.Disk.len c.args.disk.now) (standing c.args.self.now c.args.records.now (g.D.Disk.held c.args.disk.now) (g.D.Disk.calls c.args.disk.now) c.args.order.now c.args.back.now) c.requires.steady)
+
+pub reply_all-requires : goal.reply_all-requires
+reply_all-requires g c =
+    sym (length-map c.in_ok-pair.table (λ (blobs : List (List ℕ)). map (λ blob. length blob) blobs)) ∙ ap (λ (xs : List (List ℕ)). length xs) c.in_ok-pair.ensures.fits
+    ∙ length-map c.in_ok-job.job.batches (λ (b : Batch). map (wanted c.args.header.now) b.gets) ∙ ap (λ (bs : List Batch). length bs) c.in_ok-job.ensures.batches
+    ∙ length-map (offers_held c.args.self.now.seats.items) (λ (o : Offer). o.batch) ∙ held_long c.args.self.now.seats.items c.requires.all ∙ sym c.requires.steady.one_each
+
+pub returns-clause-done : goal.returns-clause-done
+returns-clause-done g c =
+    let b = standing c.args.self.now c.args.records.now (g.D.Disk.held c.args.disk.now) (g.D.Disk.calls c.args.disk.now) c.args.order.now c.args.back.now in
+    together (setting c.args.header.now c.args.hints.now) c.args.hints.now b
+    (standing (record { seats = c.take_job.new.self.seats; met = c.in_ok-met.met; reached = c.max-self.result }) c.meet_on_file.new.records (g.D.Disk.held c.meet_on_file.new.disk) (g.D.Disk.calls c.meet_on_file.new.disk) c.push.new.self c.reply_all.new.back) c.in_ok-job.job.batches c.in_ok-job.known c.in_ok-pair.pair c.in_ok-pair.table (record {
+      batches_are = c.in_ok-job.ensures.batches;
+      known_is = c.in_ok-job.ensures.known;
+      known_low = held_low c.args.header.now (g.D.Disk.len c.args.disk.now) b c.requires.steady;
+      below = c.requires.steady.below;
+      pair_is = c.in_ok-pair.ensures.told;
+      records = c.in_ok-pair.ensures.records;
+      bytes = c.in_ok-pair.ensures.bytes;
+      got = c.in_ok-pair.ensures.got;
+      fits = c.in_ok-pair.ensures.fits;
+      calls = c.in_ok-pair.ensures.calls;
+      once = held_once c.args.header.now (g.D.Disk.len c.args.disk.now) b c.requires.steady c.requires.all;
+      order = c.in_ok-push.ensures.ok ∙ ap (λ k. c.args.order.now ++ Meet k ∷ []) c.in_ok-job.ensures.met;
+      seats = c.in_ok-job.ensures.freed;
+      met_more = c.in_ok-met.ensures ∙ ap (λ k. k + 1) c.in_ok-job.ensures.met;
+      reached = c.max-self.ensures ∙ ap (λ k. max k c.meet_on_file.new.records) c.in_ok-job.ensures.reached;
+      lines = c.reply_all.ensures;
+    })
+
+pub returns-clause-steady : goal.returns-clause-steady
+returns-clause-steady g c =
+    let b = standing c.args.self.now c.args.records.now (g.D.Disk.held c.args.disk.now) (g.D.Disk.calls c.args.disk.now) c.args.order.now c.args.back.now in
+    steady_freed c.args.header.now (g.D.Disk.len c.args.disk.now) (g.D.Disk.len c.meet_on_file.new.disk) b
+    (standing (record { seats = c.take_job.new.self.seats; met = c.in_ok-met.met; reached = c.max-self.result }) c.meet_on_file.new.records (g.D.Disk.held c.meet_on_file.new.disk) (g.D.Disk.calls c.meet_on_file.new.disk) c.push.new.self c.reply_all.new.back) c.requires.steady c.in_ok-job.ensures.freed c.reply_all.ensures.long c.in_ok-pair.ensures.longer c.in_ok-pair.ensures.count (c.max-self.ensures ∙ ap (λ k. max k c.meet_on_file.new.records) c.in_ok-job.ensures.reached)

@@ -1,0 +1,42 @@
+-- The ranks' ends, as a list that is lent.
+use Rattle.std.proofs.Common.{◌≡◌, List, sym, subst, None, true, ap, Err, map}
+use Rattle.nc_base.specs.declared.step.StepErr.{StepErr}
+use Rattle.nc_base.specs.declared.run.RankEnd.{RankEnd}
+use Rattle.serial_spec.specs.HeaderGrammar.{is_sound}
+use Rattle.thread_run.specs.Threads.{most_known_of, NoneBroke}
+use Rattle.thread_run.proofs.rank_ends.end_run.Goals as goal
+
+pub close_after-requires-clause-known : goal.close_after-requires-clause-known
+close_after-requires-clause-known g c κs within =
+    subst (λ (ends : List RankEnd). c.args.served.fault ≡ None → NoneBroke ends → is_sound (record c.args.header.now { records = most_known_of ends }) ≡ true) (sym c.deref.ensures.value) c.requires.known
+
+pub returns-in-Ok-clause-served : goal.returns-in-Ok-clause-served
+returns-in-Ok-clause-served g c = λ none. (c.in-Ok.ensures.served.0, subst (λ (ends : List RankEnd). NoneBroke ends) c.deref.ensures.value c.in-Ok.ensures.served.1)
+
+pub returns-in-Err-clause-served : goal.returns-in-Err-clause-served
+returns-in-Err-clause-served g c = λ none. absurd (c.cut_off.ensures.some none)
+
+pub returns-in-Err-clause-closed : goal.returns-in-Err-clause-closed
+returns-in-Err-clause-closed g c = λ none. absurd (c.cut_off.ensures.some none)
+
+pub returns-in-Err-clause-sound : goal.returns-in-Err-clause-sound
+returns-in-Err-clause-sound g c = λ none. absurd (c.cut_off.ensures.some none)
+
+pub returns-in-Err-clause-answers : goal.returns-in-Err-clause-answers
+returns-in-Err-clause-answers g c = λ none. absurd (c.cut_off.ensures.some none)
+
+pub returns-in-Err-clause-pending : goal.returns-in-Err-clause-pending
+returns-in-Err-clause-pending g c = λ none. absurd (c.cut_off.ensures.some none)
+
+pub returns-in-Err-clause-first : goal.returns-in-Err-clause-first
+returns-in-Err-clause-first g c = λ e some disk. c.in-Err.ensures.first e some (ap (λ (x : StepErr). Err x) (c.cut_off.ensures.disk disk).0)
+
+pub returns-in-Err-clause-broke : goal.returns-in-Err-clause-broke
+returns-in-Err-clause-broke g c = λ disk.
+    subst (λ (ends : List RankEnd). NoneBroke ends) c.deref.ensures.value (c.in-Err.ensures.broke (ap (λ (x : StepErr). Err x) (c.cut_off.ensures.disk disk).0))
+
+pub returns-in-Err-clause-kept : goal.returns-in-Err-clause-kept
+returns-in-Err-clause-kept g c = λ disk. (c.cut_off.ensures.disk disk).1
+
+pub returns-in-Err-clause-cause : goal.returns-in-Err-clause-cause
+returns-in-Err-clause-cause g c = λ none disk. c.in-Err.ensures.cause none (ap (λ (x : StepErr). Err x) (c.cut_off.ensures.disk disk).0)

@@ -1,0 +1,91 @@
+-- Where the owner stops doing what arrives. (own)
+--     of_fault, of_stranger    the fault, and the number of the strange arrival
+--     IsHaltAt ..              what tells that it stopped there
+--     HasHalted ..             along the first arrivals nothing was strange, and with the later ones each offer has its item
+use Rattle.std.specs.Prelude.{◌≡◌, ℕ, ◌≤◌, List, [], ◌∷◌, ◌++◌, Bool, true, Option, Some, None}
+use Rattle.nc_base.specs.declared.script.Hints.{Hints}
+use Rattle.nc_base.specs.declared.step.DiskCall.{DiskCall}
+use Rattle.nc_base.specs.declared.step.Mark.{Mark}
+use Rattle.nc_base.specs.declared.step.OwnerItem.{OwnerItem}
+use Rattle.nc_base.specs.declared.step.RankItem.{RankItem}
+use Rattle.nc_base.specs.declared.step.StepErr.{StepErr}
+use Rattle.nc_base.specs.declared.step.StepErr.TheVariants as fault
+use Rattle.nc_outside.specs.Cause.{Rose}
+use Rattle.ruled_line.specs.Ends.{End, Receiver}
+use Rattle.serial_spec.specs.Desk.{is_strange, stops}
+use Rattle.serial_spec.specs.FileStep.{Setting}
+use Rattle.serial_spec.specs.History.{Arrival}
+use Rattle.thread_run.specs.Owned.{desk_at, Grows, HasRun, Standing}
+use Rattle.thread_run.specs.Stopping.{stops_for, AllHaveEnded, HaveEnded, IsMore}
+use Rattle.thread_run.specs.declared.serving.Halt.{Halt}
+use Rattle.thread_run.specs.declared.serving.Halt.TheVariants as halt
+
+abbrev pub of_fault : Halt → Option StepErr
+of_fault (halt.Fault e) = Some e
+of_fault halt.Ended = None
+of_fault (halt.Stranger number) = None
+
+abbrev pub of_stranger : Halt → Option ℕ
+of_stranger (halt.Stranger number) = Some number
+of_stranger halt.Ended = None
+of_stranger (halt.Fault e) = None
+
+-- disk and count are as they were there
+pub record IsLeft (middle : Standing) (n : ℕ) (held : Option (List ℕ)) (made : Option (List DiskCall)) : Type 0 where
+  pub records : n ≡ middle.records
+  pub told : held ≡ middle.told
+  pub calls : made ≡ middle.calls
+
+pub record IsStrangeAt (s : Setting) (middle : Standing) (later : List Arrival) (number : ℕ) : Type 0 where
+  pub item : RankItem
+  pub last : later ≡ (number, item) ∷ []
+  pub strange : (file : List ℕ) → is_strange s (desk_at middle file) (number, item) ≡ true
+
+-- where it ended, each number has
+abbrev pub HasSeenAll : ℕ → List Bool → Halt → Type 0
+HasSeenAll senders flags halt.Ended = AllHaveEnded senders flags
+HasSeenAll senders flags (halt.Stranger number) = Unit {0}
+HasSeenAll senders flags (halt.Fault e) = Unit {0}
+
+abbrev pub IsHaltAt : Setting → Standing → List Arrival → ℕ → Option (List ℕ) → Option (List DiskCall) → Halt → Type 0
+IsHaltAt s middle later n held made halt.Ended = (later ≡ []) × IsLeft middle n held made
+IsHaltAt s middle later n held made (halt.Stranger number) = IsStrangeAt s middle later number × IsLeft middle n held made
+IsHaltAt s middle later n held made (halt.Fault e) = Unit {0}
+
+pub record HasHalted (hints : Hints) (s : Setting) (old now : Receiver RankItem) (flags : List Bool) (before : Standing) (n : ℕ) (held : Option (List ℕ))
+    (made : Option (List DiskCall)) (marks : List Mark) (lines : List (End OwnerItem)) (halt : Halt) : Type 0 where
+  pub first : List Arrival
+  pub later : List Arrival
+  pub middle : Standing
+  pub taken : IsMore old (first ++ later) now
+  pub ended : HaveEnded flags (first ++ later)
+  pub run : HasRun hints s first before middle
+  pub order : marks ≡ middle.order
+  pub stopped : Grows middle.lines (stops (desk_at middle []) later) lines
+  pub halted : IsHaltAt s middle later n held made halt
+  pub seen : HasSeenAll old.senders flags halt
+
+-- these were taken, none of them strange
+pub record HasServed (hints : Hints) (s : Setting) (old now : Receiver RankItem) (flags : List Bool) (before after : Standing) : Type 0 where
+  pub more : List Arrival
+  pub taken : IsMore old more now
+  pub ended : HaveEnded flags more
+  pub run : HasRun hints s more before after
+
+abbrev pub IsNoMore : List Arrival → Halt → Type 0
+IsNoMore more halt.Ended = more ≡ []
+IsNoMore more (halt.Stranger number) = Unit {0}
+IsNoMore more (halt.Fault e) = Unit {0}
+
+-- what still came has its stops, and each number has ended
+pub record HasFinished (old now : Receiver RankItem) (before after : List (End OwnerItem)) (flags left : List Bool) (halt : Halt) : Type 0 where
+  pub more : List Arrival
+  pub taken : IsMore old more now
+  pub stopped : Grows before (stops_for more) after
+  pub noted : (arrivals : List Arrival) → HaveEnded flags arrivals → HaveEnded left (arrivals ++ more)
+  pub all : AllHaveEnded old.senders left
+  pub last : IsNoMore more halt
+
+pub record HasHaltCause (before now : ℕ) (halt : Halt) : Type 0 where
+  pub later : before ≤ now
+  pub failed : of_fault halt ≡ Some fault.Disk → Rose before now

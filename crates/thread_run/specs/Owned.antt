@@ -1,0 +1,169 @@
+-- The owner's steps, as its disk, its order and its lines show them. (own; what it does at an arrival is Desk of serial_spec)
+--     desk_of d file records     the desk that stands for what is held of each number, with a file and its count
+--     run s d arrivals           what the owner does along arrivals, the stops at the end left out
+--     event_calls, desk_calls    the device calls of an arrival, and of arrivals
+--     Grows old more now         lines on which so much was put
+--     Standing                   what can be seen of an owner
+--     HasDone hints s a b n      what can be seen went from one to the other by the arrival
+--     HasRun hints s as b n      the same by arrivals, none of them strange
+--     IsSteady header len x      what is held is fit to be done
+use Rattle.std.specs.Prelude.{◌≡◌, ℕ, ◌<◌, ◌≤◌, List, [], ◌∷◌, ◌++◌, length, replicate, set, Bool, true, false, Option, Some, None, IfSome, slice_get}
+use Rattle.std.specs.List.{list_all}
+use Rattle.nc_base.specs.declared.answer.Pair.{Pair}
+use Rattle.nc_base.specs.declared.header.Header.{Header}
+use Rattle.nc_base.specs.declared.script.Hints.{Hints}
+use Rattle.nc_base.specs.declared.step.DiskCall.{DiskCall}
+use Rattle.nc_base.specs.declared.step.Mark.{Mark}
+use Rattle.nc_base.specs.declared.step.MeetKind.{MeetKind}
+use Rattle.nc_base.specs.declared.step.Offer.{Offer}
+use Rattle.nc_base.specs.declared.step.OfferKind.{OfferKind}
+use Rattle.nc_base.specs.declared.step.OfferKind.TheVariants as offer
+use Rattle.nc_base.specs.declared.step.OwnerItem.{OwnerItem}
+use Rattle.nc_base.specs.declared.step.OwnerItem.TheVariants.{Reply}
+use Rattle.nc_base.specs.declared.step.RankItem.{RankItem}
+use Rattle.nc_base.specs.declared.step.RankItem.TheVariants as item
+use Rattle.nc_outside.specs.Told.{with_end}
+use Rattle.overlay_laws.specs.Entries.{In}
+use Rattle.ruled_line.specs.Ends.{End}
+use Rattle.serial_spec.specs.Desk.{Desk, Event, Seat, does_meeting, does_solo, event, free_seat, given_along, holds, is_strange, offers_held, served}
+use Rattle.serial_spec.specs.DeviceCalls.{meeting_calls, solo_calls}
+pub use Rattle.serial_spec.specs.Desk.{IsSingleOffer, IsSingle, AreSingle}
+use Rattle.serial_spec.specs.FileStep.{Setting}
+use Rattle.serial_spec.specs.History.{Arrival}
+use Rattle.collective_round.specs.Rounds.{counted}
+use Rattle.join_laws.specs.Alike.{AreAlike}
+use Rattle.turn_run.specs.Counts.{IsCount, IsFit}
+use Rattle.turn_run.specs.Seated.{reply_of}
+use Rattle.thread_run.specs.declared.desk.Desk.{Desk as Held}
+
+-- ---- what the owner does along arrivals
+
+abbrev pub run : Setting → Desk → List Arrival → Event
+run s d arrivals = record { desk = (served s d arrivals).desk; marks = (served s d arrivals).marks; given = given_along s d arrivals }
+
+abbrev pub calls_if : Hints → Setting → Desk → List Seat → Bool → List DiskCall
+calls_if hints s d seats true = meeting_calls hints s (offers_held seats) d.state
+calls_if hints s d seats false = []
+
+abbrev pub calls_at_offer : Hints → Setting → Desk → ℕ → Offer → Seat → OfferKind → List DiskCall
+calls_at_offer hints s d r o x offer.Solo = solo_calls hints s r o d.state
+calls_at_offer hints s d r o x (offer.Meet kind) =
+    let seats = set d.seats r (record { held = Some o; ended = x.ended }) in calls_if hints s d seats (list_all holds seats)
+
+abbrev pub calls_at : Hints → Setting → Desk → ℕ → RankItem → Option Seat → List DiskCall
+calls_at hints s d r i None = []
+calls_at hints s d r (item.Ended memory) (Some x) = []
+calls_at hints s d r (item.Offer c o) (Some x) = calls_at_offer hints s d r o x o.kind
+
+abbrev pub event_calls : Hints → Setting → Desk → Arrival → List DiskCall
+event_calls hints s d a = calls_at hints s d a.0 a.1 (slice_get d.seats a.0)
+
+abbrev pub desk_calls : Hints → Setting → Desk → List Arrival → List DiskCall
+desk_calls hints s d [] = []
+desk_calls hints s d (a ∷ arrivals) =
+    elim (is_strange s d a) [ true ↦ [] | false ↦ event_calls hints s d a ++ desk_calls hints s (event s d a).desk arrivals ]
+
+-- ---- offers that are held
+
+abbrev pub HoldAll : (Offer → Type 0) → List Seat → Type 0
+HoldAll P seats = (r : ℕ) (x : Seat) (o : Offer) → slice_get seats r ≡ Some x → x.held ≡ Some o → P o
+
+abbrev pub HoldSingle : List Seat → Type 0
+HoldSingle seats = HoldAll IsSingleOffer seats
+
+-- ---- what can be seen
+
+-- each line has what it had, and then what was put on it
+pub record Grows (old : List (End OwnerItem)) (more : ℕ → List OwnerItem) (now : List (End OwnerItem)) : Type 0 where
+  pub long : length now ≡ length old
+  pub each : (q : ℕ) (end : End OwnerItem) → slice_get old q ≡ Some end → slice_get now q ≡ Some (record { of = end.of; items = end.items ++ more q })
+
+-- each number's reply after a meeting
+abbrev pub replies : Option Pair → ℕ → List (List (List ℕ)) → ℕ → List OwnerItem
+replies pair records table q = elim (slice_get table q) [ None ↦ [] | Some got ↦ Reply (reply_of pair records got) ∷ [] ]
+
+-- what is held of each number, the meetings done and the greatest count needed; the disk and its count; the order and the lines
+pub record Standing : Type 0 where
+  pub seats : List Seat
+  pub met : ℕ
+  pub reached : ℕ
+  pub records : ℕ
+  pub told : Option (List ℕ)
+  pub calls : Option (List DiskCall)
+  pub order : List Mark
+  pub lines : List (End OwnerItem)
+
+-- what stands beside a desk
+abbrev pub standing : Held → ℕ → Option (List ℕ) → Option (List DiskCall) → List Mark → List (End OwnerItem) → Standing
+standing d records told calls order lines =
+    record { seats = d.seats.items; met = d.met; reached = d.reached; records = records; told = told; calls = calls; order = order; lines = lines }
+
+-- before anything arrived
+abbrev pub opening_standing : ℕ → ℕ → Option (List ℕ) → Option (List DiskCall) → List Mark → List (End OwnerItem) → Standing
+opening_standing senders records told calls order lines =
+    record { seats = replicate senders free_seat; met = 0; reached = records; records = records; told = told; calls = calls; order = order; lines = lines }
+
+abbrev pub desk_of : Held → List ℕ → ℕ → Desk
+desk_of d file records = record { seats = d.seats.items; met = d.met; state = counted file records; reached = d.reached }
+
+abbrev pub desk_at : Standing → List ℕ → Desk
+desk_at x file = record { seats = x.seats; met = x.met; state = counted file x.records; reached = x.reached }
+
+-- whatever bytes the file has, the event leads from one to the other, up to the bytes that were given
+pub record GoesAlike (e : Event) (more : ℕ → List OwnerItem) (before now : Standing) : Type 0 where
+  pub desk : e.desk ≡ desk_at now e.desk.state.file
+  pub marks : now.order ≡ before.order ++ e.marks
+  pub given : (q : ℕ) → q < length before.lines → AreAlike (more q) (e.given q)
+
+-- The bytes are told. The device calls are these where `once` holds.
+pub record GoesSo (once : Type 0) (e : Event) (made : List DiskCall) (more : ℕ → List OwnerItem) (before now : Standing) : Type 0 where
+  pub told : now.told ≡ Some e.desk.state.file
+  pub given : (q : ℕ) → q < length before.lines → more q ≡ e.given q
+  pub calls : once → now.calls ≡ with_end before.calls made
+
+pub record HasMoved (once : Type 0) (to : List ℕ → Event) (made : List ℕ → List DiskCall) (before now : Standing) : Type 0 where
+  pub more : ℕ → List OwnerItem
+  pub lines : Grows before.lines more now.lines
+  pub alike : (file : List ℕ) → GoesAlike (to file) more before now
+  pub exact : IfSome before.told (λ file. GoesSo once (to file) (made file) more before now)
+  pub single : once → HoldSingle now.seats
+
+-- ---- an arrival, and arrivals
+
+abbrev pub HasDone : Hints → Setting → Arrival → Standing → Standing → Type 0
+HasDone hints s a before now =
+    HasMoved (HoldSingle before.seats × IsSingle a.1) (λ file. event s (desk_at before file) a) (λ file. event_calls hints s (desk_at before file) a) before now
+
+-- an offer that a number makes alone, and a meeting of all
+abbrev pub IsAlone : Hints → Setting → ℕ → ℕ → Offer → Standing → Standing → Type 0
+IsAlone hints s r c o before now =
+    HasMoved (HoldSingle before.seats) (λ file. does_solo s (desk_at before file) r c o) (λ file. solo_calls hints s r o (counted file before.records)) before now
+
+abbrev pub IsTogether : Hints → Setting → Standing → Standing → Type 0
+IsTogether hints s before now =
+    HasMoved (HoldSingle before.seats) (λ file. does_meeting s (desk_at before file) before.seats) (λ file. meeting_calls hints s (offers_held before.seats) (counted file before.records)) before now
+
+pub record HasRun (hints : Hints) (s : Setting) (arrivals : List Arrival) (before now : Standing) : Type 0 where
+  pub moved : HasMoved (HoldSingle before.seats × AreSingle arrivals) (λ file. run s (desk_at before file) arrivals) (λ file. desk_calls hints s (desk_at before file) arrivals) before now
+  pub none_strange : (file : List ℕ) → (served s (desk_at before file) arrivals).stranger ≡ None
+
+-- ---- what is held
+
+-- an offer of a meeting that a step takes
+pub record IsHeld (header : Header) (len reached : ℕ) (o : Offer) : Type 0 where
+  pub fit : IsFit header len o
+  pub known : o.known ≤ reached
+  pub meets : (kind : MeetKind) × (o.kind ≡ offer.Meet kind)
+
+abbrev pub AreOfOneKind : List Seat → Type 0
+AreOfOneKind seats = (r q : ℕ) (x y : Seat) (o p : Offer) → slice_get seats r ≡ Some x → slice_get seats q ≡ Some y → x.held ≡ Some o → y.held ≡ Some p → o.kind ≡ p.kind
+
+-- the file has so many bytes
+pub record IsSteady (header : Header) (len : ℕ) (x : Standing) : Type 0 where
+  pub few : length x.seats ≤ 64
+  pub one_each : length x.lines ≡ length x.seats
+  pub count : IsCount header len x.records
+  pub reached : IsCount header len x.reached
+  pub below : x.records ≤ x.reached
+  pub held : HoldAll (IsHeld header len x.reached) x.seats
+  pub same : AreOfOneKind x.seats

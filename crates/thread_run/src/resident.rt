@@ -1,0 +1,148 @@
+// One rank's thread, which waits for its word.
+ghost use Rattle.std.specs.Prelude.{◌≡◌, ◌<◌, [], true, IfSome};
+ghost use Rattle.rank_core.specs.Indexed.{IsIndexOf};
+ghost use Rattle.serial_spec.specs.HeaderGrammar.{is_sound};
+ghost use Rattle.serial_spec.specs.Lawful.{is_lawful};
+ghost use Rattle.thread_run.specs.Resident.{HasReturned, IsFresh, IsOf, IsResident};
+
+use crate::attending::attend;
+use nc_base::{Header, OwnerItem, RankEnd, Script};
+use nc_outside::Gate;
+use rank_core::Names;
+use rank_items::SentItem;
+use ruled_line::{InPut, LinePut, LineTake, line};
+use std::alloc::Global;
+use std::snapshot::Snapshot;
+use std::sync::Wait;
+use std::thread::{Promise, PromisedHandle, Scope, Threads};
+
+/// The word that a rank's thread waits for.
+#[derive(Drop)]
+pub(crate) enum Word {
+    Go,
+    Stop,
+}
+
+/// What a rank's thread owns: the line of its word, its end of the inbox, and the line of what comes back to it.
+#[derive(Drop)]
+pub(crate) struct Ends {
+    pub word: LineTake<Word>,
+    pub out: InPut<SentItem>,
+    pub back: LineTake<OwnerItem>,
+}
+
+/// What a rank's thread gives back. Where it was told to stop there is no end of its rank.
+#[derive(Drop)]
+pub(crate) struct Returned {
+    pub ends: Ends,
+    pub end: Option<RankEnd>,
+}
+
+/// A rank's thread attends by the ends that it was given, or leaves them as they are, and gives them back.
+#[derive(Drop)]
+pub(crate) struct Part {
+    header: Snapshot<Header>,
+    script: Snapshot<Script>,
+    ends: Snapshot<Ends>,
+}
+
+impl Promise<Returned> for Part {
+    ghost kept_by = { λ p r. HasReturned p.header.value p.script.value p.ends.value r };
+}
+
+/// What the calling thread has of a rank's thread.
+#[derive(Drop)]
+pub(crate) struct Resident {
+    pub word: LinePut<Word>,
+    pub child: PromisedHandle<Returned, Part>,
+}
+
+/// Starts a rank's thread, and makes the line of what goes back to it. None where it can't be started.
+pub(crate) fn start<'s, E, G: Gate, R: Threads + Wait + Sync>(
+    scope: &'s Scope<'s, E>,
+    rt: &'s R,
+    alloc: Global,
+    header: &'s Header,
+    names: &'s Names,
+    script: &'s Script,
+    gate: &'s G,
+    out: InPut<SentItem>,
+) -> Option<(Resident, LinePut<OwnerItem>)>
+    requires sound { is_sound header.now ≡ true }
+    requires lawful { is_lawful script.now ≡ true }
+    requires names { IsIndexOf header.now names.now }
+    requires number { out.number < script.now.ranks }
+    requires put { out.items ≡ [] }
+    ensures of { IfSome result (λ pair. IsOf header.now script.now pair.0) }
+    ensures resident { IfSome result (λ pair. IsResident out.of out.number [] pair.0 pair.1) }
+    ensures empty { IfSome result (λ pair. pair.1.items ≡ []) }
+{
+    let (go, word) = line::<Word>(alloc, 1).ok()?;
+    let (put, back) = line::<OwnerItem>(alloc, 1).ok()?;
+    let ends = Ends { word, out, back };
+    let child = spawn(scope, rt, alloc, header, names, script, gate, ends)?;
+    Some((Resident { word: go, child }, put))
+}
+
+/// Starts a rank's thread with these ends.
+fn spawn<'s, E, G: Gate, R: Threads + Wait + Sync>(
+    scope: &'s Scope<'s, E>,
+    rt: &'s R,
+    alloc: Global,
+    header: &'s Header,
+    names: &'s Names,
+    script: &'s Script,
+    gate: &'s G,
+    ends: Ends,
+) -> Option<PromisedHandle<Returned, Part>>
+    requires sound { is_sound header.now ≡ true }
+    requires lawful { is_lawful script.now ≡ true }
+    requires names { IsIndexOf header.now names.now }
+    requires number { ends.out.number < script.now.ranks }
+    requires fresh { IsFresh ends }
+    ensures header { IfSome result (λ child. child.promise.header.value ≡ header.now) }
+    ensures script { IfSome result (λ child. child.promise.script.value ≡ script.now) }
+    ensures ends { IfSome result (λ child. child.promise.ends.value ≡ ends) }
+{
+    let part = Part {
+        header: Snapshot::of(header),
+        script: Snapshot::of(script),
+        ends: Snapshot::of(&ends),
+    };
+    let work = move || -> Returned
+        requires { (is_sound header.now ≡ true) × (is_lawful script.now ≡ true) × IsIndexOf header.now names.now × (ends.out.number < script.now.ranks) × IsFresh ends }
+    { take_part(rt, alloc, header, names, script, gate, ends) };
+    scope.spawn_with(part, work).ok()
+}
+
+/// What a rank's thread runs.
+fn take_part<R: Wait, G: Gate>(
+    rt: &R,
+    alloc: Global,
+    header: &Header,
+    names: &Names,
+    script: &Script,
+    gate: &G,
+    ends: Ends,
+) -> Returned
+    requires sound { is_sound header.now ≡ true }
+    requires lawful { is_lawful script.now ≡ true }
+    requires names { IsIndexOf header.now names.now }
+    requires number { ends.out.number < script.now.ranks }
+    requires fresh { IsFresh ends }
+    ensures { HasReturned header.now script.now ends result }
+{
+    let Ends {
+        mut word,
+        mut out,
+        mut back,
+    } = ends;
+    let end = match word.take(rt) {
+        Word::Go => Some(attend(rt, alloc, header, names, script, &mut out, &mut back, gate)),
+        Word::Stop => None,
+    };
+    Returned {
+        ends: Ends { word, out, back },
+        end,
+    }
+}

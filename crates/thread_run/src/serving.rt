@@ -1,0 +1,218 @@
+// The owner's side of a run with rank threads.
+ghost use Rattle.std.specs.Prelude.{◌≡◌, ◌≤◌, ◌<◌, ◌++◌, ◌∷◌, [], ℕ, List, length, replicate, true, None, Some, IfSome};
+ghost use Rattle.nc_base.specs.declared.step.StepErr.{StepErr as Fault};
+ghost use Rattle.nc_base.specs.declared.step.StepErr.TheVariants as fault;
+ghost use Rattle.nc_outside.specs.Cause.{Rose};
+ghost use Rattle.nc_outside.specs.Told.{with_end};
+ghost use Rattle.serial_spec.specs.Desk.{free_seat};
+ghost use Rattle.serial_spec.specs.History.{Arrival};
+ghost use Rattle.serial_spec.specs.HeaderGrammar.{header_len, is_sound};
+ghost use Rattle.serial_spec.specs.Lawful.{are_lawful_hints};
+ghost use Rattle.serial_spec.specs.Layout.{end_of};
+ghost use Rattle.collective_round.specs.Rounds.{counted, setting};
+ghost use Rattle.turn_run.specs.Counts.{IsCount};
+ghost use Rattle.thread_run.specs.Halted.{of_fault, of_stranger, HasFinished, HasHalted, HasHaltCause, HasSeenAll};
+ghost use Rattle.thread_run.specs.Owned.{desk_calls, opening_standing, standing, AreSingle, IsSteady};
+ghost use Rattle.thread_run.specs.Serving.{arrived, gained, opening, HasFailed, HasTaken, HavePut, IsDone, IsDoneSo};
+ghost use Rattle.thread_run.specs.Stopping.{HaveEnded};
+
+use crate::desk::Desk;
+use crate::stopping::{Door, stop_arrival, stop_held, stop_rest};
+use nc_base::{Header, Hints, MarkList, OwnerItem, ServeEnd, StepErr};
+use nc_outside::{Disk, Gate};
+use rank_items::SentItem;
+use ruled_line::{InTake, LinePutList};
+use std::alloc::Global;
+use std::sync::Wait;
+
+/// Why nothing more is done.
+#[derive(Clone, Copy)]
+enum Halt {
+    /// Each number has ended.
+    Ended,
+    /// This number made a strange arrival.
+    Stranger(u32),
+    Fault(StepErr),
+}
+
+/// Owns the file of a run: does what arrives, one step after another, until each sender has put its end. A solo offer is done as it
+/// arrives, a meeting as the last of its offers arrives, and each offer gets one item on the line of its number. After a fault, or
+/// an arrival that no rank of a script makes, nothing more is done, and each offer without a reply gets a stop.
+pub fn serve<R: Wait, D: Disk, G: Gate>(
+    rt: &R,
+    alloc: Global,
+    disk: &mut D,
+    header: &Header,
+    records: &mut u64,
+    hints: &Hints,
+    inbox: &mut InTake<SentItem>,
+    back: &mut LinePutList<OwnerItem>,
+    gate: &G,
+) -> ServeEnd
+    requires sound { is_sound header.now ≡ true }
+    requires hints { are_lawful_hints hints.now ≡ true }
+    requires records { records.old ≡ header.now.records }
+    requires from { D.from disk.old ≡ 0 }
+    requires long { end_of header.now (header_len header.now) header.now.records ≤ D.len disk.old }
+    requires lines { length back.old ≡ inbox.old.senders }
+    requires few { inbox.old.senders ≤ 64 }
+
+    ensures taken { HasTaken inbox.old inbox.new }
+    ensures put { HavePut back.old back.new }
+
+    // Without a fault, by the bytes of the file where they are told, and else up to those of gets.
+    ensures done { result.fault ≡ None → (file : List ℕ) → IsDone (setting header.now hints.now) (opening inbox.old.senders (counted file header.now.records))
+        (arrived inbox.old inbox.new) inbox.old.senders (gained back.old back.new) result.order result.stranger }
+    ensures bytes { result.fault ≡ None → IfSome (D.held disk.old) (λ file. IsDoneSo (setting header.now hints.now) (opening inbox.old.senders (counted file header.now.records))
+        (arrived inbox.old inbox.new) inbox.old.senders (gained back.old back.new) (D.held disk.new) records.new) }
+    ensures calls { result.fault ≡ None → AreSingle (arrived inbox.old inbox.new) → IfSome (D.held disk.old) (λ file. D.calls disk.new ≡ with_end (D.calls disk.old)
+        (desk_calls hints.now (setting header.now hints.now) (opening inbox.old.senders (counted file header.now.records)) (arrived inbox.old inbox.new))) }
+
+    // With a fault.
+    ensures failed { (e : Fault) → result.fault ≡ Some e → HasFailed (setting header.now hints.now) (opening inbox.old.senders) header.now.records
+        (arrived inbox.old inbox.new) inbox.old.senders (gained back.old back.new) result.order result.stranger }
+    ensures cause { result.fault ≡ Some fault.Disk → Rose (D.faults disk.old) (D.faults disk.new) }
+
+    ensures count { IsCount header.now (D.len disk.new) records.new }
+    ensures from { D.from disk.new ≡ 0 }
+    ensures longer { D.len disk.old ≤ D.len disk.new }
+    ensures later { D.faults disk.old ≤ D.faults disk.new }
+{
+    let mut order = MarkList::new(alloc);
+    let mut door = Door::new();
+    let halt = open_desk(
+        rt, alloc, disk, header, records, hints, &mut door, inbox, back, &mut order, gate,
+    );
+    finish(rt, halt, &mut door, inbox, back, gate);
+    ServeEnd {
+        order,
+        fault: fault_of(halt),
+        stranger: stranger_of(halt),
+    }
+}
+
+/// Takes what still comes, and stops each offer.
+fn finish<R: Wait, G: Gate>(
+    rt: &R,
+    halt: Halt,
+    door: &mut Door,
+    inbox: &mut InTake<SentItem>,
+    back: &mut LinePutList<OwnerItem>,
+    gate: &G,
+)
+    requires few { inbox.old.senders ≤ 64 }
+    requires lines { length back.old ≡ inbox.old.senders }
+    requires ended { HasSeenAll inbox.old.senders door.old.ended halt }
+    ensures { HasFinished inbox.old inbox.new back.old back.new door.old.ended door.new.ended halt }
+{
+    match halt {
+        Halt::Ended => {}
+        Halt::Stranger(_) | Halt::Fault(_) => stop_rest(rt, door, inbox, back, gate),
+    }
+}
+
+fn fault_of(halt: Halt) -> Option<StepErr>
+    ensures { result ≡ of_fault halt }
+{
+    match halt {
+        Halt::Fault(fault) => Some(fault),
+        _ => None,
+    }
+}
+
+fn stranger_of(halt: Halt) -> Option<u32>
+    ensures { result ≡ of_stranger halt }
+{
+    match halt {
+        Halt::Stranger(number) => Some(number),
+        _ => None,
+    }
+}
+
+/// Serves from a desk at which nothing arrived.
+fn open_desk<R: Wait, D: Disk, G: Gate>(
+    rt: &R,
+    alloc: Global,
+    disk: &mut D,
+    header: &Header,
+    records: &mut u64,
+    hints: &Hints,
+    door: &mut Door,
+    inbox: &mut InTake<SentItem>,
+    back: &mut LinePutList<OwnerItem>,
+    order: &mut MarkList,
+    gate: &G,
+) -> Halt
+    requires sound { is_sound header.now ≡ true }
+    requires hints { are_lawful_hints hints.now ≡ true }
+    requires count { IsCount header.now (D.len disk.old) records.old }
+    requires from { D.from disk.old ≡ 0 }
+    requires lines { length back.old ≡ inbox.old.senders }
+    requires few { inbox.old.senders ≤ 64 }
+    requires ended { HaveEnded door.old.ended [] }
+    ensures halted { HasHalted hints.now (setting header.now hints.now) inbox.old inbox.new door.new.ended
+        (opening_standing inbox.old.senders records.old (D.held disk.old) (D.calls disk.old) order.old back.old)
+        records.new (D.held disk.new) (D.calls disk.new) order.new back.new result }
+    ensures count { IsCount header.now (D.len disk.new) records.new }
+    ensures from { D.from disk.new ≡ 0 }
+    ensures longer { D.len disk.old ≤ D.len disk.new }
+    ensures cause { HasHaltCause (D.faults disk.old) (D.faults disk.new) result }
+{
+    match Desk::new(alloc, back.len(), *records) {
+        Err(_) => Halt::Fault(StepErr::Memory),
+        Ok(mut desk) => serve_all(
+            rt, alloc, disk, header, records, hints, &mut desk, door, inbox, back, order, gate,
+        ),
+    }
+}
+
+/// Does what arrives until each number has ended, or a fault or a strange arrival. Each offer that is held then has a stop.
+fn serve_all<R: Wait, D: Disk, G: Gate>(
+    rt: &R,
+    alloc: Global,
+    disk: &mut D,
+    header: &Header,
+    records: &mut u64,
+    hints: &Hints,
+    desk: &mut Desk,
+    door: &mut Door,
+    inbox: &mut InTake<SentItem>,
+    back: &mut LinePutList<OwnerItem>,
+    order: &mut MarkList,
+    gate: &G,
+) -> Halt
+    requires sound { is_sound header.now ≡ true }
+    requires hints { are_lawful_hints hints.now ≡ true }
+    requires from { D.from disk.old ≡ 0 }
+    requires lines { length back.old ≡ inbox.old.senders }
+    requires few { inbox.old.senders ≤ 64 }
+    requires ended { HaveEnded door.old.ended [] }
+    requires steady { IsSteady header.now (D.len disk.old) (standing desk.old records.old (D.held disk.old) (D.calls disk.old) order.old back.old) }
+    ensures halted { HasHalted hints.now (setting header.now hints.now) inbox.old inbox.new door.new.ended
+        (standing desk.old records.old (D.held disk.old) (D.calls disk.old) order.old back.old)
+        records.new (D.held disk.new) (D.calls disk.new) order.new back.new result }
+    ensures count { IsCount header.now (D.len disk.new) records.new }
+    ensures from { D.from disk.new ≡ 0 }
+    ensures longer { D.len disk.old ≤ D.len disk.new }
+    ensures cause { HasHaltCause (D.faults disk.old) (D.faults disk.new) result }
+{
+    for _ in rt.forever() {
+        if door.all_ended(back.len()) {
+            stop_held(rt, back, &desk.seats);
+            return Halt::Ended;
+        }
+        let (number, item) = door.take(rt, inbox, gate);
+        if desk.is_strange(header, number, &item) {
+            stop_held(rt, back, &desk.seats);
+            stop_arrival(rt, back, number, &item);
+            return Halt::Stranger(number);
+        }
+        let done = desk.arrive(
+            rt, alloc, disk, header, records, hints, order, back, gate, number, item,
+        );
+        if let Err(fault) = done {
+            return Halt::Fault(fault);
+        }
+    }
+    unreachable!()
+}

@@ -1,0 +1,284 @@
+// What the owner does at an arrival.
+ghost use Rattle.std.specs.Prelude.{◌≡◌, ◌+◌, ◌≤◌, ◌<◌, ◌++◌, ◌∷◌, [], ℕ, List, length, map, false, true, IfOk, OnOk, OnErr};
+ghost use Rattle.std.specs.List.{list_all};
+ghost use Rattle.nc_base.specs.declared.step.RankItem.TheVariants as item;
+ghost use Rattle.serial_spec.specs.Desk.{Seat, freed, holds, is_strange, offers_held, stops};
+ghost use Rattle.serial_spec.specs.HeaderGrammar.{is_sound};
+ghost use Rattle.serial_spec.specs.Lawful.{are_lawful_hints};
+ghost use Rattle.collective_round.specs.Rounds.{setting, HasStepCause};
+ghost use Rattle.rank_items.specs.Own.{HasOwnPuts};
+ghost use Rattle.turn_run.specs.Counts.{IsCount, IsFit};
+ghost use Rattle.thread_run.specs.Owned.{desk_of, replies, standing, Grows, HasDone, IsAlone, IsSteady, IsTogether};
+ghost use Rattle.turn_run.specs.Steps.{batches_of, known_of};
+ghost use Rattle.thread_run.specs.Stopping.{held_stops, stop_each, stops_for};
+
+use crate::desk::{Desk, all_hold, take_all};
+use crate::stopping::{stop_arrival, stop_each, stop_held};
+use nc_base::{
+    GotTable, Header, Hints, Job, Mark, MarkList, Memory, Offer, OfferKind, OwnerItem, Pair,
+    RankItem, Reply, StepErr,
+};
+use nc_outside::{Disk, Gate};
+use ruled_line::LinePutList;
+use std::alloc::Global;
+use std::sync::Wait;
+use turn_run::{meet_on_file, solo_reply};
+
+impl Desk {
+    /// Does what an arrival brings that is not strange. After an error each offer that is held, and the one that arrived, has a stop.
+    pub(crate) fn arrive<R: Wait, D: Disk, G: Gate>(
+        &mut self,
+        rt: &R,
+        alloc: Global,
+        disk: &mut D,
+        header: &Header,
+        records: &mut u64,
+        hints: &Hints,
+        order: &mut MarkList,
+        back: &mut LinePutList<OwnerItem>,
+        gate: &G,
+        number: u32,
+        item: RankItem,
+    ) -> Result<(), StepErr>
+        requires sound { is_sound header.now ≡ true }
+        requires hints { are_lawful_hints hints.now ≡ true }
+        requires number { number < length self.old.seats.items }
+        requires own { HasOwnPuts item }
+        requires fit { (file : List ℕ) → is_strange (setting header.now hints.now) (desk_of self.old file records.old) (number, item) ≡ false }
+        requires steady { IsSteady header.now (D.len disk.old) (standing self.old records.old (D.held disk.old) (D.calls disk.old) order.old back.old) }
+        requires from { D.from disk.old ≡ 0 }
+        ensures done { OnOk result (HasDone hints.now (setting header.now hints.now) (number, item)
+            (standing self.old records.old (D.held disk.old) (D.calls disk.old) order.old back.old)
+            (standing self.new records.new (D.held disk.new) (D.calls disk.new) order.new back.new)) }
+        ensures steady { OnOk result (IsSteady header.now (D.len disk.new) (standing self.new records.new (D.held disk.new) (D.calls disk.new) order.new back.new)) }
+        ensures order { OnErr result (order.new ≡ order.old) }
+        ensures stopped { OnErr result (Grows back.old (stops (desk_of self.old [] 0) ((number, item) ∷ [])) back.new) }
+        ensures count { IsCount header.now (D.len disk.new) records.new }
+        ensures from { D.from disk.new ≡ 0 }
+        ensures longer { D.len disk.old ≤ D.len disk.new }
+        ensures cause { HasStepCause (D.faults disk.old) (D.faults disk.new) result }
+    {
+        match item {
+            RankItem::Ended { memory } => {
+                self.seats[number as usize].end(memory);
+                Ok(())
+            }
+            RankItem::Offer(call, offer) => match offer.kind {
+                OfferKind::Solo => self.do_alone(
+                    rt, alloc, disk, header, hints, order, back, number, call, &offer,
+                ),
+                OfferKind::Meet(_) => {
+                    self.seats[number as usize].hold(offer);
+                    if all_hold(&self.seats) {
+                        self.do_together(rt, alloc, disk, header, records, hints, order, back, gate)
+                    } else {
+                        Ok(())
+                    }
+                }
+            },
+        }
+    }
+
+    /// Does an offer of a number alone. After an error each offer that is held, and this one, has a stop.
+    fn do_alone<R: Wait, D: Disk>(
+        &mut self,
+        rt: &R,
+        alloc: Global,
+        disk: &mut D,
+        header: &Header,
+        hints: &Hints,
+        order: &mut MarkList,
+        back: &mut LinePutList<OwnerItem>,
+        number: u32,
+        call: u32,
+        offer: &Offer,
+    ) -> Result<(), StepErr>
+        requires sound { is_sound header.now ≡ true }
+        requires hints { are_lawful_hints hints.now ≡ true }
+        requires number { number < length self.old.seats.items }
+        requires lines { length back.old ≡ length self.old.seats.items }
+        requires fit { IsFit header.now (D.len disk.old) offer.now }
+        requires known { offer.now.known ≤ self.old.reached }
+        requires from { D.from disk.old ≡ 0 }
+        ensures seats { self.new.seats ≡ self.old.seats }
+        ensures done { OnOk result ((records : ℕ) → IsAlone hints.now (setting header.now hints.now) number call offer.now
+            (standing self.old records (D.held disk.old) (D.calls disk.old) order.old back.old)
+            (standing self.new records (D.held disk.new) (D.calls disk.new) order.new back.new)) }
+        ensures reached { OnOk result (IsCount header.now (D.len disk.old) self.old.reached → IsCount header.now (D.len disk.new) self.new.reached) }
+        ensures more { OnOk result (self.old.reached ≤ self.new.reached) }
+        ensures order { OnErr result (order.new ≡ order.old) }
+        ensures stopped { OnErr result (Grows back.old (λ q. held_stops self.old.seats.items q ++ stops_for ((number, item.Offer call offer.now) ∷ []) q) back.new) }
+        ensures from { D.from disk.new ≡ 0 }
+        ensures longer { D.len disk.old ≤ D.len disk.new }
+        ensures cause { HasStepCause (D.faults disk.old) (D.faults disk.new) result }
+    {
+        match self.reply_alone(
+            rt, alloc, disk, header, hints, order, back, number, call, offer,
+        ) {
+            Ok(()) => Ok(()),
+            Err(fault) => {
+                stop_held(rt, back, &self.seats);
+                back.put_on(rt, number as usize, OwnerItem::Stop);
+                Err(fault)
+            }
+        }
+    }
+
+    /// Does an offer of a number alone, and puts its reply.
+    fn reply_alone<R: Wait, D: Disk>(
+        &mut self,
+        rt: &R,
+        alloc: Global,
+        disk: &mut D,
+        header: &Header,
+        hints: &Hints,
+        order: &mut MarkList,
+        back: &mut LinePutList<OwnerItem>,
+        number: u32,
+        call: u32,
+        offer: &Offer,
+    ) -> Result<(), StepErr>
+        requires sound { is_sound header.now ≡ true }
+        requires hints { are_lawful_hints hints.now ≡ true }
+        requires number { number < length back.old }
+        requires fit { IsFit header.now (D.len disk.old) offer.now }
+        requires known { offer.now.known ≤ self.old.reached }
+        requires from { D.from disk.old ≡ 0 }
+        ensures seats { self.new.seats ≡ self.old.seats }
+        ensures done { OnOk result ((records : ℕ) → IsAlone hints.now (setting header.now hints.now) number call offer.now
+            (standing self.old records (D.held disk.old) (D.calls disk.old) order.old back.old)
+            (standing self.new records (D.held disk.new) (D.calls disk.new) order.new back.new)) }
+        ensures reached { OnOk result (IsCount header.now (D.len disk.old) self.old.reached → IsCount header.now (D.len disk.new) self.new.reached) }
+        ensures more { OnOk result (self.old.reached ≤ self.new.reached) }
+        ensures order { OnErr result (order.new ≡ order.old) }
+        ensures lines { OnErr result (back.new ≡ back.old) }
+        ensures from { D.from disk.new ≡ 0 }
+        ensures longer { D.len disk.old ≤ D.len disk.new }
+        ensures cause { HasStepCause (D.faults disk.old) (D.faults disk.new) result }
+    {
+        let reply = solo_reply(alloc, disk, header, hints, number, offer)?;
+        order.push(Mark::Solo(number, call))?;
+        self.reached = self.reached.max(reply.records);
+        back.put_on(rt, number as usize, OwnerItem::Reply(reply));
+        Ok(())
+    }
+
+    /// Does the meeting whose offers are held. After an error each of them has a stop.
+    fn do_together<R: Wait, D: Disk, G: Gate>(
+        &mut self,
+        rt: &R,
+        alloc: Global,
+        disk: &mut D,
+        header: &Header,
+        records: &mut u64,
+        hints: &Hints,
+        order: &mut MarkList,
+        back: &mut LinePutList<OwnerItem>,
+        gate: &G,
+    ) -> Result<(), StepErr>
+        requires sound { is_sound header.now ≡ true }
+        requires hints { are_lawful_hints hints.now ≡ true }
+        requires all { list_all holds self.old.seats.items ≡ true }
+        requires steady { IsSteady header.now (D.len disk.old) (standing self.old records.old (D.held disk.old) (D.calls disk.old) order.old back.old) }
+        requires from { D.from disk.old ≡ 0 }
+        ensures done { OnOk result (IsTogether hints.now (setting header.now hints.now)
+            (standing self.old records.old (D.held disk.old) (D.calls disk.old) order.old back.old)
+            (standing self.new records.new (D.held disk.new) (D.calls disk.new) order.new back.new)) }
+        ensures steady { OnOk result (IsSteady header.now (D.len disk.new) (standing self.new records.new (D.held disk.new) (D.calls disk.new) order.new back.new)) }
+        ensures order { OnErr result (order.new ≡ order.old) }
+        ensures stopped { OnErr result (Grows back.old stop_each back.new) }
+        ensures count { IsCount header.now (D.len disk.new) records.new }
+        ensures from { D.from disk.new ≡ 0 }
+        ensures longer { D.len disk.old ≤ D.len disk.new }
+        ensures cause { HasStepCause (D.faults disk.old) (D.faults disk.new) result }
+    {
+        match self.reply_together(rt, alloc, disk, header, records, hints, order, back, gate) {
+            Ok(()) => Ok(()),
+            Err(fault) => {
+                stop_each(rt, back);
+                Err(fault)
+            }
+        }
+    }
+
+    /// Takes the offers that are held: their batches, and the count to which a meeting of them raises that of the file.
+    fn take_job(&mut self, alloc: Global) -> Result<(Job, u64), Memory>
+        ensures batches { IfOk result (λ taken. taken.0.batches ≡ batches_of (offers_held self.old.seats.items)) }
+        ensures known { IfOk result (λ taken. taken.1 ≡ known_of (offers_held self.old.seats.items)) }
+        ensures freed { OnOk result (self.new.seats.items ≡ map freed self.old.seats.items) }
+        ensures met { self.new.met ≡ self.old.met }
+        ensures reached { self.new.reached ≡ self.old.reached }
+    {
+        take_all(alloc, &mut self.seats)
+    }
+
+    /// Does the meeting whose offers are held, and puts their replies.
+    fn reply_together<R: Wait, D: Disk, G: Gate>(
+        &mut self,
+        rt: &R,
+        alloc: Global,
+        disk: &mut D,
+        header: &Header,
+        records: &mut u64,
+        hints: &Hints,
+        order: &mut MarkList,
+        back: &mut LinePutList<OwnerItem>,
+        gate: &G,
+    ) -> Result<(), StepErr>
+        requires sound { is_sound header.now ≡ true }
+        requires hints { are_lawful_hints hints.now ≡ true }
+        requires all { list_all holds self.old.seats.items ≡ true }
+        requires steady { IsSteady header.now (D.len disk.old) (standing self.old records.old (D.held disk.old) (D.calls disk.old) order.old back.old) }
+        requires from { D.from disk.old ≡ 0 }
+        ensures done { OnOk result (IsTogether hints.now (setting header.now hints.now)
+            (standing self.old records.old (D.held disk.old) (D.calls disk.old) order.old back.old)
+            (standing self.new records.new (D.held disk.new) (D.calls disk.new) order.new back.new)) }
+        ensures steady { OnOk result (IsSteady header.now (D.len disk.new) (standing self.new records.new (D.held disk.new) (D.calls disk.new) order.new back.new)) }
+        ensures order { OnErr result (order.new ≡ order.old) }
+        ensures lines { OnErr result (back.new ≡ back.old) }
+        ensures count { IsCount header.now (D.len disk.new) records.new }
+        ensures from { D.from disk.new ≡ 0 }
+        ensures longer { D.len disk.old ≤ D.len disk.new }
+        ensures cause { HasStepCause (D.faults disk.old) (D.faults disk.new) result }
+    {
+        let (job, known) = self.take_job(alloc)?;
+        let (pair, table) = meet_on_file(
+            rt, alloc, disk, header, records, hints, gate, &job, known,
+        )?;
+        let met = next_number(self.met)?;
+        order.push(Mark::Meet(self.met))?;
+        self.met = met;
+        self.reached = self.reached.max(*records);
+        reply_all(rt, back, pair, *records, table);
+        Ok(())
+    }
+}
+
+/// The number of the next meeting. No order holds more marks than have numbers.
+fn next_number(number: u32) -> Result<u32, Memory>
+    ensures { IfOk result (λ next. next ≡ number + 1) }
+{
+    match number.checked_add(1) {
+        None => Err(Memory),
+        Some(next) => Ok(next),
+    }
+}
+
+/// Puts each number's reply on its line.
+fn reply_all<R: Wait>(
+    rt: &R,
+    back: &mut LinePutList<OwnerItem>,
+    pair: Option<Pair>,
+    records: u64,
+    table: GotTable,
+)
+    requires { length table ≡ length back.old }
+    ensures { Grows back.old (replies pair records table) back.new }
+{
+    let mut table = table.into_vec();
+    for number in 0..table.len() {
+        let got = table[number].take();
+        let reply = Reply { pair, records, got };
+        back.put_on(rt, number, OwnerItem::Reply(reply));
+    }
+}

@@ -1,0 +1,158 @@
+// Arrivals that no rank of a script makes.
+ghost use Rattle.std.specs.Prelude.{◌≡◌, ◌+◌, ◌*◌, ◌^◌, ◌<◌, ◌≤◌, ◌&&◌, ◌||◌, ℕ, List, length, not, nat_le, nat_lt, slice_get, true, Some, IfSome};
+ghost use Rattle.std.specs.List.{list_any};
+ghost use Rattle.nc_base.specs.declared.request.Direction.TheVariants as way;
+ghost use Rattle.serial_spec.specs.Desk.{bad_batch, differs, has_left, holds, is_strange, kind_held, refused, strange_offer, wrong_length};
+ghost use Rattle.serial_spec.specs.ExternalForm as external;
+ghost use Rattle.serial_spec.specs.FileStep.{Setting};
+ghost use Rattle.serial_spec.specs.History.{kind_of_meeting};
+ghost use Rattle.serial_spec.specs.Layout.{product};
+ghost use Rattle.serial_spec.specs.Limits.{most_elements};
+ghost use Rattle.thread_run.specs.Strange.{fails_as_offer, fails_test, leaves_behind};
+ghost use Rattle.thread_run.specs.Owned.{desk_of};
+
+use crate::desk::{Desk, DeskSeat};
+use nc_base::{Direction, Header, Offer, OfferKind, Post, RankItem};
+use type_external::size_of;
+use vara_extents::check;
+
+impl Desk {
+    /// Whether no rank of a script makes this arrival.
+    pub(crate) fn is_strange(&self, header: &Header, number: u32, item: &RankItem) -> bool
+        requires { number < length self.now.seats.items }
+        ensures { (s : Setting) (file : List ℕ) (records : ℕ) → s.header ≡ header.now
+            → is_strange s (desk_of self.now file records) (number, item.now) ≡ result }
+    {
+        self.fails_test(header, &self.seats[number as usize], item)
+    }
+
+    /// Whether an item of a seat fails a test.
+    fn fails_test(&self, header: &Header, seat: &DeskSeat, item: &RankItem) -> bool
+        ensures { result ≡ fails_test header.now self.now.seats.items self.now.reached seat.now item.now }
+    {
+        seat.has_ended()
+            || leaves_behind(&self.seats, seat, item)
+            || self.fails_as_offer(header, seat, item)
+    }
+
+    /// Whether an item of a seat is an offer that is none at this time, or that no step takes.
+    fn fails_as_offer(&self, header: &Header, seat: &DeskSeat, item: &RankItem) -> bool
+        ensures { result ≡ fails_as_offer header.now self.now.seats.items self.now.reached seat.now item.now }
+    {
+        match item {
+            RankItem::Ended { memory: _ } => false,
+            RankItem::Offer(_, offer) => {
+                seat.holds()
+                    || differs(&self.seats, offer.kind)
+                    || offer.known > self.reached
+                    || is_bad(header, offer)
+            }
+        }
+    }
+}
+
+/// Whether with this item some number has left while another one's offer is held. The seat is that of its number, which has not
+/// ended.
+fn leaves_behind(seats: &[DeskSeat], seat: &DeskSeat, item: &RankItem) -> bool
+    ensures { result ≡ leaves_behind seats.now seat.now item.now }
+{
+    match item {
+        RankItem::Ended { memory } => {
+            (some_left(seats) || (!*memory && !seat.holds())) && some_holds(seats)
+        }
+        RankItem::Offer(_, offer) => {
+            some_left(seats) && (offer.kind != OfferKind::Solo || some_holds(seats))
+        }
+    }
+}
+
+fn some_left(seats: &[DeskSeat]) -> bool
+    ensures { result ≡ list_any has_left seats.now }
+{
+    seats.iter().any(|seat| seat.has_left())
+}
+
+fn some_holds(seats: &[DeskSeat]) -> bool
+    ensures { result ≡ list_any holds seats.now }
+{
+    seats.iter().any(|seat| seat.holds())
+}
+
+/// Whether an offer of another kind of meeting is held.
+fn differs(seats: &[DeskSeat], kind: OfferKind) -> bool
+    ensures { result ≡ list_any (λ y. differs (kind_held y) (kind_of_meeting kind)) seats.now }
+{
+    match kind {
+        OfferKind::Solo => false,
+        OfferKind::Meet(kind) => seats.iter().any(
+            |seat| matches!(seat.kind_held(), Some(held) if held != kind),
+        ),
+    }
+}
+
+/// Whether no step takes the posts of an offer.
+fn is_bad(header: &Header, offer: &Offer) -> bool
+    ensures { result ≡ bad_batch header.now offer.now }
+{
+    has_bad_put(header, offer) || has_refused_get(header, offer) || has_too_many(offer)
+}
+
+fn has_bad_put(header: &Header, offer: &Offer) -> bool
+    ensures { result ≡ list_any (λ p. refused header.now offer.now.known way.Put p || wrong_length header.now p) offer.now.batch.puts }
+{
+    let puts = offer.batch.puts.as_slice();
+    puts.iter().any(|put| is_bad_put(header, offer.known, put))
+}
+
+fn has_refused_get(header: &Header, offer: &Offer) -> bool
+    ensures { result ≡ list_any (λ p. refused header.now offer.now.known way.Get p) offer.now.batch.gets }
+{
+    let gets = offer.batch.gets.as_slice();
+    gets.iter()
+        .any(|get| is_refused(header, offer.known, Direction::Get, get))
+}
+
+fn has_too_many(offer: &Offer) -> bool
+    ensures { result ≡ (nat_le (2 ^ 32) (length offer.now.batch.puts + length offer.now.batch.gets)) }
+{
+    offer.batch.puts.len() as u128 + offer.batch.gets.len() as u128 >= 1 << 32
+}
+
+/// Whether a put has a region that is refused, or not the bytes of its elements.
+fn is_bad_put(header: &Header, known: u64, put: &Post) -> bool
+    ensures { result ≡ (refused header.now known way.Put put.now || wrong_length header.now put.now) }
+{
+    is_refused(header, known, Direction::Put, put) || has_other_length(header, known, put)
+}
+
+fn is_refused(header: &Header, known: u64, direction: Direction, post: &Post) -> bool
+    ensures { result ≡ refused header.now known direction post.now }
+{
+    check(header, post.var as usize, &post.region, known, direction).is_err()
+}
+
+/// Whether a put of an accepted region has not the bytes of its elements.
+fn has_other_length(header: &Header, known: u64, put: &Post) -> bool
+    requires { refused header.now known way.Put put.now ≡ not true }
+    ensures { result ≡ wrong_length header.now put.now }
+{
+    match header.vars.as_slice().get(put.var as usize) {
+        None => true,
+        Some(var) => {
+            let elements = element_count(put.region.count.as_slice());
+            put.bytes.len() as u64 != elements * size_of(var.kind)
+        }
+    }
+}
+
+/// How many elements the counts make.
+fn element_count(counts: &[u64]) -> u64
+    requires few { product counts.now ≤ most_elements }
+    ensures { result ≡ product counts.now }
+{
+    match counts {
+        [] => 1,
+        [0, ..] => 0,
+        [count, counts @ ..] => *count * element_count(counts),
+    }
+}

@@ -1,0 +1,208 @@
+-- A rank that goes from one offer to the next by itself.
+use Rattle.std.proofs.Common.{◌≡◌, ℕ, suc, refl, sym, ◌∙◌, ap, subst, List, [], ◌∷◌, ◌++◌, length, map, set, drop, Bool, true, max, Option, Some, None, append_assoc, arith}
+use Rattle.std.proofs.lemmas.List.{append-nil}
+use Rattle.std.proofs.lemmas.Bool.Decides.{nat_tests}
+use Rattle.std.specs.Prelude.{slice_get, is_some, IfSome, ◌==◌, ◌&&◌}
+use Rattle.std.specs.List.{list_all}
+use Rattle.std.proofs.lemmas.Bool.{and_from}
+use Rattle.list_laws.proofs.Truth.{and_first, and_second}
+use Rattle.nc_base.specs.declared.header.Header.{Header}
+use Rattle.nc_base.specs.declared.request.Call.{Call}
+use Rattle.nc_base.specs.declared.answer.Answer.{Answer}
+use Rattle.nc_base.specs.declared.plan.Post.{Post}
+use Rattle.nc_base.specs.declared.script.Hints.{Hints}
+use Rattle.nc_base.specs.declared.script.Script.{Script}
+use Rattle.nc_base.specs.declared.step.Mark.{Mark}
+use Rattle.nc_base.specs.declared.step.Mark.TheVariants.{Solo}
+use Rattle.nc_base.specs.declared.step.DiskCall.{DiskCall}
+use Rattle.nc_base.specs.declared.step.Offer.{Offer}
+use Rattle.nc_base.specs.declared.step.OfferKind.{OfferKind}
+use Rattle.nc_base.specs.declared.step.OfferKind.TheVariants as offer
+use Rattle.nc_base.specs.declared.step.Reply.{Reply}
+use Rattle.nc_outside.specs.Told.{after, with_end}
+use Rattle.serial_spec.specs.FileStep.{Setting, Counted, solo}
+use Rattle.serial_spec.specs.DeviceCalls.{solo_calls}
+use Rattle.serial_spec.specs.RankMachine.{Open}
+use Rattle.serial_spec.specs.RankSide.{wanted}
+use Rattle.serial_spec.specs.SerialEnd.{Going, advance, hears}
+use Rattle.collective_round.specs.Rounds.{counted}
+use Rattle.run_laws.specs.Standing.{is_solo_of}
+use Rattle.run_laws.specs.Ways.{IsOnWay}
+use Rattle.run_laws.proofs.CallLaws.{hears_keeps, solo_keeps}
+use Rattle.turn_run.specs.Counts.{IsAsked}
+use Rattle.turn_run.specs.Seated.{asking, between, calls_of, going_of, AsksAlone, HasHeard, IsPlaced, IsPlacedWith, IsSeat}
+use Rattle.run_laws.specs.Arrivals.{offer_at, solo_to, step_calls, step_to, Arrived, Stand}
+use Rattle.turn_run.specs.Stages.{arrived, stage, stand_of, HasGone, IsGrownBy, IsLed, Leads, Stage}
+use Rattle.turn_run.specs.declared.seats.Seat.{Seat}
+use Rattle.turn_run.proofs.ListLaws.{get_set, set_own, set_set}
+use Rattle.turn_run.proofs.SeatLaws.{advance_ended}
+use Rattle.turn_run.proofs.StageLaws.{ended_by_none, led_none, led_then}
+
+-- ---- a seat, by the offer that it holds
+
+pub arrived_free : (header : Header) (own : List Call) (seat : Seat) → seat.held ≡ None → arrived header own seat ≡ advance header (between own seat)
+arrived_free header own seat e = ap (λ (m : Option Offer). elim m [ None ↦ advance header (between own seat) | Some o ↦ (asking own seat, Some o) ]) e
+
+pub arrived_held : (header : Header) (own : List Call) (seat : Seat) (o : Offer) → seat.held ≡ Some o → arrived header own seat ≡ (asking own seat, Some o)
+arrived_held header own seat o e = ap (λ (m : Option Offer). elim m [ None ↦ advance header (between own seat) | Some o ↦ (asking own seat, Some o) ]) e
+
+pub going_free : (own : List Call) (seat : Seat) → seat.held ≡ None → going_of own seat ≡ between own seat
+going_free own seat e = ap (λ (m : Option Offer). elim m [ None ↦ between own seat | Some o ↦ asking own seat ]) e
+
+pub going_held : (own : List Call) (seat : Seat) (o : Offer) → seat.held ≡ Some o → going_of own seat ≡ asking own seat
+going_held own seat o e = ap (λ (m : Option Offer). elim m [ None ↦ between own seat | Some o ↦ asking own seat ]) e
+
+-- going through its calls leads to no other offer
+pub arrived_gone : (header : Header) (own : List Call) (old new : Seat) → old.held ≡ None → advance header (between own old) ≡ (going_of own new, new.held)
+    → (new.held ≡ None → drop (length new.answers) own ≡ []) → arrived header own old ≡ arrived header own new
+arrived_gone header own old new free gone ended = arrived_free header own old free ∙ gone ∙ sym (by_held new.held refl)
+  where
+    by_held : (m : Option Offer) → new.held ≡ m → arrived header own new ≡ (going_of own new, new.held)
+    by_held None e =
+        let g = going_free own new e in
+        arrived_free header own new e ∙ advance_ended header own new.rank.state new.answers (ended e) ∙ (λ i. (sym g i, sym e i))
+    by_held (Some o) e = let g = going_held own new o e in arrived_held header own new o e ∙ (λ i. (sym g i, sym e i))
+
+-- ---- one solo step
+
+abbrev offer_some : Option Arrived → Option Offer
+offer_some None = None
+offer_some (Some a) = a.1
+
+abbrev calls_some : Hints → Setting → ℕ → Counted → Option Offer → List DiskCall
+calls_some hints s r c None = []
+calls_some hints s r c (Some o) = solo_calls hints s r o c
+
+calls_at : (hints : Hints) (s : Setting) (r n : ℕ) (c : Counted) (ranks : List Arrived) (t : Going) (o : Offer) → slice_get ranks r ≡ Some (t, Some o)
+    → step_calls hints s (c, ranks) (Solo r n) ≡ solo_calls hints s r o c
+calls_at hints s r n c ranks t o e =
+    ap (λ (m : Option Arrived). calls_some hints s r c (offer_some m)) e
+
+step_at : (s : Setting) (r n : ℕ) (c : Counted) (ranks : List Arrived) (t : Going) (o : Offer) → slice_get ranks r ≡ Some (t, Some o)
+    → step_to s (c, ranks) (Solo r n) ≡ ((solo s r o c).0, set ranks r (advance s.header (hears s.header t (solo s r o c).1)))
+step_at s r n c ranks t o e = ap (λ (m : Option Arrived). elim m [ None ↦ (c, ranks) | Some a ↦ solo_to s r c ranks a ]) e
+
+pub alone_led : (hints : Hints) (s : Setting) (r n : ℕ) (held left : Option (List ℕ)) (calls made : Option (List DiskCall)) (t : Going) (o : Offer) (reply : Reply) (to : Arrived)
+    → IfSome held (λ file. reply ≡ (solo s r o (counted file 0)).1) → left ≡ after (λ file. (solo s r o (counted file 0)).0.file) held
+    → IfSome held (λ file. made ≡ with_end calls (solo_calls hints s r o (counted file 0))) → to ≡ advance s.header (hears s.header t reply)
+    → (records : ℕ) (ranks : List Arrived) → slice_get ranks r ≡ Some (t, Some o)
+    → Leads hints s (Solo r n ∷ []) (stage held calls records ranks) (stage left made records (set ranks r to))
+alone_led hints s r n None left calls made t o reply to heard bytes over up records ranks e = tt
+alone_led hints s r n (Some file) left calls made t o reply to heard bytes over up records ranks e =
+    let c = counted file records in
+    let at = up ∙ ap (λ (y : Reply). advance s.header (hears s.header t y)) heard in
+    record {
+      left = (solo s r o c).0.file;
+      told = bytes;
+      state = step_at s r n c ranks t o e ∙ (λ i. ((solo s r o c).0, set ranks r (sym at i)));
+      calls = over ∙ ap (λ (cs : List DiskCall). with_end calls cs) (sym (calls_at hints s r n c ranks t o e) ∙ sym (append-nil (step_calls hints s (c, ranks) (Solo r n))));
+    }
+
+-- ---- a rank's own steps, one after another
+
+own_mark : (r n : ℕ) → list_all (is_solo_of r) (Solo r n ∷ []) ≡ true
+own_mark r n = same r
+  where
+    same : (k : ℕ) → ((k == k) && true) ≡ true
+    same k = grind (arith, nat_tests)
+
+pub gone_alone : (hints : Hints) (s : Setting) (r n : ℕ) (before now : List Mark) (held left : Option (List ℕ)) (calls made : Option (List DiskCall)) (t : Going) (o : Offer) (to : Arrived)
+    → now ≡ before ++ Solo r n ∷ []
+    → ((records : ℕ) (ranks : List Arrived) → slice_get ranks r ≡ Some (t, Some o) → Leads hints s (Solo r n ∷ []) (stage held calls records ranks) (stage left made records (set ranks r to)))
+    → HasGone hints s r before now held calls left made (t, Some o) to
+gone_alone hints s r n before now held left calls made t o to e led = record { more = Solo r n ∷ []; grown = e; own = own_mark r n; led = led }
+
+pub gone_same : (hints : Hints) (s : Setting) (r : ℕ) (order : List Mark) (held : Option (List ℕ)) (calls : Option (List DiskCall)) (from to : Arrived) → from ≡ to
+    → HasGone hints s r order order held calls held calls from to
+gone_same hints s r order held calls from to e = record {
+  more = [];
+  grown = sym (append-nil order);
+  own = refl;
+  led = λ records ranks g.
+      subst (λ (others : List Arrived). Leads hints s [] (stage held calls records ranks) (stage held calls records others))
+      (sym (set_own ranks r to (g ∙ ap (λ (a : Arrived). Some a) e))) (led_none hints s (stage held calls records ranks));
+}
+
+all_joined : (test : Mark → Bool) (xs ys : List Mark) → list_all test xs ≡ true → list_all test ys ≡ true → list_all test (xs ++ ys) ≡ true
+all_joined test [] ys h k = k
+all_joined test (x ∷ xs) ys h k = and_from _ _ (and_first _ _ h) (all_joined test xs ys (and_second _ _ h) k)
+
+pub gone_then : (hints : Hints) (s : Setting) (r : ℕ) (before now later : List Mark) (held left last : Option (List ℕ)) (calls made done : Option (List DiskCall)) (from mid to : Arrived)
+    → HasGone hints s r before now held calls left made from mid → HasGone hints s r now later left made last done mid to → HasGone hints s r before later held calls last done from to
+gone_then hints s r before now later held left last calls made done from mid to first second = record {
+  more = first.more ++ second.more;
+  grown = second.grown ∙ ap (λ (ms : List Mark). ms ++ second.more) first.grown ∙ append_assoc before first.more second.more;
+  own = all_joined (is_solo_of r) first.more second.more first.own second.own;
+  led = λ records ranks g.
+      let one = first.led records ranks g in
+      let two = second.led records (set ranks r mid) (get_set ranks r from mid g) in
+      led_then hints s first.more second.more (stage held calls records ranks) (stage left made records (set ranks r mid)) (stage last done records (set ranks r to)) one
+      (subst (λ (others : List Arrived). Leads hints s second.more (stage left made records (set ranks r mid)) (stage last done records others)) (set_set ranks r mid to) two);
+}
+
+pub grown_then : (r : ℕ) (before now later : List Mark) → IsGrownBy r before now → IsGrownBy r now later → IsGrownBy r before later
+grown_then r before now later first second = record {
+  more = first.more ++ second.more;
+  grown = second.grown ∙ ap (λ (ms : List Mark). ms ++ second.more) first.grown ∙ append_assoc before first.more second.more;
+  own = all_joined (is_solo_of r) first.more second.more first.own second.own;
+}
+
+pub grown_none : (r : ℕ) (before now : List Mark) → now ≡ before → IsGrownBy r before now
+grown_none r before now e = record { more = []; grown = e ∙ sym (append-nil before); own = refl }
+
+pub grown_one : (r n : ℕ) (before now : List Mark) → now ≡ before ++ Solo r n ∷ [] → IsGrownBy r before now
+grown_one r n before now e = record { more = Solo r n ∷ []; grown = e; own = own_mark r n }
+
+pub gone_grown : (hints : Hints) (s : Setting) (r : ℕ) (before now : List Mark) (held left : Option (List ℕ)) (calls made : Option (List DiskCall)) (from to : Arrived)
+    → HasGone hints s r before now held calls left made from to → IsGrownBy r before now
+gone_grown hints s r before now held left calls made from to h = record { more = h.more; grown = h.grown; own = h.own }
+
+-- ---- the reply to a solo step
+
+pub alone_waits : (script : Script) (header : Header) (order : List Mark) (r : ℕ) (s : Going) (o : Offer) → AsksAlone script header order r s o
+    → (is_some s.rank.«open» ≡ true) × IfSome s.rank.«open» (λ w. w.gets ≡ o.batch.gets)
+alone_waits script header order r s o asks = (solo_keeps header asks.before s.rank asks.call o asks.step).1.1.1
+
+pub fits_open : (m : Option Open) (header same : Header) (gets : List Post) (got : List (List ℕ)) → same ≡ header → IfSome m (λ w. w.gets ≡ gets)
+    → map (λ (blob : List ℕ). length blob) got ≡ map (wanted header) gets → IfSome m (λ w. map (λ (blob : List ℕ). length blob) got ≡ map (wanted same) w.gets)
+fits_open None header same gets got e h f = tt
+fits_open (Some w) header same gets got e h f = f ∙ (λ i. map (wanted (sym e i)) (sym h i))
+
+pub heard_known : (before now : Seat) (reply : Reply) → is_some before.rank.state.«open» ≡ true → HasHeard before now reply
+    → now.rank.state.known ≡ max before.rank.state.known reply.records
+heard_known before now reply e h = (hears_keeps before.rank.header before.rank.state now.rank.state reply h.answer e h.heard).0
+
+pub order_is : (r n : ℕ) (answers : List Answer) (before now : List Mark) → now ≡ before ++ Solo r n ∷ [] → n ≡ length answers → now ≡ before ++ Solo r (length answers) ∷ []
+order_is r n answers before now e f = e ∙ ap (λ (k : ℕ). before ++ Solo r k ∷ []) f
+
+-- ---- a seat that has gone on through its calls
+
+pub went_seat : (script : Script) (header : Header) (order : List Mark) (r : ℕ) (own : List Call) (new : Seat) → own ≡ calls_of script r → new.rank.header ≡ header
+    → IsPlaced script header order r (going_of own new) new.held → IfSome new.held (IsAsked header new.rank.state.known) → IsSeat script header order r new
+went_seat script header order r own new e h p a =
+    record { of_header = h; placed = subst (λ (o : List Call). IsPlaced script header order r (going_of o new) new.held) e p; asked = a }
+
+pub went_gone : (hints : Hints) (s : Setting) (r : ℕ) (order : List Mark) (held : Option (List ℕ)) (calls : Option (List DiskCall)) (header : Header) (own all : List Call) (old new : Seat)
+    → own ≡ all → old.held ≡ None → advance header (between own old) ≡ (going_of own new, new.held) → (new.held ≡ None → drop (length new.answers) own ≡ [])
+    → HasGone hints s r order order held calls held calls (arrived header all old) (arrived header all new)
+went_gone hints s r order held calls header own all old new e free gone ended =
+    gone_same hints s r order held calls (arrived header all old) (arrived header all new)
+    (subst (λ (o : List Call). arrived header o old ≡ arrived header o new) e (arrived_gone header own old new free gone ended))
+
+pub taken_asks : (header : Header) (own : List Call) (a b : Seat) (o : Offer) → a.held ≡ Some o → b.rank ≡ a.rank → b.answers ≡ a.answers → (asking own b, Some o) ≡ arrived header own a
+taken_asks header own a b o e f h =
+    (λ i. (let g : Going = record { rank = (f i).state; answers = h i; calls = drop (suc (length (h i))) own } in g, Some o)) ∙ sym (arrived_held header own a o e)
+
+pub same_seat : (a b : Seat) → b.rank ≡ a.rank → b.answers ≡ a.answers → b.held ≡ a.held → b ≡ a
+same_seat a b e f h = λ i. record { rank = e i; answers = f i; held = h i }
+
+pub alone_asks : (script : Script) (header : Header) (order : List Mark) (r : ℕ) (own : List Call) (seat : Seat) (o : Offer) → seat.held ≡ Some o → o.kind ≡ offer.Solo
+    → IsPlaced script header order r (going_of own seat) seat.held → AsksAlone script header order r (asking own seat) o
+alone_asks script header order r own seat o e k w =
+    subst (λ (j : OfferKind). IsPlacedWith script header order r (asking own seat) o j) k
+    (subst (λ (s : Going). IsPlaced script header order r s (Some o)) (going_held own seat o e) (subst (λ (m : Option Offer). IsPlaced script header order r (going_of own seat) m) e w))
+
+pub way_free : (script : Script) (header : Header) (order : List Mark) (r : ℕ) (own : List Call) (seat : Seat) → seat.held ≡ None
+    → IsPlaced script header order r (going_of own seat) seat.held → IsOnWay script order r (between own seat) None
+way_free script header order r own seat e w =
+    subst (λ (s : Going). IsOnWay script order r s None) (going_free own seat e) (subst (λ (m : Option Offer). IsPlaced script header order r (going_of own seat) m) e w)

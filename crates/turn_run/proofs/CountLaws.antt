@@ -1,0 +1,94 @@
+-- Record counts that a header can have.
+use Rattle.std.proofs.Common.{◌≡◌, ℕ, ◌^◌, ◌<◌, ◌≤◌, refl, sym, ◌∙◌, subst, List, [], ◌∷◌, map, Bool, true, false, cond, max, ◌||◌, Some, None, inl, inr, arith}
+use Rattle.std.proofs.lemmas.Bool.Decides.{nat_tests}
+use Rattle.std.specs.Prelude.{not, nat_lt, nat_le, ◌==◌, is_none}
+use Rattle.list_laws.proofs.Optional.{none_of_test, both_none}
+use Rattle.list_laws.proofs.Truth.{and_second}
+use Rattle.nc_base.specs.declared.header.Header.{Header}
+use Rattle.nc_base.specs.declared.plan.Post.{Post}
+use Rattle.nc_base.specs.declared.request.Direction.TheVariants as way
+use Rattle.nc_base.specs.declared.answer.Code.TheVariants as code
+use Rattle.nc_base.specs.declared.errors.HeaderErr.TheVariants as fault
+use Rattle.serial_spec.specs.HeaderGrammar.{all_ones, bad_id, fault_if, first_check, first_with, header_len, is_sound, is_too_large, measure, record_later, two_record_dims}
+use Rattle.serial_spec.specs.Layout.{end_of, greatest}
+use Rattle.serial_spec.specs.Limits.{record_limit}
+use Rattle.serial_spec.specs.Records.{needed}
+use Rattle.serial_spec.proofs.RoomLaws.{end_grows}
+use Rattle.var_layout.proofs.ElementPlaces.{sound_end}
+use Rattle.var_layout.proofs.WrittenLengths.{canon_len}
+use Rattle.join_laws.proofs.CountLaws.{some_limit, sound_small}
+use Rattle.collective_round.specs.Rounds.{IsPut}
+use Rattle.collective_round.proofs.CountedLaws.{counted_sound, put_needed}
+use Rattle.turn_run.specs.Counts.{IsCount, IsRise}
+
+pub count_small : (header : Header) (len n : ℕ) → IsCount header len n → n < record_limit header.version
+count_small header len n h = sound_small (record header { records = n }) h.sound
+
+pub rise_small : (header : Header) (len n : ℕ) → IsRise header len n → n < record_limit header.version
+rise_small header len n (inl e) = let h = some_limit header.version in omega arith
+rise_small header len n (inr h) = count_small header len n h
+
+pub count_longer : (header : Header) (len more n : ℕ) → len ≤ more → IsCount header len n → IsCount header more n
+count_longer header len more n l h = let long = h.long in record { sound = h.sound; long = omega arith }
+
+-- the same count of a file that is as long, or longer
+pub count_still : (header : Header) (len more n m : ℕ) → IsCount header len n → len ≤ more → m ≡ n → IsCount header more m
+count_still header len more n m h l e = subst (λ (k : ℕ). IsCount header more k) (sym e) (count_longer header len more n l h)
+
+counted_end : (header : Header) (n m : ℕ) → is_sound (record header { records = n }) ≡ true → m ≤ n → end_of header (header_len header) m < 2 ^ 62
+counted_end header n m h l =
+    let same : header_len (record header { records = n }) ≡ header_len header = canon_len (record header { records = n }) ∙ sym (canon_len header) in
+    subst (λ (first : ℕ). end_of header first m < 2 ^ 62) same (sound_end (record header { records = n }) m h l)
+
+-- a smaller count
+pub count_less : (header : Header) (len n m : ℕ) → is_sound header ≡ true → IsCount header len n → m ≤ n → IsCount header len m
+count_less header len n m sound h l =
+    let low = counted_end header n m h.sound l in
+    let small = count_small header len n h in
+    let grows = end_grows header (header_len header) m n l in
+    let long = h.long in
+    record { sound = counted_sound header m sound (omega arith) low; long = omega arith }
+
+pub rise_longer : (header : Header) (len more n : ℕ) → len ≤ more → IsRise header len n → IsRise header more n
+rise_longer header len more n l (inl e) = inl e
+rise_longer header len more n l (inr h) = inr (count_longer header len more n l h)
+
+-- the greater of a count and a count, or 0
+pub count_max : (header : Header) (len a n : ℕ) → IsCount header len a → IsRise header len n → IsCount header len (max a n)
+count_max header len a n h (inl e) = let f : a ≡ max a n = omega arith in subst (λ (m : ℕ). IsCount header len m) f h
+count_max header len a n h (inr k) = by_order (nat_lt a n) refl
+  where
+    by_order : (t : Bool) → nat_lt a n ≡ t → IsCount header len (max a n)
+    by_order true e = let f : n ≡ max a n = grind (arith, nat_tests) in subst (λ (m : ℕ). IsCount header len m) f k
+    by_order false e = let f : a ≡ max a n = grind (arith, nat_tests) in subst (λ (m : ℕ). IsCount header len m) f h
+
+pub rise_max : (header : Header) (len a n : ℕ) → IsRise header len a → IsRise header len n → IsRise header len (max a n)
+rise_max header len a n (inl e) k = let f : n ≡ max a n = omega arith in subst (λ (m : ℕ). IsRise header len m) f k
+rise_max header len a n (inr h) k = inr (count_max header len a n h k)
+
+-- the file of a count has at least the header and the fixed variables
+pub count_begins : (header : Header) (len n : ℕ) → IsCount header len n → end_of header (header_len header) 0 ≤ len
+count_begins header len n h = let l = h.long in let k = end_grows header (header_len header) 0 n (omega arith) in omega arith
+
+-- ---- what puts need
+
+pub put_count : (header : Header) (len : ℕ) (p : Post) → is_sound header ≡ true → IsPut header p → end_of header (header_len header) (needed header p) ≤ len
+    → IsCount header len (needed header p)
+put_count header len p h put l =
+    let both = put_needed header p put in
+    record { sound = counted_sound header (needed header p) h both.0 both.1; long = l }
+
+-- the greatest that puts need, where the file has as many bytes as that takes
+pub AllPuts : Header → List Post → Type 0
+AllPuts header [] = Unit {0}
+AllPuts header (p ∷ ps) = IsPut header p × AllPuts header ps
+
+pub needed_rise : (header : Header) (len : ℕ) (posts : List Post) → is_sound header ≡ true → AllPuts header posts
+    → end_of header (header_len header) (greatest (map (λ p. needed header p) posts)) ≤ len → IsRise header len (greatest (map (λ p. needed header p) posts))
+unfolding AllPuts
+needed_rise header len [] h puts l = inl refl
+needed_rise header len (p ∷ posts) h puts l =
+    let others = greatest (map (λ q. needed header q) posts) in
+    let first = end_grows header (header_len header) (needed header p) (max (needed header p) others) (omega arith) in
+    let rest = end_grows header (header_len header) others (max (needed header p) others) (omega arith) in
+    rise_max header len (needed header p) others (inr (put_count header len p h puts.0 (omega arith))) (needed_rise header len posts h puts.1 (omega arith))

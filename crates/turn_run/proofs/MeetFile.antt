@@ -1,0 +1,150 @@
+-- The file, its record count and its device calls in a meeting.
+use Rattle.std.proofs.Common.{◌≡◌, ℕ, ◌<◌, ◌≤◌, refl, sym, ◌∙◌, ap, subst, List, [], ◌++◌, length, max, Bool, true, false, cond, Option, Some, None, inl, inr, append_assoc, arith}
+use Rattle.std.proofs.lemmas.Bool.Decides.{nat_tests}
+use Rattle.std.proofs.lemmas.List.{append-nil}
+use Rattle.std.specs.Prelude.{◌⊎◌, flat_map, nat_lt, if◌then◌else◌, IfSome}
+use Rattle.nc_base.specs.declared.answer.Pair.{Pair}
+use Rattle.nc_base.specs.declared.plan.Batch.{Batch}
+use Rattle.nc_base.specs.declared.plan.Post.{Post}
+use Rattle.nc_base.specs.declared.script.Hints.{Hints}
+use Rattle.nc_base.specs.declared.step.DiskCall.{DiskCall}
+use Rattle.nc_outside.specs.Told.{after, with_end}
+use Rattle.serial_spec.specs.Desk.{needed_now}
+use Rattle.serial_spec.specs.DeviceCalls.{collective_windows, get_bytes, loads, put_calls, store_records}
+use Rattle.serial_spec.specs.FileStep.{Counted, Setting, after_puts, end_for, needs, raised, told}
+use Rattle.serial_spec.specs.HeaderGrammar.{is_sound}
+use Rattle.serial_spec.specs.Records.{with_records}
+use Rattle.serial_spec.specs.SharedByte.{Puts}
+use Rattle.collective_round.specs.Rounds.{after_round, counted, gets_in, puts_in, ArePuts}
+use Rattle.turn_run.specs.Counts.{IsCount, IsRise}
+use Rattle.turn_run.specs.Steps.{met, met_calls}
+use Rattle.turn_run.proofs.CountLaws.{count_longer, count_max, rise_longer}
+use Rattle.turn_run.proofs.MeetPosts.{needed_rise}
+use Rattle.turn_run.proofs.StageLaws.{ended_twice}
+use Rattle.turn_run.proofs.WrittenTwice.{counted_twice}
+
+-- ---- what puts need
+
+puts_rise : (s : Setting) (len : ℕ) (puts : Puts) → is_sound s.header ≡ true → ArePuts s.header puts → end_for s (needed_now s puts) ≤ len → IsRise s.header len (needed_now s puts)
+puts_rise s len puts h are l = by_pair (told s puts) l
+  where
+    by_pair : (pair : Option Pair) → end_for s (needs s puts pair) ≤ len → IsRise s.header len (needs s puts pair)
+    by_pair None k = needed_rise s.header len (λ (p : ℕ × Post). p.1) puts h are k
+    by_pair (Some pair) k = inl refl
+
+pub round_count : (s : Setting) (before len r n : ℕ) (puts : Puts) → is_sound s.header ≡ true → ArePuts s.header puts → IsCount s.header before r → before ≤ len
+    → end_for s (needed_now s puts) ≤ len → n ≡ max r (needed_now s puts) → IsCount s.header len n
+round_count s before len r n puts h are k l room e =
+    subst (λ (m : ℕ). IsCount s.header len m) (sym e) (count_max s.header len r (needed_now s puts) (count_longer s.header before len r l k) (puts_rise s len puts h are room))
+
+pub met_count : (s : Setting) (before len last r n known : ℕ) → IsCount s.header len r → before ≤ len → IsRise s.header before known → last ≡ len → n ≡ max r known → IsCount s.header last n
+met_count s before len last r n known k l rise same e =
+    subst (λ (m : ℕ). IsCount s.header last m) (sym e)
+    (count_max s.header last r known (count_longer s.header len last r (omega arith) k) (rise_longer s.header before last known (omega arith) rise))
+
+no_need : (s : Setting) → needed_now s [] ≡ 0
+no_need s = by_pair (told s [])
+  where
+    by_pair : (pair : Option Pair) → needs s [] pair ≡ 0
+    by_pair None = refl
+    by_pair (Some pair) = refl
+
+-- what the puts need, or what the ranks know, is 0
+pub one_raises : (s : Setting) (puts : Puts) (known : ℕ) → (known ≡ 0) ⊎ (puts ≡ []) → (known ≡ 0) ⊎ (needed_now s puts ≡ 0)
+one_raises s puts known (inl e) = inl e
+one_raises s puts known (inr e) = inr (ap (needed_now s) e ∙ no_need s)
+
+-- ---- the count is raised by the puts, and then to what the ranks know
+
+not_below : (a b : ℕ) → b ≤ a → nat_lt a b ≡ false
+not_below a b h = grind (arith, nat_tests)
+
+file_of : (t : Bool) (x y : Counted) → (cond t x y).file ≡ cond t x.file y.file
+file_of true x y = refl
+file_of false x y = refl
+
+pub raised_none : (s : Setting) (c : Counted) (n : ℕ) → n ≤ c.records → raised s c n ≡ c
+raised_none s c n h = ap (λ (t : Bool). cond t (record { file = with_records s.header.version c.file n; records = n }) c) (not_below c.records n h)
+
+pub raised_records : (s : Setting) (c : Counted) (n : ℕ) → (raised s c n).records ≡ max c.records n
+raised_records s c n = by_order (nat_lt c.records n) refl
+  where
+    by_order : (t : Bool) → nat_lt c.records n ≡ t → (cond t (record { file = with_records s.header.version c.file n; records = n }) c).records ≡ max c.records n
+    by_order true e = grind (arith, nat_tests)
+    by_order false e = grind (arith, nat_tests)
+
+pub twice_raised : (s : Setting) (c : Counted) (r n known : ℕ) → r ≡ max c.records n
+    → (if nat_lt r known then with_records s.header.version (raised s c n).file known else (raised s c n).file) ≡ (raised s c (max n known)).file
+twice_raised s c r n known f = by_order (nat_lt c.records n) refl (nat_lt r known) refl
+  where
+    above : (m : ℕ) → c.records < m → nat_lt c.records m ≡ true
+    above m h = grind (arith, nat_tests)
+
+    by_order : (t : Bool) → nat_lt c.records n ≡ t → (u : Bool) → nat_lt r known ≡ u
+        → cond u (with_records s.header.version (cond t (record { file = with_records s.header.version c.file n; records = n }) c).file known)
+        (cond t (record { file = with_records s.header.version c.file n; records = n }) c).file ≡ (raised s c (max n known)).file
+    by_order true e true g =
+        counted_twice s.header.version c.file n known
+        ∙ ap (λ (t : Bool). (cond t (record { file = with_records s.header.version c.file known; records = known }) c).file) (sym (above known (grind (arith, nat_tests))))
+        ∙ ap (λ (m : ℕ). (raised s c m).file) (grind (arith, nat_tests))
+    by_order true e false g =
+        ap (λ (t : Bool). (cond t (record { file = with_records s.header.version c.file n; records = n }) c).file) (sym e)
+        ∙ ap (λ (m : ℕ). (raised s c m).file) (grind (arith, nat_tests))
+    by_order false e true g =
+        ap (λ (t : Bool). (cond t (record { file = with_records s.header.version c.file known; records = known }) c).file) (sym (above known (grind (arith, nat_tests))))
+        ∙ ap (λ (m : ℕ). (raised s c m).file) (grind (arith, nat_tests))
+    by_order false e false g = ap (λ (d : Counted). d.file) (sym (raised_none s c (max n known) (grind (arith, nat_tests))))
+
+stored_once : (s : Setting) (c : Counted) (r n known : ℕ) → (known ≡ 0) ⊎ (n ≡ 0) → r ≡ max c.records n
+    → store_records s (nat_lt c.records r) ++ store_records s (nat_lt r known) ≡ store_records s (nat_lt c.records (raised s c (max n known)).records)
+stored_once s c r n known (inl e) f =
+    let same : r ≡ (raised s c (max n known)).records = omega (arith, raised_records s c (max n known)) in
+    ap (λ (t : Bool). store_records s (nat_lt c.records r) ++ store_records s t) (not_below r known (omega arith))
+    ∙ append-nil (store_records s (nat_lt c.records r)) ∙ ap (λ (m : ℕ). store_records s (nat_lt c.records m)) same
+stored_once s c r n known (inr e) f =
+    let count : r ≡ c.records = omega arith in
+    ap (λ (t : Bool). store_records s t ++ store_records s (nat_lt r known)) (not_below c.records r (omega arith))
+    ∙ ap (λ (m : ℕ). store_records s (nat_lt m known)) count
+    ∙ ap (λ (t : Bool). store_records s t) (above ∙ ap (nat_lt c.records) (sym (raised_records s c (max n known))))
+  where
+    above : nat_lt c.records known ≡ nat_lt c.records (max c.records (max n known))
+    above = by_order (nat_lt c.records known) refl
+      where
+        by_order : (t : Bool) → nat_lt c.records known ≡ t → t ≡ nat_lt c.records (max c.records (max n known))
+        by_order true g = grind (arith, nat_tests)
+        by_order false g = sym (not_below c.records (max c.records (max n known)) (grind (arith, nat_tests)))
+
+-- ---- the meeting
+
+pub met_bytes : (s : Setting) (batches : List Batch) (r n known : ℕ) (held mid late last : Option (List ℕ))
+    → mid ≡ after (λ file. (after_round s (puts_in batches) (counted file r)).file) held → n ≡ max r (needed_now s (puts_in batches))
+    → late ≡ after (λ file. if nat_lt n known then with_records s.header.version file known else file) mid → last ≡ late
+    → last ≡ after (λ file. (met s batches known (counted file r)).file) held
+met_bytes s batches r n known None mid late last p e k g =
+    g ∙ k ∙ ap (after (λ file. if nat_lt n known then with_records s.header.version file known else file)) p
+met_bytes s batches r n known (Some file) mid late last p e k g =
+    let puts = puts_in batches in
+    g ∙ k ∙ ap (after (λ file. if nat_lt n known then with_records s.header.version file known else file)) p
+    ∙ ap (λ (bytes : List ℕ). Some bytes) (twice_raised s (counted (after_puts s puts (told s puts) file) r) n (needed_now s puts) known e)
+
+pub met_called : (hints : Hints) (s : Setting) (batches : List Batch) (r n known len : ℕ) (held : Option (List ℕ)) (calls mid late last : Option (List DiskCall)) → (known ≡ 0) ⊎ (puts_in batches ≡ [])
+    → IfSome held (λ file. length file ≡ len)
+    → mid ≡ with_end calls (put_calls s (collective_windows hints) (puts_in batches) len ++ store_records s (nat_lt r n)) → n ≡ max r (needed_now s (puts_in batches))
+    → late ≡ with_end mid (store_records s (nat_lt n known))
+    → last ≡ with_end late (flat_map loads (collective_windows hints (get_bytes s (gets_in batches))))
+    → IfSome held (λ file. last ≡ with_end calls (met_calls hints s batches known (counted file r)))
+met_called hints s batches r n known len None calls mid late last one l p e k g = tt
+met_called hints s batches r n known len (Some file) calls mid late last one l p e k g =
+    let puts = puts_in batches in
+    let front = put_calls s (collective_windows hints) puts len in
+    let gets = flat_map loads (collective_windows hints (get_bytes s (gets_in batches))) in
+    let first = store_records s (nat_lt r n) in
+    let second = store_records s (nat_lt n known) in
+    let c = counted (after_puts s puts (told s puts) file) r in
+    let once = stored_once s c n (needed_now s puts) known (one_raises s puts known one) e in
+    g ∙ ap (λ (told : Option (List DiskCall)). with_end told gets) (k ∙ ap (λ (told : Option (List DiskCall)). with_end told second) p)
+    ∙ ap (λ (told : Option (List DiskCall)). with_end told gets) (ended_twice calls (front ++ first) second)
+    ∙ ended_twice calls ((front ++ first) ++ second) gets
+    ∙ ap (λ (cs : List DiskCall). with_end calls (cs ++ gets)) (append_assoc front first second)
+    ∙ ap (λ (cs : List DiskCall). with_end calls ((front ++ cs) ++ gets)) once
+    ∙ ap (λ (m : ℕ). with_end calls ((put_calls s (collective_windows hints) puts m ++ store_records s (nat_lt r (met s batches known (counted file r)).records)) ++ gets)) (sym l)

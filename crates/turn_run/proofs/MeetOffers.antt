@@ -1,0 +1,327 @@
+-- The offers of a meeting, as the seats hold them: together they are a job that a meeting takes.
+use Rattle.std.proofs.Common.{◌≡◌, ℕ, zero, suc, ◌+◌, ◌^◌, ◌<◌, ◌≤◌, refl, sym, ◌∙◌, ap, subst, List, [], ◌∷◌, ◌++◌, length, map, Bool, true, false, Option, Some, None, inl, inr, arith}
+use Rattle.std.proofs.lemmas.List.{map-append, length-map}
+use Rattle.std.specs.Prelude.{◌⊎◌, slice_get, flat_map, is_some, IfSome}
+use Rattle.std.specs.List.{enumerate_from, AllByRecursion}
+use Rattle.std.specs.Option.{option_to_list}
+use Rattle.std.proofs.lemmas.Option.{same_Some}
+use Rattle.nc_base.specs.declared.header.Header.{Header}
+use Rattle.nc_base.specs.declared.plan.Batch.{Batch}
+use Rattle.nc_base.specs.declared.plan.Post.{Post}
+use Rattle.nc_base.specs.declared.script.Script.{Script}
+use Rattle.nc_base.specs.declared.step.Mark.{Mark}
+use Rattle.nc_base.specs.declared.step.MeetKind.TheVariants as kind
+use Rattle.nc_base.specs.declared.step.Offer.{Offer}
+use Rattle.nc_base.specs.declared.step.OfferKind.{OfferKind}
+use Rattle.nc_base.specs.declared.step.OfferKind.TheVariants as offer
+use Rattle.overlay_laws.specs.Entries.{In}
+use Rattle.overlay_laws.proofs.HullLaws.{in_either}
+use Rattle.serial_spec.specs.FileStep.{known_by}
+use Rattle.serial_spec.specs.Lawful.{is_lawful}
+use Rattle.serial_spec.specs.SerialEnd.{Going}
+use Rattle.serial_spec.specs.SharedByte.{bytes_of, holdings, Holding, IsOwnOnce, Puts}
+use Rattle.run_laws.specs.Ways.{IsOnWay}
+use Rattle.run_laws.proofs.LawfulLaws.{ranks_lawful}
+use Rattle.run_laws.proofs.TogetherLaws.{together_kind}
+use Rattle.rank_core.specs.Offered.{IsSoundOffer}
+use Rattle.collective_round.specs.Rounds.{gets_in, posts_in, puts_in, puts_of_batch, AreGets, ArePuts, IsGet, IsPut}
+use Rattle.turn_run.specs.Counts.{raises, IsAsked, IsCount, IsFit, IsRise}
+use Rattle.turn_run.specs.Seated.{asking, calls_of, going_of, AreSeats, HaveArrived, HaveMet, IsMet, IsPlaced, IsPlacedWith}
+use Rattle.turn_run.specs.Steps.{batches_of, held_offers, known_of, IsJob, IsOneRise}
+use Rattle.turn_run.specs.declared.seats.Seat.{Seat}
+use Rattle.turn_run.proofs.AloneLaws.{going_held}
+use Rattle.turn_run.proofs.CountLaws.{rise_max}
+use Rattle.turn_run.proofs.MeetPosts.{get_of, put_of, ranked_puts}
+use Rattle.serial_spec.specs.Desk.{IsSingleOffer}
+
+-- ---- the offers that seats hold
+
+pub some_of : {X : Type 0} (m : Option X) → is_some m ≡ true → (x : X) × (m ≡ Some x)
+some_of None e = absurd cc
+some_of (Some x) e = (x, refl)
+
+abbrev pub AllHold : List Seat → Type 0
+AllHold seats = (r : ℕ) (seat : Seat) → slice_get seats r ≡ Some seat → is_some seat.held ≡ true
+
+pub held_first : (seat : Seat) (seats : List Seat) (o : Offer) → seat.held ≡ Some o → held_offers (seat ∷ seats) ≡ o ∷ held_offers seats
+held_first seat seats o e = ap (λ (m : Option Offer). option_to_list m ++ held_offers seats) e
+
+pub held_at : (seats : List Seat) → AllHold seats → (r : ℕ) (seat : Seat) (o : Offer) → slice_get seats r ≡ Some seat → seat.held ≡ Some o → slice_get (held_offers seats) r ≡ Some o
+held_at [] m r seat o e h = absurd cc
+held_at (x ∷ seats) m zero seat o e h =
+    let p = some_of x.held (m 0 x refl) in
+    let own : p.0 ≡ o = same_Some p.0 o (sym p.1 ∙ ap (λ (s : Seat). s.held) (same_Some x seat e) ∙ h) in
+    ap (λ (os : List Offer). slice_get os 0) (held_first x seats p.0 p.1) ∙ ap (λ (q : Offer). Some q) own
+held_at (x ∷ seats) m (suc r) seat o e h =
+    let p = some_of x.held (m 0 x refl) in
+    ap (λ (os : List Offer). slice_get os (suc r)) (held_first x seats p.0 p.1) ∙ held_at seats (λ q s g. m (suc q) s g) r seat o e h
+
+pub held_long : (seats : List Seat) → AllHold seats → length (held_offers seats) ≡ length seats
+held_long [] m = refl
+held_long (x ∷ seats) m =
+    let p = some_of x.held (m 0 x refl) in
+    ap (λ (os : List Offer). length os) (held_first x seats p.0 p.1) ∙ ap (λ (n : ℕ). suc n) (held_long seats (λ q s g. m (suc q) s g))
+
+held_all : (P : Offer → Type 0) (seats : List Seat) → ((r : ℕ) (seat : Seat) → slice_get seats r ≡ Some seat → (o : Offer) × ((seat.held ≡ Some o) × P o))
+    → AllByRecursion P (held_offers seats)
+held_all P [] f = tt
+held_all P (x ∷ seats) f =
+    let p = f 0 x refl in
+    subst (λ (os : List Offer). AllByRecursion P os) (sym (held_first x seats p.0 p.1.0)) (p.1.1, held_all P seats (λ q s g. f (suc q) s g))
+
+-- ---- a seat in a meeting
+
+pub record Meets (script : Script) (header : Header) (len : ℕ) (order : List Mark) (r : ℕ) (seat : Seat) (o : Offer) : Type 0 where
+  pub held : seat.held ≡ Some o
+  pub way : IsOnWay script order r (asking (calls_of script r) seat) (Some o)
+  pub asked : IsAsked header seat.rank.state.known o
+  pub known : IsCount header len seat.rank.state.known
+  pub of_header : seat.rank.header ≡ header
+
+pub meets_at : (script : Script) (header : Header) (len : ℕ) (order : List Mark) (seats : List Seat) → AreSeats script header len order seats → HaveMet seats → HaveArrived script seats
+    → (r : ℕ) (seat : Seat) → slice_get seats r ≡ Some seat → (o : Offer) × Meets script header len order r seat o
+meets_at script header len order seats all met come r seat e =
+    let s = all.each r seat e in
+    by_held seat.held refl (met r seat e) (come r seat e).met s.placed s.asked s.of_header
+  where
+    by_kind : (s : Going) (o : Offer) (k : OfferKind) → (k ≡ offer.Solo → ⊥) → IsPlacedWith script header order r s o k → IsOnWay script order r s (Some o)
+    by_kind s o offer.Solo n p = absurd (n refl)
+    by_kind s o (offer.Meet kind) n p = p
+
+    by_held : (held : Option Offer) → seat.held ≡ held → is_some held ≡ true → IsMet held → IsPlaced script header order r (going_of (calls_of script r) seat) held
+        → IfSome held (IsAsked header seat.rank.state.known) → seat.rank.header ≡ header → (o : Offer) × Meets script header len order r seat o
+    by_held None f i n p k h = absurd cc
+    by_held (Some o) f i n p k h =
+        let own = calls_of script r in (
+          o,
+          record {
+            held = f;
+            way = subst (λ (s : Going). IsOnWay script order r s (Some o)) (going_held own seat o f) (by_kind (going_of own seat) o o.kind n p);
+            asked = k;
+            known = all.known r seat e;
+            of_header = h;
+          },
+        )
+
+-- ---- what an offer brings to the meeting
+
+pub asked_fit : (header : Header) (len known : ℕ) (o : Offer) → IsAsked header known o → IsCount header len known → IsFit header len o
+asked_fit header len known o asked count =
+    let few = asked.few in
+    record { sound = asked.sound; known = subst (λ (n : ℕ). IsCount header len n) (sym asked.told) count; few = omega arith }
+
+brought : (script : Script) (header : Header) (len : ℕ) (order : List Mark) (r : ℕ) (seat : Seat) (o : Offer) → Meets script header len order r seat o → IsFit header len o
+brought script header len order r seat o m = asked_fit header len seat.rank.state.known o m.asked m.known
+
+single : (script : Script) (header : Header) (len : ℕ) (order : List Mark) (r : ℕ) (seat : Seat) (o : Offer) → Meets script header len order r seat o → IsSingleOffer o
+single script header len order r seat o m = m.asked.one
+
+-- the puts of ranks from one on
+abbrev puts_from : ℕ → List Offer → Puts
+puts_from first offers = flat_map puts_of_batch (enumerate_from first (batches_of offers))
+
+puts_joined : (header : Header) (xs ys : Puts) → ArePuts header xs → ArePuts header ys → ArePuts header (xs ++ ys)
+puts_joined header xs ys h k p i = by_part (in_either xs ys p i)
+  where
+    by_part : In xs p ⊎ In ys p → IsPut header p.1
+    by_part (inl j) = h p j
+    by_part (inr j) = k p j
+
+puts_brought : (header : Header) (len first : ℕ) (offers : List Offer) → AllByRecursion (IsFit header len) offers → ArePuts header (puts_from first offers)
+puts_brought header len first [] all = λ p i. absurd i
+puts_brought header len first (o ∷ offers) all =
+    puts_joined header (map (λ post. (first, post)) o.batch.puts) (puts_from (first + 1) offers)
+    (ranked_puts header first o.batch.puts (put_of header o all.0.sound)) (puts_brought header len (first + 1) offers all.1)
+
+gets_joined : (header : Header) (len : ℕ) (xs ys : List Post) → AreGets header len xs → AreGets header len ys → AreGets header len (xs ++ ys)
+gets_joined header len xs ys h k p i = by_part (in_either xs ys p i)
+  where
+    by_part : In xs p ⊎ In ys p → IsGet header len p
+    by_part (inl j) = h p j
+    by_part (inr j) = k p j
+
+gets_brought : (header : Header) (len : ℕ) (offers : List Offer) → AllByRecursion (IsFit header len) offers → AreGets header len (gets_in (batches_of offers))
+gets_brought header len [] all = λ p i. absurd i
+gets_brought header len (o ∷ offers) all =
+    gets_joined header len o.batch.gets (gets_in (batches_of offers)) (get_of header len o all.0.sound all.0.known) (gets_brought header len offers all.1)
+
+few_brought : (header : Header) (len : ℕ) (offers : List Offer) → AllByRecursion (IsFit header len) offers → (b : Batch) → In (batches_of offers) b → posts_in b < 2 ^ 32
+few_brought header len [] all b i = absurd i
+few_brought header len (o ∷ offers) all b (inl e) =
+    let few = all.0.few in
+    let small : posts_in o.batch < 2 ^ 32 = omega arith in
+    subst (λ (c : Batch). posts_in c < 2 ^ 32) e small
+few_brought header len (o ∷ offers) all b (inr i) = few_brought header len offers all.1 b i
+
+-- ---- no request holds a byte twice
+
+split_get : {X : Type 0} (xs ys : List X) (i : ℕ) (x : X) → slice_get (xs ++ ys) i ≡ Some x
+    → (slice_get xs i ≡ Some x) ⊎ ((m : ℕ) × ((i ≡ length xs + m) × (slice_get ys m ≡ Some x)))
+split_get [] ys i x e = inr (i, (omega arith, e))
+split_get (z ∷ xs) ys zero x e = inl e
+split_get (z ∷ xs) ys (suc i) x e = on (split_get xs ys i x e)
+  where
+    on : (slice_get xs i ≡ Some x) ⊎ ((m : ℕ) × ((i ≡ length xs + m) × (slice_get ys m ≡ Some x)))
+        → (slice_get (z ∷ xs) (suc i) ≡ Some x) ⊎ ((m : ℕ) × ((suc i ≡ length (z ∷ xs) + m) × (slice_get ys m ≡ Some x)))
+    on (inl f) = inl f
+    on (inr f) = let l = f.1.0 in inr (f.0, (omega arith, f.1.1))
+
+abbrev OwnKeys : ℕ → List Holding → Type 0
+OwnKeys first held = (i : ℕ) (h : Holding) → slice_get held i ≡ Some h → h.0.0 ≡ first
+
+abbrev LaterKeys : ℕ → List Holding → Type 0
+LaterKeys first held = (i : ℕ) (h : Holding) → slice_get held i ≡ Some h → first ≤ h.0.0
+
+own_joined : (first : ℕ) (xs ys : List Holding) → OwnKeys first xs → LaterKeys (first + 1) ys → IsOwnOnce xs → IsOwnOnce ys → IsOwnOnce (xs ++ ys)
+own_joined first xs ys own later one two i j g h k l x e f same a b = by_parts (split_get xs ys i g e) (split_get xs ys j h f)
+  where
+    apart : (p q : Holding) (n m : ℕ) → slice_get xs n ≡ Some p → slice_get ys m ≡ Some q → p.0 ≡ q.0 → ⊥
+    apart p q n m u v w =
+        let low = own n p u in
+        let high = later m q v in
+        let rank : p.0.0 ≡ q.0.0 = ap (λ (z : ℕ × ℕ). z.0) w in
+        absurd (omega arith)
+
+    by_parts : (slice_get xs i ≡ Some g) ⊎ ((m : ℕ) × ((i ≡ length xs + m) × (slice_get ys m ≡ Some g)))
+        → (slice_get xs j ≡ Some h) ⊎ ((m : ℕ) × ((j ≡ length xs + m) × (slice_get ys m ≡ Some h))) → (i ≡ j) × (k ≡ l)
+    by_parts (inl u) (inl v) = one i j g h k l x u v same a b
+    by_parts (inl u) (inr v) = absurd (apart g h i v.0 u v.1.1 same)
+    by_parts (inr u) (inl v) = absurd (apart h g j u.0 v u.1.1 (sym same))
+    by_parts (inr u) (inr v) =
+        let s = two u.0 v.0 g h k l x u.1.1 v.1.1 same a b in
+        let p = u.1.0 in
+        let q = v.1.0 in
+        let r = s.0 in
+        (omega arith, s.1)
+
+own_keys : (header : Header) (first : ℕ) (posts : List Post) → OwnKeys first (holdings header (map (λ post. (first, post)) posts))
+own_keys header first [] i h e = absurd cc
+own_keys header first (p ∷ posts) zero h e = ap (λ (q : Holding). q.0.0) (sym (same_Some ((first, p.id), bytes_of header p) h e))
+own_keys header first (p ∷ posts) (suc i) h e = own_keys header first posts i h e
+
+holdings_joined : (header : Header) (xs ys : Puts) → holdings header (xs ++ ys) ≡ holdings header xs ++ holdings header ys
+holdings_joined header xs ys = map-append (λ (p : ℕ × Post). ((p.0, p.1.id), bytes_of header p.1)) xs ys
+
+later_joined : (first : ℕ) (xs ys : List Holding) → OwnKeys first xs → LaterKeys (first + 1) ys → LaterKeys first (xs ++ ys)
+later_joined first xs ys own later i h e = by_part (split_get xs ys i h e)
+  where
+    by_part : (slice_get xs i ≡ Some h) ⊎ ((m : ℕ) × ((i ≡ length xs + m) × (slice_get ys m ≡ Some h))) → first ≤ h.0.0
+    by_part (inl u) = let s = own i h u in omega arith
+    by_part (inr u) = let s = later u.0 h u.1.1 in omega arith
+
+later_keys : (header : Header) (first : ℕ) (offers : List Offer) → LaterKeys first (holdings header (puts_from first offers))
+later_keys header first [] = λ i h e. absurd cc
+later_keys header first (o ∷ offers) =
+    let own = map (λ post. (first, post)) o.batch.puts in
+    subst (λ (held : List Holding). LaterKeys first held) (sym (holdings_joined header own (puts_from (first + 1) offers)))
+    (later_joined first (holdings header own) (holdings header (puts_from (first + 1) offers)) (own_keys header first o.batch.puts) (later_keys header (first + 1) offers))
+
+own_brought : (header : Header) (len first : ℕ) (offers : List Offer) → AllByRecursion (IsFit header len) offers → IsOwnOnce (holdings header (puts_from first offers))
+own_brought header len first [] all = λ i j g h k l x e f same a b. absurd cc
+own_brought header len first (o ∷ offers) all =
+    let own = map (λ post. (first, post)) o.batch.puts in
+    subst (λ (held : List Holding). IsOwnOnce held) (sym (holdings_joined header own (puts_from (first + 1) offers)))
+    (own_joined first (holdings header own) (holdings header (puts_from (first + 1) offers)) (own_keys header first o.batch.puts) (later_keys header (first + 1) offers)
+    (all.0.sound.own first) (own_brought header len (first + 1) offers all.1))
+
+-- ---- what the ranks know
+
+unraised : (k : OfferKind) (n : ℕ) → raises k ≡ false → known_by k n ≡ 0
+unraised offer.Solo n e = refl
+unraised (offer.Meet kind.Put) n e = refl
+unraised (offer.Meet kind.Get) n e = refl
+unraised (offer.Meet kind.Wait) n e = refl
+unraised (offer.Meet kind.Begin) n e = refl
+unraised (offer.Meet kind.End) n e = absurd cc
+unraised (offer.Meet kind.Sync) n e = absurd cc
+
+known_rise : (header : Header) (len : ℕ) (k : OfferKind) (n : ℕ) → IsCount header len n → IsRise header len (known_by k n)
+known_rise header len offer.Solo n h = inl refl
+known_rise header len (offer.Meet kind.Put) n h = inl refl
+known_rise header len (offer.Meet kind.Get) n h = inl refl
+known_rise header len (offer.Meet kind.Wait) n h = inl refl
+known_rise header len (offer.Meet kind.Begin) n h = inl refl
+known_rise header len (offer.Meet kind.End) n h = inr h
+known_rise header len (offer.Meet kind.Sync) n h = inr h
+
+pub rise_brought : (header : Header) (len : ℕ) (offers : List Offer) → AllByRecursion (IsFit header len) offers → IsRise header len (known_of offers)
+rise_brought header len [] all = inl refl
+rise_brought header len (o ∷ offers) all =
+    rise_max header len (known_by o.kind o.known) (known_of offers) (known_rise header len o.kind o.known all.0.known) (rise_brought header len offers all.1)
+
+none_known : (kind : OfferKind) (offers : List Offer) → AllByRecursion (λ o. o.kind ≡ kind) offers → raises kind ≡ false → known_of offers ≡ 0
+none_known kind [] all e = refl
+none_known kind (o ∷ offers) all e =
+    let own = unraised o.kind o.known (ap raises all.0 ∙ e) in
+    let others = none_known kind offers all.1 e in
+    omega arith
+
+none_put : (first : ℕ) (kind : OfferKind) (offers : List Offer) → AllByRecursion IsSingleOffer offers → AllByRecursion (λ o. o.kind ≡ kind) offers
+    → raises kind ≡ true → puts_from first offers ≡ []
+none_put first kind [] all same e = refl
+none_put first kind (o ∷ offers) all same e =
+    ap (λ (posts : List Post). map (λ post. (first, post)) posts ++ puts_from (first + 1) offers) (all.0 (ap raises same.0 ∙ e))
+    ∙ none_put (first + 1) kind offers all.1 same.1 e
+
+pub one_rise : (kind : OfferKind) (offers : List Offer) → AllByRecursion IsSingleOffer offers → AllByRecursion (λ o. o.kind ≡ kind) offers
+    → IsOneRise (known_of offers) (batches_of offers)
+one_rise kind offers all same = by_kind (raises kind) refl
+  where
+    by_kind : (t : Bool) → raises kind ≡ t → IsOneRise (known_of offers) (batches_of offers)
+    by_kind true e = inr (none_put 0 kind offers all same e)
+    by_kind false e = inl (none_known kind offers same e)
+
+-- offers that are fit, of no more ranks than there can be, are a job
+pub offers_job : (header : Header) (len : ℕ) (offers : List Offer) → length offers ≤ 64 → AllByRecursion (IsFit header len) offers → IsJob header len (batches_of offers)
+offers_job header len offers most own =
+    let few : length (batches_of offers) ≤ 64 = omega (arith, length-map offers (λ (o : Offer). o.batch)) in
+    record {
+      few = (few, few_brought header len offers own);
+      puts = puts_brought header len 0 offers own;
+      own = own_brought header len 0 offers own;
+      gets = gets_brought header len offers own;
+    }
+
+-- ---- the job
+
+pub all_brought : (script : Script) (header : Header) (len : ℕ) (order : List Mark) (seats : List Seat) → AreSeats script header len order seats → HaveMet seats → HaveArrived script seats
+    → AllByRecursion (IsFit header len) (held_offers seats)
+all_brought script header len order seats all met come =
+    held_all (IsFit header len) seats (λ r seat e.
+    let m = meets_at script header len order seats all met come r seat e in
+    (m.0, (m.1.held, brought script header len order r seat m.0 m.1)))
+
+one_kind : (script : Script) (header : Header) (len : ℕ) (order : List Mark) (seats : List Seat) → AreSeats script header len order seats → HaveMet seats → HaveArrived script seats
+    → (kind : OfferKind) × AllByRecursion (λ o. o.kind ≡ kind) (held_offers seats)
+one_kind script header len order seats all met come = by_list seats refl
+  where
+    by_list : (ss : List Seat) → seats ≡ ss → (kind : OfferKind) × AllByRecursion (λ o. o.kind ≡ kind) (held_offers seats)
+    by_list [] e = (offer.Solo, subst (λ (ss : List Seat). AllByRecursion (λ o. o.kind ≡ offer.Solo) (held_offers ss)) (sym e) tt)
+    by_list (x ∷ xs) e =
+        let first = meets_at script header len order seats all met come 0 x (ap (λ (ss : List Seat). slice_get ss 0) e) in (
+          first.0.kind,
+          held_all (λ o. o.kind ≡ first.0.kind) seats (λ r seat f.
+              let m = meets_at script header len order seats all met come r seat f in
+              (m.0, (m.1.held, together_kind script order 0 r (asking (calls_of script 0) x) (asking (calls_of script r) seat) first.0 m.0 first.1.way m.1.way))),
+        )
+
+pub meets_job : (script : Script) (header : Header) (len : ℕ) (order : List Mark) (seats : List Seat) (batches : List Batch) → is_lawful script ≡ true
+    → AreSeats script header len order seats → HaveMet seats → HaveArrived script seats → batches ≡ batches_of (held_offers seats) → IsJob header len batches
+meets_job script header len order seats batches lawful all met come f =
+    let most = (ranks_lawful script lawful).most in
+    let long = all.all in
+    let held = held_long seats met in
+    subst (λ (bs : List Batch). IsJob header len bs) (sym f) (offers_job header len (held_offers seats) (omega arith) (all_brought script header len order seats all met come))
+
+pub meets_once : (script : Script) (header : Header) (len : ℕ) (order : List Mark) (seats : List Seat) (known : ℕ) (batches : List Batch) → AreSeats script header len order seats → HaveMet seats
+    → HaveArrived script seats → known ≡ known_of (held_offers seats) → batches ≡ batches_of (held_offers seats) → IsOneRise known batches
+meets_once script header len order seats known batches all met come e f =
+    let same = one_kind script header len order seats all met come in
+    let alone = held_all IsSingleOffer seats (λ r seat g.
+    let m = meets_at script header len order seats all met come r seat g in (m.0, (m.1.held, single script header len order r seat m.0 m.1))) in
+    subst (λ (n : ℕ). IsOneRise n batches) (sym e) (subst (λ (bs : List Batch). IsOneRise (known_of (held_offers seats)) bs) (sym f) (one_rise same.0 (held_offers seats) alone same.1))
+
+pub meets_rise : (script : Script) (header : Header) (len : ℕ) (order : List Mark) (seats : List Seat) (known : ℕ) → AreSeats script header len order seats → HaveMet seats → HaveArrived script seats
+    → known ≡ known_of (held_offers seats) → IsRise header len known
+meets_rise script header len order seats known all met come e =
+    subst (λ (n : ℕ). IsRise header len n) (sym e) (rise_brought header len (held_offers seats) (all_brought script header len order seats all met come))

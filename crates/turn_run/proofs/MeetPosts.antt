@@ -1,0 +1,133 @@
+-- What the posts of an offer are to a step, and what the puts of a step need.
+use Rattle.std.proofs.Common.{◌≡◌, ℕ, zero, suc, ◌+◌, ◌-◌, ◌*◌, ◌<◌, ◌≤◌, refl, sym, ◌∙◌, ap, subst, List, [], ◌∷◌, length, map, max, Bool, true, false, cond, not, ◌||◌, Option, Some, None, inl, inr, arith}
+use Rattle.std.proofs.lemmas.Bool.Decides.{nat_tests}
+use Rattle.std.specs.Prelude.{slice_get, slice_index, ◌==◌}
+use Rattle.std.proofs.lemmas.List.{length-map}
+use Rattle.nc_base.specs.declared.header.Header.{Header}
+use Rattle.nc_base.specs.declared.header.Var.{Var}
+use Rattle.nc_base.specs.declared.plan.Post.{Post}
+use Rattle.nc_base.specs.declared.request.Direction.TheVariants.{Put, Get}
+use Rattle.nc_base.specs.declared.answer.Code.TheVariants as code
+use Rattle.nc_base.specs.declared.step.Offer.{Offer}
+use Rattle.overlay_laws.specs.Entries.{In}
+use Rattle.serial_spec.specs.Desk.{needed_now}
+use Rattle.serial_spec.specs.FileStep.{Setting, end_for, needs, puts_of, told}
+use Rattle.serial_spec.specs.HeaderGrammar.{header_len, is_sound}
+use Rattle.serial_spec.specs.Layout.{end_of, greatest, lengths, product, starts_with_zero}
+use Rattle.serial_spec.specs.Records.{needed, records_of_some}
+use Rattle.serial_spec.specs.RegionCheck.{bad_edge, bound, check_some, some_edge}
+use Rattle.serial_spec.proofs.AcceptLaws.{accepted}
+use Rattle.serial_spec.proofs.RoomLaws.{end_grows}
+use Rattle.rank_core.specs.Offered as offered
+use Rattle.collective_round.specs.Ended.{pair_of}
+use Rattle.collective_round.specs.Rounds.{IsPut, ArePuts, AreGets}
+use Rattle.collective_round.specs.declared.collective.PutEnd.{PutEnd}
+use Rattle.collective_round.specs.declared.collective.PutEnd.TheVariants.{Done, Overlap}
+use Rattle.turn_run.specs.Counts.{IsCount, IsRise}
+use Rattle.turn_run.specs.Steps.{needed_after}
+use Rattle.turn_run.proofs.CountLaws.{count_longer, count_max, put_count, rise_max}
+use Rattle.turn_run.proofs.ListLaws.{map_map}
+
+-- ---- a get that is accepted asks for no record past those that are known
+
+neither_left : (a b : Bool) → (a || b) ≡ false → a ≡ false
+neither_left true b h = h
+neither_left false b h = refl
+
+fixed_need : (t : Bool) (n m k : ℕ) → t ≡ false → cond (not t || n == 0) 0 m ≤ k
+fixed_need true n m k e = absurd cc
+fixed_need false n m k e = omega arith
+
+some_need : (t : Bool) (m k : ℕ) → (t ≡ false → m ≤ k) → cond t 0 m ≤ k
+some_need true m k h = omega arith
+some_need false m k h = h refl
+
+edge_within : (known s n t : ℕ) → 0 < n → bad_edge (Some known) s n t ≡ false → s + (n - 1) * t + 1 ≤ known
+edge_within known s n t l e = grind (arith, nat_tests)
+
+zero_is_zero : {A : Type 0} → (0 == 0) ≡ false → A
+zero_is_zero h = absurd cc
+
+no_product : {A : Type 0} (n : ℕ) → n ≡ 0 → (n == 0) ≡ false → A
+no_product n e h = zero_is_zero (subst (λ (k : ℕ). (k == 0) ≡ false) e h)
+
+suc_is_some : (n : ℕ) → (suc n == 0) ≡ false
+suc_is_some n = grind (arith, nat_tests)
+
+record_within : (known : ℕ) (ls starts counts strides : List ℕ) → length starts ≡ length ls → length counts ≡ length ls → length strides ≡ length ls
+    → some_edge (map (bound Get known) ls) starts counts strides ≡ false
+    → cond (not (starts_with_zero ls) || product counts == 0) 0 (slice_index starts 0 + (slice_index counts 0 - 1) * slice_index strides 0 + 1) ≤ known
+record_within known [] starts counts strides a b d e = omega arith
+record_within known (suc m ∷ ls) starts counts strides a b d e =
+    fixed_need (suc m == 0) (product counts) (slice_index starts 0 + (slice_index counts 0 - 1) * slice_index strides 0 + 1) known (suc_is_some m)
+record_within known (zero ∷ ls) [] counts strides a b d e = absurd (omega arith)
+record_within known (zero ∷ ls) (s ∷ starts) [] strides a b d e = absurd (omega arith)
+record_within known (zero ∷ ls) (s ∷ starts) (n ∷ counts) [] a b d e = absurd (omega arith)
+record_within known (zero ∷ ls) (s ∷ starts) (zero ∷ counts) (t ∷ strides) a b d e =
+    some_need (product (zero ∷ counts) == 0) (s + (zero - 1) * t + 1) known (λ f. no_product (product (zero ∷ counts)) (omega arith) f)
+record_within known (zero ∷ ls) (s ∷ starts) (suc n ∷ counts) (t ∷ strides) a b d e =
+    let own = edge_within known s (suc n) t (omega arith) (neither_left (bad_edge (Some known) s (suc n) t) (some_edge (map (bound Get known) ls) starts counts strides) e) in
+    some_need (product (suc n ∷ counts) == 0) (s + (suc n - 1) * t + 1) known (λ f. own)
+
+pub get_needed : (header : Header) (post : Post) (known : ℕ) → offered.IsGet header known post → needed header post ≤ known
+get_needed header post known h = by_var (slice_get header.vars post.var) h
+  where
+    by_var : (o : Option Var) → check_some header o post.region known Get ≡ code.Ok → records_of_some header o post.region ≤ known
+    by_var None e = absurd cc
+    by_var (Some v) e =
+        let a = accepted header v post.region known Get e in
+        let long : length (lengths header v) ≡ length v.dims = length-map v.dims _ in
+        record_within known (lengths header v) post.region.start post.region.count post.region.stride (a.starts ∙ sym long) (a.counts ∙ sym long) (a.strides ∙ sym long) a.edges
+
+-- ---- the posts of an offer
+
+pub put_of : (header : Header) (o : Offer) → offered.IsSoundOffer header o → (p : Post) → In o.batch.puts p → IsPut header p
+put_of header o h p i = let q = h.puts p i in record { accepted = (o.known, Put, q.accepted); whole = q.whole }
+
+pub get_of : (header : Header) (len : ℕ) (o : Offer) → offered.IsSoundOffer header o → IsCount header len o.known → AreGets header len o.batch.gets
+get_of header len o h k p i =
+    let q = h.gets p i in
+    let long = k.long in
+    let below = end_grows header (header_len header) (needed header p) o.known (get_needed header p o.known q) in
+    record { accepted = (o.known, Get, q); there = omega arith }
+
+pub ranked_puts : (header : Header) (r : ℕ) (posts : List Post) → ((p : Post) → In posts p → IsPut header p) → ArePuts header (map (λ p. (r, p)) posts)
+ranked_puts header r [] h p i = absurd i
+ranked_puts header r (q ∷ posts) h p (inl e) = subst (λ (x : ℕ × Post). IsPut header x.1) e (h q (inl refl))
+ranked_puts header r (q ∷ posts) h p (inr i) = ranked_puts header r posts (λ x j. h x (inr j)) p i
+
+-- ---- what the puts of a rank need
+
+-- the greatest that puts need, where the file has as many bytes as that takes
+pub needed_rise : {A : Type 0} (header : Header) (len : ℕ) (f : A → Post) (xs : List A) → is_sound header ≡ true → ((x : A) → In xs x → IsPut header (f x))
+    → end_of header (header_len header) (greatest (map (λ x. needed header (f x)) xs)) ≤ len → IsRise header len (greatest (map (λ x. needed header (f x)) xs))
+needed_rise header len f [] h puts l = inl refl
+needed_rise header len f (x ∷ xs) h puts l =
+    let own = needed header (f x) in
+    let others = greatest (map (λ y. needed header (f y)) xs) in
+    let first = end_grows header (header_len header) own (max own others) (omega arith) in
+    let rest = end_grows header (header_len header) others (max own others) (omega arith) in
+    rise_max header len own others (inr (put_count header len (f x) h (puts x (inl refl)) (omega arith)))
+    (needed_rise header len f xs h (λ y i. puts y (inr i)) (omega arith))
+
+pub needed_solo : (s : Setting) (r : ℕ) (posts : List Post) (end : PutEnd) → pair_of end ≡ told s (map (λ p. (r, p)) posts)
+    → needed_after s.header posts end ≡ needed_now s (map (λ p. (r, p)) posts)
+needed_solo s r posts Done e =
+    ap greatest (sym (map_map (λ (p : ℕ × Post). needed s.header p.1) (λ (p : Post). (r, p)) posts)) ∙ ap (needs s (map (λ p. (r, p)) posts)) e
+needed_solo s r posts (Overlap pair) e = ap (needs s (map (λ p. (r, p)) posts)) e
+
+pub needed_risen : (header : Header) (len : ℕ) (posts : List Post) (end : PutEnd) → is_sound header ≡ true → ((p : Post) → In posts p → IsPut header p)
+    → end_of header (header_len header) (needed_after header posts end) ≤ len → IsRise header len (needed_after header posts end)
+needed_risen header len posts Done h puts l = needed_rise header len (λ (p : Post). p) posts h puts l
+needed_risen header len posts (Overlap pair) h puts l = inl refl
+
+-- what the rank knows after its puts
+pub solo_count : (s : Setting) (r before mid len n : ℕ) (o : Offer) (end : PutEnd) → is_sound s.header ≡ true → offered.IsSoundOffer s.header o → IsCount s.header before o.known
+    → before ≤ mid → len ≡ mid → pair_of end ≡ told s (puts_of (r, o)) → end_for s (needed_now s (puts_of (r, o))) ≤ mid
+    → n ≡ max o.known (needed_after s.header o.batch.puts end) → IsCount s.header len n
+solo_count s r before mid len n o end h sound k l same e long is =
+    let f = needed_solo s r o.batch.puts end e in
+    let room : end_for s (needed_after s.header o.batch.puts end) ≤ len = subst (λ (m : ℕ). end_for s m ≤ len) (sym f) (omega arith) in
+    subst (λ (m : ℕ). IsCount s.header len m) (sym is)
+    (count_max s.header len o.known (needed_after s.header o.batch.puts end) (count_longer s.header before len o.known (omega arith) k)
+    (needed_risen s.header len o.batch.puts end h (put_of s.header o sound) room))

@@ -1,0 +1,164 @@
+-- A meeting of the serial run, by the offers that the seats hold.
+use Rattle.std.proofs.Common.{◌≡◌, ℕ, suc, ◌+◌, refl, sym, ◌∙◌, ap, List, [], ◌∷◌, ◌++◌, length, map, max, Option, Some, None, arith}
+use Rattle.std.proofs.lemmas.List.{append-nil}
+use Rattle.std.specs.Prelude.{slice_get, flat_map, zip, nat_lt, IfSome}
+use Rattle.std.specs.List.{enumerate_from}
+use Rattle.nc_base.specs.declared.answer.Pair.{Pair}
+use Rattle.nc_base.specs.declared.header.Header.{Header}
+use Rattle.nc_base.specs.declared.plan.Batch.{Batch}
+use Rattle.nc_base.specs.declared.plan.Post.{Post}
+use Rattle.nc_base.specs.declared.request.Call.{Call}
+use Rattle.nc_base.specs.declared.script.Hints.{Hints}
+use Rattle.nc_base.specs.declared.step.DiskCall.{DiskCall}
+use Rattle.nc_base.specs.declared.step.Mark.{Mark}
+use Rattle.nc_base.specs.declared.step.Mark.TheVariants.{Meet}
+use Rattle.nc_base.specs.declared.step.Offer.{Offer}
+use Rattle.nc_base.specs.declared.step.Reply.{Reply}
+use Rattle.nc_outside.specs.Told.{after, with_end}
+use Rattle.serial_spec.specs.Desk.{needed_now}
+use Rattle.serial_spec.specs.DeviceCalls.{collective_windows, get_bytes, gets_of, loads, meeting_calls, put_calls, store_records}
+use Rattle.serial_spec.specs.FileStep.{Counted, Setting, after_puts, get_post, meeting, puts_of, raised, told}
+use Rattle.serial_spec.specs.SerialEnd.{advance, offers_of}
+use Rattle.serial_spec.specs.SharedByte.{Puts}
+use Rattle.collective_round.specs.Rounds.{counted, gets_in, puts_in, puts_of_batch}
+use Rattle.turn_run.specs.Seated.{reply_of, HasHeard}
+use Rattle.run_laws.specs.Arrivals.{heard, step_to, Arrived}
+use Rattle.turn_run.specs.Stages.{arrived, arrived_all, stage, HasLed, Leads}
+use Rattle.turn_run.specs.Steps.{batches_of, held_offers, known_of, met, met_calls}
+use Rattle.turn_run.specs.declared.seats.Seat.{Seat}
+use Rattle.turn_run.proofs.AloneLaws.{arrived_free, arrived_held}
+use Rattle.turn_run.proofs.ListLaws.{map_map}
+use Rattle.turn_run.proofs.MeetFile.{raised_records}
+use Rattle.turn_run.proofs.MeetOffers.{held_first, some_of, AllHold}
+use Rattle.turn_run.proofs.MeetSolo.{told_at}
+use Rattle.turn_run.proofs.SeatLaws.{heard_seat}
+
+-- ---- the puts and gets of the offers are those of their batches
+
+pub puts_same : (first : ℕ) (offers : List Offer) → flat_map puts_of (enumerate_from first offers) ≡ flat_map puts_of_batch (enumerate_from first (batches_of offers))
+puts_same first [] = refl
+puts_same first (o ∷ offers) = ap (λ (puts : Puts). map (λ post. (first, post)) o.batch.puts ++ puts) (puts_same (first + 1) offers)
+
+gets_same : (offers : List Offer) → flat_map gets_of offers ≡ gets_in (batches_of offers)
+gets_same [] = refl
+gets_same (o ∷ offers) = ap (λ (gets : List Post). o.batch.gets ++ gets) (gets_same offers)
+
+pub met_is : (s : Setting) (offers : List Offer) (batches : List Batch) (known : ℕ) (c : Counted) → batches ≡ batches_of offers → known ≡ known_of offers
+    → (meeting s offers c).0 ≡ met s batches known c
+met_is s offers batches known c e f =
+    ap (λ (puts : Puts). raised s (counted (after_puts s puts (told s puts) c.file) c.records) (max (needed_now s puts) (known_of offers))) (puts_same 0 offers)
+    ∙ (λ i. met s (sym e i) (sym f i) c)
+
+pub met_calls_are : (hints : Hints) (s : Setting) (offers : List Offer) (batches : List Batch) (known : ℕ) (c : Counted) → batches ≡ batches_of offers → known ≡ known_of offers
+    → meeting_calls hints s offers c ≡ met_calls hints s batches known c
+met_calls_are hints s offers batches known c e f =
+    let puts = puts_same 0 offers ∙ ap puts_in (sym e) in
+    let gets = gets_same offers ∙ ap gets_in (sym e) in
+    let file = met_is s offers batches known c e f in
+    λ i. put_calls s (collective_windows hints) (puts i) (length c.file) ++ store_records s (nat_lt c.records (file i).records)
+    ++ flat_map loads (collective_windows hints (get_bytes s (gets i)))
+
+-- ---- the replies
+
+pub replies_are : (s : Setting) (offers : List Offer) (batches : List Batch) (known n : ℕ) (c : Counted) (pair : Option Pair) (table : List (List (List ℕ)))
+    → batches ≡ batches_of offers → known ≡ known_of offers → pair ≡ told s (puts_in batches) → n ≡ (met s batches known c).records
+    → table ≡ map (λ b. map (get_post s (met s batches known c).file) b.gets) batches → (meeting s offers c).1 ≡ map (reply_of pair n) table
+replies_are s offers batches known n c pair table e f p r t =
+    let file = met_is s offers batches known c e f in
+    let both : told s (flat_map puts_of (enumerate_from 0 offers)) ≡ pair = ap (told s) (puts_same 0 offers ∙ ap puts_in (sym e)) ∙ sym p in
+    let count : (meeting s offers c).0.records ≡ n = ap (λ (d : Counted). d.records) file ∙ sym r in
+    let got = λ (o : Offer). map (get_post s (met s batches known c).file) o.batch.gets in
+    (λ i. map (λ o. reply_of (both i) (count i) (map (get_post s (file i).file) o.batch.gets)) offers)
+    ∙ sym (map_map (reply_of pair n) got offers)
+    ∙ ap (map (reply_of pair n)) (sym (map_map (λ (b : Batch). map (get_post s (met s batches known c).file) b.gets) (λ (o : Offer). o.batch) offers))
+    ∙ ap (λ (bs : List Batch). map (reply_of pair n) (map (λ b. map (get_post s (met s batches known c).file) b.gets) bs)) (sym e)
+    ∙ ap (map (reply_of pair n)) (sym t)
+
+-- ---- the ranks
+
+-- it held this offer, and has heard this reply
+pub record IsDone (header : Header) (reply : Reply) (o : Offer) (a b : Seat) : Type 0 where
+  pub held : a.held ≡ Some o
+  pub free : b.held ≡ None
+  pub of_header : a.rank.header ≡ header
+  pub same_header : b.rank.header ≡ a.rank.header
+  pub heard : HasHeard a b reply
+
+arrived_done : (header : Header) (own : List Call) (reply : Reply) (o : Offer) (a b : Seat) → IsDone header reply o a b → heard header (arrived header own a, reply) ≡ arrived header own b
+arrived_done header own reply o a b d =
+    ap (λ (x : Arrived). heard header (x, reply)) (arrived_held header own a o d.held)
+    ∙ ap (advance header) (sym (heard_seat header own a b reply d.of_header d.heard)) ∙ sym (arrived_free header own b d.free)
+
+abbrev pub AreDone : Header → Option Pair → ℕ → List Seat → List Seat → List (List (List ℕ)) → Type 0
+AreDone header pair n seats now table = (r : ℕ) (a b : Seat) (blobs : List (List ℕ)) → slice_get seats r ≡ Some a → slice_get now r ≡ Some b → slice_get table r ≡ Some blobs
+    → (o : Offer) × IsDone header (reply_of pair n blobs) o a b
+
+ranks_done : (header : Header) (pair : Option Pair) (n : ℕ) (calls : List (List Call)) (seats now : List Seat) (table : List (List (List ℕ)))
+    → length now ≡ length seats → length table ≡ length seats → AreDone header pair n seats now table
+    → map (heard header) (zip (arrived_all header calls seats) (map (reply_of pair n) table)) ≡ arrived_all header calls now
+ranks_done header pair n [] seats now table l m d = refl
+ranks_done header pair n (own ∷ calls) [] [] table l m d = refl
+ranks_done header pair n (own ∷ calls) [] (b ∷ now) table l m d = absurd (omega arith)
+ranks_done header pair n (own ∷ calls) (a ∷ seats) [] table l m d = absurd (omega arith)
+ranks_done header pair n (own ∷ calls) (a ∷ seats) (b ∷ now) [] l m d = absurd (omega arith)
+ranks_done header pair n (own ∷ calls) (a ∷ seats) (b ∷ now) (blobs ∷ table) l m d =
+    let first = d 0 a b blobs refl refl refl in
+    let own_done = arrived_done header own (reply_of pair n blobs) first.0 a b first.1 in
+    let others = ranks_done header pair n calls seats now table (omega arith) (omega arith) (λ r x y z e f g. d (suc r) x y z e f g) in
+    λ i. own_done i ∷ others i
+
+pub offers_are : (header : Header) (calls : List (List Call)) (seats : List Seat) → length calls ≡ length seats → AllHold seats → offers_of (arrived_all header calls seats) ≡ held_offers seats
+offers_are header [] [] l m = refl
+offers_are header [] (x ∷ seats) l m = absurd (omega arith)
+offers_are header (own ∷ calls) [] l m = absurd (omega arith)
+offers_are header (own ∷ calls) (x ∷ seats) l m =
+    let p = some_of x.held (m 0 x refl) in
+    ap (λ (a : Arrived). offers_of (a ∷ arrived_all header calls seats)) (arrived_held header own x p.0 p.1)
+    ∙ ap (λ (os : List Offer). p.0 ∷ os) (offers_are header calls seats (omega arith) (λ q s g. m (suc q) s g))
+    ∙ sym (held_first x seats p.0 p.1)
+
+-- ---- the step
+
+step_over : (s : Setting) (calls : List (List Call)) (seats now : List Seat) (batches : List Batch) (known n k : ℕ) (c : Counted) (pair : Option Pair) (table : List (List (List ℕ)))
+    → length calls ≡ length seats → length now ≡ length seats → length table ≡ length seats → AllHold seats → AreDone s.header pair n seats now table
+    → batches ≡ batches_of (held_offers seats) → known ≡ known_of (held_offers seats) → pair ≡ told s (puts_in batches) → n ≡ (met s batches known c).records
+    → table ≡ map (λ b. map (get_post s (met s batches known c).file) b.gets) batches
+    → step_to s (c, arrived_all s.header calls seats) (Meet k) ≡ (counted (met s batches known c).file n, arrived_all s.header calls now)
+step_over s calls seats now batches known n k c pair table l m w hold d e f p r t =
+    let ranks = arrived_all s.header calls seats in
+    let file = met_is s (held_offers seats) batches known c e f in
+    let replies = replies_are s (held_offers seats) batches known n c pair table e f p r t in
+    let done = ranks_done s.header pair n calls seats now table m w d in
+    ap (λ (os : List Offer). ((meeting s os c).0, map (heard s.header) (zip ranks (meeting s os c).1))) (offers_are s.header calls seats l hold)
+    ∙ (λ i. (file i, map (heard s.header) (zip ranks (replies i))))
+    ∙ (λ i. (counted (met s batches known c).file (sym r i), done i))
+
+pub meeting_led : (hints : Hints) (s : Setting) (order now_order : List Mark) (calls : List (List Call)) (seats now : List Seat) (batches : List Batch) (known r n k : ℕ)
+    (held left : Option (List ℕ)) (before made : Option (List DiskCall)) (pair : Option Pair) (table : List (List (List ℕ)))
+    → length calls ≡ length seats → length now ≡ length seats → length table ≡ length seats → AllHold seats → AreDone s.header pair n seats now table
+    → batches ≡ batches_of (held_offers seats) → known ≡ known_of (held_offers seats) → pair ≡ told s (puts_in batches)
+    → n ≡ max r (max (needed_now s (puts_in batches)) known) → left ≡ after (λ file. (met s batches known (counted file r)).file) held
+    → IfSome left (λ file. table ≡ map (λ b. map (get_post s file) b.gets) batches)
+    → IfSome held (λ file. made ≡ with_end before (met_calls hints s batches known (counted file r))) → now_order ≡ order ++ Meet k ∷ []
+    → HasLed hints s order now_order (stage held before r (arrived_all s.header calls seats)) (stage left made n (arrived_all s.header calls now))
+meeting_led hints s order now_order calls seats now batches known r n k held left before made pair table l m w hold d e f p count bytes got over o =
+    record { more = Meet k ∷ []; grown = o; led = led held bytes over }
+  where
+    led : (held : Option (List ℕ)) → left ≡ after (λ file. (met s batches known (counted file r)).file) held
+        → IfSome held (λ file. made ≡ with_end before (met_calls hints s batches known (counted file r)))
+        → Leads hints s (Meet k ∷ []) (stage held before r (arrived_all s.header calls seats)) (stage left made n (arrived_all s.header calls now))
+    led None b v = tt
+    led (Some file) b v =
+        let c = counted file r in
+        let after_puts' = counted (after_puts s (puts_in batches) (told s (puts_in batches)) file) r in
+        let same : n ≡ (met s batches known c).records = count ∙ sym (raised_records s after_puts' (max (needed_now s (puts_in batches)) known)) in
+        let offers = offers_are s.header calls seats l hold in
+        let its = met_calls_are hints s (held_offers seats) batches known c e f in
+        record {
+          left = (met s batches known c).file;
+          told = b;
+          state = step_over s calls seats now batches known n k c pair table l m w hold d e f p same
+              (told_at (λ x. table ≡ map (λ b. map (get_post s x) b.gets) batches) left (met s batches known c).file b got);
+          calls = v ∙ ap (with_end before) (sym its ∙ ap (λ (os : List Offer). meeting_calls hints s os c) (sym offers)
+              ∙ sym (append-nil (meeting_calls hints s (offers_of (arrived_all s.header calls seats)) c)));
+        }

@@ -1,0 +1,211 @@
+-- The first and the last stage of a run.
+use Rattle.std.proofs.Common.{◌≡◌, ℕ, zero, suc, ◌+◌, ◌<◌, ◌≤◌, refl, sym, ◌∙◌, ap, subst, List, [], ◌∷◌, ◌++◌, length, map, replicate, max, Bool, true, false, cond, Option, Some, None, arith}
+use Rattle.std.proofs.lemmas.List.{length-replicate}
+use Rattle.std.proofs.lemmas.Bool.Decides.{nat_tests}
+use Rattle.std.specs.Prelude.{slice_get, nat_lt, fold, IfSome, filter}
+use Rattle.std.specs.List.{list_all}
+use Rattle.nc_base.specs.declared.answer.Answer.{Answer}
+use Rattle.nc_base.specs.declared.header.Header.{Header}
+use Rattle.nc_base.specs.declared.request.Call.{Call}
+use Rattle.nc_base.specs.declared.script.Hints.{Hints}
+use Rattle.nc_base.specs.declared.script.Script.{Script}
+use Rattle.nc_base.specs.declared.step.DiskCall.{DiskCall}
+use Rattle.nc_base.specs.declared.step.Mark.{Mark}
+use Rattle.nc_outside.specs.Told.{after, with_end}
+use Rattle.serial_spec.specs.DeviceCalls.{run_calls, store_records}
+use Rattle.serial_spec.specs.FileStep.{Setting, Counted, raised}
+use Rattle.serial_spec.specs.HeaderGrammar.{header_len, is_sound}
+use Rattle.serial_spec.specs.History.{concerns, marks}
+use Rattle.serial_spec.specs.Lawful.{is_lawful}
+use Rattle.serial_spec.specs.Layout.{end_of, greatest}
+use Rattle.serial_spec.specs.RankMachine as machine
+use Rattle.serial_spec.specs.Records.{with_records}
+use Rattle.serial_spec.specs.SerialEnd.{Going, End, advance, first_going, first_state, serial_from, setting_of}
+use Rattle.collective_round.specs.Rounds.{as_setting, counted}
+use Rattle.run_laws.specs.Standing.{close_by}
+use Rattle.run_laws.specs.Ways.{IsOnWay}
+use Rattle.run_laws.proofs.LawfulLaws.{ranks_lawful}
+use Rattle.run_laws.proofs.WayLaws.{way_begins}
+use Rattle.turn_run.specs.Begun.{HasBegun}
+use Rattle.turn_run.specs.Counts.{IsCount}
+use Rattle.turn_run.specs.Seated.{between, calls_of, AreFree, AreSeats, HaveArrived, IsSeat}
+use Rattle.run_laws.specs.Arrivals.{calls_over, step_to, Arrived, Stand, all_calls_over, ended_from}
+use Rattle.turn_run.specs.Stages.{arrived_all, stage, stand_of, HasLed, IsLed, Leads, Stage}
+use Rattle.turn_run.specs.Steps.{first_seat, most_known}
+use Rattle.turn_run.specs.declared.seats.Seat.{Seat}
+use Rattle.turn_run.proofs.ListLaws.{get_long, get_replicate}
+use Rattle.turn_run.proofs.StageLaws.{calls_are, ended_twice, first_ranks, gone_up, serial_is}
+use Rattle.turn_run.proofs.TurnEnds.{are_over, map_ended, AreOver}
+use Rattle.turn_run.proofs.TurnSteps.{calls_there}
+
+-- ---- before the first step
+
+pub none_begun : (script : Script) → HasBegun script []
+none_begun script = record { known_ranks = refl; each_rank = λ r l. (marks script.calls r, refl) }
+
+pub first_count : (header : Header) (len records : ℕ) → is_sound header ≡ true → records ≡ header.records → end_of header (header_len header) header.records ≤ len
+    → IsCount header len records
+first_count header len records h e l = subst (λ (n : ℕ). IsCount header len n) (sym e) (record { sound = h; long = l })
+
+first_placed : (script : Script) (header : Header) (r records : ℕ) → is_lawful script ≡ true → r < script.ranks → records ≡ header.records
+    → IsOnWay script [] r (between (calls_of script r) (first_seat header records)) None
+first_placed script header r records lawful l e =
+    subst (λ (n : ℕ). IsOnWay script [] r (between (calls_of script r) (first_seat header n)) None) (sym e)
+    (way_begins script header r (calls_of script r) lawful (calls_there script r (below (length script.calls) (ranks_lawful script lawful).one_each)))
+  where
+    below : (k : ℕ) → k ≡ script.ranks → r < k
+    below k f = omega arith
+
+pub first_seats : (script : Script) (header : Header) (len records : ℕ) (seats : List Seat) → is_lawful script ≡ true → is_sound header ≡ true → records ≡ header.records
+    → end_of header (header_len header) header.records ≤ len → seats ≡ replicate script.ranks (first_seat header records) → AreSeats script header len [] seats
+first_seats script header len records seats lawful sound e l s =
+    subst (λ (ss : List Seat). AreSeats script header len [] ss) (sym s) (record {
+      all = length-replicate script.ranks (first_seat header records);
+      known_ranks = refl;
+      each = each;
+      known = λ r seat f.
+          let same : first_seat header records ≡ seat = sym (get_replicate script.ranks r (first_seat header records) seat f) in
+          subst (λ (x : Seat). IsCount header len x.rank.state.known) same (first_count header len records sound e l);
+    })
+  where
+    each : (r : ℕ) (seat : Seat) → slice_get (replicate script.ranks (first_seat header records)) r ≡ Some seat → IsSeat script header [] r seat
+    each r seat f =
+        let same : first_seat header records ≡ seat = sym (get_replicate script.ranks r (first_seat header records) seat f) in
+        let long = get_long (replicate script.ranks (first_seat header records)) r seat f in
+        let all = length-replicate script.ranks (first_seat header records) in
+        subst (λ (x : Seat). IsSeat script header [] r x) same (record {
+          of_header = refl;
+          placed = first_placed script header r records lawful (omega arith) e;
+          asked = tt;
+        })
+
+pub first_free : (header : Header) (ranks records : ℕ) (seats : List Seat) → seats ≡ replicate ranks (first_seat header records) → AreFree seats
+first_free header ranks records seats s r seat f =
+    let same : seat ≡ first_seat header records =
+    get_replicate ranks r (first_seat header records) seat (ap (λ (ss : List Seat). slice_get ss r) (sym s) ∙ f) in
+    ap (λ (x : Seat). x.held) same
+
+pub first_stage : (script : Script) (header : Header) (file : List ℕ) (records : ℕ) (seats : List Seat) → is_lawful script ≡ true → records ≡ header.records
+    → seats ≡ replicate script.ranks (first_seat header records)
+    → (counted file records, arrived_all header script.calls seats) ≡ gone_up (setting_of script header) (first_state header file script.calls)
+first_stage script header file records seats lawful e s =
+    let one : script.ranks ≡ length script.calls = sym (ranks_lawful script lawful).one_each in
+    let ranks : arrived_all header script.calls seats ≡ map (advance header) (map (first_going header) script.calls) =
+    ap (λ (ss : List Seat). arrived_all header script.calls ss) s
+    ∙ ap (λ (n : ℕ). arrived_all header script.calls (replicate n (first_seat header records))) one
+    ∙ first_ranks header records script.calls e in
+    λ i. (counted file (e i), ranks i)
+
+-- the run is that of the script
+pub serial_from_first : (script : Script) (header : Header) (file : List ℕ) (records : ℕ) (seats : List Seat) (order : List Mark) → is_lawful script ≡ true
+    → records ≡ header.records → seats ≡ replicate script.ranks (first_seat header records)
+    → ended_from (setting_of script header) (counted file records, arrived_all header script.calls seats) order ≡ serial_from script header file order
+serial_from_first script header file records seats order lawful e s =
+    ap (λ (stand : Stand). ended_from (setting_of script header) stand order) (first_stage script header file records seats lawful e s)
+    ∙ sym (serial_is script header file order)
+
+pub calls_from_first : (script : Script) (header : Header) (file : List ℕ) (records : ℕ) (seats : List Seat) (order : List Mark) → is_lawful script ≡ true
+    → records ≡ header.records → seats ≡ replicate script.ranks (first_seat header records)
+    → all_calls_over script.hints (setting_of script header) (counted file records, arrived_all header script.calls seats) order ≡ run_calls script header file order
+calls_from_first script header file records seats order lawful e s =
+    ap (λ (stand : Stand). all_calls_over script.hints (setting_of script header) stand order) (first_stage script header file records seats lawful e s)
+    ∙ sym (calls_are script header file order)
+
+-- ---- the close
+
+raised_records : (s : Setting) (c : Counted) (n : ℕ) → (raised s c n).records ≡ max c.records n
+raised_records s c n = by (nat_lt c.records n) refl
+  where
+    by : (t : Bool) → nat_lt c.records n ≡ t → (cond t (record { file = with_records s.header.version c.file n; records = n }) c).records ≡ max c.records n
+    by true e = grind (arith, nat_tests)
+    by false e = grind (arith, nat_tests)
+
+-- the end of a run, where it was closed
+pub record IsClosed (hints : Hints) (s : Setting) (stand : Stand) (order : List Mark) (begun : Option (List DiskCall)) (held : Option (List ℕ))
+    (made : Option (List DiskCall)) (count : ℕ) (seats : List Seat) : Type 0 where
+  pub bytes : held ≡ Some (ended_from s stand order).bytes
+  pub records : count ≡ (ended_from s stand order).records
+  pub answers : map (λ seat. seat.answers) seats ≡ (ended_from s stand order).answers
+  pub pending : map (λ seat. machine.pending seat.rank.state) seats ≡ (ended_from s stand order).pending
+  pub calls : made ≡ with_end begun (all_calls_over hints s stand order)
+
+-- file and count were raised to what the ranks know, which stand at the ends of their calls
+pub record IsRaised (header : Header) (left : Option (List ℕ)) (made : Option (List DiskCall)) (count : ℕ) (held : Option (List ℕ)) (later : Option (List DiskCall))
+    (now : ℕ) (seats : List Seat) : Type 0 where
+  pub bytes : held ≡ after (λ file. (raised (as_setting header) (counted file count) (most_known seats)).file) left
+  pub records : now ≡ max count (most_known seats)
+  pub calls : later ≡ with_end made (store_records (as_setting header) (nat_lt count now))
+
+led_closed : (script : Script) (header : Header) (order : List Mark) (calls made later : Option (List DiskCall)) (left held : Option (List ℕ)) (count records from : ℕ)
+    (seats : List Seat) (ranks : List Arrived) (file : List ℕ) (told : Option (List ℕ)) → length script.calls ≡ length seats → AreOver script.calls seats
+    → IsRaised header left made count held later records seats
+    → IsLed script.hints (setting_of script header) order file (stage told calls from ranks) (stage left made count (arrived_all header script.calls seats))
+    → IsClosed script.hints (setting_of script header) (counted file from, ranks) order calls held later records seats
+led_closed script header order calls made later left held count records from seats ranks file told long over r led =
+    let s = setting_of script header in
+    let stand : Stand = (counted file from, ranks) in
+    let ends = map (λ (a : Arrived). a.0) (arrived_all header script.calls seats) in
+    let known : greatest (map (λ g. g.rank.known) ends) ≡ most_known seats =
+    ap greatest (map_ended (λ (rank : machine.Rank) (answers : List Answer). rank.known) header script.calls seats long over) in
+    let last : ended_from s stand order ≡ close_by s (counted led.left count) ends =
+    ap (λ (t : Stand). close_by s t.0 (map (λ a. a.0) t.1)) led.state in
+    let file_is : (close_by s (counted led.left count) ends).bytes ≡ (raised s (counted led.left count) (most_known seats)).file =
+    ap (λ (n : ℕ). (raised s (counted led.left count) n).file) known in
+    let count_is : (close_by s (counted led.left count) ends).records ≡ max count (most_known seats) =
+    ap (λ (n : ℕ). (raised s (counted led.left count) n).records) known ∙ raised_records s (counted led.left count) (most_known seats) in
+    let records_are : records ≡ (ended_from s stand order).records = r.records ∙ sym count_is ∙ sym (ap (λ (e : End). e.records) last) in
+    let before : count ≡ (fold (step_to s) stand order).0.records = sym (ap (λ (t : Stand). t.0.records) led.state) in
+    record {
+      bytes = r.bytes ∙ ap (λ (m : Option (List ℕ)). after (λ f. (raised s (counted f count) (most_known seats)).file) m) led.told
+          ∙ ap (λ (f : List ℕ). Some f) (sym file_is ∙ sym (ap (λ (e : End). e.bytes) last));
+      records = records_are;
+      answers = sym (map_ended (λ (rank : machine.Rank) (answers : List Answer). answers) header script.calls seats long over) ∙ sym (ap (λ (e : End). e.answers) last);
+      pending = sym (map_ended (λ (rank : machine.Rank) (answers : List Answer). machine.pending rank) header script.calls seats long over)
+          ∙ sym (ap (λ (e : End). e.pending) last);
+      calls = r.calls ∙ ap (λ (m : Option (List DiskCall)). with_end m (store_records s (nat_lt count records))) led.calls
+          ∙ ended_twice calls (calls_over script.hints s stand order) (store_records s (nat_lt count records))
+          ∙ (λ i. with_end calls (calls_over script.hints s stand order ++ store_records s (nat_lt (before i) (records_are i))));
+    }
+
+-- where the bytes were told when the run began
+pub run_closed : (script : Script) (header : Header) (before order : List Mark) (calls made later : Option (List DiskCall)) (told left held : Option (List ℕ))
+    (count records from : ℕ) (seats : List Seat) (ranks : List Arrived) → before ≡ [] → length script.calls ≡ length seats → AreOver script.calls seats
+    → HasLed script.hints (setting_of script header) before order (stage told calls from ranks) (stage left made count (arrived_all header script.calls seats))
+    → IsRaised header left made count held later records seats
+    → IfSome told (λ file. IsClosed script.hints (setting_of script header) (counted file from, ranks) order calls held later records seats)
+run_closed script header before order calls made later told left held count records from seats ranks none long over h r =
+    let all : h.more ≡ order = sym (h.grown ∙ ap (λ (ms : List Mark). ms ++ h.more) none) in
+    let s = setting_of script header in
+    let a = stage told calls from ranks in
+    let b = stage left made count (arrived_all header script.calls seats) in
+    by_told told (subst (λ (ms : List Mark). Leads script.hints s ms a b) all h.led)
+  where
+    by_told : (m : Option (List ℕ))
+        → IfSome m (λ file. IsLed script.hints (setting_of script header) order file (stage told calls from ranks) (stage left made count (arrived_all header script.calls seats)))
+        → IfSome m (λ file. IsClosed script.hints (setting_of script header) (counted file from, ranks) order calls held later records seats)
+    by_told None led = tt
+    by_told (Some file) led = led_closed script header order calls made later left held count records from seats ranks file told long over r led
+
+pub if_told : {X : Type 0} {P Q : X → Type 0} (m : Option X) → IfSome m P → ((x : X) → P x → Q x) → IfSome m Q
+if_told None h f = tt
+if_told (Some x) h f = f x h
+
+-- all ranks have ended, and the file was closed
+pub run_ended : (script : Script) (header : Header) (len : ℕ) (before order : List Mark) (calls made later : Option (List DiskCall)) (told left held : Option (List ℕ))
+    (count records from : ℕ) (seats : List Seat) (ranks : List Arrived) → is_lawful script ≡ true → before ≡ [] → AreSeats script header len order seats
+    → AreFree seats → HaveArrived script seats
+    → HasLed script.hints (setting_of script header) before order (stage told calls from ranks) (stage left made count (arrived_all header script.calls seats))
+    → IsRaised header left made count held later records seats
+    → IfSome told (λ file. IsClosed script.hints (setting_of script header) (counted file from, ranks) order calls held later records seats)
+run_ended script header len before order calls made later told left held count records from seats ranks lawful none a f h led r =
+    run_closed script header before order calls made later told left held count records from seats ranks none ((ranks_lawful script lawful).one_each ∙ sym a.all)
+    (are_over script seats f h) led r
+
+next_same : {X : Type 0} (n : ℕ) (x : X) → replicate n x ++ x ∷ [] ≡ replicate (suc n) x
+next_same zero x = refl
+next_same (suc n) x = ap (λ (xs : List _). x ∷ xs) (next_same n x)
+
+pub same_more : {X : Type 0} (n : ℕ) (x y : X) (xs now : List X) → xs ≡ replicate n x → y ≡ x → now ≡ xs ++ y ∷ [] → now ≡ replicate (n + 1) x
+same_more n x y xs now e f h =
+    let next : suc n ≡ n + 1 = omega arith in
+    h ∙ (λ i. e i ++ f i ∷ []) ∙ next_same n x ∙ ap (λ (k : ℕ). replicate k x) next

@@ -1,0 +1,101 @@
+-- One rank more has arrived.
+use Rattle.std.proofs.Common.{◌≡◌, ◌<◌, ◌≤◌, ◌+◌, ℕ, refl, sym, ◌∙◌, ap, subst, length, set, Some, None, get_or, arith}
+use Rattle.std.specs.Prelude.{slice_get, slice_index_or, slice_set}
+use Rattle.run_laws.specs.Ways.{meetings}
+use Rattle.turn_run.specs.declared.seats.Seat.{Seat}
+use Rattle.turn_run.specs.Seated.{calls_of, HasArrived}
+use Rattle.turn_run.proofs.ListLaws.{get_long}
+use Rattle.turn_run.proofs.StageLaws.{has_led_none, has_led_then}
+use Rattle.turn_run.proofs.TurnSteps.{below_other, get_at, gone_led, grown_meetings, seats_begun, seats_step, set_each, step_begun}
+use Rattle.std.proofs.lemmas.Result.{err_from_is_err_and}
+use Rattle.serial_spec.specs.SerialEnd.{setting_of}
+use Rattle.run_laws.proofs.LawfulLaws.{ranks_lawful}
+use Rattle.turn_run.specs.Cuts.{IsNext, MayFollow}
+use Rattle.turn_run.specs.Stages.{arrived_all, stage}
+use Rattle.turn_run.proofs.CutLaws.{stopped_then, stopped_as, follows_next, same_err}
+use Rattle.turn_run.proofs.TurnSteps.{calls_there, get_arrived}
+use Rattle.turn_run.proofs.in_turn.arrive_all.Goals as goal
+
+pub loop-number-init : goal.loop-number-init
+loop-number-init g c = record {
+  from = c.requires.from;
+  longer = omega arith;
+  faults = omega arith;
+  seats = c.requires.seats;
+  met = refl;
+  arrived = λ r seat l e. absurd (omega arith);
+  free = λ r seat l e. c.requires.free r seat e;
+  led = λ records. has_led_none _ _ _ _;
+}
+
+pub arrive-requires-clause-free : goal.arrive-requires-clause-free
+arrive-requires-clause-free g c κs within =
+    c.loop-number.invariant.free c.loop-number.number _ (omega arith) (get_at c.loop-number.seats c.loop-number.number c.index-seats-number.result (omega arith))
+
+pub arrive-requires-clause-seat : goal.arrive-requires-clause-seat
+arrive-requires-clause-seat g c κs within =
+    c.loop-number.invariant.seats.each c.loop-number.number _ (get_at c.loop-number.seats c.loop-number.number c.index-seats-number.result (omega arith))
+
+pub arrive-requires-clause-known : goal.arrive-requires-clause-known
+arrive-requires-clause-known g c κs within =
+    c.loop-number.invariant.seats.known c.loop-number.number _ (get_at c.loop-number.seats c.loop-number.number c.index-seats-number.result (omega arith))
+
+pub returns-in_err-arrive-clause-meetings : goal.returns-in_err-arrive-clause-meetings
+returns-in_err-arrive-clause-meetings g c =
+    grown_meetings c.loop-number.number c.loop-number.order c.arrive.new.order c.arrive.ensures.grown ∙ c.loop-number.invariant.met
+
+pub returns-in_err-arrive-clause-begun : goal.returns-in_err-arrive-clause-begun
+returns-in_err-arrive-clause-begun g c =
+    step_begun c.args.script.now c.args.header.now _ c.loop-number.order c.arrive.new.order c.loop-number.seats c.loop-number.number c.loop-number.invariant.seats
+    (omega arith) c.arrive.ensures.grown c.in_err-arrive.ensures.begun
+
+pub loop-number-preserved : goal.loop-number-preserved
+loop-number-preserved g c =
+    let n = c.loop-number.number in
+    let seats = c.loop-number.seats in
+    let was = slice_index_or seats n c.index-seats-number.result in
+    let seat = c.arrive.new.self in
+    let before = c.loop-number.invariant in
+    let done = c.in_ok-arrive.ensures in
+    let there : slice_get seats n ≡ Some was = get_at seats n c.index-seats-number.result (omega arith) in
+    record {
+      from = done.from;
+      longer = omega arith;
+      faults = omega arith;
+      seats = seats_step c.args.script.now c.args.header.now _ _ c.loop-number.order c.arrive.new.order seats n was seat before.seats there done.grown done.longer done.seat done.known;
+      met = grown_meetings n c.loop-number.order c.arrive.new.order done.grown ∙ before.met;
+      arrived = λ r s l e. set_each (λ (q : ℕ) (x : Seat). q < n + 1 → HasArrived (calls_of c.args.script.now q) x) seats n was seat there (λ k. done.arrived)
+          (λ q x other f k. before.arrived q x (below_other q n other k) f) r s e l;
+      free = λ r s l e. set_each (λ (q : ℕ) (x : Seat). n + 1 ≤ q → x.held ≡ None) seats n was seat there (λ k. absurd (omega arith))
+          (λ q x other f k. before.free q x (omega arith) f) r s e l;
+      led = λ records. has_led_then _ _ _ c.loop-number.order _ _ _ _ (before.led records)
+          (gone_led c.args.script.now c.args.header.now seats n was seat c.loop-number.order c.arrive.new.order _ _ _ _ c.requires.lawful (omega arith) there done.gone records);
+    }
+
+pub returns-clause-arrived : goal.returns-clause-arrived
+returns-clause-arrived g c r seat e = let l = get_long c.loop-number.seats r seat e in c.loop-number.invariant.arrived r seat (omega arith) e
+
+pub returns-clause-begun : goal.returns-clause-begun
+returns-clause-begun g c = seats_begun c.args.script.now c.args.header.now _ c.loop-number.order c.loop-number.seats c.loop-number.invariant.seats
+
+pub returns-in_err-arrive-clause-cut : goal.returns-in_err-arrive-clause-cut
+returns-in_err-arrive-clause-cut g c e is records =
+    let script = c.args.script.now in
+    let header = c.args.header.now in
+    let s = setting_of script header in
+    let n = c.loop-number.number in
+    let seats = c.loop-number.seats in
+    let was = slice_index_or seats n c.index-seats-number.result in
+    let there : slice_get seats n ≡ Some was = get_at seats n c.index-seats-number.result (omega arith) in
+    let led = c.loop-number.invariant.led records in
+    let long = (ranks_lawful script c.requires.lawful).one_each in
+    let p = err_from_is_err_and c.from_residual.result c.from_residual.ensures.1 in
+    stopped_then (IsNext script c.arrive.new.order) script.hints s e c.args.order.now c.loop-number.order c.arrive.new.order led.more
+    (stage (g.D.Disk.held c.args.disk.now) (g.D.Disk.calls c.args.disk.now) records (arrived_all header script.calls c.args.seats.now))
+    (stage (g.D.Disk.held c.loop-number.disk) (g.D.Disk.calls c.loop-number.disk) records (arrived_all header script.calls seats)) (g.D.Disk.held c.arrive.new.disk) records
+    led.led led.grown
+    (stopped_as (MayFollow script n c.arrive.new.order) (IsNext script c.arrive.new.order) s e c.loop-number.order c.arrive.new.order (g.D.Disk.held c.loop-number.disk) records
+    (arrived_all header script.calls seats) (g.D.Disk.held c.arrive.new.disk) records
+    (follows_next script header _ c.loop-number.order c.arrive.new.order seats n c.requires.lawful c.loop-number.invariant.seats (omega arith) c.arrive.ensures.grown)
+    (c.in_err-arrive.ensures.cut e (same_err c.from_residual.result e _ p.0 is p.1 p.2) records (arrived_all header script.calls seats)
+    (get_arrived header script.calls seats n (calls_of script n) was (calls_there script n (omega arith)) there)))

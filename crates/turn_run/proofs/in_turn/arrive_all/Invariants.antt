@@ -1,0 +1,23 @@
+-- The ranks so far have arrived, and the others hold no offer.
+use Rattle.std.proofs.Common.{◌≡◌, ℕ, ◌<◌, ◌≤◌, None, Some}
+use Rattle.std.specs.Prelude.{slice_get}
+use Rattle.serial_spec.specs.SerialEnd.{setting_of}
+use Rattle.run_laws.specs.Ways.{meetings}
+use Rattle.turn_run.specs.Seated.{calls_of, AreSeats, HasArrived}
+use Rattle.turn_run.specs.Stages.{arrived_all, stage, HasLed}
+use Rattle.turn_run.specs.declared.seats.Seat.{Seat}
+use Rattle.turn_run.proofs.in_turn.arrive_all.Given as goal
+
+abbrev pub invariant-loop-number : goal.invariant-loop-number
+invariant-loop-number g l = record {
+  from : g.D.Disk.from l.disk ≡ 0;
+  longer : g.D.Disk.len l.fn.disk ≤ g.D.Disk.len l.disk;
+  faults : g.D.Disk.faults l.fn.disk ≤ g.D.Disk.faults l.disk;
+  seats : AreSeats l.script l.header (g.D.Disk.len l.disk) l.order l.seats;
+  met : meetings l.order ≡ meetings l.fn.order;
+  arrived : (r : ℕ) (seat : Seat) → r < l.number → slice_get l.seats r ≡ Some seat → HasArrived (calls_of l.script r) seat;
+  free : (r : ℕ) (seat : Seat) → l.number ≤ r → slice_get l.seats r ≡ Some seat → seat.held ≡ None;
+  led : (records : ℕ) → HasLed l.script.hints (setting_of l.script l.header) l.fn.order l.order
+      (stage (g.D.Disk.held l.fn.disk) (g.D.Disk.calls l.fn.disk) records (arrived_all l.header l.script.calls l.fn.seats))
+      (stage (g.D.Disk.held l.disk) (g.D.Disk.calls l.disk) records (arrived_all l.header l.script.calls l.seats));
+}

@@ -1,0 +1,94 @@
+-- One meeting more is held, and all have arrived again.
+use Rattle.std.proofs.Common.{◌≡◌, ◌+◌, ◌<◌, ℕ, suc, refl, sym, ◌∙◌, true≢false, arith}
+use Rattle.std.proofs.lemmas.Result.{err_from_is_err_and}
+use Rattle.serial_spec.specs.Lawful.{most_calls}
+use Rattle.run_laws.specs.Ways.{meetings}
+use Rattle.turn_run.proofs.CountLaws.{count_longer}
+use Rattle.turn_run.proofs.StageLaws.{has_led_then}
+use Rattle.turn_run.proofs.TurnCauses.{cause_after, cause_done}
+use Rattle.turn_run.proofs.TurnEnds.{all_ended, met_number, next_meeting}
+use Rattle.turn_run.proofs.TurnSteps.{seats_begun}
+use Rattle.serial_spec.specs.SerialEnd.{setting_of}
+use Rattle.turn_run.specs.Cuts.{IsNext}
+use Rattle.turn_run.specs.Stages.{arrived_all, stage}
+use Rattle.turn_run.proofs.CutLaws.{stopped_then, same_err}
+use Rattle.turn_run.proofs.in_turn.hold_meetings.Goals as goal
+
+pub overflow_add-meetings : goal.overflow_add-meetings
+overflow_add-meetings g c =
+    let k = c.meetings.invariant in
+    let few : meetings c.meetings.order < most_calls =
+    next_meeting c.args.script.now c.args.header.now _ c.meetings.order c.meetings.seats c.requires.lawful k.seats k.arrived (c.all_hold.ensures.0 c.meetings-test.true) in
+    let number = k.number in
+    omega arith
+
+pub meetings-smaller : goal.meetings-smaller
+meetings-smaller g c =
+    let k = c.meetings.invariant in
+    let few : meetings c.meetings.order < most_calls =
+    next_meeting c.args.script.now c.args.header.now _ c.meetings.order c.meetings.seats c.requires.lawful k.seats k.arrived (c.all_hold.ensures.0 c.meetings-test.true) in
+    let number = k.number in
+    omega arith
+
+pub meetings-preserved : goal.meetings-preserved
+meetings-preserved g c =
+    let k = c.meetings.invariant in
+    let met = c.in_ok-meet.ensures in
+    let arrived = c.in_ok-arrive_all-2.ensures in
+    record {
+      from = arrived.from;
+      longer = omega arith;
+      faults = let a = met.cause.later in let b = arrived.cause.later in omega arith;
+      number = met_number c.meetings.order c.meet.new.order c.arrive_all-in-meetings.new.order c.meetings.meetings _ k.number met.order arrived.meetings;
+      seats = arrived.seats;
+      arrived = arrived.arrived;
+      records = count_longer c.args.header.now _ _ c.meet.new.records arrived.longer met.records;
+      led = has_led_then _ _ _ c.meet.new.order _ _ _ _ (has_led_then _ _ _ c.meetings.order _ _ _ _ k.led met.led) (arrived.led c.meet.new.records);
+    }
+
+pub returns-in_err-arrive_all-2-clause-cause : goal.returns-in_err-arrive_all-2-clause-cause
+returns-in_err-arrive_all-2-clause-cause g c =
+    let p = err_from_is_err_and c.from_residual-in_err-arrive_all-2.result c.from_residual-in_err-arrive_all-2.ensures.1 in
+    let k = c.meetings.invariant.faults in
+    let m = c.meet.ensures.cause.later in
+    rw (p.1, p.2) (cause_after (g.D.Disk.faults c.args.disk.now) (g.D.Disk.faults c.meet.new.disk) (g.D.Disk.faults c.arrive_all-in-meetings.new.disk) _ (omega arith)
+    c.in_err-arrive_all-2.ensures.cause)
+
+pub returns-clause-free : goal.returns-clause-free
+returns-clause-free g c =
+    let k = c.meetings.invariant in
+    all_ended c.args.script.now c.args.header.now _ c.meetings.order c.meetings.seats c.requires.lawful k.seats k.arrived
+    (λ met. true≢false (sym (c.all_hold.ensures.1 met) ∙ c.meetings-test.false))
+
+pub returns-clause-begun : goal.returns-clause-begun
+returns-clause-begun g c = seats_begun c.args.script.now c.args.header.now _ c.meetings.order c.meetings.seats c.meetings.invariant.seats
+
+pub returns-clause-cause : goal.returns-clause-cause
+returns-clause-cause g c = cause_done _ _ _ c.meetings.invariant.faults
+
+pub returns-in_err-arrive_all-clause-cut : goal.returns-in_err-arrive_all-clause-cut
+returns-in_err-arrive_all-clause-cut g c e is =
+    let p = err_from_is_err_and c.from_residual.result c.from_residual.ensures.1 in
+    c.in_err-arrive_all.ensures.cut e (same_err c.from_residual.result e _ p.0 is p.1 p.2) c.args.records.now
+
+pub returns-in_err-meet-clause-cut : goal.returns-in_err-meet-clause-cut
+returns-in_err-meet-clause-cut g c e is =
+    let script = c.args.script.now in
+    let header = c.args.header.now in
+    let led = c.meetings.invariant.led in
+    let p = err_from_is_err_and c.from_residual-in_err-meet.result c.from_residual-in_err-meet.ensures.1 in
+    stopped_then (IsNext script c.meet.new.order) script.hints (setting_of script header) e c.args.order.now c.meetings.order c.meet.new.order led.more
+    (stage (g.D.Disk.held c.args.disk.now) (g.D.Disk.calls c.args.disk.now) c.args.records.now (arrived_all header script.calls c.args.seats.now))
+    (stage (g.D.Disk.held c.meetings.disk) (g.D.Disk.calls c.meetings.disk) c.meetings.records (arrived_all header script.calls c.meetings.seats)) (g.D.Disk.held c.meet.new.disk) c.meet.new.records
+    led.led led.grown (c.in_err-meet.ensures.cut e (same_err c.from_residual-in_err-meet.result e _ p.0 is p.1 p.2))
+
+pub returns-in_err-arrive_all-2-clause-cut : goal.returns-in_err-arrive_all-2-clause-cut
+returns-in_err-arrive_all-2-clause-cut g c e is =
+    let script = c.args.script.now in
+    let header = c.args.header.now in
+    let led = has_led_then _ _ _ c.meetings.order _ _ _ _ c.meetings.invariant.led c.in_ok-meet.ensures.led in
+    let p = err_from_is_err_and c.from_residual-in_err-arrive_all-2.result c.from_residual-in_err-arrive_all-2.ensures.1 in
+    stopped_then (IsNext script c.arrive_all-in-meetings.new.order) script.hints (setting_of script header) e c.args.order.now c.meet.new.order c.arrive_all-in-meetings.new.order led.more
+    (stage (g.D.Disk.held c.args.disk.now) (g.D.Disk.calls c.args.disk.now) c.args.records.now (arrived_all header script.calls c.args.seats.now))
+    (stage (g.D.Disk.held c.meet.new.disk) (g.D.Disk.calls c.meet.new.disk) c.meet.new.records (arrived_all header script.calls c.meet.new.seats)) (g.D.Disk.held c.arrive_all-in-meetings.new.disk) c.meet.new.records
+    led.led led.grown (c.in_err-arrive_all-2.ensures.cut e (same_err c.from_residual-in_err-arrive_all-2.result e _ p.0 is p.1 p.2) c.meet.new.records)

@@ -1,0 +1,104 @@
+-- The run of a script, from its first stage to its end.
+use Rattle.std.proofs.Common.{◌≡◌, ℕ, sym, ◌∙◌, ap, subst, List, [], replicate, Some}
+use Rattle.std.proofs.Common.{rules, map, Err}
+use Rattle.std.proofs.lemmas.List.{with_items_is}
+use Rattle.nc_base.specs.declared.step.Mark.{Mark}
+use Rattle.nc_base.specs.declared.step.DiskCall.{DiskCall}
+use Rattle.nc_outside.specs.Told.{with_end}
+use Rattle.serial_spec.specs.DeviceCalls.{run_calls}
+use Rattle.serial_spec.specs.SerialEnd.{serial_from, End}
+use Rattle.turn_run.specs.Begun.{HasBegun}
+use Rattle.turn_run.specs.Seated.{AreSeats}
+use Rattle.turn_run.specs.Steps.{first_seat}
+use Rattle.serial_spec.specs.RankMachine as machine
+use Rattle.turn_run.specs.declared.seats.Seat.{Seat}
+use Rattle.turn_run.proofs.TurnRuns.{calls_from_first, first_count, first_free, first_seats, if_told, none_begun, serial_from_first}
+use Rattle.std.proofs.Common.{refl, inl}
+use Rattle.nc_base.specs.declared.step.StepErr.TheVariants as fault
+use Rattle.serial_spec.specs.SerialEnd.{setting_of}
+use Rattle.turn_run.specs.Stages.{arrived_all}
+use Rattle.turn_run.proofs.CutEnds.{same_cause}
+use Rattle.turn_run.proofs.CutRuns.{ends_as, ends_stood, stood_first}
+use Rattle.turn_run.proofs.in_turn.run_in_turn.Goals as goal
+
+pub returns-in-Err-clause-begun : goal.returns-in-Err-clause-begun
+returns-in-Err-clause-begun g c =
+    subst (λ (ms : List Mark). HasBegun c.args.script.now ms) (sym (c.stopped.ensures.order ∙ c.new-order.ensures)) (none_begun c.args.script.now)
+
+pub returns-in-Err-seats_of-clause-begun : goal.returns-in-Err-seats_of-clause-begun
+returns-in-Err-seats_of-clause-begun g c =
+    subst (λ (ms : List Mark). HasBegun c.args.script.now ms) (sym (c.stopped-in-Err-seats_of.ensures.order ∙ c.new-order.ensures)) (none_begun c.args.script.now)
+
+pub make_calls-requires-clause-seats : goal.make_calls-requires-clause-seats
+make_calls-requires-clause-seats g c κs within =
+    subst (λ (ms : List Mark). AreSeats c.args.script.now c.args.header.now (g.D.Disk.len c.args.disk.now) ms c.deref_mut.result.now) (sym c.new-order.ensures)
+    (first_seats c.args.script.now c.args.header.now (g.D.Disk.len c.args.disk.now) c.args.records.now c.deref_mut.result.now c.requires.lawful c.requires.sound
+    c.requires.records c.requires.long (c.deref_mut.ensures.value ∙ c.in-Ok-seats_of.ensures))
+
+pub make_calls-requires-clause-free : goal.make_calls-requires-clause-free
+make_calls-requires-clause-free g c κs within =
+    first_free c.args.header.now c.args.script.now.ranks c.args.records.now c.deref_mut.result.now (c.deref_mut.ensures.value ∙ c.in-Ok-seats_of.ensures)
+
+pub make_calls-requires-clause-records : goal.make_calls-requires-clause-records
+make_calls-requires-clause-records g c κs within =
+    first_count c.args.header.now (g.D.Disk.len c.args.disk.now) c.args.records.now c.requires.sound c.requires.records c.requires.long
+
+pub returns-in-Ok-make_calls-clause-bytes : goal.returns-in-Ok-make_calls-clause-bytes
+returns-in-Ok-make_calls-clause-bytes g c = λ none.
+    if_told (g.D.Disk.held c.args.disk.now) c.in-Ok-make_calls.ensures.bytes (λ file k. k ∙ ap (λ (e : End). Some e.bytes)
+    (serial_from_first c.args.script.now c.args.header.now file c.args.records.now c.deref_mut.result.now c.make_calls.new.order c.requires.lawful c.requires.records
+    (c.deref_mut.ensures.value ∙ c.in-Ok-seats_of.ensures) ∙ ap (λ (ms : List Mark). serial_from c.args.script.now c.args.header.now file ms) (sym c.ended.ensures.order)))
+
+pub returns-in-Ok-make_calls-clause-records : goal.returns-in-Ok-make_calls-clause-records
+returns-in-Ok-make_calls-clause-records g c = λ none.
+    if_told (g.D.Disk.held c.args.disk.now) c.in-Ok-make_calls.ensures.records (λ file k. k ∙ ap (λ (e : End). e.records)
+    (serial_from_first c.args.script.now c.args.header.now file c.args.records.now c.deref_mut.result.now c.make_calls.new.order c.requires.lawful c.requires.records
+    (c.deref_mut.ensures.value ∙ c.in-Ok-seats_of.ensures) ∙ ap (λ (ms : List Mark). serial_from c.args.script.now c.args.header.now file ms) (sym c.ended.ensures.order)))
+
+pub returns-in-Ok-make_calls-clause-answers : goal.returns-in-Ok-make_calls-clause-answers
+returns-in-Ok-make_calls-clause-answers g c = λ none.
+    if_told (g.D.Disk.held c.args.disk.now) c.in-Ok-make_calls.ensures.answers (λ file k. c.ended.ensures.answers none ∙ ap (λ (ss : List Seat). map (λ seat. seat.answers) ss) (with_items_is c.in-Ok-seats_of.seats c.make_calls.new.seats (search rules)) ∙ k ∙ ap (λ (e : End). e.answers)
+    (serial_from_first c.args.script.now c.args.header.now file c.args.records.now c.deref_mut.result.now c.make_calls.new.order c.requires.lawful c.requires.records
+    (c.deref_mut.ensures.value ∙ c.in-Ok-seats_of.ensures) ∙ ap (λ (ms : List Mark). serial_from c.args.script.now c.args.header.now file ms) (sym c.ended.ensures.order)))
+
+pub returns-in-Ok-make_calls-clause-pending : goal.returns-in-Ok-make_calls-clause-pending
+returns-in-Ok-make_calls-clause-pending g c = λ none.
+    if_told (g.D.Disk.held c.args.disk.now) c.in-Ok-make_calls.ensures.pending (λ file k. c.ended.ensures.pending none ∙ ap (λ (ss : List Seat). map (λ seat. machine.pending seat.rank.state) ss) (with_items_is c.in-Ok-seats_of.seats c.make_calls.new.seats (search rules)) ∙ k ∙ ap (λ (e : End). e.pending)
+    (serial_from_first c.args.script.now c.args.header.now file c.args.records.now c.deref_mut.result.now c.make_calls.new.order c.requires.lawful c.requires.records
+    (c.deref_mut.ensures.value ∙ c.in-Ok-seats_of.ensures) ∙ ap (λ (ms : List Mark). serial_from c.args.script.now c.args.header.now file ms) (sym c.ended.ensures.order)))
+
+pub returns-in-Ok-make_calls-clause-calls : goal.returns-in-Ok-make_calls-clause-calls
+returns-in-Ok-make_calls-clause-calls g c = λ none.
+    if_told (g.D.Disk.held c.args.disk.now) c.in-Ok-make_calls.ensures.calls (λ file k. k ∙ ap (λ (cs : List DiskCall). with_end (g.D.Disk.calls c.args.disk.now) cs)
+    (calls_from_first c.args.script.now c.args.header.now file c.args.records.now c.deref_mut.result.now c.make_calls.new.order c.requires.lawful c.requires.records
+    (c.deref_mut.ensures.value ∙ c.in-Ok-seats_of.ensures) ∙ ap (λ (ms : List Mark). run_calls c.args.script.now c.args.header.now file ms) (sym c.ended.ensures.order)))
+
+pub returns-in-Err-clause-cut : goal.returns-in-Err-clause-cut
+returns-in-Err-clause-cut g c e is =
+    stood_first c.args.script.now c.args.header.now e c.stopped.result.order (g.D.Disk.held c.args.disk.now) (g.D.Disk.held c.args.disk.now) c.args.records.now c.args.records.now c.requires.lawful
+    (sym (same_cause fault.Memory e (sym c.stopped.ensures.fault ∙ is))) (c.stopped.ensures.order ∙ c.new-order.ensures) refl refl c.requires.records
+
+pub returns-in-Err-seats_of-clause-cut : goal.returns-in-Err-seats_of-clause-cut
+returns-in-Err-seats_of-clause-cut g c e is =
+    stood_first c.args.script.now c.args.header.now e c.stopped-in-Err-seats_of.result.order (g.D.Disk.held c.args.disk.now) (g.D.Disk.held c.args.disk.now) c.args.records.now c.args.records.now c.requires.lawful
+    (sym (same_cause fault.Memory e (sym c.stopped-in-Err-seats_of.ensures.fault ∙ is))) (c.stopped-in-Err-seats_of.ensures.order ∙ c.new-order.ensures) refl refl c.requires.records
+
+pub returns-in-Ok-make_calls-clause-cut : goal.returns-in-Ok-make_calls-clause-cut
+returns-in-Ok-make_calls-clause-cut g c e is =
+    let script = c.args.script.now in
+    let header = c.args.header.now in
+    let first = c.deref_mut.ensures.value ∙ c.in-Ok-seats_of.ensures in
+    ends_stood script header e c.args.records.now c.deref_mut.result.now c.ended.result.order (g.D.Disk.held c.args.disk.now) (g.D.Disk.held c.make_calls.new.disk) c.make_calls.new.records
+    c.requires.lawful c.requires.records first (subst (λ (ms : List Mark). HasBegun script ms) (sym c.ended.ensures.order) c.make_calls.ensures.begun)
+    (ends_as script (setting_of script header) e e (g.D.Disk.held c.args.disk.now) c.args.records.now (arrived_all header script.calls c.deref_mut.result.now) c.make_calls.new.order c.ended.result.order
+    (g.D.Disk.held c.make_calls.new.disk) c.make_calls.new.records (inl refl) c.ended.ensures.order (c.in-Ok-make_calls.ensures.raised e))
+
+pub returns-clause-cut : goal.returns-clause-cut
+returns-clause-cut g c e is =
+    let script = c.args.script.now in
+    let header = c.args.header.now in
+    let first = c.deref_mut.ensures.value ∙ c.in-Ok-seats_of.ensures in
+    ends_stood script header e c.args.records.now c.deref_mut.result.now c.cut_off.result.order (g.D.Disk.held c.args.disk.now) (g.D.Disk.held c.make_calls.new.disk) c.make_calls.new.records
+    c.requires.lawful c.requires.records first (subst (λ (ms : List Mark). HasBegun script ms) (sym c.cut_off.ensures.order) c.make_calls.ensures.begun)
+    (ends_as script (setting_of script header) c.in-Err-make_calls.cause e (g.D.Disk.held c.args.disk.now) c.args.records.now (arrived_all header script.calls c.deref_mut.result.now) c.make_calls.new.order
+    c.cut_off.result.order (g.D.Disk.held c.make_calls.new.disk) c.make_calls.new.records (c.cut_off.ensures.fault e is) c.cut_off.ensures.order (c.in-Err-make_calls.ensures.cut c.in-Err-make_calls.cause refl))

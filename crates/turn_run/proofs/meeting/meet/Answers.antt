@@ -1,0 +1,127 @@
+-- A meeting of all ranks.
+use Rattle.std.proofs.Common.{sym, ◌∙◌}
+use Rattle.collective_round.specs.Rounds.{setting}
+use Rattle.run_laws.proofs.LawfulLaws.{ranks_lawful}
+use Rattle.turn_run.proofs.HintLaws.{lawful_hints}
+use Rattle.turn_run.proofs.MeetDone.{are_done, begun_after, begun_before, begun_still, free_after, order_at, seats_after, table_long, to_hear}
+use Rattle.turn_run.proofs.MeetOffers.{meets_job, meets_once, meets_rise}
+use Rattle.turn_run.proofs.MeetStep.{meeting_led}
+use Rattle.std.proofs.Common.{ℕ, subst, refl, inr, List, ◌++◌, ◌∷◌, []}
+use Rattle.std.proofs.lemmas.Result.{err_from_is_err_and}
+use Rattle.nc_base.specs.declared.step.Mark.{Mark}
+use Rattle.nc_base.specs.declared.step.Mark.TheVariants.{Meet}
+use Rattle.serial_spec.specs.SerialEnd.{setting_of}
+use Rattle.run_laws.specs.Ways.{meetings}
+use Rattle.join_laws.proofs.Completing.{completed_by}
+use Rattle.turn_run.specs.Cuts.{IsNext}
+use Rattle.turn_run.specs.Stages.{arrived_all}
+use Rattle.turn_run.proofs.CutLaws.{stopped_between, memory_of}
+use Rattle.turn_run.proofs.CutMeet.{stopped_meet, stopped_deaf, met_done, next_meets}
+use Rattle.turn_run.proofs.meeting.meet.Goals as goal
+
+pub returns-in_err-job-clause-begun : goal.returns-in_err-job-clause-begun
+returns-in_err-job-clause-begun g c = begun_before c.args.script.now c.args.header.now _ c.args.order.now c.args.seats.now c.requires.seats
+
+pub meet_on_file-requires-clause-hints : goal.meet_on_file-requires-clause-hints
+meet_on_file-requires-clause-hints g c κs within = lawful_hints c.args.script.now c.requires.lawful
+
+pub meet_on_file-requires-clause-job : goal.meet_on_file-requires-clause-job
+meet_on_file-requires-clause-job g c κs within =
+    meets_job c.args.script.now c.args.header.now _ c.args.order.now c.args.seats.now c.in_ok-job.job.batches c.requires.lawful c.requires.seats c.requires.met c.requires.arrived
+    c.in_ok-job.ensures.batches
+
+pub meet_on_file-requires-clause-known : goal.meet_on_file-requires-clause-known
+meet_on_file-requires-clause-known g c κs within =
+    meets_rise c.args.script.now c.args.header.now _ c.args.order.now c.args.seats.now c.in_ok-job.known c.requires.seats c.requires.met c.requires.arrived c.in_ok-job.ensures.known
+
+pub returns-in_err-pair-clause-begun : goal.returns-in_err-pair-clause-begun
+returns-in_err-pair-clause-begun g c = begun_before c.args.script.now c.args.header.now _ c.args.order.now c.args.seats.now c.requires.seats
+
+pub returns-in_err-push-clause-begun : goal.returns-in_err-push-clause-begun
+returns-in_err-push-clause-begun g c =
+    begun_still c.args.script.now c.args.header.now _ c.args.order.now c.push.new.self c.args.seats.now c.requires.seats c.in_err-push.ensures.err
+
+pub hear_all-requires-clause-long : goal.hear_all-requires-clause-long
+hear_all-requires-clause-long g c =
+    table_long c.args.header.now c.args.seats.now c.in_ok-job.job.batches c.in_ok-pair.table c.requires.met c.in_ok-job.ensures.batches c.in_ok-pair.ensures.fits ∙ sym c.in_ok-job.ensures.freed.long
+
+pub hear_all-requires-clause-fit : goal.hear_all-requires-clause-fit
+hear_all-requires-clause-fit g c =
+    to_hear c.args.script.now c.args.header.now _ c.args.order.now c.args.seats.now c.take_job.new.seats c.in_ok-job.job.batches c.in_ok-pair.table c.requires.seats c.requires.met c.requires.arrived
+    c.in_ok-job.ensures.freed c.in_ok-job.ensures.batches c.in_ok-pair.ensures.fits
+
+pub returns-in_err-hear_all-clause-begun : goal.returns-in_err-hear_all-clause-begun
+returns-in_err-hear_all-clause-begun g c =
+    begun_after c.args.script.now c.args.header.now _ c.args.order.now c.push.new.self c.args.seats.now c.requires.seats c.requires.met c.requires.arrived
+    (order_at c.args.order.now c.push.new.self c.args.number c.requires.number c.in_ok-push.ensures.ok)
+
+pub returns-clause-seats : goal.returns-clause-seats
+returns-clause-seats g c =
+    seats_after c.args.script.now c.args.header.now _ _ c.args.order.now c.push.new.self c.args.seats.now c.take_job.new.seats c.hear_all.new.seats c.in_ok-pair.pair
+    c.meet_on_file.new.records c.in_ok-pair.table c.requires.seats c.requires.met c.requires.arrived c.in_ok-job.ensures.freed c.in_ok-hear_all.ensures
+    (table_long c.args.header.now c.args.seats.now c.in_ok-job.job.batches c.in_ok-pair.table c.requires.met c.in_ok-job.ensures.batches c.in_ok-pair.ensures.fits)
+    c.in_ok-pair.ensures.longer c.in_ok-pair.ensures.count (order_at c.args.order.now c.push.new.self c.args.number c.requires.number c.in_ok-push.ensures.ok)
+
+pub returns-clause-free : goal.returns-clause-free
+returns-clause-free g c =
+    free_after c.args.seats.now c.take_job.new.seats c.hear_all.new.seats c.in_ok-pair.pair c.meet_on_file.new.records c.in_ok-pair.table c.in_ok-job.ensures.freed c.in_ok-hear_all.ensures
+    (table_long c.args.header.now c.args.seats.now c.in_ok-job.job.batches c.in_ok-pair.table c.requires.met c.in_ok-job.ensures.batches c.in_ok-pair.ensures.fits)
+
+pub returns-clause-led : goal.returns-clause-led
+returns-clause-led g c =
+    let s = setting c.args.header.now c.args.script.now.hints in
+    let long = (ranks_lawful c.args.script.now c.requires.lawful).one_each ∙ sym c.requires.seats.all in
+    let wide = table_long c.args.header.now c.args.seats.now c.in_ok-job.job.batches c.in_ok-pair.table c.requires.met c.in_ok-job.ensures.batches c.in_ok-pair.ensures.fits in
+    meeting_led c.args.script.now.hints s c.args.order.now c.push.new.self c.args.script.now.calls c.args.seats.now c.hear_all.new.seats c.in_ok-job.job.batches c.in_ok-job.known
+    c.args.records.now c.meet_on_file.new.records c.args.number _ _ _ _ c.in_ok-pair.pair c.in_ok-pair.table long (c.in_ok-hear_all.ensures.long ∙ c.in_ok-job.ensures.freed.long) wide c.requires.met
+    (are_done c.args.script.now c.args.header.now _ c.args.order.now c.args.seats.now c.take_job.new.seats c.hear_all.new.seats c.in_ok-pair.pair c.meet_on_file.new.records c.in_ok-pair.table
+    c.requires.seats c.requires.met c.requires.arrived c.in_ok-job.ensures.freed c.in_ok-hear_all.ensures)
+    c.in_ok-job.ensures.batches c.in_ok-job.ensures.known c.in_ok-pair.ensures.told c.in_ok-pair.ensures.records c.in_ok-pair.ensures.bytes c.in_ok-pair.ensures.got
+    (c.in_ok-pair.ensures.calls (meets_once c.args.script.now c.args.header.now _ c.args.order.now c.args.seats.now c.in_ok-job.known c.in_ok-job.job.batches c.requires.seats c.requires.met c.requires.arrived c.in_ok-job.ensures.known c.in_ok-job.ensures.batches))
+    c.in_ok-push.ensures.ok
+
+pub returns-clause-begun : goal.returns-clause-begun
+returns-clause-begun g c =
+    begun_after c.args.script.now c.args.header.now _ c.args.order.now c.push.new.self c.args.seats.now c.requires.seats c.requires.met c.requires.arrived
+    (order_at c.args.order.now c.push.new.self c.args.number c.requires.number c.in_ok-push.ensures.ok)
+
+pub returns-in_err-job-clause-cut : goal.returns-in_err-job-clause-cut
+returns-in_err-job-clause-cut g c e is =
+    let script = c.args.script.now in
+    let p = err_from_is_err_and c.from_residual.result c.from_residual.ensures.1 in
+    stopped_between (IsNext script c.args.order.now) (setting_of script c.args.header.now) e c.args.order.now c.args.order.now (g.D.Disk.held c.args.disk.now) (g.D.Disk.held c.args.disk.now)
+    c.args.records.now c.args.records.now (arrived_all c.args.header.now script.calls c.args.seats.now) (memory_of c.from_residual.result e p.0 is p.1 p.2) refl refl refl
+
+pub returns-in_err-pair-clause-cut : goal.returns-in_err-pair-clause-cut
+returns-in_err-pair-clause-cut g c e is =
+    let script = c.args.script.now in
+    let s = setting_of script c.args.header.now in
+    let long = (ranks_lawful script c.requires.lawful).one_each ∙ sym c.requires.seats.all in
+    let once = meets_once script c.args.header.now _ c.args.order.now c.args.seats.now c.in_ok-job.known c.in_ok-job.job.batches c.requires.seats c.requires.met c.requires.arrived c.in_ok-job.ensures.known c.in_ok-job.ensures.batches in
+    stopped_meet (IsNext script c.args.order.now) s e (meetings c.args.order.now) c.args.order.now c.args.order.now (g.D.Disk.held c.args.disk.now) (g.D.Disk.held c.meet_on_file.new.disk)
+    script.calls c.args.seats.now c.in_ok-job.job.batches c.in_ok-job.known c.args.records.now c.meet_on_file.new.records
+    (next_meets script c.args.header.now _ c.args.order.now c.args.order.now c.args.seats.now c.requires.lawful c.requires.seats c.requires.met c.requires.arrived refl)
+    refl long c.requires.met c.in_ok-job.ensures.batches c.in_ok-job.ensures.known (c.in_err-pair.ensures.refused once) (c.in_err-pair.ensures.kept once)
+
+pub returns-in_err-push-clause-cut : goal.returns-in_err-push-clause-cut
+returns-in_err-push-clause-cut g c e is =
+    let script = c.args.script.now in
+    let s = setting_of script c.args.header.now in
+    let long = (ranks_lawful script c.requires.lawful).one_each ∙ sym c.requires.seats.all in
+    stopped_meet (IsNext script c.push.new.self) s e (meetings c.args.order.now) c.args.order.now c.push.new.self (g.D.Disk.held c.args.disk.now) (g.D.Disk.held c.meet_on_file.new.disk)
+    script.calls c.args.seats.now c.in_ok-job.job.batches c.in_ok-job.known c.args.records.now c.meet_on_file.new.records
+    (next_meets script c.args.header.now _ c.args.order.now c.push.new.self c.args.seats.now c.requires.lawful c.requires.seats c.requires.met c.requires.arrived c.in_err-push.ensures.err)
+    c.in_err-push.ensures.err long c.requires.met c.in_ok-job.ensures.batches c.in_ok-job.ensures.known
+    (met_done s c.in_ok-job.job.batches c.args.records.now c.in_ok-job.known (g.D.Disk.held c.args.disk.now) (g.D.Disk.held c.meet_on_file.new.disk) c.in_ok-pair.ensures.bytes)
+    (inr c.in_ok-pair.ensures.records)
+
+pub returns-in_err-hear_all-clause-cut : goal.returns-in_err-hear_all-clause-cut
+returns-in_err-hear_all-clause-cut g c e is =
+    let script = c.args.script.now in
+    let s = setting_of script c.args.header.now in
+    let p = err_from_is_err_and c.from_residual-in_err-hear_all.result c.from_residual-in_err-hear_all.ensures.1 in
+    let long = (ranks_lawful script c.requires.lawful).one_each ∙ sym c.requires.seats.all in
+    stopped_deaf (IsNext script c.push.new.self) s e c.args.number c.args.order.now c.push.new.self (g.D.Disk.held c.args.disk.now) (g.D.Disk.held c.meet_on_file.new.disk)
+    script.calls c.args.seats.now c.in_ok-job.job.batches c.in_ok-job.known c.args.records.now c.meet_on_file.new.records
+    (memory_of c.from_residual-in_err-hear_all.result e p.0 is p.1 p.2) c.in_ok-push.ensures.ok long c.requires.met c.in_ok-job.ensures.batches c.in_ok-job.ensures.known
+    c.in_ok-pair.ensures.bytes c.in_ok-pair.ensures.records

@@ -1,0 +1,157 @@
+-- The rank goes on from one solo offer to the next.
+use Rattle.std.proofs.Common.{◌≡◌, ℕ, ◌<◌, ◌≤◌, refl, sym, ◌∙◌, ap, subst, length, drop, List, [], None, Some, arith}
+use Rattle.nc_base.specs.declared.request.Call.{Call}
+use Rattle.serial_spec.specs.SerialEnd.{setting_of}
+use Rattle.run_laws.specs.Ways.{IsOnWay}
+use Rattle.run_laws.proofs.LawfulLaws.{ranks_lawful}
+use Rattle.turn_run.specs.Counts.{IsCount}
+use Rattle.turn_run.specs.Seated.{asking, between, calls_of}
+use Rattle.run_laws.specs.Arrivals.{Arrived}
+use Rattle.turn_run.specs.Stages.{arrived, HasGone}
+use Rattle.nc_base.specs.declared.answer.Answer.{Answer}
+use Rattle.run_laws.proofs.TogetherLaws.{call_number}
+use Rattle.turn_run.specs.declared.seats.Seat.{Seat}
+use Rattle.turn_run.proofs.SeatLaws.{placed_rest, way_rest}
+use Rattle.turn_run.proofs.HintLaws.{on_err}
+use Rattle.turn_run.proofs.AloneLaws.{alone_asks, gone_grown, gone_then, grown_then, same_seat, taken_asks, way_free, went_gone, went_seat}
+use Rattle.std.proofs.lemmas.Result.{err_from_is_err_and}
+use Rattle.turn_run.specs.Cuts.{MayFollow}
+use Rattle.turn_run.proofs.CutLaws.{gone_stopped, stopped_between, memory_of, same_err}
+use Rattle.turn_run.proofs.seats.Seat.arrive.Goals as goal
+
+pub own_calls-calls-requires : goal.own_calls-calls-requires
+own_calls-calls-requires g c = let long = (ranks_lawful c.args.script.now c.requires.lawful).one_each in omega arith
+
+pub returns-in_err-go_on-clause-begun : goal.returns-in_err-go_on-clause-begun
+returns-in_err-go_on-clause-begun g c =
+    on_err _ (placed_rest c.args.script.now c.args.header.now c.args.order.now c.args.number _ _ c.requires.seat.placed)
+
+pub alone-init : goal.alone-init
+alone-init g c =
+    let own = c.own_calls-calls.result.now in
+    let all = calls_of c.args.script.now c.args.number in
+    let e : own ≡ all = c.own_calls-calls.ensures in
+    let way = way_free c.args.script.now c.args.header.now c.args.order.now c.args.number all c.args.self.now c.requires.free c.requires.seat.placed in
+    let here = subst (λ (o : List Call). IsOnWay c.args.script.now c.args.order.now c.args.number (between o c.args.self.now) None) (sym e) way in
+    record {
+      from = c.requires.from;
+      longer = omega arith;
+      faults = omega arith;
+      seat = went_seat c.args.script.now c.args.header.now c.args.order.now c.args.number own c.go_on.new.self e c.go_on.ensures.header
+          (c.in_ok-go_on.ensures.placed c.args.order.now here) c.in_ok-go_on.ensures.asked;
+      ended = subst (λ (o : List Call). c.go_on.new.self.held ≡ None → drop (length c.go_on.new.self.answers) o ≡ []) e c.in_ok-go_on.ensures.ended;
+      known = subst (λ (n : ℕ). IsCount c.args.header.now (g.D.Disk.len c.args.disk.now) n) (sym c.in_ok-go_on.ensures.known) c.requires.known;
+      gone = went_gone c.args.script.now.hints (setting_of c.args.script.now c.args.header.now) c.args.number c.args.order.now (g.D.Disk.held c.args.disk.now) (g.D.Disk.calls c.args.disk.now)
+          c.args.header.now own all c.args.self.now c.go_on.new.self e c.requires.free c.in_ok-go_on.ensures.advanced c.in_ok-go_on.ensures.ended;
+    }
+
+pub returns-in_err-do_alone-clause-grown : goal.returns-in_err-do_alone-clause-grown
+returns-in_err-do_alone-clause-grown g c = grown_then _ _ _ _ (gone_grown _ _ _ _ _ _ _ _ _ _ _ c.alone.invariant.gone) c.do_alone.ensures.grown
+
+pub alone-smaller : goal.alone-smaller
+alone-smaller g c =
+    let all = calls_of c.args.script.now c.args.number in
+    let taken = c.in-Some.ensures.taken in
+    let asks = alone_asks c.args.script.now c.args.header.now c.alone.order c.args.number all c.alone.self c.in-Some.offer taken.0 taken.1 c.alone.invariant.seat.placed in
+    let few = call_number c.args.script.now c.alone.order c.args.number _ asks.call _ asks.way refl in
+    let one = c.in_ok-do_alone.ensures.answers in
+    let more = c.in_ok-go_on-2.ensures.more in
+    let same = ap (λ (xs : List Answer). length xs) c.take_alone.ensures.answers in
+    omega arith
+
+pub alone-preserved : goal.alone-preserved
+alone-preserved g c =
+    let script = c.args.script.now in
+    let header = c.args.header.now in
+    let r = c.args.number in
+    let hints = script.hints in
+    let s = setting_of script header in
+    let own = c.own_calls-calls.result.now in
+    let all = calls_of script r in
+    let e : own ≡ all = c.own_calls-calls.ensures in
+    let taken = c.in-Some.ensures.taken in
+    let mid = c.do_alone.new.self in
+    let new = c.go_on-in-Some.new.self in
+    let order = c.do_alone.new.order in
+    let here = subst (λ (o : List Call). IsOnWay script order r (between o mid) None) (sym e) c.in_ok-do_alone.ensures.way in
+    let longer = c.alone.invariant.longer in
+    let grown = c.do_alone.ensures.longer in
+    let faults = c.alone.invariant.faults in
+    let later = c.do_alone.ensures.cause.later in
+    record {
+      from = c.do_alone.ensures.from;
+      longer = omega arith;
+      faults = omega arith;
+      seat = went_seat script header order r own new e c.go_on-in-Some.ensures.header (c.in_ok-go_on-2.ensures.placed order here) c.in_ok-go_on-2.ensures.asked;
+      ended = subst (λ (o : List Call). new.held ≡ None → drop (length new.answers) o ≡ []) e c.in_ok-go_on-2.ensures.ended;
+      known = subst (λ (n : ℕ). IsCount header (g.D.Disk.len c.do_alone.new.disk) n) (sym c.in_ok-go_on-2.ensures.known) c.in_ok-do_alone.ensures.known;
+      gone = gone_then hints s r c.args.order.now c.alone.order order (g.D.Disk.held c.args.disk.now) (g.D.Disk.held c.alone.disk) (g.D.Disk.held c.do_alone.new.disk)
+          (g.D.Disk.calls c.args.disk.now) (g.D.Disk.calls c.alone.disk) (g.D.Disk.calls c.do_alone.new.disk)
+          (arrived header all c.args.self.now) (arrived header all c.alone.self) (arrived header all new) c.alone.invariant.gone
+          (gone_then hints s r c.alone.order order order (g.D.Disk.held c.alone.disk) (g.D.Disk.held c.do_alone.new.disk) (g.D.Disk.held c.do_alone.new.disk)
+          (g.D.Disk.calls c.alone.disk) (g.D.Disk.calls c.do_alone.new.disk) (g.D.Disk.calls c.do_alone.new.disk) (arrived header all c.alone.self) (arrived header all mid) (arrived header all new)
+          (subst (λ (a : Arrived). HasGone hints s r c.alone.order order (g.D.Disk.held c.alone.disk) (g.D.Disk.calls c.alone.disk)
+          (g.D.Disk.held c.do_alone.new.disk) (g.D.Disk.calls c.do_alone.new.disk) a (arrived header all mid))
+          (taken_asks header all c.alone.self c.take_alone.new.self c.in-Some.offer taken.0 c.take_alone.ensures.rank c.take_alone.ensures.answers) c.in_ok-do_alone.ensures.gone)
+          (went_gone hints s r order (g.D.Disk.held c.do_alone.new.disk) (g.D.Disk.calls c.do_alone.new.disk) header own all mid new e c.do_alone.ensures.free
+          c.in_ok-go_on-2.ensures.advanced c.in_ok-go_on-2.ensures.ended));
+    }
+
+pub returns-in_err-go_on-2-clause-grown : goal.returns-in_err-go_on-2-clause-grown
+returns-in_err-go_on-2-clause-grown g c = grown_then _ _ _ _ (gone_grown _ _ _ _ _ _ _ _ _ _ _ c.alone.invariant.gone) c.do_alone.ensures.grown
+
+pub returns-in_err-go_on-2-clause-begun : goal.returns-in_err-go_on-2-clause-begun
+returns-in_err-go_on-2-clause-begun g c = on_err _ (way_rest c.args.script.now c.do_alone.new.order c.args.number _ None c.in_ok-do_alone.ensures.way)
+
+pub returns-clause-gone : goal.returns-clause-gone
+returns-clause-gone g c =
+    let all = calls_of c.args.script.now c.args.number in
+    let same = same_seat c.alone.self c.take_alone.new.self c.take_alone.ensures.rank c.take_alone.ensures.answers c.in_default.ensures.left.0 in
+    subst (λ (x : Seat). HasGone c.args.script.now.hints (setting_of c.args.script.now c.args.header.now) c.args.number c.args.order.now c.alone.order
+    (g.D.Disk.held c.args.disk.now) (g.D.Disk.calls c.args.disk.now) (g.D.Disk.held c.alone.disk) (g.D.Disk.calls c.alone.disk)
+    (arrived c.args.header.now all c.args.self.now) (arrived c.args.header.now all x)) (sym same) c.alone.invariant.gone
+
+pub returns-in_err-go_on-clause-cut : goal.returns-in_err-go_on-clause-cut
+returns-in_err-go_on-clause-cut g c e is records ranks at =
+    let script = c.args.script.now in
+    let p = err_from_is_err_and c.from_residual.result c.from_residual.ensures.1 in
+    stopped_between (MayFollow script c.args.number c.args.order.now) (setting_of script c.args.header.now) e c.args.order.now c.args.order.now
+    (g.D.Disk.held c.args.disk.now) (g.D.Disk.held c.args.disk.now) records records ranks (memory_of c.from_residual.result e p.0 is p.1 p.2) refl refl refl
+
+pub returns-in_err-do_alone-clause-cut : goal.returns-in_err-do_alone-clause-cut
+returns-in_err-do_alone-clause-cut g c e is records ranks at =
+    let script = c.args.script.now in
+    let header = c.args.header.now in
+    let r = c.args.number in
+    let s = setting_of script header in
+    let all = calls_of script r in
+    let taken = c.in-Some.ensures.taken in
+    let p = err_from_is_err_and c.from_residual-in_err-do_alone.result c.from_residual-in_err-do_alone.ensures.1 in
+    gone_stopped (MayFollow script r c.do_alone.new.order) script.hints s r e c.args.order.now c.alone.order c.do_alone.new.order
+    (g.D.Disk.held c.args.disk.now) (g.D.Disk.held c.alone.disk) (g.D.Disk.held c.do_alone.new.disk) (g.D.Disk.calls c.args.disk.now) (g.D.Disk.calls c.alone.disk)
+    (arrived header all c.args.self.now) (arrived header all c.alone.self) c.alone.invariant.gone
+    (λ n others there. c.in_err-do_alone.ensures.cut e (same_err c.from_residual-in_err-do_alone.result e _ p.0 is p.1 p.2) n others
+    (there ∙ ap (λ (a : Arrived). Some a) (sym (taken_asks header all c.alone.self c.take_alone.new.self c.in-Some.offer taken.0 c.take_alone.ensures.rank c.take_alone.ensures.answers))))
+    records ranks at
+
+pub returns-in_err-go_on-2-clause-cut : goal.returns-in_err-go_on-2-clause-cut
+returns-in_err-go_on-2-clause-cut g c e is records ranks at =
+    let script = c.args.script.now in
+    let header = c.args.header.now in
+    let r = c.args.number in
+    let s = setting_of script header in
+    let all = calls_of script r in
+    let taken = c.in-Some.ensures.taken in
+    let p = err_from_is_err_and c.from_residual-in_err-go_on-2.result c.from_residual-in_err-go_on-2.ensures.1 in
+    gone_stopped (MayFollow script r c.do_alone.new.order) script.hints s r e c.args.order.now c.alone.order c.do_alone.new.order
+    (g.D.Disk.held c.args.disk.now) (g.D.Disk.held c.alone.disk) (g.D.Disk.held c.do_alone.new.disk) (g.D.Disk.calls c.args.disk.now) (g.D.Disk.calls c.alone.disk)
+    (arrived header all c.args.self.now) (arrived header all c.alone.self) c.alone.invariant.gone
+    (gone_stopped (MayFollow script r c.do_alone.new.order) script.hints s r e c.alone.order c.do_alone.new.order c.do_alone.new.order
+    (g.D.Disk.held c.alone.disk) (g.D.Disk.held c.do_alone.new.disk) (g.D.Disk.held c.do_alone.new.disk) (g.D.Disk.calls c.alone.disk) (g.D.Disk.calls c.do_alone.new.disk)
+    (arrived header all c.alone.self) (arrived header all c.do_alone.new.self)
+    (subst (λ (a : Arrived). HasGone script.hints s r c.alone.order c.do_alone.new.order (g.D.Disk.held c.alone.disk) (g.D.Disk.calls c.alone.disk)
+    (g.D.Disk.held c.do_alone.new.disk) (g.D.Disk.calls c.do_alone.new.disk) a (arrived header all c.do_alone.new.self))
+    (taken_asks header all c.alone.self c.take_alone.new.self c.in-Some.offer taken.0 c.take_alone.ensures.rank c.take_alone.ensures.answers) c.in_ok-do_alone.ensures.gone)
+    (λ n others there. stopped_between (MayFollow script r c.do_alone.new.order) s e c.do_alone.new.order c.do_alone.new.order (g.D.Disk.held c.do_alone.new.disk) (g.D.Disk.held c.do_alone.new.disk)
+    n n others (memory_of c.from_residual-in_err-go_on-2.result e p.0 is p.1 p.2) refl refl refl))
+    records ranks at

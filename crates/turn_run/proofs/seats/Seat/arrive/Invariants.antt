@@ -1,0 +1,23 @@
+-- The rank stands at its next offer, or at its end.
+use Rattle.std.proofs.Common.{◌≡◌, ◌-◌, ◌≤◌, drop, length, [], None}
+use Rattle.serial_spec.specs.Lawful.{most_calls}
+use Rattle.serial_spec.specs.SerialEnd.{setting_of}
+use Rattle.turn_run.specs.Counts.{IsCount}
+use Rattle.turn_run.specs.Seated.{calls_of, IsSeat}
+use Rattle.turn_run.specs.Stages.{arrived, HasGone}
+use Rattle.turn_run.proofs.seats.Seat.arrive.Given as goal
+
+abbrev pub invariant-alone : goal.invariant-alone
+invariant-alone g l = record {
+  from : g.D.Disk.from l.disk ≡ 0;
+  longer : g.D.Disk.len l.fn.disk ≤ g.D.Disk.len l.disk;
+  faults : g.D.Disk.faults l.fn.disk ≤ g.D.Disk.faults l.disk;
+  seat : IsSeat l.script l.header l.order l.number l.self;
+  ended : l.self.held ≡ None → drop (length l.self.answers) (calls_of l.script l.number) ≡ [];
+  known : IsCount l.header (g.D.Disk.len l.disk) l.self.rank.state.known;
+  gone : HasGone l.script.hints (setting_of l.script l.header) l.number l.fn.order l.order (g.D.Disk.held l.fn.disk) (g.D.Disk.calls l.fn.disk)
+      (g.D.Disk.held l.disk) (g.D.Disk.calls l.disk) (arrived l.header (calls_of l.script l.number) l.fn.self) (arrived l.header (calls_of l.script l.number) l.self);
+}
+
+abbrev pub decreases-alone : goal.decreases-alone
+decreases-alone g l = most_calls - length l.self.answers

@@ -1,0 +1,6 @@
+pub mod Begun
+pub mod Counts
+pub mod Seated
+pub mod Stages
+pub mod Steps
+pub mod Cuts

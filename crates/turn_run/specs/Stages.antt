@@ -1,0 +1,77 @@
+-- The stages of a run: what stands between two steps, with ranks that have gone up to their next offers. (own)
+--     arrived header own seat   the rank of a seat at its next offer, if there is one
+--     arrived_all               the same of all ranks
+--     Leads hints s marks a b   where the bytes are told, the steps of these marks lead from one stage to the other
+--     IsGrownBy r before now    an order to which solo steps of rank r were added
+--     HasGone, HasLed           the steps that were added, of one rank and of all
+use Rattle.std.specs.Prelude.{◌≡◌, ℕ, List, [], ◌∷◌, ◌++◌, map, fold, zip, set, true, Option, Some, None, IfSome, slice_get}
+use Rattle.std.specs.List.{list_all}
+use Rattle.nc_base.specs.declared.header.Header.{Header}
+use Rattle.nc_base.specs.declared.request.Call.{Call}
+use Rattle.nc_base.specs.declared.script.Hints.{Hints}
+use Rattle.nc_base.specs.declared.step.DiskCall.{DiskCall}
+use Rattle.nc_base.specs.declared.step.Mark.{Mark}
+use Rattle.nc_base.specs.declared.step.Mark.TheVariants.{Meet, Solo}
+use Rattle.nc_base.specs.declared.step.Offer.{Offer}
+use Rattle.nc_base.specs.declared.step.Reply.{Reply}
+use Rattle.nc_outside.specs.Told.{with_end}
+use Rattle.serial_spec.specs.DeviceCalls.{meeting_calls, solo_calls}
+use Rattle.serial_spec.specs.FileStep.{Setting, Counted, meeting}
+use Rattle.serial_spec.specs.SerialEnd.{Going, advance, hears, offers_of, solo_of}
+use Rattle.collective_round.specs.Rounds.{counted}
+use Rattle.run_laws.specs.Arrivals.{Arrived, Stand, calls_over, step_to}
+use Rattle.run_laws.specs.Standing.{is_solo_of}
+use Rattle.turn_run.specs.Seated.{asking, between}
+use Rattle.turn_run.specs.declared.seats.Seat.{Seat}
+
+-- a rank that has gone up to its next offer, if there is one
+abbrev pub arrived : Header → List Call → Seat → Arrived
+arrived header own seat = elim (seat.held) [ None ↦ advance header (between own seat) | Some o ↦ (asking own seat, Some o) ]
+
+abbrev pub arrived_all : Header → List (List Call) → List Seat → List Arrived
+arrived_all header [] seats = []
+arrived_all header (own ∷ calls) [] = []
+arrived_all header (own ∷ calls) (seat ∷ seats) = arrived header own seat ∷ arrived_all header calls seats
+
+-- bytes and device calls, where they are told, the record count, and the ranks
+pub record Stage : Type 0 where
+  pub held : Option (List ℕ)
+  pub calls : Option (List DiskCall)
+  pub records : ℕ
+  pub ranks : List Arrived
+
+abbrev pub stage : Option (List ℕ) → Option (List DiskCall) → ℕ → List Arrived → Stage
+stage held calls records ranks = record { held = held; calls = calls; records = records; ranks = ranks }
+
+abbrev pub stand_of : List ℕ → Stage → Stand
+stand_of file a = (counted file a.records, a.ranks)
+
+pub record IsLed (hints : Hints) (s : Setting) (marks : List Mark) (file : List ℕ) (a b : Stage) : Type 0 where
+  pub left : List ℕ
+  pub told : b.held ≡ Some left
+  pub state : fold (step_to s) (stand_of file a) marks ≡ stand_of left b
+  pub calls : b.calls ≡ with_end a.calls (calls_over hints s (stand_of file a) marks)
+
+abbrev pub Leads : Hints → Setting → List Mark → Stage → Stage → Type 0
+Leads hints s marks a b = IfSome a.held (λ file. IsLed hints s marks file a b)
+
+-- ---- marks that are added to an order
+
+pub record IsGrownBy (r : ℕ) (before now : List Mark) : Type 0 where
+  pub more : List Mark
+  pub grown : now ≡ before ++ more
+  pub own : list_all (is_solo_of r) more ≡ true
+
+-- Rank r goes from one offer to another, whatever count and ranks stand beside it.
+pub record HasGone (hints : Hints) (s : Setting) (r : ℕ) (before now : List Mark) (held : Option (List ℕ)) (calls : Option (List DiskCall))
+    (left : Option (List ℕ)) (made : Option (List DiskCall)) (from to : Arrived) : Type 0 where
+  pub more : List Mark
+  pub grown : now ≡ before ++ more
+  pub own : list_all (is_solo_of r) more ≡ true
+  pub led : (records : ℕ) (ranks : List Arrived) → slice_get ranks r ≡ Some from
+      → Leads hints s more (stage held calls records ranks) (stage left made records (set ranks r to))
+
+pub record HasLed (hints : Hints) (s : Setting) (before now : List Mark) (a b : Stage) : Type 0 where
+  pub more : List Mark
+  pub grown : now ≡ before ++ more
+  pub led : Leads hints s more a b

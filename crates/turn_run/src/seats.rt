@@ -1,0 +1,212 @@
+// A rank that goes through its calls.
+ghost use Rattle.std.specs.Prelude.{◌≡◌, ◌+◌, ◌<◌, ◌≤◌, ◌∷◌, ◌++◌, [], ℕ, List, length, map, max, drop, filter, None, Some, true, is_some, slice_get, IfNone, IfSome, IfOk, OnOk, OnErr, MatchOption, Err};
+ghost use Rattle.nc_base.specs.declared.answer.Answer.{Answer};
+ghost use Rattle.nc_base.specs.declared.step.Mark.{Mark};
+ghost use Rattle.nc_base.specs.declared.step.StepErr.{StepErr as Fault};
+ghost use Rattle.nc_base.specs.declared.step.OfferKind.TheVariants as kind;
+ghost use Rattle.nc_outside.specs.Cause.{Rose};
+ghost use Rattle.serial_spec.specs.HeaderGrammar.{header_len, is_sound};
+ghost use Rattle.serial_spec.specs.History.{concerns, marks};
+ghost use Rattle.serial_spec.specs.Lawful.{is_lawful};
+ghost use Rattle.serial_spec.specs.RankMachine as machine;
+ghost use Rattle.serial_spec.specs.RankMachine.{new_rank};
+ghost use Rattle.serial_spec.specs.RankSide.{wanted};
+ghost use Rattle.serial_spec.specs.SerialEnd.{advance, hears, setting_of};
+ghost use Rattle.collective_round.specs.Rounds.{HasStepCause};
+ghost use Rattle.rank_core.specs.Indexed.{IsIndexOf};
+ghost use Rattle.run_laws.specs.Ways.{IsOnWay};
+ghost use Rattle.turn_run.specs.Counts.{IsAsked, IsCount};
+ghost use Rattle.turn_run.specs.Seated.{asking, between, calls_of, going_of, AsksAlone, HasArrived, HasHeard, IsMet, IsPlaced, IsSeat};
+ghost use Rattle.run_laws.specs.Arrivals.{Arrived};
+ghost use Rattle.turn_run.specs.Stages.{arrived, HasGone, IsGrownBy};
+ghost use Rattle.turn_run.specs.Cuts.{HasStopped, MayFollow};
+
+use crate::solo::solo_reply;
+use nc_base::{
+    AnswerList, Call, Header, Mark, MarkList, Memory, Offer, OfferKind, Reply, Script, StepErr,
+    Want,
+};
+use nc_outside::{Disk, Gate, Point};
+use rank_core::{Names, Rank};
+use std::alloc::Global;
+use std::sync::Wait;
+
+/// A rank of a run with its answers so far. Its next call is the one after those that it has answered.
+#[derive(Drop)]
+pub struct Seat<'a> {
+    pub rank: Rank<'a>,
+    pub answers: AnswerList,
+    /// The offer that waits for its reply.
+    pub held: Option<Offer>,
+}
+
+impl<'a> Seat<'a> {
+    /// A rank before its first call.
+    pub fn new(alloc: Global, header: &'a Header, names: &'a Names, records: u64) -> Self
+        requires sound { is_sound header.now ≡ true }
+        requires names { IsIndexOf header.now names.now }
+        ensures { result ≡ record { rank = record { header = header.now; state = new_rank records }; answers = []; held = None } }
+    {
+        Seat {
+            rank: Rank::new(alloc, header, names, records),
+            answers: AnswerList::new(alloc),
+            held: None,
+        }
+    }
+
+    /// Goes on until the rank meets the others, or has made its calls. Its solo offers are done at once.
+    pub(crate) fn arrive<R: Wait, D: Disk, G: Gate>(
+        &mut self,
+        rt: &R,
+        alloc: Global,
+        disk: &mut D,
+        header: &Header,
+        script: &Script,
+        gate: &G,
+        number: u32,
+        order: &mut MarkList,
+    ) -> Result<(), StepErr>
+        requires sound { is_sound header.now ≡ true }
+        requires lawful { is_lawful script.now ≡ true }
+        requires number { number < script.now.ranks }
+        requires free { self.old.held ≡ None }
+        requires seat { IsSeat script.now header.now order.old number self.old }
+        requires known { IsCount header.now (D.len disk.old) self.old.rank.state.known }
+        requires from { D.from disk.old ≡ 0 }
+        ensures seat { OnOk result (IsSeat script.now header.now order.new number self.new) }
+        ensures arrived { OnOk result (HasArrived (calls_of script.now number) self.new) }
+        ensures known { OnOk result (IsCount header.now (D.len disk.new) self.new.rank.state.known) }
+        ensures gone { OnOk result (HasGone script.now.hints (setting_of script.now header.now) number order.old order.new (D.held disk.old) (D.calls disk.old) (D.held disk.new) (D.calls disk.new)
+            (arrived header.now (calls_of script.now number) self.old) (arrived header.now (calls_of script.now number) self.new)) }
+        ensures cut { (e : Fault) → result ≡ Err e → (records : ℕ) (ranks : List Arrived) → slice_get ranks number ≡ Some (arrived header.now (calls_of script.now number) self.old)
+            → HasStopped (MayFollow script.now number order.new) (setting_of script.now header.now) e order.old order.new (D.held disk.old) records ranks (D.held disk.new) records }
+        ensures grown { IsGrownBy number order.old order.new }
+        ensures begun { OnErr result ((rest : List Mark) × (filter (concerns number) order.new ++ rest ≡ marks script.now.calls number)) }
+        ensures from { D.from disk.new ≡ 0 }
+        ensures longer { D.len disk.old ≤ D.len disk.new }
+        ensures cause { HasStepCause (D.faults disk.old) (D.faults disk.new) result }
+    {
+        let calls = own_calls(script, number);
+        self.go_on(rt, gate, header, script, number, calls)?;
+        'alone: while let Some(offer) = self.take_alone() {
+            self.do_alone(alloc, disk, header, script, number, order, offer)?;
+            self.go_on(rt, gate, header, script, number, calls)?;
+        }
+        Ok(())
+    }
+
+    /// Goes through its calls up to its next offer, which it then holds, or to its end.
+    pub fn go_on<R: Wait, G: Gate>(
+        &mut self,
+        rt: &R,
+        gate: &G,
+        header: &Header,
+        script: &Script,
+        number: u32,
+        calls: &[Call],
+    ) -> Result<(), Memory>
+        requires lawful { is_lawful script.now ≡ true }
+        requires number { number < script.now.ranks }
+        requires calls { calls.now ≡ calls_of script.now number }
+        requires header { self.old.rank.header ≡ header.now }
+        requires free { self.old.held ≡ None }
+        requires way { (order : List Mark) × IsOnWay script.now order number (between calls.now self.old) None }
+        ensures header { self.new.rank.header ≡ header.now }
+        ensures known { OnOk result (self.new.rank.state.known ≡ self.old.rank.state.known) }
+        ensures placed { OnOk result ((order : List Mark) → IsOnWay script.now order number (between calls.now self.old) None
+            → IsPlaced script.now header.now order number (going_of calls.now self.new) self.new.held) }
+        ensures more { OnOk result (length self.old.answers ≤ length self.new.answers) }
+        ensures asked { OnOk result (IfSome self.new.held (IsAsked header.now self.new.rank.state.known)) }
+        ensures advanced { OnOk result (advance header.now (between calls.now self.old) ≡ (going_of calls.now self.new, self.new.held)) }
+        ensures ended { OnOk result (self.new.held ≡ None → drop (length self.new.answers) calls.now ≡ []) }
+        ensures some { OnErr result ((rest : List Answer) × (self.new.answers ++ rest ≡ (advance header.now (between calls.now self.old)).0.answers)) }
+    {
+        'calls: while self.answers.len() < calls.len() {
+            let next = self.answers.len();
+            gate.pass(rt, Point::RankStep(number, next as u32));
+            match self.rank.step(&calls[next])? {
+                Want::Answered(answer) => self.answers.push(answer)?,
+                Want::Meet(offer) | Want::Solo(offer) => {
+                    self.held = Some(offer);
+                    return Ok(());
+                }
+            }
+        }
+        Ok(())
+    }
+
+    /// The offer that it holds, where it makes it alone.
+    fn take_alone(&mut self) -> Option<Offer>
+        ensures rank { self.new.rank ≡ self.old.rank }
+        ensures answers { self.new.answers ≡ self.old.answers }
+        ensures taken { IfSome result (λ o. (self.old.held ≡ Some o) × (o.kind ≡ kind.Solo) × (self.new.held ≡ None)) }
+        ensures left { IfNone result ((self.new.held ≡ self.old.held) × IsMet self.old.held) }
+    {
+        match &self.held {
+            Some(offer) if offer.kind == OfferKind::Solo => self.held.take(),
+            _ => None,
+        }
+    }
+
+    /// Does an offer of its rank alone, and lets the rank hear the reply.
+    fn do_alone<D: Disk>(
+        &mut self,
+        alloc: Global,
+        disk: &mut D,
+        header: &Header,
+        script: &Script,
+        number: u32,
+        order: &mut MarkList,
+        offer: Offer,
+    ) -> Result<(), StepErr>
+        requires sound { is_sound header.now ≡ true }
+        requires lawful { is_lawful script.now ≡ true }
+        requires header { self.old.rank.header ≡ header.now }
+        requires free { self.old.held ≡ None }
+        requires asks { AsksAlone script.now header.now order.old number (asking (calls_of script.now number) self.old) offer }
+        requires asked { IsAsked header.now self.old.rank.state.known offer }
+        requires known { IsCount header.now (D.len disk.old) self.old.rank.state.known }
+        requires from { D.from disk.old ≡ 0 }
+        ensures header { self.new.rank.header ≡ header.now }
+        ensures free { self.new.held ≡ None }
+        ensures answers { OnOk result (length self.new.answers ≡ length self.old.answers + 1) }
+        ensures way { OnOk result (IsOnWay script.now order.new number (between (calls_of script.now number) self.new) None) }
+        ensures known { OnOk result (IsCount header.now (D.len disk.new) self.new.rank.state.known) }
+        ensures gone { OnOk result (HasGone script.now.hints (setting_of script.now header.now) number order.old order.new (D.held disk.old) (D.calls disk.old) (D.held disk.new) (D.calls disk.new)
+            (asking (calls_of script.now number) self.old, Some offer) (arrived header.now (calls_of script.now number) self.new)) }
+        ensures cut { (e : Fault) → result ≡ Err e → (records : ℕ) (ranks : List Arrived) → slice_get ranks number ≡ Some (asking (calls_of script.now number) self.old, Some offer)
+            → HasStopped (MayFollow script.now number order.new) (setting_of script.now header.now) e order.old order.new (D.held disk.old) records ranks (D.held disk.new) records }
+        ensures grown { IsGrownBy number order.old order.new }
+        ensures begun { OnErr result ((rest : List Mark) × (filter (concerns number) order.new ++ rest ≡ marks script.now.calls number)) }
+        ensures from { D.from disk.new ≡ 0 }
+        ensures longer { D.len disk.old ≤ D.len disk.new }
+        ensures cause { HasStepCause (D.faults disk.old) (D.faults disk.new) result }
+    {
+        let reply = solo_reply(alloc, disk, header, &script.hints, number, &offer)?;
+        order.push(Mark::Solo(number, self.answers.len() as u32))?;
+        self.hear(reply)?;
+        Ok(())
+    }
+
+    /// Hears the reply to the offer that its rank has made.
+    pub fn hear(&mut self, reply: Reply) -> Result<(), Memory>
+        requires waits { is_some self.old.rank.state.open ≡ true }
+        requires fits { IfSome self.old.rank.state.open (λ o. map (λ blob. length blob) reply.got ≡ map (wanted self.old.rank.header) o.gets) }
+        ensures header { self.new.rank.header ≡ self.old.rank.header }
+        ensures held { self.new.held ≡ self.old.held }
+        ensures heard { OnOk result (HasHeard self.old self.new reply) }
+        ensures kept { OnErr result (self.new.answers ≡ self.old.answers) }
+    {
+        let answer = self.rank.hear(reply)?;
+        self.answers.push(answer)?;
+        Ok(())
+    }
+}
+
+/// The calls of a rank.
+pub fn own_calls(script: &Script, number: u32) -> &[Call]
+    requires { number < length script.now.calls }
+    ensures { result.now ≡ calls_of script.now number }
+{
+    script.calls.as_slice()[number as usize].as_slice()
+}
