@@ -60,6 +60,7 @@ fn one_after_another() -> Hints
 }
 
 /// A dataset, and how its steps are done.
+#[derive(Drop)]
 struct Dataset {
     header: Header,
     hints: Hints,
@@ -98,10 +99,6 @@ fn placed(rt: &impl Abort, mut header: Header) -> Header
     let answer = lay_out(&mut header, &align);
     assert!(rt; answer.is_ok());
     header
-}
-
-fn list_of(alloc: Global, number: u64) -> Result<SizeList, AllocError> {
-    Ok(SizeList::from_vec(vec![in alloc; number]?))
 }
 
 fn list_of(alloc: Global, number: u64) -> Result<SizeList, AllocError> {
