@@ -117,29 +117,6 @@ const MOVED_INTS: [u8; 24] = [
 ];
 
 #[test]
-fn ints_move_at_once(rt: HostRuntime) -> Result<(), Fail> {
-    let alloc = rt.alloc();
-    let (old, new) = (four_ints(alloc)?, ints_and_shorts(alloc)?);
-    let mut disk = file(alloc, &INTS)?;
-    let calls = [
-        DiskCall::Grow(140),
-        DiskCall::Load(80, 16),
-        DiskCall::Store(116, 16),
-        DiskCall::Store(132, 8),
-        DiskCall::Store(0, 116),
-    ];
-    relocates(
-        &rt,
-        alloc,
-        &mut disk,
-        (&old, &new),
-        16777216,
-        &calls,
-        &MOVED_INTS,
-    )
-}
-
-#[test]
 fn ints_move_in_windows(rt: HostRuntime) -> Result<(), Fail> {
     let alloc = rt.alloc();
     let (old, new) = (four_ints(alloc)?, ints_and_shorts(alloc)?);
