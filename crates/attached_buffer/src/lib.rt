@@ -11,5 +11,3 @@ mod room;
 pub use attached::{Attached, Ticket};
 pub use room::Room;
 
-#[cfg(test)]
-mod tests;

@@ -9,4 +9,3 @@ pub mod ReachSteps
 pub mod GetSteps
 pub mod NextSteps
 pub mod LoopSteps
-pub mod TwoEntries

@@ -14,5 +14,3 @@ pub use get::{collect_entry, sieve_get};
 pub use put::{lay_entry, sieve_put};
 pub use walk::{begun_before, ended_by};
 
-#[cfg(test)]
-mod tests;

@@ -7,5 +7,3 @@ mod walk;
 pub use domain::cut;
 pub use walk::{Window, WindowWalk, windows};
 
-#[cfg(test)]
-mod tests;

@@ -11,5 +11,3 @@ pub use shares::{boxes, share};
 pub use slabs::prefill;
 pub use values::fill_value;
 
-#[cfg(test)]
-mod tests;

@@ -6,4 +6,3 @@ pub mod PairSteps
 pub mod OriginSteps
 pub mod SweepSteps
 pub mod ClaimSteps
-pub mod TestSteps

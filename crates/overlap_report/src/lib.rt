@@ -12,5 +12,3 @@ pub use serial::resolve;
 pub use shared::first_pair;
 pub use sorted::gather;
 
-#[cfg(test)]
-mod tests;

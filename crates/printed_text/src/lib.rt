@@ -15,5 +15,3 @@ pub use faults::{disk_line, header_line, layout_line, redef_line, script_line, u
 pub use offsets::offsets_text;
 pub use runs::run_text;
 
-#[cfg(test)]
-mod tests;

@@ -23,9 +23,6 @@ use region::look_region;
 use std::alloc::Global;
 use target::{Target, target_at};
 
-#[cfg(test)]
-mod tests;
-
 /// What a put, a get or a post comes to.
 #[derive(Debug, Drop)]
 pub(crate) enum Look {

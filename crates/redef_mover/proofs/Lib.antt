@@ -14,4 +14,3 @@ pub mod ListedLaws
 pub mod CarryLaws
 pub mod CallsLaws
 pub mod AppliedLaws
-pub mod SmallHeaders

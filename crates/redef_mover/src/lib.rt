@@ -17,5 +17,3 @@ mod slabs;
 pub use applying::apply;
 pub use relocating::relocate;
 
-#[cfg(test)]
-mod tests;

@@ -10,5 +10,3 @@ mod taking;
 pub use queue::Queue;
 pub use taking::Taken;
 
-#[cfg(test)]
-mod tests;

@@ -15,5 +15,3 @@ pub use inbox_ends::{InPut, InPutList, InTake, inbox, settle_from};
 pub use line_ends::{LinePut, LineTake, line, settle};
 pub use line_list::LinePutList;
 
-#[cfg(test)]
-mod tests;

@@ -33,5 +33,3 @@ pub fn canonical_text(alloc: Global, text: &[u8]) -> Result<Blob, ScriptErr>
     }
 }
 
-#[cfg(test)]
-mod tests;

@@ -6,4 +6,3 @@ pub mod Searches
 pub mod CreatedFiles
 pub mod LaidOut
 pub mod LaidWritable
-pub mod SmallFiles

@@ -25,5 +25,3 @@ pub use record::{recsize, recsize_of};
 pub use sizes::{is_record, length_of, slab, slab_of, vsize, vsize_of};
 pub use written::header_len;
 
-#[cfg(test)]
-mod tests;

@@ -19,5 +19,3 @@ pub use needs::records_needed;
 pub use parts::check_parts;
 pub use walk::Extents;
 
-#[cfg(test)]
-mod tests;

@@ -1,0 +1,5 @@
+//! Tests of cdf_header.
+#![tactic(auto)]
+
+#[cfg(test)]
+mod tests;

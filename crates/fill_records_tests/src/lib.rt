@@ -1,0 +1,5 @@
+//! Tests of fill_records.
+#![tactic(auto)]
+
+#[cfg(test)]
+mod tests;

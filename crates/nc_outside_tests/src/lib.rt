@@ -1,0 +1,5 @@
+//! Tests of nc_outside.
+#![tactic(auto)]
+
+#[cfg(test)]
+mod tests;

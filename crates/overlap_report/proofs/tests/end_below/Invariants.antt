@@ -1,7 +1,0 @@
--- The entries so far end below 2^62.
-use Rattle.std.proofs.Common.{◌^◌, take}
-use Rattle.overlay_laws.specs.Lines.{extents, EndBelow}
-use Rattle.overlap_report.proofs.tests.end_below.Given as goal
-
-abbrev pub invariant-loop-entry : goal.invariant-loop-entry
-invariant-loop-entry l = EndBelow (2 ^ 62) (extents (take l.entry-index l.list))

@@ -1,7 +1,0 @@
--- The slots of the entries so far have risen.
-use Rattle.std.proofs.Common.{take}
-use Rattle.overlap_report.proofs.TestSteps.{HaveRisen}
-use Rattle.overlap_report.proofs.tests.slots_rise.Given as goal
-
-abbrev pub invariant-loop-entry : goal.invariant-loop-entry
-invariant-loop-entry l = HaveRisen (take l.entry-index l.list) l.least

@@ -1,0 +1,5 @@
+//! Tests of printed_text.
+#![tactic(auto)]
+
+#[cfg(test)]
+mod tests;

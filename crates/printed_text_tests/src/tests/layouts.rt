@@ -1,0 +1,47 @@
+// Where variables lie.
+
+use super::datasets::{four_ints, laid_out, one_record};
+use printed_text::offsets_text;
+use std::test::Fail;
+
+#[test]
+fn a_record_variable_is_told(rt: HostRuntime) -> Result<(), Fail> {
+    let header = laid_out(&rt, one_record(rt.alloc())?);
+    let text = offsets_text(rt.alloc(), &header)?;
+    let told = b"// file format: CDF-1
+file header:
+  size = 80 bytes
+  extent = 80 bytes
+dimensions:
+  t = UNLIMITED // (0 currently)
+fixed-size variables:
+record variables:
+  short s(t):
+    start file offset = 80
+    end file offset = 82
+    size in bytes = 2
+";
+    assert_eq!(rt; text.as_slice(), told.as_slice());
+    Ok(())
+}
+
+#[test]
+fn a_fixed_variable_is_told(rt: HostRuntime) -> Result<(), Fail> {
+    let header = laid_out(&rt, four_ints(rt.alloc())?);
+    let text = offsets_text(rt.alloc(), &header)?;
+    let told = b"// file format: CDF-1
+file header:
+  size = 80 bytes
+  extent = 80 bytes
+dimensions:
+  x = 4
+fixed-size variables:
+  int v(x):
+    start file offset = 80
+    end file offset = 96
+    size in bytes = 16
+record variables:
+";
+    assert_eq!(rt; text.as_slice(), told.as_slice());
+    Ok(())
+}

@@ -1,0 +1,5 @@
+//! Tests of rank_core.
+#![tactic(auto)]
+
+#[cfg(test)]
+mod tests;

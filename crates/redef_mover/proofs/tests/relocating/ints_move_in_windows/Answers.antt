@@ -1,6 +1,0 @@
--- The second header is the first one with a variable added.
-use Rattle.redef_mover.proofs.SmallHeaders.{ints_added}
-use Rattle.redef_mover.proofs.tests.relocating.ints_move_in_windows.Goals as goal
-
-pub relocates-requires-clause-applied : goal.relocates-requires-clause-applied
-relocates-requires-clause-applied g c = ints_added c.in_ok-old.old c.in_ok-new.new c.in_ok-old.ensures c.in_ok-new.ensures

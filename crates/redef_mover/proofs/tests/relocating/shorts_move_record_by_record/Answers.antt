@@ -1,6 +1,0 @@
--- The second header is the first one with a variable added.
-use Rattle.redef_mover.proofs.SmallHeaders.{shorts_added}
-use Rattle.redef_mover.proofs.tests.relocating.shorts_move_record_by_record.Goals as goal
-
-pub relocates-requires-clause-applied : goal.relocates-requires-clause-applied
-relocates-requires-clause-applied g c = shorts_added c.in_ok-old.old c.in_ok-new.new c.in_ok-old.ensures c.in_ok-new.ensures

@@ -1,0 +1,5 @@
+//! Tests of redef_mover.
+#![tactic(auto)]
+
+#[cfg(test)]
+mod tests;

@@ -1,6 +1,0 @@
-use Rattle.std.proofs.Common.{◌≡◌, ◌≤◌, ℕ, None}
-use Rattle.serial_spec.specs.RankMachine.{status_of}
-use Rattle.request_queue.proofs.tests.pile.Given as goal
-
-abbrev pub invariant-loop-id : goal.invariant-loop-id
-invariant-loop-id l = (k : ℕ) → l.id ≤ k → status_of l.queue.posted k ≡ None

@@ -1,0 +1,5 @@
+//! Tests of vara_extents, attached_buffer and request_queue.
+#![tactic(auto)]
+
+#[cfg(test)]
+mod tests;

@@ -1,0 +1,5 @@
+//! Tests of ruled_line.
+#![tactic(auto)]
+
+#[cfg(test)]
+mod tests;

@@ -1,0 +1,5 @@
+//! Tests of script_format.
+#![tactic(auto)]
+
+#[cfg(test)]
+mod tests;

@@ -1,0 +1,3 @@
+pub mod ManyEntries
+pub mod TwoEntries
+pub mod TwoPosts

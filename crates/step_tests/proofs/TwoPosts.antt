@@ -1,0 +1,86 @@
+-- Puts and gets of two ranks, one each, and a put of one rank alone, as the tests have them.
+use Rattle.std.proofs.Common.{◌≡◌, ℕ, zero, suc, refl, sym, ◌∙◌, ap, subst, inl, inr, List, [], ◌∷◌, true, Some}
+use Rattle.std.specs.Prelude.{slice_get}
+use Rattle.overlay_laws.proofs.Members.{at_in}
+use Rattle.nc_base.specs.declared.header.Header.{Header}
+use Rattle.nc_base.specs.declared.plan.Batch.{Batch}
+use Rattle.nc_base.specs.declared.plan.Post.{Post}
+use Rattle.serial_spec.specs.HeaderGrammar.{is_sound}
+use Rattle.serial_spec.specs.SharedByte.{Puts, bytes_of, holdings, IsOwnOnce}
+use Rattle.overlay_laws.specs.Entries.{IsOnce, HaveOwnKeys}
+use Rattle.overlay_laws.proofs.ShareLaws.{own_once}
+use Rattle.vara_extents.proofs.OnceLaws.{post_once}
+use Rattle.file_domains.proofs.CoverParts.{got_in}
+use Rattle.collective_round.specs.Rounds.{gets_in, puts_in, puts_of_batch, AreGets, ArePuts, IsGet, IsPut}
+
+abbrev lone : Post → Batch
+lone p = record { puts = p ∷ []; gets = [] }
+
+all_once : (header : Header) (puts : Puts) → is_sound header ≡ true → ArePuts header puts → (i : ℕ) (p : ℕ × Post) → slice_get puts i ≡ Some p → IsOnce (bytes_of header p.1)
+all_once header puts sound are i p g = post_once header p.1 sound (are p (at_in puts i p g)).accepted
+
+-- ---- two ranks
+
+abbrev two : Post → Post → List Batch
+two a b = lone a ∷ lone b ∷ []
+
+two_are : (header : Header) (a b : Post) → IsPut header a → IsPut header b → ArePuts header (puts_in (two a b))
+two_are header a b p q r (inl e) = subst (λ (s : ℕ × Post). IsPut header s.1) e p
+two_are header a b p q r (inr (inl e)) = subst (λ (s : ℕ × Post). IsPut header s.1) e q
+two_are header a b p q r (inr (inr m)) = absurd m
+
+two_keys : (a b : Post) → HaveOwnKeys (puts_in (two a b))
+two_keys a b zero zero p q g h e f = refl
+two_keys a b zero (suc zero) p q g h e f = absurd cc
+two_keys a b zero (suc (suc j)) p q g h e f = absurd cc
+two_keys a b (suc zero) zero p q g h e f = absurd cc
+two_keys a b (suc zero) (suc zero) p q g h e f = refl
+two_keys a b (suc zero) (suc (suc j)) p q g h e f = absurd cc
+two_keys a b (suc (suc i)) j p q g h e f = absurd cc
+
+pub two_puts : (header : Header) (a b : Post) (batches : List Batch) → batches ≡ two a b → IsPut header a → IsPut header b → ArePuts header (puts_in batches)
+two_puts header a b batches e p q = subst (λ (bs : List Batch). ArePuts header (puts_in bs)) (sym e) (two_are header a b p q)
+
+pub two_own : (header : Header) (a b : Post) (batches : List Batch) → is_sound header ≡ true → batches ≡ two a b → IsPut header a → IsPut header b
+    → IsOwnOnce (holdings header (puts_in batches))
+two_own header a b batches sound e p q =
+    subst (λ (bs : List Batch). IsOwnOnce (holdings header (puts_in bs))) (sym e)
+    (own_once header (puts_in (two a b)) (two_keys a b) (all_once header (puts_in (two a b)) sound (two_are header a b p q)))
+
+-- a list of such batches
+pub of_two : (batches : List Batch) (first second : Batch) (a b : Post) → batches ≡ first ∷ second ∷ [] → first ≡ lone a → second ≡ lone b → batches ≡ two a b
+of_two batches first second a b e f g = e ∙ ap (λ (x : Batch). x ∷ second ∷ []) f ∙ ap (λ (x : Batch). lone a ∷ x ∷ []) g
+
+-- ---- gets of two ranks
+
+abbrev ask : Post → Batch
+ask p = record { puts = []; gets = p ∷ [] }
+
+pub two_gets : (header : Header) (len : ℕ) (a b : Post) (batches : List Batch) (first second : Batch) → batches ≡ first ∷ second ∷ [] → first ≡ ask a → second ≡ ask b
+    → IsGet header len a → IsGet header len b → AreGets header len (gets_in batches)
+two_gets header len a b batches first second e f g p q = subst (λ (bs : List Batch). AreGets header len (gets_in bs)) (sym same) are
+  where
+    same : batches ≡ ask a ∷ ask b ∷ []
+    same = e ∙ ap (λ (x : Batch). x ∷ second ∷ []) f ∙ ap (λ (x : Batch). ask a ∷ x ∷ []) g
+
+    are : AreGets header len (gets_in (ask a ∷ ask b ∷ []))
+    are r (inl h) = subst (λ (s : Post). IsGet header len s) h p
+    are r (inr (inl h)) = subst (λ (s : Post). IsGet header len s) h q
+    are r (inr (inr m)) = absurd m
+
+-- ---- one rank alone
+
+one_are : (header : Header) (rank : ℕ) (a : Post) → IsPut header a → ArePuts header (puts_of_batch (rank, lone a))
+one_are header rank a p r (inl e) = subst (λ (s : ℕ × Post). IsPut header s.1) e p
+one_are header rank a p r (inr m) = absurd m
+
+one_key : (rank : ℕ) (a : Post) → HaveOwnKeys (puts_of_batch (rank, lone a))
+one_key rank a zero zero p q g h e f = refl
+one_key rank a zero (suc j) p q g h e f = absurd cc
+one_key rank a (suc i) j p q g h e f = absurd cc
+
+pub one_own : (header : Header) (rank : ℕ) (a : Post) (batch : Batch) → is_sound header ≡ true → batch ≡ lone a → IsPut header a
+    → IsOwnOnce (holdings header (puts_of_batch (rank, batch)))
+one_own header rank a batch sound e p =
+    subst (λ (b : Batch). IsOwnOnce (holdings header (puts_of_batch (rank, b)))) (sym e)
+    (own_once header (puts_of_batch (rank, lone a)) (one_key rank a) (all_once header (puts_of_batch (rank, lone a)) sound (one_are header rank a p)))

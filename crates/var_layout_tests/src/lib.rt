@@ -1,0 +1,5 @@
+//! Tests of var_layout.
+#![tactic(auto)]
+
+#[cfg(test)]
+mod tests;
