@@ -34,13 +34,13 @@ row_in_parts : {A : Type 0} (f g : ℕ → A) (first n : ℕ) → n ≤ 360 → 
     → map (λ k. g (first + k)) (range_with_len 0 n) ++ map (λ k. g (0 + k)) (range_with_len 0 (360 - n)) ≡ map f (range_with_len 0 360)
 row_in_parts {A} f g first n within here behind =
     let one : map f (range_with_len 0 n) ≡ map (λ k. g (first + k)) (range_with_len 0 n) =
-        maps_agree f (λ k. g (first + k)) 0 0 n (λ k low. ap f (omega arith) ∙ here k low ∙ ap (λ (j : ℕ). g (first + j)) (omega arith)) in
+    maps_agree f (λ k. g (first + k)) 0 0 n (λ k low. ap f (omega arith) ∙ here k low ∙ ap (λ (j : ℕ). g (first + j)) (omega arith)) in
     let two : map f (range_with_len (0 + n) (360 - n)) ≡ map (λ k. g (0 + k)) (range_with_len 0 (360 - n)) =
-        maps_agree f (λ k. g (0 + k)) (0 + n) 0 (360 - n) (λ k low. ap f (omega arith) ∙ behind k low ∙ ap g (omega arith)) in
+    maps_agree f (λ k. g (0 + k)) (0 + n) 0 (360 - n) (λ k low. ap f (omega arith) ∙ behind k low ∙ ap g (omega arith)) in
     let all : n + (360 - n) ≡ 360 = omega arith in
     sym (ap (λ (k : ℕ). map f (range_with_len 0 k)) (sym all) ∙ map_joined f 0 n (360 - n)
-        ∙ ap (λ (xs : List A). xs ++ map f (range_with_len (0 + n) (360 - n))) one
-        ∙ ap (λ (xs : List A). map (λ k. g (first + k)) (range_with_len 0 n) ++ xs) two)
+    ∙ ap (λ (xs : List A). xs ++ map f (range_with_len (0 + n) (360 - n))) one
+    ∙ ap (λ (xs : List A). map (λ k. g (first + k)) (range_with_len 0 n) ++ xs) two)
 
 -- two parts that go last
 two_parts : {A : Type 0} (front now one two row : List A) → now ≡ front ++ one → one ++ two ≡ row → now ++ two ≡ front ++ row

@@ -4,9 +4,7 @@ ghost use Rattle.nc_base.specs.BitForms.{bits_in, bits_of_run, bits_of_runs};
 ghost use Rattle.nc_base.specs.NumberForms.{numbers_in, numbers_of_run, numbers_of_runs};
 ghost use Rattle.script_spec.specs.Generator.{sum_given, sum_of};
 
-use nc_base::{
-    Answer, AnswerList, BitRun, BitWords, Item, Memory, NumberRun, NumberWords, Values,
-};
+use nc_base::{Answer, AnswerList, BitRun, BitWords, Item, Memory, NumberRun, NumberWords, Values};
 
 /// The sum, where it is a number that can be told.
 fn plus(a: i128, b: i128) -> Result<i128, Memory>

@@ -22,7 +22,7 @@ bytes_more t values now next n so_far pushed =
     ∙ ap (λ (bytes : List ℕ). flat_map f (range_with_len 0 n) ++ bytes) (sym (append-nil (f n)))
     ∙ sym (flat_map-append f (range_with_len 0 n) (n ∷ []))
     ∙ ap (λ (ks : List ℕ). flat_map f ks) (sym (range_push 0 n n (omega arith)))
-    ∙ ap (λ (k : ℕ). flat_map f (range_with_len 0 k)) (sym add-one)
+    ∙ ap (λ (k : ℕ). flat_map f (range_with_len 0 k)) (sym (add-one n))
 
 -- the items of a list, by their places in another behind so many
 by_place : {A : Type 0} (f : A → List ℕ) (g : Option A → List ℕ) (xs : List A) (h : ℕ → Option A) (a : ℕ) → ((x : A) → g (Some x) ≡ f x)

@@ -16,12 +16,7 @@ use type_external::{encode_into, size_of};
 
 /// Adds a value's bytes. One that is not in the type's range has none, and is told as want of memory; none that is read
 /// for the type is such.
-fn push_value(
-    kind: NcType,
-    values: &Values,
-    k: usize,
-    bytes: &mut Vec<u8>,
-) -> Result<(), Memory>
+fn push_value(kind: NcType, values: &Values, k: usize, bytes: &mut Vec<u8>) -> Result<(), Memory>
     requires { k < count_of values.now }
     ensures { OnOk result (bytes.new.items ≡ bytes.old.items ++ ext_of kind (value_at values.now k)) }
 {

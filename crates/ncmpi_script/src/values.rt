@@ -117,7 +117,7 @@ fn numbers(
     let mut found = NumberList::new(alloc);
     while let Some(word) = words.take()? {
         let number = one_number(kind, before, found.len() as u64, word)?;
-        found.push(alloc, number)?;
+        found.push(number)?;
     }
     Ok(found)
 }
@@ -136,7 +136,7 @@ fn patterns(
     let mut found = BitList::new(alloc);
     while let Some(word) = words.take()? {
         let pattern = one_pattern(kind, before, found.len() as u64, word)?;
-        found.push(alloc, pattern)?;
+        found.push(pattern)?;
     }
     Ok(found)
 }
@@ -220,7 +220,7 @@ fn run_of_numbers(alloc: Global, first: i64, step: i64, n: u64) -> Result<Number
 {
     let count = n as u32;
     let mut found = NumberList::new(alloc);
-    found.push_run(alloc, NumberRun { first, step, count })?;
+    found.push_run(NumberRun { first, step, count })?;
     Ok(found)
 }
 
@@ -302,7 +302,7 @@ fn pattern_sequence(alloc: Global, first: u64, step: u64, n: u64) -> Result<BitL
 {
     let count = n as u32;
     let mut found = BitList::new(alloc);
-    found.push_run(alloc, BitRun { first, step, count })?;
+    found.push_run(BitRun { first, step, count })?;
     Ok(found)
 }
 

@@ -81,13 +81,19 @@ fn values_begin_again_behind_the_greatest(rt: HostRuntime) -> Result<(), Fail> {
     let Values::Bits(bits) = values else {
         return Err(Fail::from("bits"));
     };
-    assert_eq!(rt; (bits.get(7), bits.get(8)), (Some(0x3FFF_FFFF), Some(0x3F80_0000)));
+    assert_eq!(rt;
+        (bits.get(7), bits.get(8)),
+        (Some(0x3FFF_FFFF), Some(0x3F80_0000))
+    );
     let script = make_script(alloc, 19_999, 1)?;
     let (_, _, values) = posted(call_of(&script, 0, 2)?)?;
     let Values::Numbers(numbers) = values else {
         return Err(Fail::from("numbers"));
     };
-    assert_eq!(rt; (numbers.get(1), numbers.get(2)), (Some(10_000), Some(-10_000)));
+    assert_eq!(rt;
+        (numbers.get(1), numbers.get(2)),
+        (Some(10_000), Some(-10_000))
+    );
     Ok(())
 }
 

@@ -237,10 +237,7 @@ const NAMED: [(&str, ScriptKind); 43] = [
 
 const SAID: [(&str, ScriptKind); 44] = [
     ("0 put_varn v 0", ScriptKind::BadNumber),
-    (
-        "0 put_varn v 1025",
-        ScriptKind::Limit(LimitName::Parts),
-    ),
+    ("0 put_varn v 1025", ScriptKind::Limit(LimitName::Parts)),
     ("0 put_vara v 0 [1]", ScriptKind::BadNumber),
     ("0 put_vara v [0,] [1]", ScriptKind::BadNumber),
     ("0 put_vara v [0, 1]", ScriptKind::BadNumber),

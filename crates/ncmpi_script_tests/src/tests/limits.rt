@@ -271,7 +271,13 @@ const PAST_LINES: [(&str, &str, u32, ScriptKind); 6] = [
 #[test]
 fn a_text_has_up_to_2_to_the_20_lines(rt: HostRuntime) -> Result<(), Fail> {
     let alloc = rt.alloc();
-    let most = filled(alloc, "create 1\nranks 1\ndata\n", "\n", (1 << 20) - 4, "end\n")?;
+    let most = filled(
+        alloc,
+        "create 1\nranks 1\ndata\n",
+        "\n",
+        (1 << 20) - 4,
+        "end\n",
+    )?;
     assert_eq!(rt; fault(alloc, most.as_slice()), None);
     for (before, after, line, kind) in &PAST_LINES {
         let text = filled(alloc, before, "\n", 1 << 20, after)?;

@@ -22,7 +22,7 @@ returns c =
     let row = c.loop-row.row in
     let many : row - a ≡ first_row (c.args.rank + 1) - first_row c.args.rank = omega arith in
     let all =
-        all_pieces (λ y. precip_row c.args.seed c.args.time y) [] (numbers_of_runs c.loop-row.runs.items) a (first_row c.args.rank) (row - a) (first_row (c.args.rank + 1) - first_row c.args.rank)
-        c.first_row-first.ensures.value many c.loop-row.invariant
-        ∙ precip_rows c.args.seed c.args.rank c.args.time in
+    all_pieces (λ y. precip_row c.args.seed c.args.time y) [] (numbers_of_runs c.loop-row.runs.items) a (first_row c.args.rank) (row - a) (first_row (c.args.rank + 1) - first_row c.args.rank)
+    c.first_row-first.ensures.value many c.loop-row.invariant
+    ∙ precip_rows c.args.seed c.args.rank c.args.time in
     subst (λ (now : List ℤ). IfOk c.from_runs.result (λ values. values ≡ now)) all c.from_runs.ensures

@@ -8,6 +8,6 @@ pub returns : goal.returns
 returns c =
     let first = c.first_depth-first in
     let whole =
-        precip_row_pushed (numbers_of_runs c.args.out.now.items) (numbers_of_runs c.push_depths.new.out.items) c.args.seed c.args.time c.args.row first.result c.min-count.result
-        first.ensures.value c.min-count.ensures c.in_ok-push_depths.ensures in
+    precip_row_pushed (numbers_of_runs c.args.out.now.items) (numbers_of_runs c.push_depths.new.out.items) c.args.seed c.args.time c.args.row first.result c.min-count.result
+    first.ensures.value c.min-count.ensures c.in_ok-push_depths.ensures in
     subst (λ (now : List ℤ). OnOk c.push_depths-2.result (numbers_of_runs c.push_depths-2.new.out.items ≡ now)) whole c.push_depths-2.ensures

@@ -8,6 +8,6 @@ pub returns : goal.returns
 returns c =
     let first = c.first_temp-first in
     let whole =
-        temp_row_pushed (bits_of_runs c.args.out.now.items) (bits_of_runs c.push_temps.new.out.items) c.args.seed c.args.time c.args.row first.result c.min-count.result
-        first.ensures.value c.min-count.ensures c.in_ok-push_temps.ensures in
+    temp_row_pushed (bits_of_runs c.args.out.now.items) (bits_of_runs c.push_temps.new.out.items) c.args.seed c.args.time c.args.row first.result c.min-count.result
+    first.ensures.value c.min-count.ensures c.in_ok-push_temps.ensures in
     subst (λ (now : List ℕ). OnOk c.push_temps-2.result (bits_of_runs c.push_temps-2.new.out.items ≡ now)) whole c.push_temps-2.ensures
