@@ -1,0 +1,4 @@
+pub mod BitForms
+pub mod Lends
+pub mod NumberForms
+pub mod UsualHints

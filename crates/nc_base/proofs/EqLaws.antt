@@ -1,0 +1,51 @@
+-- Lists that are the same at each place, and lists that are not.
+use Rattle.std.proofs.Common.{◌≡◌, ℕ, zero, suc, ◌+◌, ◌<◌, refl, ◌∙◌, ap, sym, List, [], ◌∷◌, ◌++◌, append_assoc, take, length, Bool, true, false, Option, Some, None, arith}
+use Rattle.std.specs.Prelude.{ℤ, slice_get, nat_eq}
+use Rattle.std.specs.Ordering.{int_eq}
+use Rattle.std.specs.Cmp.Lexicographic.{pointwise, bytes_decides}
+use Rattle.std.specs.Cmp.Rules.{signed_items}
+
+some_same : {A : Type 0} (x y : A) → Some x ≡ Some y → x ≡ y
+some_same x y h = cc
+
+same_lists : {A : Type 0} (xs ys : List A) → length xs ≡ length ys → ((k : ℕ) → k < length xs → slice_get xs k ≡ slice_get ys k) → xs ≡ ys
+same_lists [] [] h each = refl
+same_lists [] (y ∷ ys) h each = absurd (omega arith)
+same_lists (x ∷ xs) [] h each = absurd (omega arith)
+same_lists {A} (x ∷ xs) (y ∷ ys) h each =
+    ap (λ (z : A). z ∷ xs) (some_same x y (each 0 (omega arith)))
+    ∙ ap (λ (l : List A). y ∷ l) (same_lists xs ys (omega arith) (λ k lt. each (suc k) (omega arith)))
+
+not_true : (b : Bool) → (b ≡ true → ⊥) → b ≡ false
+not_true true h = absurd (h refl)
+not_true false h = refl
+
+pub equal_numbers : (xs ys : List ℤ) → length xs ≡ length ys → ((k : ℕ) → k < length xs → slice_get xs k ≡ slice_get ys k) → true ≡ pointwise int_eq xs ys
+equal_numbers xs ys h each = sym ((signed_items xs ys).1 (same_lists xs ys h each))
+
+pub longer_numbers : (xs ys : List ℤ) → (length xs ≡ length ys → ⊥) → false ≡ pointwise int_eq xs ys
+longer_numbers xs ys h = sym (not_true (pointwise int_eq xs ys) (λ e. h (ap (λ (l : List ℤ). length l) ((signed_items xs ys).0 e))))
+
+pub other_numbers : (xs ys : List ℤ) (k : ℕ) → (slice_get xs k ≡ slice_get ys k → ⊥) → false ≡ pointwise int_eq xs ys
+other_numbers xs ys k h = sym (not_true (pointwise int_eq xs ys) (λ e. h (ap (λ (l : List ℤ). slice_get l k) ((signed_items xs ys).0 e))))
+
+pub equal_bits : (xs ys : List ℕ) → length xs ≡ length ys → ((k : ℕ) → k < length xs → slice_get xs k ≡ slice_get ys k) → true ≡ pointwise nat_eq xs ys
+equal_bits xs ys h each = sym ((bytes_decides xs ys).1 (same_lists xs ys h each))
+
+pub longer_bits : (xs ys : List ℕ) → (length xs ≡ length ys → ⊥) → false ≡ pointwise nat_eq xs ys
+longer_bits xs ys h = sym (not_true (pointwise nat_eq xs ys) (λ e. h (ap (λ (l : List ℕ). length l) ((bytes_decides xs ys).0 e))))
+
+pub other_bits : (xs ys : List ℕ) (k : ℕ) → (slice_get xs k ≡ slice_get ys k → ⊥) → false ≡ pointwise nat_eq xs ys
+other_bits xs ys k h = sym (not_true (pointwise nat_eq xs ys) (λ e. h (ap (λ (l : List ℕ). slice_get l k) ((bytes_decides xs ys).0 e))))
+
+take_some : {A : Type 0} (xs : List A) (k : ℕ) (x : A) → slice_get xs k ≡ Some x → take (suc k) xs ≡ take k xs ++ x ∷ []
+take_some [] k x h = absurd cc
+take_some {A} (y ∷ ys) zero x h = ap (λ (z : A). z ∷ []) (some_same y x h)
+take_some {A} (y ∷ ys) (suc k) x h = ap (λ (l : List A). y ∷ l) (take_some ys k x h)
+
+pub after_some : {A : Type 0} (first old new xs : List A) (k : ℕ) (x : A) → slice_get xs k ≡ Some x → old ≡ first ++ take k xs → new ≡ old ++ x ∷ [] → new ≡ first ++ take (k + 1) xs
+after_some {A} first old new xs k x there before added =
+    added
+    ∙ ap (λ (l : List A). l ++ x ∷ []) before
+    ∙ append_assoc first (take k xs) (x ∷ [])
+    ∙ ap (λ (l : List A). first ++ l) (sym (take_some xs k x there))

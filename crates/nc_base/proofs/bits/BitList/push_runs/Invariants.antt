@@ -1,0 +1,6 @@
+use Rattle.std.proofs.Common.{◌≡◌, ◌++◌, take}
+use Rattle.nc_base.specs.BitForms.{bits_of_runs}
+use Rattle.nc_base.proofs.bits.BitList.push_runs.Given as goal
+
+abbrev pub invariant-loop-run : goal.invariant-loop-run
+invariant-loop-run l = l.self ≡ l.initial.self ++ bits_of_runs (take l.run-index l.runs)
