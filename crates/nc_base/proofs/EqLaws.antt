@@ -45,7 +45,9 @@ take_some {A} (y ∷ ys) (suc k) x h = ap (λ (l : List A). y ∷ l) (take_some 
 
 pub after_some : {A : Type 0} (first old new xs : List A) (k : ℕ) (x : A) → slice_get xs k ≡ Some x → old ≡ first ++ take k xs → new ≡ old ++ x ∷ [] → new ≡ first ++ take (k + 1) xs
 after_some {A} first old new xs k x there before added =
+    let next : suc k ≡ k + 1 = omega arith in
     added
     ∙ ap (λ (l : List A). l ++ x ∷ []) before
     ∙ append_assoc first (take k xs) (x ∷ [])
     ∙ ap (λ (l : List A). first ++ l) (sym (take_some xs k x there))
+    ∙ ap (λ (n : ℕ). first ++ take n xs) next

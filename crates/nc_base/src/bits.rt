@@ -17,7 +17,7 @@ pub struct BitRun {
 }
 
 impl BitRun {
-    /// Bit `k`.
+    /// Bit pattern `k`.
     #[inline(always)]
     pub fn at(&self, k: u32) -> u64
         ensures { result ≡ (self.now.first + self.now.step * k) % 2 ^ 64 }
@@ -173,9 +173,7 @@ impl BitList {
         ensures { OnOk result (self.new ≡ self.old ++ more.now) }
     {
         for k in 0..more.len() {
-            if let Some(pattern) = more.get(k) {
-                self.push(pattern)?;
-            }
+            self.push(more.at(k))?;
         }
         Ok(())
     }
@@ -207,7 +205,7 @@ impl BitList {
         }
     }
 
-    /// Bit `k`, if there is one.
+    /// Bit pattern `k`, if there is one.
     pub fn get(&self, k: usize) -> Option<u64>
         ensures { result ≡ slice_get self.now k }
     {
@@ -215,6 +213,17 @@ impl BitList {
             BitForm::Narrow(words) => narrow_at(words, k),
             BitForm::Wide(words) => wide_at(words, k),
             BitForm::Runs(runs) => pattern_in_runs(runs, k),
+        }
+    }
+
+    /// Bit pattern `k`, which there is.
+    pub fn at(&self, k: usize) -> u64
+        requires { k < length self.now }
+        ensures { slice_get self.now k ≡ Some result }
+    {
+        match self.get(k) {
+            Some(pattern) => pattern,
+            None => unreachable!(),
         }
     }
 
@@ -431,7 +440,7 @@ fn wide_at(words: &[u64], k: usize) -> Option<u64>
     }
 }
 
-/// Bit `k` of those of the runs.
+/// Bit pattern `k` of those of the runs.
 fn pattern_in_runs(runs: &[BitRun], k: usize) -> Option<u64>
     ensures { result ≡ slice_get (bits_of_runs runs.now) k }
 {

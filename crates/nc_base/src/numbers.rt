@@ -186,9 +186,7 @@ impl NumberList {
         ensures { OnOk result (self.new ≡ self.old ++ more.now) }
     {
         for k in 0..more.len() {
-            if let Some(number) = more.get(k) {
-                self.push(number)?;
-            }
+            self.push(more.at(k))?;
         }
         Ok(())
     }
@@ -230,6 +228,17 @@ impl NumberList {
             NumberForm::Wide(words) => wide_at(words, k),
             NumberForm::Widest(words) => widest_at(words, k),
             NumberForm::Runs(runs) => number_in_runs(runs, k),
+        }
+    }
+
+    /// Number `k`, which there is.
+    pub fn at(&self, k: usize) -> i128
+        requires { k < length self.now }
+        ensures { slice_get self.now k ≡ Some result }
+    {
+        match self.get(k) {
+            Some(number) => number,
+            None => unreachable!(),
         }
     }
 

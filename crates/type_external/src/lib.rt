@@ -9,12 +9,12 @@ mod codes;
 mod decoding;
 mod encoding;
 mod kinds;
+mod pushing;
 mod sizes;
 
+pub use codes::code_of;
 pub use decoding::decode_one;
 pub use encoding::{encode_into, round_trip};
 pub use kinds::kind_fits;
+pub use pushing::push_code;
 pub use sizes::size_of;
-
-#[cfg(test)]
-mod tests;

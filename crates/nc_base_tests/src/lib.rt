@@ -1,0 +1,5 @@
+//! Tests of nc_base.
+#![tactic(auto)]
+
+#[cfg(test)]
+mod tests;

@@ -1,0 +1,5 @@
+//! Tests of type_external.
+#![tactic(auto)]
+
+#[cfg(test)]
+mod tests;
