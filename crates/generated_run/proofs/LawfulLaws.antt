@@ -6,11 +6,12 @@ use Rattle.std.proofs.lemmas.Bool.{and_from}
 use Rattle.nc_base.specs.declared.request.Call.{Call}
 use Rattle.nc_base.specs.declared.script.Script as script_type
 use Rattle.serial_spec.specs.Lawful.{agree, are_different, is_lawful, is_lawful_call, kind_numbers, most_calls, most_values, posted_ids, values_in_call, values_in_script}
-use Rattle.script_spec.specs.Generator.{made_header, made_script}
+use Rattle.script_spec.specs.Generator.{has_counts, is_counted, made_header, made_script}
+use Rattle.script_laws.proofs.ListLaws.{both_true}
 use Rattle.generated_run.specs.Made.{calls_of_rank}
 use Rattle.generated_run.proofs.MadeLaws.{scripted, script_is}
 use Rattle.generated_run.proofs.Ranges.{numbered_pass, range_passes, sum_within}
-use Rattle.generated_run.proofs.RankLaws.{rank_ids, rank_kinds, rank_lawful, rank_long, rank_values}
+use Rattle.generated_run.proofs.RankLaws.{rank_counted, rank_ids, rank_kinds, rank_lawful, rank_long, rank_values}
 
 -- the calls of n ranks
 abbrev calls_of : ℕ → ℕ → ℕ → ℕ → List (List Call)
@@ -53,3 +54,10 @@ lawful seed size s =
 pub made_lawful : (seed size : ℕ) → size ≤ 64 → is_lawful (made_script seed size) ≡ true
 unfolding scripted
 made_lawful seed size s = subst (λ (script : script_type.Script). is_lawful script ≡ true) (script_is seed size made_header [] (calls_of seed size 0 8) refl refl refl) (lawful seed size s)
+
+-- its regions give their counts
+pub made_counted : (seed size : ℕ) → has_counts (made_script seed size) ≡ true
+unfolding scripted
+made_counted seed size =
+    subst (λ (script : script_type.Script). has_counts script ≡ true) (script_is seed size made_header [] (calls_of seed size 0 8) refl refl refl)
+    (range_passes (λ (own : List Call). list_all is_counted own) (λ r. calls_of_rank seed size r) 0 8 (λ r b. rank_counted seed size r))

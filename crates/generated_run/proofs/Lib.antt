@@ -6,3 +6,4 @@ pub mod PostLaws
 pub mod Ranges
 pub mod RankLaws
 pub mod SumLaws
+pub mod TurnLaws

@@ -1,7 +1,16 @@
 -- Sums and products that go on by one item.
-use Rattle.std.proofs.Common.{◌≡◌, ℕ, ◌+◌, ◌*◌, ◌<◌, ◌≤◌, List, [], ◌∷◌, ◌++◌, length, map, sum, take, get_or, sym, ap, ◌∙◌, arith}
+use Rattle.std.proofs.Common.{◌≡◌, ℕ, ◌+◌, ◌*◌, ◌%◌, ◌^◌, ◌<◌, ◌≤◌, List, [], ◌∷◌, ◌++◌, length, map, sum, take, get_or, fold, sym, ap, ◌∙◌, arith}
+use Rattle.std.specs.Prelude.{ℤ, pos, ◌+ℤ◌, ◌*ℤ◌}
 use Rattle.std.proofs.lemmas.List.{take_all, take_more}
-use Rattle.std.proofs.lemmas.List.Sums.{sum_by_push}
+use Rattle.std.proofs.lemmas.List.Sums.{fold-append, fold_push, sum_by-append, sum_by_push}
+use Rattle.nc_base.specs.declared.bits.BitRun.{BitRun}
+use Rattle.nc_base.specs.declared.numbers.NumberRun.{NumberRun}
+use Rattle.nc_base.specs.BitForms.{bit_steps, bits_of_run, bits_of_runs}
+use Rattle.nc_base.specs.NumberForms.{numbers_of_run, numbers_of_runs, steps}
+use Rattle.nc_base.proofs.BitLaws as bit
+use Rattle.nc_base.proofs.BitLaws.{bit_steps_more}
+use Rattle.nc_base.proofs.RunLaws as number
+use Rattle.nc_base.proofs.RunLaws.{steps_more}
 use Rattle.serial_spec.specs.Layout.{product}
 use Rattle.script_laws.proofs.ListLaws.{sum_more}
 
@@ -33,3 +42,27 @@ pub all_summed : {A : Type 0} (f : A → ℕ) (now : ℕ) (all : List A) (n : �
 all_summed {A} f now all n whole so_far =
     let most : length all ≤ n = omega arith in
     so_far ∙ ap (λ (ys : List A). sum (map f ys)) (take_all n all most)
+
+-- ---- over runs
+
+pub steps_summed : (a b start : ℤ) (k : ℕ)
+    → fold (λ s z. s +ℤ z) start (steps a b (k + 1)) ≡ fold (λ s z. s +ℤ z) start (steps a b k) +ℤ (a +ℤ (b *ℤ pos k))
+steps_summed a b start k =
+    ap (λ (zs : List ℤ). fold (λ s z. s +ℤ z) start zs) (steps_more a b k) ∙ fold_push (λ s z. s +ℤ z) start (steps a b k) (a +ℤ (b *ℤ pos k))
+
+pub runs_summed : (start : ℤ) (rs : List NumberRun) (i : ℕ) (d : NumberRun) → i < length rs
+    → fold (λ s z. s +ℤ z) start (numbers_of_runs (take (i + 1) rs)) ≡ fold (λ s z. s +ℤ z) (fold (λ s z. s +ℤ z) start (numbers_of_runs (take i rs))) (numbers_of_run (get_or rs i d))
+runs_summed start rs i d h =
+    ap (λ (l : List NumberRun). fold (λ s z. s +ℤ z) start (numbers_of_runs l)) (take_more rs i d h)
+    ∙ ap (λ (zs : List ℤ). fold (λ s z. s +ℤ z) start zs) (number.runs_push (take i rs) (get_or rs i d))
+    ∙ fold-append (λ s z. s +ℤ z) start (numbers_of_runs (take i rs)) (numbers_of_run (get_or rs i d))
+
+pub bit_steps_summed : (a b k : ℕ) → sum (bit_steps a b (k + 1)) ≡ sum (bit_steps a b k) + (a + b * k) % 2 ^ 64
+bit_steps_summed a b k = ap (λ (ns : List ℕ). sum ns) (bit_steps_more a b k) ∙ sum_by_push (λ n. n) (bit_steps a b k) ((a + b * k) % 2 ^ 64)
+
+pub bit_runs_summed : (rs : List BitRun) (i : ℕ) (d : BitRun) → i < length rs
+    → sum (bits_of_runs (take (i + 1) rs)) ≡ sum (bits_of_runs (take i rs)) + sum (bits_of_run (get_or rs i d))
+bit_runs_summed rs i d h =
+    ap (λ (l : List BitRun). sum (bits_of_runs l)) (take_more rs i d h)
+    ∙ ap (λ (ns : List ℕ). sum ns) (bit.runs_push (take i rs) (get_or rs i d))
+    ∙ sum_by-append (λ n. n) (bits_of_runs (take i rs)) (bits_of_run (get_or rs i d))

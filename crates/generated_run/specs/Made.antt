@@ -1,13 +1,20 @@
 -- Parts of the made script, under names of their own. (own)
+--     temps, depths                 values that rise by one, from so far above the least on
 --     temp_row, precip_row          a row of one record
 --     temp_band, precip_band        the rows of a rank
 --     region_of_band, columns_of    the regions of its puts and of its gets
 --     calls_of_record, calls_of_rank
-use Rattle.std.specs.Prelude.{ℕ, ◌*◌, List, [], ◌∷◌, map, ℤ}
+use Rattle.std.specs.Prelude.{ℕ, ◌+◌, ◌*◌, List, [], ◌∷◌, map, ℤ, pos, ◌-ℤ◌}
 use Rattle.std.specs.List.{range_with_len}
 use Rattle.nc_base.specs.declared.request.Given.{Given}
 use Rattle.nc_base.specs.declared.request.Call.{Call}
 use Rattle.script_spec.specs.Generator.{band, block, made_calls, of_band, precip_at, record_calls, temp_at}
+
+unfoldable pub temps : ℕ → ℕ → List ℕ
+temps first n = map (λ k. 1065353216 + (first + k)) (range_with_len 0 n)
+
+unfoldable pub depths : ℕ → ℕ → List ℤ
+depths first n = map (λ k. pos (first + k) -ℤ pos 10000) (range_with_len 0 n)
 
 unfoldable pub temp_row : ℕ → ℕ → ℕ → List ℕ
 temp_row seed t y = map (λ x. temp_at seed t y x) (range_with_len 0 360)

@@ -1,22 +1,24 @@
 // The values of a rank's rows.
-ghost use Rattle.std.specs.Prelude.{◌≡◌, ◌<◌, ◌≤◌, ◌++◌, IfOk, OnOk};
-ghost use Rattle.script_spec.specs.Generator.{first_row, precip_at, temp_at};
-ghost use Rattle.generated_run.specs.Made.{precip_band, precip_row, temp_band, temp_row};
+ghost use Rattle.std.specs.Prelude.{◌≡◌, ◌+◌, ◌*◌, ◌%◌, ◌^◌, ◌<◌, ◌≤◌, ◌++◌, IfOk, OnOk};
+ghost use Rattle.nc_base.specs.BitForms.{bits_of_runs};
+ghost use Rattle.nc_base.specs.NumberForms.{numbers_of_runs};
+ghost use Rattle.script_spec.specs.Generator.{first_row};
+ghost use Rattle.generated_run.specs.Made.{depths, precip_band, precip_row, temp_band, temp_row, temps};
 
 use crate::definitions::{COLUMNS, RANKS, ROWS};
-use nc_base::{BitList, Memory, NumberList};
+use nc_base::{BitList, BitRun, Memory, NumberList, NumberRun};
 use std::alloc::Global;
 
 /// The bits of 1.0, the least value of `temp`.
 const ONE: u64 = 0x3F80_0000;
 
 /// How many bit patterns of `temp` there are.
-const PATTERNS: u64 = 1 << 23;
+const PATTERNS: u32 = 1 << 23;
 
 /// How many values of `precip` there are, and the greatest.
-const DEPTHS: u64 = 20001;
+const DEPTHS: u32 = 20001;
 
-const DEEPEST: i128 = 10000;
+const DEEPEST: i64 = 10000;
 
 /// Where a rank's rows begin; those of rank `RANKS`, which there is none of, begin where all rows end.
 pub(crate) fn first_row(rank: u32) -> u32
@@ -32,27 +34,49 @@ pub(crate) fn temp_band(alloc: Global, seed: u64, rank: u32, time: u32) -> Resul
     requires { rank < 8 }
     ensures { IfOk result (λ values. values ≡ temp_band seed rank time) }
 {
-    let mut values = Vec::new(alloc);
-    for row in first_row(rank)..first_row(rank + 1) {
-        push_temp_row(&mut values, seed, time, row)?;
+    let first = first_row(rank);
+    let end = first_row(rank + 1);
+    let mut runs = Vec::with_capacity(alloc, (end - first) as usize)?;
+    for row in first..end {
+        push_temp_row(&mut runs, seed, time, row)?;
     }
-    Ok(BitList::from_vec(values))
+    BitList::from_runs(runs)
 }
 
-fn push_temp_row(out: &mut Vec<u64>, seed: u64, time: u32, row: u32) -> Result<(), Memory>
-    ensures { OnOk result (out.new.items ≡ out.old.items ++ temp_row seed time row) }
+/// Adds a row of `temp`: patterns that rise by one, and behind the greatest begin again at the least.
+fn push_temp_row(out: &mut Vec<BitRun>, seed: u64, time: u32, row: u32) -> Result<(), Memory>
+    ensures { OnOk result (bits_of_runs out.new.items ≡ bits_of_runs out.old.items ++ temp_row seed time row) }
 {
-    for column in 0..COLUMNS {
-        out.push(temp_at(seed, time, row, column))?;
+    let first = first_temp(seed, time, row);
+    let count = COLUMNS.min(PATTERNS - first);
+    push_temps(out, first, count)?;
+    push_temps(out, 0, COLUMNS - count)
+}
+
+/// How far a row's first pattern lies above the least.
+fn first_temp(seed: u64, time: u32, row: u32) -> u32
+    ensures value { result ≡ (seed + 64800 * time + 360 * row) % 2 ^ 23 }
+    ensures within { result < 2 ^ 23 }
+{
+    let patterns = u64::from(PATTERNS);
+    let place = 64800 * u64::from(time) + 360 * u64::from(row);
+    ((seed % patterns + place) % patterns) as u32
+}
+
+/// Adds so many patterns that rise by one, the first so far above the least.
+fn push_temps(out: &mut Vec<BitRun>, first: u32, count: u32) -> Result<(), Memory>
+    requires { first + count ≤ 2 ^ 23 }
+    ensures { OnOk result (bits_of_runs out.new.items ≡ bits_of_runs out.old.items ++ temps first count) }
+{
+    if count == 0 {
+        return Ok(());
     }
+    out.push(BitRun {
+        first: ONE + u64::from(first),
+        step: 1,
+        count,
+    })?;
     Ok(())
-}
-
-fn temp_at(seed: u64, time: u32, row: u32, column: u32) -> u64
-    ensures { result ≡ temp_at seed time row column }
-{
-    let place = 64800 * u64::from(time) + 360 * u64::from(row) + u64::from(column);
-    ONE + (seed % PATTERNS + place) % PATTERNS
 }
 
 /// What a rank puts into `precip` for a record, row after row.
@@ -65,25 +89,46 @@ pub(crate) fn precip_band(
     requires { rank < 8 }
     ensures { IfOk result (λ values. values ≡ precip_band seed rank time) }
 {
-    let mut values = Vec::new(alloc);
-    for row in first_row(rank)..first_row(rank + 1) {
-        push_precip_row(&mut values, seed, time, row)?;
+    let first = first_row(rank);
+    let end = first_row(rank + 1);
+    let mut runs = Vec::with_capacity(alloc, (end - first) as usize)?;
+    for row in first..end {
+        push_precip_row(&mut runs, seed, time, row)?;
     }
-    Ok(NumberList::from_vec(values))
+    NumberList::from_runs(runs)
 }
 
-fn push_precip_row(out: &mut Vec<i128>, seed: u64, time: u32, row: u32) -> Result<(), Memory>
-    ensures { OnOk result (out.new.items ≡ out.old.items ++ precip_row seed time row) }
+/// Adds a row of `precip`: depths that rise by one, and behind the greatest begin again at the least.
+fn push_precip_row(out: &mut Vec<NumberRun>, seed: u64, time: u32, row: u32) -> Result<(), Memory>
+    ensures { OnOk result (numbers_of_runs out.new.items ≡ numbers_of_runs out.old.items ++ precip_row seed time row) }
 {
-    for column in 0..COLUMNS {
-        out.push(precip_at(seed, time, row, column))?;
+    let first = first_depth(seed, time, row);
+    let count = COLUMNS.min(DEPTHS - first);
+    push_depths(out, first, count)?;
+    push_depths(out, 0, COLUMNS - count)
+}
+
+/// How far a row's first depth lies above the least.
+fn first_depth(seed: u64, time: u32, row: u32) -> u32
+    ensures value { result ≡ (seed + 101 * time + 3 * row) % 20001 }
+    ensures within { result < 20001 }
+{
+    let depths = u64::from(DEPTHS);
+    let place = 101 * u64::from(time) + 3 * u64::from(row);
+    ((seed % depths + place) % depths) as u32
+}
+
+/// Adds so many depths that rise by one, the first so far above the least.
+fn push_depths(out: &mut Vec<NumberRun>, first: u32, count: u32) -> Result<(), Memory>
+    ensures { OnOk result (numbers_of_runs out.new.items ≡ numbers_of_runs out.old.items ++ depths first count) }
+{
+    if count == 0 {
+        return Ok(());
     }
+    out.push(NumberRun {
+        first: i64::from(first) - DEEPEST,
+        step: 1,
+        count,
+    })?;
     Ok(())
-}
-
-fn precip_at(seed: u64, time: u32, row: u32, column: u32) -> i128
-    ensures { result ≡ precip_at seed time row column }
-{
-    let place = 101 * u64::from(time) + 3 * u64::from(row) + u64::from(column);
-    i128::from((seed % DEPTHS + place) % DEPTHS) - DEEPEST
 }

@@ -8,7 +8,7 @@ ghost use Rattle.std.specs.Prelude.{◌≡◌, ℕ, ◌≤◌, IfOk, None, lengt
 ghost use Rattle.serial_spec.specs.Lawful.{has_whole_attrs, is_lawful};
 ghost use Rattle.serial_spec.specs.Redefinition.{layout_fault};
 ghost use Rattle.var_layout.specs.Unplaced.{has_writable_parts, is_unplaced};
-ghost use Rattle.script_spec.specs.Generator.{made_script};
+ghost use Rattle.script_spec.specs.Generator.{has_counts, made_script};
 
 mod bands;
 mod calls;
@@ -41,7 +41,7 @@ pub fn make_script(alloc: Global, seed: u64, size: u32) -> Result<Script, Memory
     })
 }
 
-/// The made script is lawful as one that is read is, and its header gets places.
+/// The made script is lawful as one that is read is, its header gets places, and its regions give their counts.
 pub fn made_law()
     ensures lawful { (seed size : ℕ) → 1 ≤ size → size ≤ 64 → is_lawful (made_script seed size) ≡ true }
     ensures whole { (seed size : ℕ) → has_whole_attrs (made_script seed size) ≡ true }
@@ -51,8 +51,6 @@ pub fn made_law()
     ensures ranks { (seed size : ℕ) → length (made_script seed size).calls ≡ (made_script seed size).ranks }
     ensures header_align { (seed size : ℕ) → (4 ≤ (made_script seed size).hints.header_align) × ((made_script seed size).hints.header_align ≤ 1048576) }
     ensures var_align { (seed size : ℕ) → (4 ≤ (made_script seed size).hints.var_align) × ((made_script seed size).hints.var_align ≤ 1048576) }
+    ensures counted { (seed size : ℕ) → has_counts (made_script seed size) ≡ true }
     ensures records { (seed size : ℕ) → (made_script seed size).header.records ≡ 0 }
 {}
-
-#[cfg(test)]
-mod tests;

@@ -3,7 +3,7 @@ ghost use Rattle.std.specs.Prelude.{◌≡◌, ◌++◌, ◌∷◌, [], IfOk, On
 ghost use Rattle.std.specs.Fmt.{signed_decimal};
 ghost use Rattle.serial_spec.specs.HeaderGrammar.{header_len, is_sound};
 ghost use Rattle.serial_spec.specs.Layout.{end_of};
-ghost use Rattle.script_spec.specs.Generator.{call_got, call_put, is_meeting, over_calls, refusals, sum_given, summary_text};
+ghost use Rattle.script_spec.specs.Generator.{call_got, call_put, has_counts, is_meeting, over_calls, refusals, sum_given, summary_text};
 ghost use Rattle.script_spec.specs.Texts.{line};
 
 use crate::elements::{added, elements_done};
@@ -27,7 +27,8 @@ pub fn summary_text(
     order: &MarkList,
     answers: &AnswerTable,
 ) -> Result<Blob, Memory>
-    requires { is_sound header.now ≡ true }
+    requires counted { has_counts script.now ≡ true }
+    requires sound { is_sound header.now ≡ true }
     ensures { IfOk result (λ text. text ≡ summary_text seed size script.now header.now order.now answers.now) }
 {
     let mut out = Vec::new(alloc);

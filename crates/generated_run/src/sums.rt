@@ -1,8 +1,10 @@
 // The sum of all that gets gave.
 ghost use Rattle.std.specs.Prelude.{◌≡◌, IfOk, fold, pos, sum, ◌+ℤ◌};
+ghost use Rattle.nc_base.specs.BitForms.{bits_in, bits_of_run, bits_of_runs};
+ghost use Rattle.nc_base.specs.NumberForms.{numbers_in, numbers_of_run, numbers_of_runs};
 ghost use Rattle.script_spec.specs.Generator.{sum_given, sum_of};
 
-use nc_base::{Answer, AnswerList, Item, Memory, Values};
+use nc_base::{Answer, AnswerList, BitRun, BitWords, Item, Memory, NumberRun, NumberWords, Values};
 
 /// The sum, where it is a number that can be told.
 fn plus(a: i128, b: i128) -> Result<i128, Memory>
@@ -12,25 +14,123 @@ fn plus(a: i128, b: i128) -> Result<i128, Memory>
 }
 
 #[tactic(auto, using(std::proofs::lemmas::List::Sums::fold_more))]
-fn sum_numbers(numbers: &[i128]) -> Result<i128, Memory>
-    ensures { IfOk result (λ z. z ≡ fold (λ a z. a +ℤ z) (pos 0) numbers.now) }
+fn sum_narrow(words: &[i32]) -> Result<i128, Memory>
+    ensures { IfOk result (λ z. z ≡ fold (λ a z. a +ℤ z) (pos 0) words.now) }
 {
     let mut total = 0;
-    for number in numbers {
-        total = plus(total, *number)?;
+    for word in words {
+        total = plus(total, i128::from(*word))?;
+    }
+    Ok(total)
+}
+
+#[tactic(auto, using(std::proofs::lemmas::List::Sums::fold_more))]
+fn sum_wide(words: &[i64]) -> Result<i128, Memory>
+    ensures { IfOk result (λ z. z ≡ fold (λ a z. a +ℤ z) (pos 0) words.now) }
+{
+    let mut total = 0;
+    for word in words {
+        total = plus(total, i128::from(*word))?;
+    }
+    Ok(total)
+}
+
+#[tactic(auto, using(std::proofs::lemmas::List::Sums::fold_more))]
+fn sum_widest(words: &[i128]) -> Result<i128, Memory>
+    ensures { IfOk result (λ z. z ≡ fold (λ a z. a +ℤ z) (pos 0) words.now) }
+{
+    let mut total = 0;
+    for word in words {
+        total = plus(total, *word)?;
+    }
+    Ok(total)
+}
+
+#[tactic(auto, using(crate::proofs::SumLaws::steps_summed))]
+fn sum_run(start: i128, run: NumberRun) -> Result<i128, Memory>
+    ensures { IfOk result (λ z. z ≡ fold (λ a z. a +ℤ z) start (numbers_of_run run)) }
+{
+    let mut total = start;
+    for k in 0..run.count {
+        total = plus(total, run.at(k))?;
+    }
+    Ok(total)
+}
+
+#[tactic(auto, using(crate::proofs::SumLaws::runs_summed))]
+fn sum_runs(runs: &[NumberRun]) -> Result<i128, Memory>
+    ensures { IfOk result (λ z. z ≡ fold (λ a z. a +ℤ z) (pos 0) (numbers_of_runs runs.now)) }
+{
+    let mut total = 0;
+    for run in runs {
+        total = sum_run(total, *run)?;
+    }
+    Ok(total)
+}
+
+fn sum_numbers(words: NumberWords<'_>) -> Result<i128, Memory>
+    ensures { IfOk result (λ z. z ≡ fold (λ a z. a +ℤ z) (pos 0) (numbers_in words.entry)) }
+{
+    match words {
+        NumberWords::Narrow(words) => sum_narrow(words),
+        NumberWords::Wide(words) => sum_wide(words),
+        NumberWords::Widest(words) => sum_widest(words),
+        NumberWords::Runs(runs) => sum_runs(runs),
+    }
+}
+
+#[tactic(auto, using(crate::proofs::SumLaws::plain_more))]
+fn sum_narrow_bits(words: &[u32]) -> Result<i128, Memory>
+    ensures { IfOk result (λ z. z ≡ pos (sum words.now)) }
+{
+    let mut total = 0;
+    for word in words {
+        total = plus(total, i128::from(*word))?;
     }
     Ok(total)
 }
 
 #[tactic(auto, using(crate::proofs::SumLaws::plain_more))]
-fn sum_patterns(patterns: &[u64]) -> Result<i128, Memory>
-    ensures { IfOk result (λ z. z ≡ pos (sum patterns.now)) }
+fn sum_wide_bits(words: &[u64]) -> Result<i128, Memory>
+    ensures { IfOk result (λ z. z ≡ pos (sum words.now)) }
 {
     let mut total = 0;
-    for pattern in patterns {
-        total = plus(total, i128::from(*pattern))?;
+    for word in words {
+        total = plus(total, i128::from(*word))?;
     }
     Ok(total)
+}
+
+#[tactic(auto, using(crate::proofs::SumLaws::bit_steps_summed))]
+fn sum_bit_run(run: BitRun) -> Result<i128, Memory>
+    ensures { IfOk result (λ z. z ≡ pos (sum (bits_of_run run))) }
+{
+    let mut total = 0;
+    for k in 0..run.count {
+        total = plus(total, i128::from(run.at(k)))?;
+    }
+    Ok(total)
+}
+
+#[tactic(auto, using(crate::proofs::SumLaws::bit_runs_summed))]
+fn sum_bit_runs(runs: &[BitRun]) -> Result<i128, Memory>
+    ensures { IfOk result (λ z. z ≡ pos (sum (bits_of_runs runs.now))) }
+{
+    let mut total = 0;
+    for run in runs {
+        total = plus(total, sum_bit_run(*run)?)?;
+    }
+    Ok(total)
+}
+
+fn sum_bits(words: BitWords<'_>) -> Result<i128, Memory>
+    ensures { IfOk result (λ z. z ≡ pos (sum (bits_in words.entry))) }
+{
+    match words {
+        BitWords::Narrow(words) => sum_narrow_bits(words),
+        BitWords::Wide(words) => sum_wide_bits(words),
+        BitWords::Runs(runs) => sum_bit_runs(runs),
+    }
 }
 
 /// The sum of the numbers or bits that a get read, if any.
@@ -39,8 +139,8 @@ fn sum_of(values: &Option<Values>) -> Result<i128, Memory>
 {
     match values {
         None | Some(Values::Text(_)) => Ok(0),
-        Some(Values::Numbers(numbers)) => sum_numbers(numbers.as_slice()),
-        Some(Values::Bits(patterns)) => sum_patterns(patterns.as_slice()),
+        Some(Values::Numbers(numbers)) => sum_numbers(numbers.words()),
+        Some(Values::Bits(patterns)) => sum_bits(patterns.words()),
     }
 }
 

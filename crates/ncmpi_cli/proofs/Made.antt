@@ -13,9 +13,9 @@ use Rattle.serial_spec.specs.History.{IsLegal}
 use Rattle.serial_spec.specs.Redefinition.{brought, layout_fault}
 use Rattle.serial_spec.specs.SerialEnd.{End, serial, serial_from, start}
 use Rattle.rank_meeting.specs.Begun.{HasBegun}
-use Rattle.script_spec.specs.Generator.{made_script, summary_text}
+use Rattle.script_spec.specs.Generator.{has_counts, made_script, summary_text}
 use Rattle.script_spec.specs.Texts.{header_line, layout_line, redef_line, run_text}
-use Rattle.generated_run.proofs.LawfulLaws.{made_lawful}
+use Rattle.generated_run.proofs.LawfulLaws.{made_counted, made_lawful}
 use Rattle.generated_run.proofs.MadeLaws.{made_laid}
 use Rattle.ncmpi_cli.specs.Generated.{IsMadeStatus, IsSummed, new_end, RanMade, script_made}
 use Rattle.ncmpi_cli.specs.Headline.{align_of, created_header, end_of_run, IsDone, IsKept, TellsDataset}
@@ -36,6 +36,10 @@ module _ (seed size : ℕ) where
   pub made_kept : size ≤ 64 → IsKept (script_made seed size)
   unfolding script_made
   made_kept few = record { lawful = made_lawful seed size few; whole = refl; unplaced = λ _. refl; writable = λ _. refl }
+
+  pub made_counts : has_counts (script_made seed size) ≡ true
+  unfolding script_made
+  made_counts = made_counted seed size
 
   pub made_fresh : (script_made seed size).fresh ≡ true
   unfolding script_made

@@ -96,6 +96,7 @@ fn sum_up<K: Sink>(
     header: &Header,
     end: RunEnd,
 ) -> Outcome
+    requires counted { spec.has_counts script.now ≡ true }
     requires sound { is_sound header.now ≡ true }
     ensures whole { result.status ≡ 0 → K.given out.new ≡ with_end (K.given out.old) (spec.summary_text seed size script.now header.now end.order end.answers) }
     ensures front { result.status ≡ 6 → (n : ℕ) × (K.given out.new ≡ with_end (K.given out.old) (take n (spec.summary_text seed size script.now header.now end.order end.answers))) }

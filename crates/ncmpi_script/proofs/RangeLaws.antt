@@ -3,7 +3,7 @@ use Rattle.std.proofs.Common.{◌≡◌, ◌∙◌, ℕ, zero, suc, ◌+◌, Lis
 use Rattle.std.proofs.lemmas.List.{map_push}
 use Rattle.std.specs.List.{range_with_len}
 
-range_push : (a k b : ℕ) → a + k ≡ b → range_with_len a (suc k) ≡ range_with_len a k ++ b ∷ []
+pub range_push : (a k b : ℕ) → a + k ≡ b → range_with_len a (suc k) ≡ range_with_len a k ++ b ∷ []
 range_push a zero b e = ap (λ (x : ℕ). x ∷ []) (omega arith)
 range_push a (suc k) b e = ap (λ (xs : List ℕ). a ∷ xs) (range_push (a + 1) k b (omega arith))
 

@@ -1,6 +1,5 @@
 -- The ranges of whole numbers.
-use Rattle.std.specs.Prelude.{ℕ, ◌*◌, ◌^◌, ℤ, pos, negsuc, Bool, false, nat_lt}
-use Rattle.std.specs.Int.{Width, byte_len}
+use Rattle.std.specs.Prelude.{ℕ, ◌*◌, ℤ, pos, negsuc, Bool, false, nat_lt}
 
 -- how far a number is from 0, or a negative one from -1
 abbrev pub magnitude : ℤ → ℕ
@@ -15,7 +14,3 @@ signed_below values z = nat_lt (2 * magnitude z) values
 abbrev pub unsigned_below : ℕ → ℤ → Bool
 unsigned_below values (pos n) = nat_lt n values
 unsigned_below values (negsuc n) = false
-
--- how many numbers a width tells apart
-abbrev pub patterns_of : Width → ℕ
-patterns_of w = 256 ^ byte_len w

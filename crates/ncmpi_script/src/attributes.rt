@@ -1,12 +1,8 @@
 // The attributes of a dataset and of its variables.
-ghost use Rattle.std.specs.Prelude.{◌≡◌, ◌≤◌, ◌^◌, ◌+◌, ◌++◌, IfOk, OnOk, Some, false, map, flat_map, pos};
+ghost use Rattle.std.specs.Prelude.{◌≡◌, ◌<◌, ◌≤◌, ◌^◌, ◌+◌, ◌++◌, IfOk, OnOk, false};
 ghost use Rattle.std.specs.List.{list_any};
-ghost use Rattle.std.specs.Int.{to_be_bytes};
-ghost use Rattle.serial_spec.specs.ExternalForm.{ext, width_of, code_of};
-ghost use Rattle.serial_spec.specs.Request.{count_of};
-ghost use Rattle.nc_base.specs.declared.request.Value.TheVariants as value;
+ghost use Rattle.serial_spec.specs.Request.{count_of, ext_of, value_at};
 ghost use Rattle.script_spec.specs.ScriptDefinitions.{attr_of, attribute, attribute_name, external_bytes, same_title};
-ghost use Rattle.ncmpi_script.specs.Numbers.{patterns_of};
 ghost use Rattle.ncmpi_script.specs.Reading.{Gives};
 
 use crate::fault::ReadErr;
@@ -14,87 +10,35 @@ use crate::reading::{name, type_name};
 use crate::titles::Titles;
 use crate::values::values;
 use crate::words::Words;
-use nc_base::{Attr, Blob, Name, NcType, ScriptKind, Values};
-use std::alloc::{AllocError, Global};
+use nc_base::{Attr, Blob, Memory, Name, NcType, ScriptKind, Values};
+use std::alloc::Global;
+use type_external::{encode_into, size_of};
 
-/// Adds a number's bytes in the width of a type, the highest first.
-fn push_code(bytes: &mut Vec<u8>, kind: NcType, code: u128) -> Result<(), AllocError>
-    ensures { OnOk result (bytes.new.items ≡ bytes.old.items ++ to_be_bytes (width_of kind) code) }
+/// Adds a value's bytes. One that is not in the type's range has none, and is told as want of memory; none that is read
+/// for the type is such.
+fn push_value(kind: NcType, values: &Values, k: usize, bytes: &mut Vec<u8>) -> Result<(), Memory>
+    requires { k < count_of values.now }
+    ensures { OnOk result (bytes.new.items ≡ bytes.old.items ++ ext_of kind (value_at values.now k)) }
 {
-    let all = code.to_be_bytes();
-    match kind {
-        NcType::Byte | NcType::Char | NcType::UByte => bytes.extend_from_slice(&all[15..]),
-        NcType::Short | NcType::UShort => bytes.extend_from_slice(&all[14..]),
-        NcType::Int | NcType::Float | NcType::UInt => bytes.extend_from_slice(&all[12..]),
-        NcType::Double | NcType::Int64 | NcType::UInt64 => bytes.extend_from_slice(&all[8..]),
+    let mut room = [0; 8];
+    let into = &mut room[..size_of(kind) as usize];
+    if encode_into(kind, values, k, into).is_err() {
+        return Err(Memory);
     }
-}
-
-/// How many numbers a type of this width tells apart.
-fn patterns_of(kind: NcType) -> u128
-    ensures { result ≡ patterns_of (width_of kind) }
-{
-    match kind {
-        NcType::Byte | NcType::Char | NcType::UByte => 1 << 8,
-        NcType::Short | NcType::UShort => 1 << 16,
-        NcType::Int | NcType::Float | NcType::UInt => 1 << 32,
-        NcType::Double | NcType::Int64 | NcType::UInt64 => 1 << 64,
-    }
-}
-
-/// The code of a whole number: two's complement in the width of the type.
-#[tactic(auto, using(crate::proofs::FitLaws::code_above, crate::proofs::FitLaws::code_below))]
-fn code_of(kind: NcType, number: i128) -> u128
-    ensures { result ≡ code_of (width_of kind) (value.Number number) }
-{
-    if number >= 0 {
-        number.unsigned_abs()
-    } else {
-        patterns_of(kind).saturating_sub(number.unsigned_abs())
-    }
-}
-
-fn number_bytes(alloc: Global, kind: NcType, numbers: &[i128]) -> Result<Vec<u8>, AllocError>
-    ensures { IfOk result (λ bytes. bytes.items ≡ flat_map (λ z. ext kind (value.Number z)) numbers.now) }
-{
-    let mut bytes = Vec::new(alloc);
-    for number in numbers {
-        push_code(&mut bytes, kind, code_of(kind, *number))?;
-    }
-    Ok(bytes)
-}
-
-#[tactic(auto, using(crate::proofs::ListLaws::flat_map_more))]
-fn pattern_bytes(alloc: Global, kind: NcType, patterns: &[u64]) -> Result<Vec<u8>, AllocError>
-    ensures { IfOk result (λ bytes. bytes.items ≡ flat_map (λ n. ext kind (value.Bits n)) patterns.now) }
-{
-    let mut bytes = Vec::new(alloc);
-    for pattern in patterns {
-        push_code(&mut bytes, kind, u128::from(*pattern))?;
-    }
-    Ok(bytes)
-}
-
-#[tactic(auto, using(crate::proofs::ListLaws::flat_map_more))]
-fn text_bytes(alloc: Global, kind: NcType, text: &[u8]) -> Result<Vec<u8>, AllocError>
-    ensures { IfOk result (λ bytes. bytes.items ≡ flat_map (λ c. ext kind (value.Char c)) text.now) }
-{
-    let mut bytes = Vec::new(alloc);
-    for character in text {
-        push_code(&mut bytes, kind, u128::from(*character))?;
-    }
-    Ok(bytes)
+    bytes.extend_from_slice(into)?;
+    Ok(())
 }
 
 /// The values in external form.
-fn external_bytes(alloc: Global, kind: NcType, values: &Values) -> Result<Vec<u8>, AllocError>
+fn external_bytes(alloc: Global, kind: NcType, values: &Values) -> Result<Vec<u8>, Memory>
     ensures { IfOk result (λ bytes. bytes.items ≡ external_bytes kind values.now) }
 {
-    match values {
-        Values::Numbers(numbers) => number_bytes(alloc, kind, numbers.as_slice()),
-        Values::Text(text) => text_bytes(alloc, kind, text.as_slice()),
-        Values::Bits(patterns) => pattern_bytes(alloc, kind, patterns.as_slice()),
+    let count = count_of(values);
+    let mut bytes = Vec::with_capacity(alloc, count.saturating_mul(size_of(kind) as usize))?;
+    for k in 0..count {
+        push_value(kind, values, k, &mut bytes)?;
     }
+    Ok(bytes)
 }
 
 fn count_of(values: &Values) -> usize
@@ -107,7 +51,7 @@ fn count_of(values: &Values) -> usize
     }
 }
 
-fn attr_of(alloc: Global, name: &[u8], kind: NcType, values: &Values) -> Result<Attr, AllocError>
+fn attr_of(alloc: Global, name: &[u8], kind: NcType, values: &Values) -> Result<Attr, Memory>
     ensures { IfOk result (λ attr. attr ≡ attr_of name.now kind values.now) }
 {
     let bytes = external_bytes(alloc, kind, values)?;

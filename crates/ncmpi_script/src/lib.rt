@@ -30,6 +30,3 @@ mod vars;
 mod words;
 
 pub use top::read_script;
-
-#[cfg(test)]
-mod tests;

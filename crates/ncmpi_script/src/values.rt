@@ -11,8 +11,8 @@ use crate::numbers::{bits_of_text, number_of_text};
 use crate::reading::{bare, bits, ended, number, size};
 use crate::words::{Token, Words};
 use nc_base::{
-    BitList, Blob, LimitName, MAX_ELEMENTS, MAX_SCRIPT_VALUES, NcType, NumberList, ScriptKind,
-    Values,
+    BitList, BitRun, Blob, LimitName, MAX_ELEMENTS, MAX_SCRIPT_VALUES, NcType, NumberList,
+    NumberRun, ScriptKind, Values,
 };
 use std::alloc::Global;
 
@@ -188,7 +188,18 @@ fn number_at(first: i128, step: i128, k: u64) -> i128
     first + step * k as i128
 }
 
-/// The numbers of a sequence.
+/// The number in 64 bits, where it has room in them.
+fn narrowed(number: i128) -> Option<i64>
+    ensures { IfSome result (λ word. word ≡ number) }
+{
+    if number < i128::from(i64::MIN) || number > i128::from(i64::MAX) {
+        None
+    } else {
+        Some(number as i64)
+    }
+}
+
+/// The numbers of a sequence. They take memory only where the first or the step has no room in 64 bits.
 fn sequence(alloc: Global, first: i128, step: i128, n: u64) -> Result<NumberList, ReadErr>
     requires first { unsigned_abs first < 10 ^ 20 }
     requires step { unsigned_abs step < 10 ^ 20 }
@@ -196,11 +207,35 @@ fn sequence(alloc: Global, first: i128, step: i128, n: u64) -> Result<NumberList
     ensures read { Gives (λ zs. zs) result (Ok (sequence first step n)) }
     ensures count { IfOk result (λ zs. length zs ≡ n) }
 {
+    match (narrowed(first), narrowed(step)) {
+        (Some(first), Some(step)) => run_of_numbers(alloc, first, step, n),
+        _ => each_number(alloc, first, step, n),
+    }
+}
+
+fn run_of_numbers(alloc: Global, first: i64, step: i64, n: u64) -> Result<NumberList, ReadErr>
+    requires { n ≤ 2 ^ 24 }
+    ensures read { Gives (λ zs. zs) result (Ok (sequence first step n)) }
+    ensures count { IfOk result (λ zs. length zs ≡ n) }
+{
+    let count = n as u32;
     let mut found = NumberList::new(alloc);
+    found.push_run(NumberRun { first, step, count })?;
+    Ok(found)
+}
+
+fn each_number(alloc: Global, first: i128, step: i128, n: u64) -> Result<NumberList, ReadErr>
+    requires first { unsigned_abs first < 10 ^ 20 }
+    requires step { unsigned_abs step < 10 ^ 20 }
+    requires count { n ≤ 2 ^ 24 }
+    ensures read { Gives (λ zs. zs) result (Ok (sequence first step n)) }
+    ensures count { IfOk result (λ zs. length zs ≡ n) }
+{
+    let mut found = Vec::with_capacity(alloc, n as usize)?;
     for k in 0..n {
         found.push(number_at(first, step, k))?;
     }
-    Ok(found)
+    Ok(NumberList::from_vec(found))
 }
 
 /// Whether the last number of a sequence may be one of it.
@@ -260,14 +295,14 @@ fn pattern_at(first: u64, step: u64, k: u64) -> u128
 
 /// The patterns of a sequence whose last is one of 64 bits.
 fn pattern_sequence(alloc: Global, first: u64, step: u64, n: u64) -> Result<BitList, ReadErr>
-    requires { last_pattern first step n < 2 ^ 64 }
+    requires count { n ≤ 2 ^ 24 }
+    requires last { last_pattern first step n < 2 ^ 64 }
     ensures read { Gives (λ ns. ns) result (Ok (pattern_sequence first step n)) }
     ensures count { IfOk result (λ ns. length ns ≡ n) }
 {
+    let count = n as u32;
     let mut found = BitList::new(alloc);
-    for k in 0..n {
-        found.push(pattern_at(first, step, k) as u64)?;
-    }
+    found.push_run(BitRun { first, step, count })?;
     Ok(found)
 }
 
@@ -278,6 +313,7 @@ fn patterns_between(
     n: u64,
     words: &mut Words<'_>,
 ) -> Result<BitList, ReadErr>
+    requires { n ≤ 2 ^ 24 }
     ensures read { Gives (λ ns. ns) result (patterns_between kind n words.old) }
     ensures count { IfOk result (λ ns. length ns ≡ n) }
 {

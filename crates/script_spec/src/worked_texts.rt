@@ -1,13 +1,13 @@
 //! What is printed, and the generated script.
 
-ghost use Rattle.std.specs.Prelude.{◌≡◌, ◌+◌, [], ◌∷◌, ◌++◌, length, codes, ◌-◌, option_map, Some, take};
+ghost use Rattle.std.specs.Prelude.{true, ◌≡◌, ◌+◌, [], ◌∷◌, ◌++◌, length, codes, ◌-◌, option_map, Some, take};
 ghost use Rattle.serial_spec.specs.HeaderGrammar.{header_len, field_fault};
 ghost use Rattle.serial_spec.specs.Examples.{header_a, ended, halves, no_align, thin_script, dataset_b, dim, var, moved, defined};
 ghost use Rattle.serial_spec.specs.Layout.{recsize, begins};
-ghost use Rattle.script_spec.specs.TextExamples.{with_layout, text_of, text_halves, script_read, thin_lines, thin_answers, thin_printed, offsets_of_record, offsets_with_room};
+ghost use Rattle.script_spec.specs.TextExamples.{with_layout, text_of, text_halves, script_read, thin_lines, thin_answers, thin_printed, offsets_of_record, offsets_with_room, script_summed, summed, text_summed};
 ghost use Rattle.nc_base.specs.declared.step.Mark.TheVariants.{Meet};
 ghost use Rattle.script_spec.specs.Texts.{text_line, watch_text, script_line, redef_line, layout_line, offsets_text, header_line};
-ghost use Rattle.script_spec.specs.Generator.{first_row, made_calls, made_header};
+ghost use Rattle.script_spec.specs.Generator.{first_row, has_counts, made_calls, made_header};
 ghost use Rattle.nc_base.specs.declared.header.NcType.TheVariants.{Float, Short, Int};
 ghost use Rattle.serial_spec.specs.Redefinition.{layout_fault};
 ghost use Rattle.nc_base.specs.declared.errors.HeaderErr.TheVariants.{Streaming};
@@ -46,6 +46,12 @@ pub fn worked_generator()
         record { name = codes "temp"; dims = 0 ∷ 1 ∷ 2 ∷ []; attrs = []; kind = Float; begin = 160 }
         ∷ record { name = codes "precip"; dims = 0 ∷ 1 ∷ 2 ∷ []; attrs = []; kind = Short; begin = 259360 } ∷ [] }
     ensures size { recsize made_header ≡ 388800 }
+{}
+
+/// The ten lines that sum a run up.
+pub fn worked_summary()
+    ensures counted { has_counts (script_read script_summed) ≡ true }
+    ensures text { summed 18446744073709551615 2 script_summed (Meet 0 ∷ Meet 1 ∷ Meet 2 ∷ Meet 3 ∷ []) ≡ text_summed }
 {}
 
 /// What is told of a layout, and of a header or a layout that is refused.

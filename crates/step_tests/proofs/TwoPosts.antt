@@ -10,7 +10,6 @@ use Rattle.serial_spec.specs.SharedByte.{Puts, bytes_of, holdings, IsOwnOnce}
 use Rattle.overlay_laws.specs.Entries.{IsOnce, HaveOwnKeys}
 use Rattle.overlay_laws.proofs.ShareLaws.{own_once}
 use Rattle.vara_extents.proofs.OnceLaws.{post_once}
-use Rattle.file_domains.proofs.CoverParts.{got_in}
 use Rattle.collective_round.specs.Rounds.{gets_in, puts_in, puts_of_batch, AreGets, ArePuts, IsGet, IsPut}
 
 abbrev lone : Post → Batch

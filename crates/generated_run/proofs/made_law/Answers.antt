@@ -1,5 +1,5 @@
 use Rattle.std.proofs.Common.{refl}
-use Rattle.generated_run.proofs.LawfulLaws.{made_lawful}
+use Rattle.generated_run.proofs.LawfulLaws.{made_counted, made_lawful}
 use Rattle.generated_run.proofs.MadeLaws.{made_laid}
 use Rattle.generated_run.proofs.made_law.Goals as goal
 
@@ -20,3 +20,6 @@ returns-clause-laid c = λ seed size. made_laid
 
 pub returns-clause-ranks : goal.returns-clause-ranks
 returns-clause-ranks c = λ seed size. refl
+
+pub returns-clause-counted : goal.returns-clause-counted
+returns-clause-counted c = λ seed size. made_counted seed size

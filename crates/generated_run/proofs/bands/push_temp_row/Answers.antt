@@ -1,15 +1,13 @@
-use Rattle.std.proofs.Common.{◌≡◌, arith}
-use Rattle.script_spec.specs.Generator.{temp_at}
-use Rattle.generated_run.proofs.BandLaws.{temps_of_row}
-use Rattle.generated_run.proofs.Ranges.{next_item}
+use Rattle.std.proofs.Common.{◌≡◌, List, ℕ, subst}
+use Rattle.std.specs.Prelude.{ℤ, OnOk}
+use Rattle.nc_base.specs.BitForms.{bits_of_runs}
+use Rattle.generated_run.proofs.TurnLaws.{temp_row_pushed}
 use Rattle.generated_run.proofs.bands.push_temp_row.Goals as goal
-
-pub loop-column-preserved : goal.loop-column-preserved
-loop-column-preserved c =
-    next_item (λ x. temp_at c.args.seed c.args.time c.args.row x) c.args.out.now.items c.loop-column.out.items c.push.new.self.items c.loop-column.column c.temp_at.result
-    c.loop-column.invariant c.temp_at.ensures c.in_ok-push.ensures.items
 
 pub returns : goal.returns
 returns c =
-    let whole : c.loop-column.column ≡ 360 = omega arith in
-    temps_of_row c.args.out.now.items c.loop-column.out.items c.args.seed c.args.time c.args.row c.loop-column.column whole c.loop-column.invariant
+    let first = c.first_temp-first in
+    let whole =
+    temp_row_pushed (bits_of_runs c.args.out.now.items) (bits_of_runs c.push_temps.new.out.items) c.args.seed c.args.time c.args.row first.result c.min-count.result
+    first.ensures.value c.min-count.ensures c.in_ok-push_temps.ensures in
+    subst (λ (now : List ℕ). OnOk c.push_temps-2.result (bits_of_runs c.push_temps-2.new.out.items ≡ now)) whole c.push_temps-2.ensures

@@ -5,14 +5,17 @@ use Rattle.nc_base.specs.declared.script.Script.{Script}
 use Rattle.nc_base.specs.declared.step.StepErr.TheVariants as fault
 use Rattle.ncmpi_cli.specs.declared.stop.Stop.{Stop}
 use Rattle.serial_spec.specs.Lawful.{is_lawful}
-use Rattle.script_spec.specs.Generator.{summary_text}
-use Rattle.ncmpi_cli.proofs.Made.{made_begins, made_begins_none, made_kept, made_ran, made_status, made_wants}
+use Rattle.script_spec.specs.Generator.{has_counts, summary_text}
+use Rattle.ncmpi_cli.proofs.Made.{made_begins, made_begins_none, made_counts, made_kept, made_ran, made_status, made_wants}
 use Rattle.ncmpi_cli.proofs.Telling.{rose_later}
 use Rattle.ncmpi_cli.proofs.generating.run_made.Goals as goal
 
 pub run_in_turn-end-requires-clause-lawful : goal.run_in_turn-end-requires-clause-lawful
 run_in_turn-end-requires-clause-lawful g c =
     λ _ _. subst (λ (s : Script). is_lawful s ≡ true) (sym c.in-Ok.ensures.script) (made_kept c.args.seed c.args.size c.requires.few).lawful
+
+pub sum_up-requires-clause-counted : goal.sum_up-requires-clause-counted
+sum_up-requires-clause-counted g c = subst (λ (s : Script). has_counts s ≡ true) (sym c.in-Ok.ensures.script) (made_counts c.args.seed c.args.size)
 
 pub returns-in-Err-clause-statuses : goal.returns-in-Err-clause-statuses
 returns-in-Err-clause-statuses g c = made_status c.in-Err.stop c.tell.result.status c.tell.ensures.status c.in-Err.ensures.only c.in-Err.ensures.laid

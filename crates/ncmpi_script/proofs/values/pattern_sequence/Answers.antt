@@ -1,11 +1,13 @@
-use Rattle.std.proofs.Common.{◌≡◌, arith, length, ap, ◌∙◌}
-use Rattle.std.proofs.lemmas.Grind.{common_steps}
-use Rattle.std.proofs.lemmas.List.FromFn.{length-map-range_with_len}
-use Rattle.ncmpi_script.proofs.RangeLaws.{map_range_push}
+use Rattle.std.proofs.Common.{◌∙◌, ap, length, sym}
+use Rattle.std.specs.Prelude.{ℕ, List, Ok, Result}
+use Rattle.nc_base.proofs.BitLaws.{length_bit_steps, no_wrap}
+use Rattle.nc_base.specs.declared.errors.ScriptKind.{ScriptKind}
 use Rattle.ncmpi_script.proofs.values.pattern_sequence.Goals as goal
 
-pub loop-k-preserved : goal.loop-k-preserved
-loop-k-preserved c = grind (arith, common_steps, map_range_push)
+pub returns-clause-read : goal.returns-clause-read
+returns-clause-read c =
+    let right : List ℕ → Result (List ℕ) ScriptKind = λ ns. Ok ns in
+    ap right (sym (no_wrap c.args.first c.args.step c.args.n c.requires.last) ∙ sym c.in_ok-push_run.ensures)
 
 pub returns-clause-count : goal.returns-clause-count
-returns-clause-count c = grind (arith, common_steps, length-map-range_with_len)
+returns-clause-count c = ap (λ (ns : List ℕ). length ns) c.in_ok-push_run.ensures ∙ length_bit_steps c.args.first c.args.step c.args.n

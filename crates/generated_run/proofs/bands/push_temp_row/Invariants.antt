@@ -1,7 +1,0 @@
-use Rattle.std.proofs.Common.{◌≡◌, ◌++◌, map}
-use Rattle.std.specs.List.{range_with_len}
-use Rattle.script_spec.specs.Generator.{temp_at}
-use Rattle.generated_run.proofs.bands.push_temp_row.Given as goal
-
-abbrev pub invariant-loop-column : goal.invariant-loop-column
-invariant-loop-column l = l.out.items ≡ l.initial.out.items ++ map (λ x. temp_at l.seed l.time l.row x) (range_with_len 0 l.column)

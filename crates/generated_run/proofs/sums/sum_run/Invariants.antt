@@ -1,0 +1,6 @@
+use Rattle.std.proofs.Common.{◌≡◌, fold, ◌+ℤ◌}
+use Rattle.nc_base.specs.NumberForms.{steps}
+use Rattle.generated_run.proofs.sums.sum_run.Given as goal
+
+abbrev pub invariant-loop-k : goal.invariant-loop-k
+invariant-loop-k l = l.total ≡ fold (λ a z. a +ℤ z) l.fn.start (steps l.run.first l.run.step l.k)

@@ -1,0 +1,5 @@
+//! Tests of generated_run.
+#![tactic(auto)]
+
+#[cfg(test)]
+mod tests;

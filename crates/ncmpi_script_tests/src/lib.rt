@@ -1,0 +1,5 @@
+//! Tests of ncmpi_script.
+#![tactic(auto)]
+
+#[cfg(test)]
+mod tests;

@@ -1,0 +1,72 @@
+// Texts of scripts, and what is read of them.
+mod faults;
+mod limits;
+mod values;
+mod whole;
+
+use nc_base::{Call, Script, ScriptKind};
+use ncmpi_script::read_script;
+use std::alloc::{AllocError, Global};
+use std::process::Abort;
+use std::test::Fail;
+
+// The fault of a text.
+fn fault(alloc: Global, text: &[u8]) -> Option<(u32, ScriptKind)> {
+    match read_script(alloc, text) {
+        Ok(_) => None,
+        Err(fault) => Some((fault.line, fault.kind)),
+    }
+}
+
+// Each text is refused on that line, for that cause.
+fn refused<R: Abort>(rt: &R, alloc: Global, table: &[(&str, u32, ScriptKind)]) {
+    for (text, line, kind) in table {
+        assert_eq!(rt;
+            fault(alloc, text.as_bytes()),
+            Some((*line, *kind)),
+            "{text}"
+        );
+    }
+}
+
+// Each text is read.
+fn read<R: Abort>(rt: &R, alloc: Global, table: &[&str]) {
+    for text in table {
+        assert_eq!(rt; fault(alloc, text.as_bytes()), None, "{text}");
+    }
+}
+
+// A line between others.
+fn of_lines(alloc: Global, before: &str, line: &str, after: &str) -> Result<Vec<u8>, AllocError> {
+    let mut text = Vec::from_slice(alloc, before.as_bytes())?;
+    text.extend_from_slice(line.as_bytes())?;
+    text.extend_from_slice(after.as_bytes())?;
+    Ok(text)
+}
+
+// Each line, which has this number behind these lines, is refused for that cause.
+fn line_refused<R: Abort>(
+    rt: &R,
+    alloc: Global,
+    before: &str,
+    number: u32,
+    table: &[(&str, ScriptKind)],
+) -> Result<(), Fail> {
+    for (line, kind) in table {
+        let text = of_lines(alloc, before, line, "\n")?;
+        assert_eq!(rt;
+            fault(alloc, text.as_slice()),
+            Some((number, *kind)),
+            "{line}"
+        );
+    }
+    Ok(())
+}
+
+// The calls of a rank.
+fn calls_of(script: &Script, rank: usize) -> &[Call] {
+    match script.calls.as_slice().get(rank) {
+        Some(own) => own.as_slice(),
+        None => &[],
+    }
+}
