@@ -18,6 +18,7 @@ use nc_base::{MarkList, ReadingTable};
 use nc_outside::{Disk, Gate, Sink, Source};
 use std::alloc::Global;
 use std::sync::Wait;
+use std::thread::Threads;
 
 /// How a run ended.
 #[derive(Debug, Drop)]
@@ -39,7 +40,7 @@ pub struct Outcome {
 /// is not given, and sums it up. A run is not watched yet: `--watch` is of no form.
 ///
 /// The ranks run in turn on one thread. Where the script adds to an existing dataset, that is redefined before the ranks begin.
-pub fn ncrun<R: Wait, S: Source, K: Sink, D: Disk, G: Gate>(
+pub fn ncrun<R: Threads + Wait + Sync, S: Source, K: Sink, D: Disk, G: Gate>(
     rt: &R,
     alloc: Global,
     words: &[&str],
