@@ -62,6 +62,8 @@ pub(crate) fn run_script<R: Threads + Wait + Sync, S: Source, K: Sink, D: Disk, 
     ensures unchanged { result.status ≡ 4 → D.held disk.new ≡ D.held disk.old }
     ensures silent { IsSilent result.status → out.new ≡ out.old }
     ensures steps { IfSome (S.left script.old) (λ text. BeginsFor text result.order) }
+    ensures unread { IsSomeAnd (S.left script.old) (λ text. is_some (refusal text) ≡ true) → result.order ≡ [] }
+    ensures unfit { IsSomeAnd (S.left script.old) (λ text. AsksFor IsWrong text (D.held disk.old)) → result.order ≡ [] }
     ensures no_step { IsBeforeRanks result.status → result.order ≡ [] }
     ensures no_reading { result.readings ≡ [] }
 

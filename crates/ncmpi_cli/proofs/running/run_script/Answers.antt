@@ -7,7 +7,7 @@ use Rattle.ncmpi_cli.specs.declared.stop.Stop.{Stop}
 use Rattle.script_spec.specs.Texts.{run_text}
 use Rattle.script_laws.proofs.LawfulLaws.{read_lawful}
 use Rattle.ncmpi_cli.proofs.Ran.{begins, begins_none, ran}
-use Rattle.ncmpi_cli.proofs.Telling.{dataset, not_wrong, refused, rose_later, wants_memory}
+use Rattle.ncmpi_cli.proofs.Telling.{dataset, not_unread, not_wrong, refused, rose_later, wants_memory}
 use Rattle.ncmpi_cli.proofs.running.run_script.Goals as goal
 
 pub returns-in-Err-clause-dataset : goal.returns-in-Err-clause-dataset
@@ -93,3 +93,32 @@ returns-in-Some-Disk-clause-steps g c =
 pub returns-clause-steps : goal.returns-clause-steps
 returns-clause-steps g c =
     begins (g.S.Source.left c.args.script.now) c.in-Ok.begun.script _ c.run_ranks-end.result.order c.in-Ok.ensures.asks c.tell-in-Some-Memory.ensures.order c.run_ranks-end.ensures.begun
+
+-- ---- where no rank began
+
+pub returns-in-Err-clause-unread : goal.returns-in-Err-clause-unread
+returns-in-Err-clause-unread g c = λ _. c.tell.ensures.order ∙ c.new.ensures
+
+pub returns-in-Err-clause-unfit : goal.returns-in-Err-clause-unfit
+returns-in-Err-clause-unfit g c = λ _. c.tell.ensures.order ∙ c.new.ensures
+
+pub returns-in-None-clause-unread : goal.returns-in-None-clause-unread
+returns-in-None-clause-unread g c = λ asks. not_unread (g.S.Source.left c.args.script.now) c.in-Ok.begun.script c.in-Ok.ensures.asks asks
+
+pub returns-in-None-clause-unfit : goal.returns-in-None-clause-unfit
+returns-in-None-clause-unfit g c = λ asks.
+    not_wrong (g.S.Source.left c.args.script.now) (g.D.Disk.held c.args.disk.now) c.in-Ok.begun.script c.in-Ok.ensures.asks c.in-Ok.ensures.ready.faultless asks
+
+pub returns-in-Some-Disk-clause-unread : goal.returns-in-Some-Disk-clause-unread
+returns-in-Some-Disk-clause-unread g c = λ asks. not_unread (g.S.Source.left c.args.script.now) c.in-Ok.begun.script c.in-Ok.ensures.asks asks
+
+pub returns-in-Some-Disk-clause-unfit : goal.returns-in-Some-Disk-clause-unfit
+returns-in-Some-Disk-clause-unfit g c = λ asks.
+    not_wrong (g.S.Source.left c.args.script.now) (g.D.Disk.held c.args.disk.now) c.in-Ok.begun.script c.in-Ok.ensures.asks c.in-Ok.ensures.ready.faultless asks
+
+pub returns-clause-unread : goal.returns-clause-unread
+returns-clause-unread g c = λ asks. not_unread (g.S.Source.left c.args.script.now) c.in-Ok.begun.script c.in-Ok.ensures.asks asks
+
+pub returns-clause-unfit : goal.returns-clause-unfit
+returns-clause-unfit g c = λ asks.
+    not_wrong (g.S.Source.left c.args.script.now) (g.D.Disk.held c.args.disk.now) c.in-Ok.begun.script c.in-Ok.ensures.asks c.in-Ok.ensures.ready.faultless asks

@@ -1,5 +1,5 @@
 // Runs of scripts that are made.
-use crate::ncrun;
+use ncmpi_cli::ncrun;
 use crate::tests::{PLAIN, blob, disk_of};
 use nc_base::IdList;
 use nc_outside::{Disk, MemSink, MemSource, OpenGate};
