@@ -13,6 +13,7 @@ use std::{env, io};
 
 // The statuses for a fault of the disk, and for want of memory.
 const DISK: u8 = 7;
+
 const MEMORY: u8 = 8;
 
 // Takes those of descriptors 0 to 2 that are closed, so that no dataset is opened as one of them: the text would be written into it. The

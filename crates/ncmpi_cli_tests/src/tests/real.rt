@@ -1,10 +1,9 @@
 // The real source, sink and disk.
 use nc_outside::{Disk, Sink, Source};
 use ncmpi_cli::{FileDisk, StdSink, StdSource};
-use std::fs;
-use std::io;
 use std::io::{ErrorKind, Read, Write};
 use std::test::*;
+use std::{fs, io};
 
 #[test]
 fn a_reader_is_a_source_and_a_writer_a_sink(rt: HostRuntime) -> Result<(), Fail> {
@@ -109,8 +108,14 @@ fn parts_share_the_file_that_was_opened(rt: HostRuntime) -> Result<(), Fail> {
     fs::write(&rt, "moved.nc", b"abcdEfghij")?;
     assert!(rt; disk.grow(alloc, 8).is_ok());
     assert_eq!(rt; disk.size(), 8);
-    assert_eq!(rt; fs::read(&rt, "moved.nc")?.as_slice(), b"abcdEfghij".as_slice());
-    assert_eq!(rt; fs::read(&rt, "opened.nc")?.as_slice(), b"another".as_slice());
+    assert_eq!(rt;
+        fs::read(&rt, "moved.nc")?.as_slice(),
+        b"abcdEfghij".as_slice()
+    );
+    assert_eq!(rt;
+        fs::read(&rt, "opened.nc")?.as_slice(),
+        b"another".as_slice()
+    );
     fs::remove_file(&rt, "opened.nc")?;
     fs::remove_file(&rt, "moved.nc")?;
     Ok(())

@@ -1,9 +1,9 @@
 // Datasets to which a script adds.
-use ncmpi_cli::ncrun;
 use crate::tests::files::{A_FRONT, AT_80, ONE_TO_FOUR};
 use crate::tests::{PLAIN, Run, Want, all_end, blob};
 use nc_base::{DiskCall, IdList};
 use nc_outside::{MemDisk, MemSink, MemSource, OpenGate};
+use ncmpi_cli::ncrun;
 use std::alloc::Global;
 use std::process::Abort;
 use std::sync::Wait;
