@@ -21,6 +21,24 @@ run() {
     same "$1: bytes" "$6" "$(data_of "$2" "$3")"
 }
 
+# either NAME FILE FROM SCRIPT ANSWERS DATA OTHER_ANSWERS OTHER_DATA: runs a script of which the independent calls of two ranks may come
+# in either order. The file's bytes are those of the order that is printed.
+either() {
+    given=$(printf '%s\n' "$4" | "$program" "$2")
+    same "$1: status" 0 $?
+    if [ "$(answers_of "$given")" = "$7" ]; then
+        same "$1: bytes in the other order" "$8" "$(data_of "$2" "$3")"
+    else
+        same "$1: answers" "$5" "$(answers_of "$given")"
+        same "$1: bytes" "$6" "$(data_of "$2" "$3")"
+    fi
+}
+
+# exchanged TEXT: the same with the two independent calls of its order exchanged
+exchanged() {
+    printf '%s' "$1" | sed '2s/ \(s[0-9]*\.[0-9]*\) \(s[0-9]*\.[0-9]*\)/ \2 \1/'
+}
+
 # The header of `dim x 4`, `var int v [x]` has 80 bytes, and v begins there.
 vector() {
     printf 'create 1\nranks %s\n%sdim x 4\nvar int v [x]\ndata\n%s\nend' "$1" "$2" "$3"
@@ -225,12 +243,8 @@ rank 0
 5 get_var_all ok x7FC00001 x00000000
 pending 0' 000000007fc0000100000000
 
-run 'independent puts by data sieving' sieved.nc 80 "$(vector 2 '' '0 begin_indep_data
-0 put_vars v [0] [2] [2] 1 3
-0 end_indep_data
-1 begin_indep_data
-1 put_vars v [1] [2] [2] 2 4
-1 end_indep_data')" 'ranks 2
+# The elements of the two ranks differ, so the bytes are the same in either order.
+text='ranks 2
 order m0 s0.1 s1.1 m1
 rank 0
 0 begin_indep_data ok
@@ -241,7 +255,70 @@ rank 1
 0 begin_indep_data ok
 1 put_vars ok
 2 end_indep_data ok
-pending 0' 00000001000000020000000300000004
+pending 0'
+either 'independent puts by data sieving' sieved.nc 80 "$(vector 2 '' '0 begin_indep_data
+0 put_vars v [0] [2] [2] 1 3
+0 end_indep_data
+1 begin_indep_data
+1 put_vars v [1] [2] [2] 2 4
+1 end_indep_data')" "$text" 00000001000000020000000300000004 "$(exchanged "$text")" 00000001000000020000000300000004
+
+# Two ranks put to one element and read its neighbour: what stands there is what the later one put, and each of them reads what was put
+# before.
+one_element='ranks 2
+order m0 s0.1 s1.1 m1 m2
+rank 0
+0 begin_indep_data ok
+1 put_var1 ok
+2 end_indep_data ok
+3 get_var1_all ok %s
+pending 0
+rank 1
+0 begin_indep_data ok
+1 put_var1 ok
+2 end_indep_data ok
+3 get_var1_all ok %s
+pending 0'
+# shellcheck disable=SC2059
+first=$(printf "$one_element" 6 6)
+# shellcheck disable=SC2059
+second=$(exchanged "$(printf "$one_element" 5 5)")
+for turn in 1 2 3 4 5 6 7 8; do
+    either "independent puts to one element ($turn)" element.nc 80 "$(vector 2 '' '0 begin_indep_data
+0 put_var1 v [0] 5
+0 end_indep_data
+0 get_var1_all v [0]
+1 begin_indep_data
+1 put_var1 v [0] 6
+1 end_indep_data
+1 get_var1_all v [0]')" "$first" 00000006000000000000000000000000 "$second" 00000005000000000000000000000000
+done
+
+# A get reads what was put before it in the order.
+put_and_get='ranks 2
+order m0 s0.1 s1.1 m1
+rank 0
+0 begin_indep_data ok
+1 put_var1 ok
+2 end_indep_data ok
+pending 0
+rank 1
+0 begin_indep_data ok
+1 get_var1 ok %s
+2 end_indep_data ok
+pending 0'
+# shellcheck disable=SC2059
+first=$(printf "$put_and_get" 5)
+# shellcheck disable=SC2059
+second=$(exchanged "$(printf "$put_and_get" 0)")
+for turn in 1 2 3 4 5 6 7 8; do
+    either "an independent put and a get ($turn)" element.nc 80 "$(vector 2 '' '0 begin_indep_data
+0 put_var1 v [0] 5
+0 end_indep_data
+1 begin_indep_data
+1 get_var1 v [0]
+1 end_indep_data')" "$first" 00000005000000000000000000000000 "$second" 00000005000000000000000000000000
+done
 
 run 'a value of 64 bits in CDF-5' wide.nc 128 'create 5
 ranks 1
@@ -274,16 +351,7 @@ rank 0
   5 NC_EINVAL_REQUEST
 pending 0' 00000009000000000000000000000000
 
-run 'each rank knows a record count of its own' counts.nc 80 "$(records 2 '0 begin_indep_data
-0 put_var1 s [2] 5
-0 inq_dimlen t
-0 end_indep_data
-0 inq_dimlen t
-1 begin_indep_data
-1 inq_dimlen t
-1 get_var1 s [2]
-1 end_indep_data
-1 inq_dimlen t')" 'ranks 2
+text='ranks 2
 order m0 s0.1 s1.2 m1
 rank 0
 0 begin_indep_data ok
@@ -298,7 +366,17 @@ rank 1
 2 get_var1 NC_EINVALCOORDS
 3 end_indep_data ok
 4 inq_dimlen ok 3
-pending 0' 000000000005
+pending 0'
+either 'each rank knows a record count of its own' counts.nc 80 "$(records 2 '0 begin_indep_data
+0 put_var1 s [2] 5
+0 inq_dimlen t
+0 end_indep_data
+0 inq_dimlen t
+1 begin_indep_data
+1 inq_dimlen t
+1 get_var1 s [2]
+1 end_indep_data
+1 inq_dimlen t')" "$text" 000000000005 "$(exchanged "$text")" 000000000005
 same 'a record count of 3' 00000003 "$(data_of counts.nc 4 | cut -c1-8)"
 
 run 'calls in the wrong mode' modes.nc 80 "$(vector 1 '' '0 put_var1 v [0] 1

@@ -7,7 +7,6 @@ use Rattle.nc_base.specs.declared.request.Call.{Call}
 use Rattle.nc_base.specs.declared.script.Script as script_type
 use Rattle.serial_spec.specs.Lawful.{agree, are_different, is_lawful, is_lawful_call, kind_numbers, most_calls, most_values, posted_ids, values_in_call, values_in_script}
 use Rattle.script_spec.specs.Generator.{has_counts, is_counted, made_header, made_script}
-use Rattle.script_laws.proofs.ListLaws.{both_true}
 use Rattle.generated_run.specs.Made.{calls_of_rank}
 use Rattle.generated_run.proofs.MadeLaws.{scripted, script_is}
 use Rattle.generated_run.proofs.Ranges.{numbered_pass, range_passes, sum_within}

@@ -16,7 +16,7 @@ use Rattle.nc_base.specs.declared.request.Values.TheVariants.{Bits, Numbers}
 use Rattle.serial_spec.specs.Limits.{most_elements}
 use Rattle.serial_spec.specs.Lawful.{are_different, are_sizes, is_given, is_lawful_call, is_number, kind_numbers, posted_ids, values_in_call}
 use Rattle.script_spec.specs.Generator.{block, first_row, is_counted, precip_at, temp_at}
-use Rattle.script_laws.proofs.ListLaws.{both_true, sum_cons}
+use Rattle.script_laws.proofs.ListLaws.{sum_cons}
 use Rattle.generated_run.specs.Made.{calls_of_rank, columns_of, precip_band, region_of_band, temp_band}
 use Rattle.generated_run.proofs.Ranges.{pieces_pass, range_differs, range_passes}
 
@@ -119,7 +119,7 @@ pub rank_counted : (seed size r : ℕ) → list_all is_counted (calls_of_rank se
 rank_counted seed size r =
     sym (ap (λ (calls : List Call). list_all is_counted calls) (whole_is seed size r))
     ∙ list_all-append is_counted (records_of seed r 0 size) (reads_of size r)
-    ∙ both_true _ _ (pieces_pass is_counted (λ k. record_of seed r k) 0 size (λ k b. counted_record seed r k)) (counted_reads size r)
+    ∙ and_from _ _ (pieces_pass is_counted (λ k. record_of seed r k) 0 size (λ k b. counted_record seed r k)) (counted_reads size r)
 
 ids_of : (seed r : ℕ) (others : List Call) (t n : ℕ) → posted_ids (records_of seed r t n ++ others) ≡ range_with_len (2 * t) (2 * n) ++ posted_ids others
 ids_of seed r others t zero = refl

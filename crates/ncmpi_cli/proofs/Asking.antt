@@ -30,8 +30,11 @@ wanting (Some (run name)) before now status order h e o = record {
   faulty = λ _ _ _. inr e;
   complete = λ _ _ _ _. inr e;
   steps = begins_none before.left order o;
+  unread = λ _. o;
+  unfit = λ _. o;
 }
 wanting (Some (offsets name)) before now status order h e o = record {
+  statuses = inr (inr (inr (inr e)));
   whole = λ s. absurd (omega (arith, e, s));
   cut = λ s. absurd (omega (arith, e, s));
   dataset = λ s. absurd (omega (arith, e, s));
@@ -42,9 +45,9 @@ wanting (Some (offsets name)) before now status order h e o = record {
   calls = λ s. absurd (not_read status e s);
 }
 wanting (Some (generate seed size name)) before now status order h e o = record {
+  statuses = inr (inr (inr e));
   well = λ s. absurd (omega (arith, e, s));
   cut = λ s. absurd (omega (arith, e, s));
-  laid = λ s. absurd (omega (arith, e, s));
   complete = λ _ _. inr e;
   steps = made_begins_none seed size order o;
 }

@@ -176,6 +176,13 @@ not_wrong (Some text) held script a n w =
     let same : w.0 ≡ script = same_script text w.0 script w.1 a in
     absurd (faultless-wrong script held n (subst (λ (z : Script). IsWrong z held) same w.2))
 
+-- a text that is read is not refused
+pub not_unread : {Q : Type 0} (left : Option (List ℕ)) (script : Script) → Asks left script
+    → IsSomeAnd left (λ text. is_some (refusal text) ≡ true) → Q
+not_unread None script a r = absurd r
+not_unread (Some text) script a r =
+    absurd (false-true (is_some (refusal text)) (ap (λ (o : Option (List ℕ)). is_some o) (not_refused text script a)) r)
+
 -- a count that rose later rose
 pub rose_later : (before middle now : ℕ) → before ≤ middle → Rose middle now → Rose before now
 rose_later before middle now h r = omega (arith, h, r)

@@ -9,9 +9,9 @@ use Rattle.nc_outside.specs.Cause.{Rose}
 use Rattle.nc_outside.specs.Told.{after}
 use Rattle.serial_spec.specs.DeviceCalls.{head_load}
 use Rattle.rank_meeting.specs.Begun.{HasBegun}
-use Rattle.ncmpi_cli.specs.Generated.{MadeFront, MadeWhole, script_made}
+use Rattle.ncmpi_cli.specs.Generated.{IsMadeStatus, MadeFront, MadeWhole, script_made}
 use Rattle.ncmpi_cli.specs.Headline.{AsksFor, BeginsFor, GivesLine, IsBadDataset, IsRight, IsWrong, RanToSink, RanWell, refusal, TellsHeader}
-use Rattle.ncmpi_cli.specs.Listing.{IsFaultyFront, IsOfReadHeader, IsSoundFront, ListsFront, ListsWhole}
+use Rattle.ncmpi_cli.specs.Listing.{IsFaultyFront, IsListStatus, IsOfReadHeader, IsSoundFront, ListsFront, ListsWhole}
 use Rattle.ncmpi_cli.specs.Words.{Asked, run, offsets, generate}
 
 pub record Seen : Type 0 where
@@ -57,10 +57,14 @@ pub record HasRun (before now : Seen) (status : ℕ) (order : List Mark) : Type 
       → ¬ (DiskFailed before now) → (status ≡ 0) ⊎ (status ≡ 8)
   -- the steps that were finished begin an order of the script
   pub steps : IfSome before.left (λ text. BeginsFor text order)
+  -- no rank began where the text is refused or its dataset is, whatever the status
+  pub unread : IsSomeAnd before.left (λ text. is_some (refusal text) ≡ true) → order ≡ []
+  pub unfit : IsSomeAnd before.left (λ text. AsksFor IsWrong text before.held) → order ≡ []
 
 -- ---- a list of offsets
 
 pub record HasListed (before now : Seen) (status : ℕ) (order : List Mark) : Type 0 where
+  pub statuses : IsListStatus status
   pub whole : status ≡ 0 → ListsWhole before.held before.given now.given
   pub cut : status ≡ 6 → ListsFront before.held before.given now.given
   pub dataset : status ≡ 4 → (line : List ℕ) × (TellsHeader before.held line × Gives before now line)
@@ -75,10 +79,10 @@ pub record HasListed (before now : Seen) (status : ℕ) (order : List Mark) : Ty
 -- ---- a run of a made script
 
 pub record HasGenerated (seed size : ℕ) (before now : Seen) (status : ℕ) (order : List Mark) : Type 0 where
+  -- it reads nothing, and nothing is wrong with the layout of its dataset
+  pub statuses : IsMadeStatus status
   pub well : status ≡ 0 → MadeWhole seed size before.held now.held before.calls now.calls before.given now.given order
   pub cut : status ≡ 6 → MadeFront seed size before.held now.held before.calls now.calls before.given now.given order
-  -- nothing is wrong with the layout of its dataset
-  pub laid : ¬ (status ≡ 4)
   pub complete : ¬ (SinkFailed before now) → ¬ (DiskFailed before now) → (status ≡ 0) ⊎ (status ≡ 8)
   -- the steps that were finished begin an order of the script
   pub steps : HasBegun (script_made seed size) order

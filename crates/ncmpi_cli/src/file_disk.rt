@@ -7,13 +7,16 @@ use std::fs::{File, OpenOptions};
 use std::io;
 use std::os::unix::fs::FileExt;
 use std::rt::Files;
+use std::sync::Arc;
 
-/// A file, or the bytes of one between two places. A part has an opening of its own of the same file.
+/// A file, or the bytes of one between two places. Its parts share the open file, so whatever the path names by then, they reach no
+/// other one.
+///
+/// A file that can't be opened for writing is opened for reading alone: the first growth and each write of it fails.
 #[derive(Drop)]
 pub struct FileDisk<R: Files<File = File> + Clone + Send + Drop> {
     rt: R,
-    name: String,
-    file: Option<File>,
+    file: Option<Arc<File>>,
     // The place of the first byte.
     from: u64,
     // The place behind the last byte.
@@ -23,7 +26,7 @@ pub struct FileDisk<R: Files<File = File> + Clone + Send + Drop> {
 
 impl<R: Files<File = File> + Clone + Send + Drop> FileDisk<R> {
     /// A disk that has not begun with a file.
-    pub fn new(rt: R, alloc: Global) -> Self
+    pub fn new(rt: R) -> Self
         ensures handle { result.rt ≡ rt }
         ensures from { result.from ≡ 0 }
         ensures end { result.end ≡ 0 }
@@ -31,7 +34,6 @@ impl<R: Files<File = File> + Clone + Send + Drop> FileDisk<R> {
     {
         FileDisk {
             rt,
-            name: String::new(alloc),
             file: None,
             from: 0,
             end: 0,
@@ -40,14 +42,18 @@ impl<R: Files<File = File> + Clone + Send + Drop> FileDisk<R> {
     }
 }
 
-// Opens a file for reading and writing. A fresh one is created, or cut to nothing.
+// Opens a file for reading and writing. A fresh one is created, or cut to nothing; one that can't be written is opened for reading.
 fn open<R: Files<File = File>>(rt: &R, name: &str, fresh: bool) -> io::Result<File> {
-    OpenOptions::new()
+    let opened = OpenOptions::new()
         .read(true)
         .write(true)
         .create(fresh)
         .truncate(fresh)
-        .open(rt, name)
+        .open(rt, name);
+    match opened {
+        Err(_) if !fresh => File::open(rt, name),
+        opened => opened,
+    }
 }
 
 // Opens a file, with its length.
@@ -57,6 +63,14 @@ fn open_whole<R: Files<File = File>>(rt: &R, name: &str, fresh: bool) -> io::Res
     let file = open(rt, name, fresh)?;
     let len = if fresh { 0 } else { file.metadata()?.len() };
     Ok((file, len))
+}
+
+// Makes a file so long, unless it is longer by now.
+fn lengthen(file: &File, size: u64) -> io::Result<()> {
+    if file.metadata()?.len() < size {
+        file.set_len(size)?;
+    }
+    Ok(())
 }
 
 impl<R: Files<File = File> + Clone + Send + Drop> Disk for FileDisk<R> {
@@ -75,10 +89,11 @@ impl<R: Files<File = File> + Clone + Send + Drop> Disk for FileDisk<R> {
     ghost sure = { λ _. ⊥ };
 
     fn start(&mut self, alloc: Global, name: &str, fresh: bool) -> Result<(), DiskErr> {
-        let name = String::from_str(alloc, name)?;
-        match open_whole(&self.rt, name.as_str(), fresh) {
+        match open_whole(&self.rt, name, fresh) {
             Ok((file, len)) => {
-                self.name = name;
+                let Ok(file) = Arc::new(alloc, file) else {
+                    return Err(DiskErr::Memory);
+                };
                 self.file = Some(file);
                 self.from = 0;
                 self.end = len;
@@ -97,7 +112,7 @@ impl<R: Files<File = File> + Clone + Send + Drop> Disk for FileDisk<R> {
 
     fn grow(&mut self, _alloc: Global, size: u64) -> Result<(), DiskErr> {
         let done = match &self.file {
-            Some(file) => file.set_len(size).is_ok(),
+            Some(file) => lengthen(file, size).is_ok(),
             None => false,
         };
         if done {
@@ -132,29 +147,21 @@ impl<R: Files<File = File> + Clone + Send + Drop> Disk for FileDisk<R> {
         Err(DiskErr::Failed)
     }
 
-    fn split_off(&mut self, alloc: Global, at: u64) -> Result<Self, DiskErr> {
-        let name = String::from_str(alloc, self.name.as_str())?;
-        let Ok(rt) = self.rt.clone() else {
-            return Err(DiskErr::Memory);
+    fn split_off(&mut self, _alloc: Global, at: u64) -> Result<Self, DiskErr> {
+        let rt = self.rt.clone()?;
+        let file = match &self.file {
+            Some(file) => Some(Arc::try_clone(file)?),
+            None => None,
         };
-        match open(&rt, name.as_str(), false) {
-            Ok(file) => {
-                let end = self.end;
-                self.end = at;
-                Ok(FileDisk {
-                    rt,
-                    name,
-                    file: Some(file),
-                    from: at,
-                    end,
-                    faults: 0,
-                })
-            }
-            Err(_) => {
-                self.faults = self.faults.saturating_add(1);
-                Err(DiskErr::Failed)
-            }
-        }
+        let end = self.end;
+        self.end = at;
+        Ok(FileDisk {
+            rt,
+            file,
+            from: at,
+            end,
+            faults: 0,
+        })
     }
 
     fn append(&mut self, other: Self) {

@@ -18,12 +18,13 @@ use crate::top::Outcome;
 use generated_run::{make_script, summary_text};
 use nc_base::{Header, MarkList, RunEnd, Script, StepErr};
 use nc_outside::{Disk, Gate, Sink};
-use rank_meeting::run_in_turn;
+use rank_meeting::run_ranks;
 use std::alloc::Global;
 use std::sync::Wait;
+use std::thread::Threads;
 
 /// Runs the script that the seed makes on the dataset, which is created, and gives the text that sums it up.
-pub(crate) fn run_made<R: Wait, K: Sink, D: Disk, G: Gate>(
+pub(crate) fn run_made<R: Threads + Wait + Sync, K: Sink, D: Disk, G: Gate>(
     rt: &R,
     alloc: Global,
     seed: u64,
@@ -51,7 +52,7 @@ pub(crate) fn run_made<R: Wait, K: Sink, D: Disk, G: Gate>(
         Err(stop) => return tell(alloc, out, stop, MarkList::new(alloc)),
     };
     let mut records = header.records;
-    let end = run_in_turn(rt, alloc, disk, &header, &mut records, &script, gate);
+    let end = run_ranks(rt, alloc, disk, &header, &mut records, &script, gate);
     match end.fault {
         None => {
             header.records = records;

@@ -23,6 +23,3 @@ pub use printed_text::{offsets_text, run_text};
 pub use std_sink::StdSink;
 pub use std_source::StdSource;
 pub use top::{Outcome, ncrun};
-
-#[cfg(test)]
-mod tests;

@@ -12,12 +12,13 @@ use crate::stop::Stop;
 use crate::top::Outcome;
 use nc_base::{MarkList, StepErr};
 use nc_outside::{Disk, Gate, Sink, Source};
-use rank_meeting::run_in_turn;
+use rank_meeting::run_ranks;
 use std::alloc::Global;
 use std::sync::Wait;
+use std::thread::Threads;
 
 /// Runs the script that the source has on the dataset, and gives its text to the sink.
-pub(crate) fn run_script<R: Wait, S: Source, K: Sink, D: Disk, G: Gate>(
+pub(crate) fn run_script<R: Threads + Wait + Sync, S: Source, K: Sink, D: Disk, G: Gate>(
     rt: &R,
     alloc: Global,
     dataset: &str,
@@ -61,6 +62,8 @@ pub(crate) fn run_script<R: Wait, S: Source, K: Sink, D: Disk, G: Gate>(
     ensures unchanged { result.status ≡ 4 → D.held disk.new ≡ D.held disk.old }
     ensures silent { IsSilent result.status → out.new ≡ out.old }
     ensures steps { IfSome (S.left script.old) (λ text. BeginsFor text result.order) }
+    ensures unread { IsSomeAnd (S.left script.old) (λ text. is_some (refusal text) ≡ true) → result.order ≡ [] }
+    ensures unfit { IsSomeAnd (S.left script.old) (λ text. AsksFor IsWrong text (D.held disk.old)) → result.order ≡ [] }
     ensures no_step { IsBeforeRanks result.status → result.order ≡ [] }
     ensures no_reading { result.readings ≡ [] }
 
@@ -72,7 +75,7 @@ pub(crate) fn run_script<R: Wait, S: Source, K: Sink, D: Disk, G: Gate>(
         Err(stop) => return tell(alloc, out, stop, MarkList::new(alloc)),
     };
     let mut records = header.records;
-    let end = run_in_turn(rt, alloc, disk, &header, &mut records, &script, gate);
+    let end = run_ranks(rt, alloc, disk, &header, &mut records, &script, gate);
     match end.fault {
         None => {
             header.records = records;

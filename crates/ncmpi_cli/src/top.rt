@@ -18,11 +18,12 @@ use nc_base::{MarkList, ReadingTable};
 use nc_outside::{Disk, Gate, Sink, Source};
 use std::alloc::Global;
 use std::sync::Wait;
+use std::thread::Threads;
 
 /// How a run ended.
 #[derive(Debug, Drop)]
 pub struct Outcome {
-    /// 0 where all was done and the text given whole; 2 for words of no form; 3 for a script that has a fault; 4 for a
+    /// 0 where the script was run, whatever its calls were answered, and the text given whole; 2 for words of no form; 3 for a script that has a fault; 4 for a
     /// dataset whose layout, header or redefinition has a fault; 5, 6 and 7 for a fault of the source, the sink and the disk;
     /// 8 for want of memory.
     pub status: u8,
@@ -38,8 +39,10 @@ pub struct Outcome {
 /// lists where its variables lie. `--generate SEED [--size N] DATASET` runs a script that is made by the seed, of N records, 12 where N
 /// is not given, and sums it up. A run is not watched yet: `--watch` is of no form.
 ///
-/// The ranks run in turn on one thread. Where the script adds to an existing dataset, that is redefined before the ranks begin.
-pub fn ncrun<R: Wait, S: Source, K: Sink, D: Disk, G: Gate>(
+/// Each rank runs on a thread of its own, so that independent calls of several ranks may come in any order; under the hint `threads off`,
+/// and where a thread can't be had, the ranks run in turn on this thread. Where the script adds to an existing dataset, that is redefined
+/// before the ranks begin.
+pub fn ncrun<R: Threads + Wait + Sync, S: Source, K: Sink, D: Disk, G: Gate>(
     rt: &R,
     alloc: Global,
     words: &[&str],

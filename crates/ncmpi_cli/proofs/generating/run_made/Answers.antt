@@ -10,8 +10,8 @@ use Rattle.ncmpi_cli.proofs.Made.{made_begins, made_begins_none, made_counts, ma
 use Rattle.ncmpi_cli.proofs.Telling.{rose_later}
 use Rattle.ncmpi_cli.proofs.generating.run_made.Goals as goal
 
-pub run_in_turn-end-requires-clause-lawful : goal.run_in_turn-end-requires-clause-lawful
-run_in_turn-end-requires-clause-lawful g c =
+pub run_ranks-end-requires-clause-lawful : goal.run_ranks-end-requires-clause-lawful
+run_ranks-end-requires-clause-lawful g c =
     λ _ _. subst (λ (s : Script). is_lawful s ≡ true) (sym c.in-Ok.ensures.script) (made_kept c.args.seed c.args.size c.requires.few).lawful
 
 pub sum_up-requires-clause-counted : goal.sum_up-requires-clause-counted
@@ -28,13 +28,13 @@ returns-in-Err-clause-complete g c = λ sink disk.
 pub returns-in-None-clause-well : goal.returns-in-None-clause-well
 returns-in-None-clause-well g c = λ ended.
     let script : Script = c.in-Ok.begun.script in
-    let end : RunEnd = c.run_in_turn-end.result in
-    let run = c.run_in_turn-end.ensures in
-    let text : List ℕ = summary_text c.args.seed c.args.size script (record c.in-Ok.begun.header { records = c.run_in_turn-end.new.records }) end.order end.answers in
+    let end : RunEnd = c.run_ranks-end.result in
+    let run = c.run_ranks-end.ensures in
+    let text : List ℕ = summary_text c.args.seed c.args.size script (record c.in-Ok.begun.header { records = c.run_ranks-end.new.records }) end.order end.answers in
     record {
       text = text;
       ran = made_ran c.args.seed c.args.size script c.in-Ok.begun.header _ (g.D.Disk.held c.begin_made.new.disk) _ _ (g.D.Disk.calls c.begin_made.new.disk) _ c.sum_up.result.order end.order
-          c.run_in_turn-end.new.records end.answers end.pending text c.in-Ok.ensures.script c.in-Ok.ensures.ready c.sum_up.ensures.order
+          c.run_ranks-end.new.records end.answers end.pending text c.in-Ok.ensures.script c.in-Ok.ensures.ready c.sum_up.ensures.order
           (run.legal c.in-None.is) (run.bytes c.in-None.is) (run.records c.in-None.is) (run.answers c.in-None.is) (run.pending c.in-None.is) (run.calls c.in-None.is) refl;
       given = c.sum_up.ensures.whole ended;
     }
@@ -42,28 +42,28 @@ returns-in-None-clause-well g c = λ ended.
 pub returns-in-None-clause-cut : goal.returns-in-None-clause-cut
 returns-in-None-clause-cut g c = λ ended.
     let script : Script = c.in-Ok.begun.script in
-    let end : RunEnd = c.run_in_turn-end.result in
-    let run = c.run_in_turn-end.ensures in
-    let text : List ℕ = summary_text c.args.seed c.args.size script (record c.in-Ok.begun.header { records = c.run_in_turn-end.new.records }) end.order end.answers in
+    let end : RunEnd = c.run_ranks-end.result in
+    let run = c.run_ranks-end.ensures in
+    let text : List ℕ = summary_text c.args.seed c.args.size script (record c.in-Ok.begun.header { records = c.run_ranks-end.new.records }) end.order end.answers in
     let given = c.sum_up.ensures.front ended in
     record {
       text = text;
       count = given.0;
       ran = made_ran c.args.seed c.args.size script c.in-Ok.begun.header _ (g.D.Disk.held c.begin_made.new.disk) _ _ (g.D.Disk.calls c.begin_made.new.disk) _ c.sum_up.result.order end.order
-          c.run_in_turn-end.new.records end.answers end.pending text c.in-Ok.ensures.script c.in-Ok.ensures.ready c.sum_up.ensures.order
+          c.run_ranks-end.new.records end.answers end.pending text c.in-Ok.ensures.script c.in-Ok.ensures.ready c.sum_up.ensures.order
           (run.legal c.in-None.is) (run.bytes c.in-None.is) (run.records c.in-None.is) (run.answers c.in-None.is) (run.pending c.in-None.is) (run.calls c.in-None.is) refl;
       given = given.1;
     }
 
 pub returns-in-Some-Disk-clause-disk : goal.returns-in-Some-Disk-clause-disk
 returns-in-Some-Disk-clause-disk g c = λ _.
-    let failed : c.run_in_turn-end.result.fault ≡ Some fault.Disk = search rules in
-    rose_later _ (g.D.Disk.faults c.begin_made.new.disk) _ c.in-Ok.ensures.later (c.run_in_turn-end.ensures.fault failed)
+    let failed : c.run_ranks-end.result.fault ≡ Some fault.Disk = search rules in
+    rose_later _ (g.D.Disk.faults c.begin_made.new.disk) _ c.in-Ok.ensures.later (c.run_ranks-end.ensures.fault failed)
 
 pub returns-in-Some-Disk-clause-complete : goal.returns-in-Some-Disk-clause-complete
 returns-in-Some-Disk-clause-complete g c = λ sink disk.
-    let failed : c.run_in_turn-end.result.fault ≡ Some fault.Disk = search rules in
-    absurd (disk (rose_later _ (g.D.Disk.faults c.begin_made.new.disk) _ c.in-Ok.ensures.later (c.run_in_turn-end.ensures.fault failed)))
+    let failed : c.run_ranks-end.result.fault ≡ Some fault.Disk = search rules in
+    absurd (disk (rose_later _ (g.D.Disk.faults c.begin_made.new.disk) _ c.in-Ok.ensures.later (c.run_ranks-end.ensures.fault failed)))
 
 -- ---- the steps so far
 
@@ -72,12 +72,12 @@ returns-in-Err-clause-steps g c = made_begins_none c.args.seed c.args.size c.tel
 
 pub returns-in-None-clause-steps : goal.returns-in-None-clause-steps
 returns-in-None-clause-steps g c =
-    made_begins c.args.seed c.args.size c.in-Ok.begun.script _ c.run_in_turn-end.result.order c.in-Ok.ensures.script c.sum_up.ensures.order c.run_in_turn-end.ensures.begun
+    made_begins c.args.seed c.args.size c.in-Ok.begun.script _ c.run_ranks-end.result.order c.in-Ok.ensures.script c.sum_up.ensures.order c.run_ranks-end.ensures.begun
 
 pub returns-in-Some-Disk-clause-steps : goal.returns-in-Some-Disk-clause-steps
 returns-in-Some-Disk-clause-steps g c =
-    made_begins c.args.seed c.args.size c.in-Ok.begun.script _ c.run_in_turn-end.result.order c.in-Ok.ensures.script c.tell-in-Some-Disk.ensures.order c.run_in_turn-end.ensures.begun
+    made_begins c.args.seed c.args.size c.in-Ok.begun.script _ c.run_ranks-end.result.order c.in-Ok.ensures.script c.tell-in-Some-Disk.ensures.order c.run_ranks-end.ensures.begun
 
 pub returns-clause-steps : goal.returns-clause-steps
 returns-clause-steps g c =
-    made_begins c.args.seed c.args.size c.in-Ok.begun.script _ c.run_in_turn-end.result.order c.in-Ok.ensures.script c.tell-in-Some-Memory.ensures.order c.run_in_turn-end.ensures.begun
+    made_begins c.args.seed c.args.size c.in-Ok.begun.script _ c.run_ranks-end.result.order c.in-Ok.ensures.script c.tell-in-Some-Memory.ensures.order c.run_ranks-end.ensures.begun

@@ -7,7 +7,7 @@ use Rattle.ncmpi_cli.specs.declared.stop.Stop.{Stop}
 use Rattle.script_spec.specs.Texts.{run_text}
 use Rattle.script_laws.proofs.LawfulLaws.{read_lawful}
 use Rattle.ncmpi_cli.proofs.Ran.{begins, begins_none, ran}
-use Rattle.ncmpi_cli.proofs.Telling.{dataset, not_wrong, refused, rose_later, wants_memory}
+use Rattle.ncmpi_cli.proofs.Telling.{dataset, not_unread, not_wrong, refused, rose_later, wants_memory}
 use Rattle.ncmpi_cli.proofs.running.run_script.Goals as goal
 
 pub returns-in-Err-clause-dataset : goal.returns-in-Err-clause-dataset
@@ -26,19 +26,19 @@ returns-in-Err-clause-complete g c = λ asks source sink disk.
     (λ x. disk (c.in-Err.ensures.disk (ap (λ (s : Stop). Err s) x)))
     c.in-Err.ensures.refused c.in-Err.ensures.bad asks
 
-pub run_in_turn-end-requires-clause-lawful : goal.run_in_turn-end-requires-clause-lawful
-run_in_turn-end-requires-clause-lawful g c = λ _ _. read_lawful c.in-Ok.ensures.read.0 c.in-Ok.begun.script c.in-Ok.ensures.read.1
+pub run_ranks-end-requires-clause-lawful : goal.run_ranks-end-requires-clause-lawful
+run_ranks-end-requires-clause-lawful g c = λ _ _. read_lawful c.in-Ok.ensures.read.0 c.in-Ok.begun.script c.in-Ok.ensures.read.1
 
 pub returns-in-None-clause-ok : goal.returns-in-None-clause-ok
 returns-in-None-clause-ok g c = λ ended.
     let script : Script = c.in-Ok.begun.script in
-    let end : RunEnd = c.run_in_turn-end.result in
-    let run = c.run_in_turn-end.ensures in
-    let text : List ℕ = run_text script (record c.in-Ok.begun.header { records = c.run_in_turn-end.new.records }) end.order end.answers end.pending in
+    let end : RunEnd = c.run_ranks-end.result in
+    let run = c.run_ranks-end.ensures in
+    let text : List ℕ = run_text script (record c.in-Ok.begun.header { records = c.run_ranks-end.new.records }) end.order end.answers end.pending in
     record {
       text = text;
       ran = ran script c.in-Ok.begun.header _ _ _ (g.D.Disk.held c.begin.new.disk) _ _ (g.D.Disk.calls c.begin.new.disk) _ c.finish.result.order end.order
-          c.run_in_turn-end.new.records end.answers end.pending text c.in-Ok.ensures.asks c.in-Ok.ensures.ready c.in-Ok.ensures.taken c.finish.ensures.order
+          c.run_ranks-end.new.records end.answers end.pending text c.in-Ok.ensures.asks c.in-Ok.ensures.ready c.in-Ok.ensures.taken c.finish.ensures.order
           (run.legal c.in-None.is) (run.bytes c.in-None.is) (run.records c.in-None.is) (run.answers c.in-None.is) (run.pending c.in-None.is) (run.calls c.in-None.is) refl;
       given = c.finish.ensures.whole ended;
     }
@@ -50,23 +50,23 @@ returns-in-None-clause-faulty g c = λ asks source disk.
 pub returns-in-None-clause-front : goal.returns-in-None-clause-front
 returns-in-None-clause-front g c = λ ended.
     let script : Script = c.in-Ok.begun.script in
-    let end : RunEnd = c.run_in_turn-end.result in
-    let run = c.run_in_turn-end.ensures in
-    let text : List ℕ = run_text script (record c.in-Ok.begun.header { records = c.run_in_turn-end.new.records }) end.order end.answers end.pending in
+    let end : RunEnd = c.run_ranks-end.result in
+    let run = c.run_ranks-end.ensures in
+    let text : List ℕ = run_text script (record c.in-Ok.begun.header { records = c.run_ranks-end.new.records }) end.order end.answers end.pending in
     let given = c.finish.ensures.front ended in
     record {
       text = text;
       count = given.0;
       ran = ran script c.in-Ok.begun.header _ _ _ (g.D.Disk.held c.begin.new.disk) _ _ (g.D.Disk.calls c.begin.new.disk) _ c.finish.result.order end.order
-          c.run_in_turn-end.new.records end.answers end.pending text c.in-Ok.ensures.asks c.in-Ok.ensures.ready c.in-Ok.ensures.taken c.finish.ensures.order
+          c.run_ranks-end.new.records end.answers end.pending text c.in-Ok.ensures.asks c.in-Ok.ensures.ready c.in-Ok.ensures.taken c.finish.ensures.order
           (run.legal c.in-None.is) (run.bytes c.in-None.is) (run.records c.in-None.is) (run.answers c.in-None.is) (run.pending c.in-None.is) (run.calls c.in-None.is) refl;
       given = given.1;
     }
 
 pub returns-in-Some-Disk-clause-disk : goal.returns-in-Some-Disk-clause-disk
 returns-in-Some-Disk-clause-disk g c = λ _.
-    let failed : c.run_in_turn-end.result.fault ≡ Some fault.Disk = search rules in
-    rose_later _ (g.D.Disk.faults c.begin.new.disk) _ c.in-Ok.ensures.later (c.run_in_turn-end.ensures.fault failed)
+    let failed : c.run_ranks-end.result.fault ≡ Some fault.Disk = search rules in
+    rose_later _ (g.D.Disk.faults c.begin.new.disk) _ c.in-Ok.ensures.later (c.run_ranks-end.ensures.fault failed)
 
 pub returns-in-Some-Disk-clause-faulty : goal.returns-in-Some-Disk-clause-faulty
 returns-in-Some-Disk-clause-faulty g c = λ asks source disk.
@@ -74,8 +74,8 @@ returns-in-Some-Disk-clause-faulty g c = λ asks source disk.
 
 pub returns-in-Some-Disk-clause-complete : goal.returns-in-Some-Disk-clause-complete
 returns-in-Some-Disk-clause-complete g c = λ asks source sink disk.
-    let failed : c.run_in_turn-end.result.fault ≡ Some fault.Disk = search rules in
-    absurd (disk (rose_later _ (g.D.Disk.faults c.begin.new.disk) _ c.in-Ok.ensures.later (c.run_in_turn-end.ensures.fault failed)))
+    let failed : c.run_ranks-end.result.fault ≡ Some fault.Disk = search rules in
+    absurd (disk (rose_later _ (g.D.Disk.faults c.begin.new.disk) _ c.in-Ok.ensures.later (c.run_ranks-end.ensures.fault failed)))
 
 -- ---- the steps so far
 
@@ -84,12 +84,41 @@ returns-in-Err-clause-steps g c = begins_none (g.S.Source.left c.args.script.now
 
 pub returns-in-None-clause-steps : goal.returns-in-None-clause-steps
 returns-in-None-clause-steps g c =
-    begins (g.S.Source.left c.args.script.now) c.in-Ok.begun.script _ c.run_in_turn-end.result.order c.in-Ok.ensures.asks c.finish.ensures.order c.run_in_turn-end.ensures.begun
+    begins (g.S.Source.left c.args.script.now) c.in-Ok.begun.script _ c.run_ranks-end.result.order c.in-Ok.ensures.asks c.finish.ensures.order c.run_ranks-end.ensures.begun
 
 pub returns-in-Some-Disk-clause-steps : goal.returns-in-Some-Disk-clause-steps
 returns-in-Some-Disk-clause-steps g c =
-    begins (g.S.Source.left c.args.script.now) c.in-Ok.begun.script _ c.run_in_turn-end.result.order c.in-Ok.ensures.asks c.tell-in-Some-Disk.ensures.order c.run_in_turn-end.ensures.begun
+    begins (g.S.Source.left c.args.script.now) c.in-Ok.begun.script _ c.run_ranks-end.result.order c.in-Ok.ensures.asks c.tell-in-Some-Disk.ensures.order c.run_ranks-end.ensures.begun
 
 pub returns-clause-steps : goal.returns-clause-steps
 returns-clause-steps g c =
-    begins (g.S.Source.left c.args.script.now) c.in-Ok.begun.script _ c.run_in_turn-end.result.order c.in-Ok.ensures.asks c.tell-in-Some-Memory.ensures.order c.run_in_turn-end.ensures.begun
+    begins (g.S.Source.left c.args.script.now) c.in-Ok.begun.script _ c.run_ranks-end.result.order c.in-Ok.ensures.asks c.tell-in-Some-Memory.ensures.order c.run_ranks-end.ensures.begun
+
+-- ---- where no rank began
+
+pub returns-in-Err-clause-unread : goal.returns-in-Err-clause-unread
+returns-in-Err-clause-unread g c = λ _. c.tell.ensures.order ∙ c.new.ensures
+
+pub returns-in-Err-clause-unfit : goal.returns-in-Err-clause-unfit
+returns-in-Err-clause-unfit g c = λ _. c.tell.ensures.order ∙ c.new.ensures
+
+pub returns-in-None-clause-unread : goal.returns-in-None-clause-unread
+returns-in-None-clause-unread g c = λ asks. not_unread (g.S.Source.left c.args.script.now) c.in-Ok.begun.script c.in-Ok.ensures.asks asks
+
+pub returns-in-None-clause-unfit : goal.returns-in-None-clause-unfit
+returns-in-None-clause-unfit g c = λ asks.
+    not_wrong (g.S.Source.left c.args.script.now) (g.D.Disk.held c.args.disk.now) c.in-Ok.begun.script c.in-Ok.ensures.asks c.in-Ok.ensures.ready.faultless asks
+
+pub returns-in-Some-Disk-clause-unread : goal.returns-in-Some-Disk-clause-unread
+returns-in-Some-Disk-clause-unread g c = λ asks. not_unread (g.S.Source.left c.args.script.now) c.in-Ok.begun.script c.in-Ok.ensures.asks asks
+
+pub returns-in-Some-Disk-clause-unfit : goal.returns-in-Some-Disk-clause-unfit
+returns-in-Some-Disk-clause-unfit g c = λ asks.
+    not_wrong (g.S.Source.left c.args.script.now) (g.D.Disk.held c.args.disk.now) c.in-Ok.begun.script c.in-Ok.ensures.asks c.in-Ok.ensures.ready.faultless asks
+
+pub returns-clause-unread : goal.returns-clause-unread
+returns-clause-unread g c = λ asks. not_unread (g.S.Source.left c.args.script.now) c.in-Ok.begun.script c.in-Ok.ensures.asks asks
+
+pub returns-clause-unfit : goal.returns-clause-unfit
+returns-clause-unfit g c = λ asks.
+    not_wrong (g.S.Source.left c.args.script.now) (g.D.Disk.held c.args.disk.now) c.in-Ok.begun.script c.in-Ok.ensures.asks c.in-Ok.ensures.ready.faultless asks

@@ -19,6 +19,8 @@ returns-in-Ok-Some-Run-clause-ends g c =
       faulty = run_is.faulty;
       complete = run_is.complete;
       steps = run_is.steps;
+      unread = run_is.unread;
+      unfit = run_is.unfit;
     })
 
 pub returns-in-Ok-Some-Offsets-clause-ends : goal.returns-in-Ok-Some-Offsets-clause-ends
@@ -27,6 +29,7 @@ returns-in-Ok-Some-Offsets-clause-ends g c =
     let is : c.in-Ok-Some-Offsets.field-0 ≡ Some (form.Offsets c.in-Ok-Some-Offsets.dataset) = search rules in
     ends (form_of (texts c.args.words.now)) (Some (offsets c.in-Ok-Some-Offsets.dataset.now)) _ _ _ _ (sym (ap (option_map asked_of) is) ∙ c.in-Ok-Some-Offsets.ensures.asked)
     (record {
+      statuses = list.statuses;
       whole = list.ok;
       cut = list.cut;
       dataset = list.dataset;

@@ -1,8 +1,8 @@
 // Runs of scripts that are made.
-use crate::ncrun;
 use crate::tests::{PLAIN, blob, disk_of};
 use nc_base::IdList;
 use nc_outside::{Disk, MemSink, MemSource, OpenGate};
+use ncmpi_cli::ncrun;
 use std::test::*;
 
 const SUMMARY: &[u8] = b"\

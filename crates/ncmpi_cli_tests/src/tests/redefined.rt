@@ -1,13 +1,14 @@
 // Datasets to which a script adds.
-use crate::ncrun;
 use crate::tests::files::{A_FRONT, AT_80, ONE_TO_FOUR};
 use crate::tests::{PLAIN, Run, Want, all_end, blob};
 use nc_base::{DiskCall, IdList};
 use nc_outside::{MemDisk, MemSink, MemSource, OpenGate};
+use ncmpi_cli::ncrun;
 use std::alloc::Global;
 use std::process::Abort;
 use std::sync::Wait;
 use std::test::*;
+use std::thread::Threads;
 
 // `dim x 4`, `var int v [x]` with the values 1 2 3 4.
 const A_FILE: &[&[u8]] = &[A_FRONT, AT_80, ONE_TO_FOUR];
@@ -106,7 +107,7 @@ fn a_script_adds_to_a_dataset(rt: HostRuntime) -> Result<(), Fail> {
     all_end(&rt, rt.alloc(), &ADDED)
 }
 
-fn has_calls<R: Abort + Wait>(
+fn has_calls<R: Abort + Threads + Wait + Sync>(
     rt: &R,
     alloc: Global,
     script: &[u8],

@@ -1,0 +1,5 @@
+//! Tests of ncmpi_cli.
+#![tactic(auto)]
+
+#[cfg(test)]
+mod tests;

@@ -1,0 +1,213 @@
+// Ranks on threads of their own.
+use crate::tests::files::{A_FRONT, AT_80, ONE_TO_FOUR};
+use crate::tests::{OLD, blob};
+use nc_base::{Blob, DiskCall, IdList};
+use nc_outside::{DiskCallList, Gate, MeetGate, MemDisk, MemSink, MemSource, OpenGate, Point};
+use ncmpi_cli::ncrun;
+use std::alloc::{AllocError, Global};
+use std::process::Abort;
+use std::sync::Wait;
+use std::test::*;
+use std::thread::Threads;
+
+// How often a thread that is held looks whether the other point was reached.
+const TURNS: u64 = 10_000_000;
+
+// What a run gives and leaves.
+#[derive(Drop)]
+struct Ran {
+    text: Blob,
+    file: Blob,
+    calls: Option<DiskCallList>,
+}
+
+fn run<R: Abort + Threads + Wait + Sync, G: Gate>(
+    rt: &R,
+    alloc: Global,
+    script: &[&[u8]],
+    gate: &G,
+) -> Result<Ran, Fail> {
+    let mut source = MemSource::new(blob(alloc, script)?, IdList::new(alloc));
+    let mut disk = MemDisk::logged(alloc, blob(alloc, OLD)?)?;
+    let mut sink = MemSink::new(alloc, 1 << 16, IdList::new(alloc))?;
+    let ended = ncrun(
+        rt,
+        alloc,
+        &["d.nc"],
+        &mut source,
+        &mut disk,
+        &mut sink,
+        gate,
+    );
+    assert_eq!(rt; ended.status, 0);
+    Ok(Ran {
+        text: blob(alloc, &[sink.bytes()])?,
+        file: disk.bytes(alloc)?,
+        calls: disk.calls(alloc)?,
+    })
+}
+
+const TWO_RANKS: &[u8] = b"create 1\nranks 2\n";
+
+const VECTOR: &[u8] = b"dim x 4\nvar int v [x]\ndata\n";
+
+const HALVES: &[u8] = b"0 put_vara_all v [0] [2] 1 2\n1 put_vara_all v [2] [2] 3 4\nend\n";
+
+// Two ranks put the halves of a vector, while whoever passes the first point waits for the second.
+fn meet<R: Abort + Threads + Wait + Sync>(
+    rt: &R,
+    alloc: Global,
+    first: Point,
+    second: Point,
+) -> Result<(), Fail> {
+    let gate = MeetGate::new(first, second, TURNS);
+    let ran = run(rt, alloc, &[TWO_RANKS, VECTOR, HALVES], &gate)?;
+    assert!(rt; gate.met());
+    assert_eq!(rt; ran.file, blob(alloc, &[A_FRONT, AT_80, ONE_TO_FOUR])?);
+    Ok(())
+}
+
+#[test]
+fn the_second_rank_steps_while_the_first_waits(rt: HostRuntime) -> Result<(), Fail> {
+    meet(
+        &rt,
+        rt.alloc(),
+        Point::RankStep(0, 0),
+        Point::RankStep(1, 0),
+    )
+}
+
+#[test]
+fn the_first_rank_steps_while_the_second_waits(rt: HostRuntime) -> Result<(), Fail> {
+    meet(
+        &rt,
+        rt.alloc(),
+        Point::RankStep(1, 0),
+        Point::RankStep(0, 0),
+    )
+}
+
+#[test]
+fn the_owner_takes_while_a_rank_waits(rt: HostRuntime) -> Result<(), Fail> {
+    meet(&rt, rt.alloc(), Point::RankStep(0, 0), Point::Arrival(0))
+}
+
+#[test]
+fn a_rank_steps_while_the_owner_waits(rt: HostRuntime) -> Result<(), Fail> {
+    meet(&rt, rt.alloc(), Point::Arrival(0), Point::RankStep(0, 0))
+}
+
+const ON: &[u8] = b"hint threads on\n";
+
+const OFF: &[u8] = b"hint threads off\n";
+
+// What stands in a script before its hints, and behind them.
+const SCRIPTS: [[&[u8]; 2]; 3] = [
+    [
+        TWO_RANKS,
+        b"dim x 4\nvar int v [x]\ndata\n0 put_vara_all v [0] [2] 1 2\n1 put_vara_all v [2] [2] 3 4\nend\n",
+    ],
+    [
+        b"create 1\nranks 1\n",
+        b"dim t unlimited\nvar short s [t]\ndata\n0 put_var1_all s [3] 7\nend\n",
+    ],
+    [
+        b"create 1\nranks 1\n",
+        b"dim y 2\ndim x 3\nvar int w [y,x]\ndata\n0 put_varm_all w [0,0] [2,3] [1,1] [1,2] 1 2 3 4 5 6\n\
+        0 get_varm_all w [0,0] [2,3] [1,1] [1,2]\n0 get_var_all w\nend\n",
+    ],
+];
+
+#[test]
+fn threads_change_no_byte(rt: HostRuntime) -> Result<(), Fail> {
+    let alloc = rt.alloc();
+    for [head, rest] in &SCRIPTS {
+        let on = run(&rt, alloc, &[head, ON, rest], &OpenGate)?;
+        let off = run(&rt, alloc, &[head, OFF, rest], &OpenGate)?;
+        assert_eq!(rt; on.text, off.text);
+        assert_eq!(rt; on.file, off.file);
+    }
+    Ok(())
+}
+
+// Each of two ranks puts every other element by itself, through a window that it reads first.
+const ALONE: &[u8] = b"\
+    0 begin_indep_data\n0 put_vars v [0] [2] [2] 1 3\n0 end_indep_data\n\
+    1 begin_indep_data\n1 put_vars v [1] [2] [2] 2 4\n1 end_indep_data\nend\n";
+
+const ORDER_ZERO: &[u8] = b"ranks 2\norder m0 s0.1 s1.1 m1\n";
+
+const ORDER_ONE: &[u8] = b"ranks 2\norder m0 s1.1 s0.1 m1\n";
+
+const ALONE_ANSWERS: &[u8] = b"\
+    rank 0\n0 begin_indep_data ok\n1 put_vars ok\n2 end_indep_data ok\npending 0\n\
+    rank 1\n0 begin_indep_data ok\n1 put_vars ok\n2 end_indep_data ok\npending 0\n\
+    // file format: CDF-1\nfile header:\n  size = 80 bytes\n  extent = 80 bytes\n\
+    dimensions:\n  x = 4\nfixed-size variables:\n  int v(x):\n    start file offset = 80\n    \
+    end file offset = 96\n    size in bytes = 16\nrecord variables:\n";
+
+// The dataset is created, and then this byte's window and the other one's are read and written.
+fn has_calls<R: Abort>(rt: &R, ran: &Ran, first: u64, second: u64) {
+    let wanted = [
+        DiskCall::Grow(96),
+        DiskCall::Store(0, 80),
+        DiskCall::Load(first, 12),
+        DiskCall::Store(first, 12),
+        DiskCall::Load(second, 12),
+        DiskCall::Store(second, 12),
+    ];
+    let Some(calls) = &ran.calls else {
+        panic!(rt; "calls");
+    };
+    assert_eq!(rt; calls.as_slice(), wanted.as_slice());
+}
+
+#[test]
+fn the_order_that_is_printed_is_that_of_the_file(rt: HostRuntime) -> Result<(), Fail> {
+    let alloc = rt.alloc();
+    let zero = blob(alloc, &[ORDER_ZERO, ALONE_ANSWERS])?;
+    let off = run(&rt, alloc, &[TWO_RANKS, OFF, VECTOR, ALONE], &OpenGate)?;
+    assert_eq!(rt; off.text, zero);
+    has_calls(&rt, &off, 80, 84);
+    let on = run(&rt, alloc, &[TWO_RANKS, ON, VECTOR, ALONE], &OpenGate)?;
+    if on.text == zero {
+        has_calls(&rt, &on, 80, 84);
+    } else {
+        assert_eq!(rt; on.text, blob(alloc, &[ORDER_ONE, ALONE_ANSWERS])?);
+        has_calls(&rt, &on, 84, 80);
+    }
+    assert_eq!(rt; on.file, blob(alloc, &[A_FRONT, AT_80, ONE_TO_FOUR])?);
+    assert_eq!(rt; on.file, off.file);
+    Ok(())
+}
+
+// Each of 64 ranks puts its number at its place.
+fn calls_of_all(alloc: Global) -> Result<Blob, AllocError> {
+    let mut lines = Vec::new(alloc);
+    for rank in 0..64u32 {
+        let line = format!(in alloc; "{rank} put_var1_all v [{rank}] {rank}\n")?;
+        lines.extend_from_slice(line.as_bytes())?;
+    }
+    Ok(Blob::from_vec(lines))
+}
+
+// The bytes of an array, from 80 on: the 32-bit numbers from 0 to 63.
+fn numbers(alloc: Global) -> Result<Vec<u8>, AllocError> {
+    let mut bytes = Vec::new(alloc);
+    for rank in 0..64u32 {
+        bytes.extend_from_slice(&rank.to_be_bytes())?;
+    }
+    Ok(bytes)
+}
+
+#[test]
+fn sixty_four_ranks_put_in_one_call(rt: HostRuntime) -> Result<(), Fail> {
+    let alloc = rt.alloc();
+    let calls = calls_of_all(alloc)?;
+    let head = b"create 1\nranks 64\ndim x 64\nvar int v [x]\ndata\n";
+    let ran = run(&rt, alloc, &[head, calls.as_slice(), b"end\n"], &OpenGate)?;
+    let file = ran.file.into_vec();
+    let data = file.get(80..).ok_or("data")?;
+    assert_eq!(rt; data, numbers(alloc)?.as_slice());
+    Ok(())
+}

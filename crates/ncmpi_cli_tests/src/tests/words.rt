@@ -1,0 +1,63 @@
+// What the words of the command line ask for, by the status with which each form ends.
+use crate::tests::{OLD, PLAIN, blob};
+use nc_base::IdList;
+use nc_outside::{MemDisk, MemSink, MemSource, OpenGate};
+use ncmpi_cli::ncrun;
+use std::test::*;
+
+// Words of no form.
+const NONE: u8 = 2;
+// A run of a script: the one here has no head.
+const RUN: u8 = 3;
+// A list of offsets: the dataset here has no header.
+const OFFSETS: u8 = 4;
+// A run of a made script.
+const MADE: u8 = 0;
+
+const FORMS: [(&[&str], u8); 15] = [
+    (&["d.nc"], RUN),
+    (&["--", "-d.nc"], RUN),
+    (&["--offsets", "d.nc"], OFFSETS),
+    (&["d.nc", "--offsets"], OFFSETS),
+    (
+        &[
+            "--generate=18446744073709551615",
+            "--size",
+            "00000000000000000001",
+            "d.nc",
+        ],
+        MADE,
+    ),
+    (&[], NONE),
+    (&[""], NONE),
+    (&["-d.nc"], NONE),
+    (&["d.nc", "e.nc"], NONE),
+    (&["--size", "3", "d.nc"], NONE),
+    (&["--offsets", "--generate", "0", "d.nc"], NONE),
+    (&["--generate", "0", "--size", "65", "d.nc"], NONE),
+    (&["--generate", "18446744073709551616", "d.nc"], NONE),
+    (&["--help"], NONE),
+    // Watching is not built.
+    (&["--watch", "1", "d.nc"], NONE),
+];
+
+#[test]
+fn words_are_of_a_form_or_of_none(rt: HostRuntime) -> Result<(), Fail> {
+    let alloc = rt.alloc();
+    for (words, status) in &FORMS {
+        let mut source = MemSource::new(blob(alloc, &[PLAIN.script])?, IdList::new(alloc));
+        let mut disk = MemDisk::new(alloc, blob(alloc, OLD)?)?;
+        let mut sink = MemSink::new(alloc, 4096, IdList::new(alloc))?;
+        let ended = ncrun(
+            &rt,
+            alloc,
+            words,
+            &mut source,
+            &mut disk,
+            &mut sink,
+            &OpenGate,
+        );
+        assert_eq!(rt; ended.status, *status);
+    }
+    Ok(())
+}

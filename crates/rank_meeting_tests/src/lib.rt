@@ -1,0 +1,5 @@
+//! Tests of rank_meeting.
+#![tactic(auto)]
+
+#[cfg(test)]
+mod tests;

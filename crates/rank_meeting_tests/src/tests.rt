@@ -1,0 +1,4 @@
+// One side of a run by itself, which a test drives on one thread.
+mod attending;
+mod scripts;
+mod serving;
