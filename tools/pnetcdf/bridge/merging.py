@@ -7,6 +7,7 @@ from .definitions import Definitions, NoWord
 from .traces import text_of
 
 ACCESS = re.compile(r"(put|get|iput|iget|bput)_(var1|vara|vars|varm|varn|var)(?:_(?!all$)[a-z]+)?(_all)?")
+POST = re.compile(r"(iput|bput|iget)_")
 LISTS = {"var1": ["start"], "var": [], "vara": ["start", "count"], "vars": ["start", "count", "stride"],
          "varm": ["start", "count", "stride", "imap"]}
 MEETINGS = {"begin_indep_data", "end_indep_data", "sync_numrecs", "fill_var_rec"}
@@ -310,13 +311,20 @@ class Merged:
         meetings = [c for c in self.ranks[rank].calls if c.meets]
         return meetings[number] if number < len(meetings) else None
 
+    def meeting_number(self, rank, call):
+        """The number of a rank's meeting among its meetings."""
+        return sum(c.meets for c in self.ranks[rank].calls[:call.number])
+
+    def post(self, rank, number):
+        """The call by which a rank posted the request of that id."""
+        return next(c for c in self.ranks[rank].calls if POST.match(c.words) and int(c.words.split()[1]) == number)
+
     def notes(self):
         """What of the program the script leaves out."""
         return ["rank %d: %s; the script ends before it" % (r.number, r.stopped) for r in self.ranks if r.stopped]
 
     def script(self, extra=()):
-        lines = ["# %s: %s by %d ranks of a traced program" % (self.opening.path, {"create": "created", "open": "opened"}[
-            self.opening.how], len(self.ranks))]
+        lines = ["# %s by %d ranks of a traced program" % (self.opening.shown, len(self.ranks))]
         lines += ["# " + note for note in self.notes()]
         lines += self.head[:-1] + list(extra) + self.head[-1:]
         lines += ["%d %s" % (r.number, c.words) for r in self.ranks for c in r.calls]
@@ -326,9 +334,8 @@ class Merged:
         """The posts of a rank that nothing in the script completes, by id."""
         waiting = {}
         for call in rank.calls:
-            word = call.words.split()
-            if word[0].startswith(("iput", "bput", "iget")) and call.lines[0].split()[2] == "ok":
-                waiting[int(word[1])] = call
+            if POST.match(call.words) and call.lines[0].split()[2] == "ok":
+                waiting[int(call.words.split()[1])] = call
             for number in call.requests:
                 waiting.pop(number, None)
         return waiting

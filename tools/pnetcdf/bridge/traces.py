@@ -1,5 +1,6 @@
 """Trace files of ranks, as the calls of each rank on each opening of a dataset."""
 import json
+import os
 from dataclasses import dataclass, field
 
 
@@ -37,6 +38,12 @@ class Opening:
     @property
     def how(self):
         return self.first().call
+
+    @property
+    def shown(self):
+        """The path, from the folder of the user where it lies below it, and whether it was created or opened."""
+        path = os.path.relpath(self.path)
+        return "%s, %s" % (self.path if path.startswith("..") else path, {"create": "created", "open": "opened"}[self.how])
 
     def first(self):
         return next(events[0] for events in self.events if events)

@@ -8,7 +8,7 @@ int main(int argc, char **argv)
 {
     int rank, ranks, ncid, dims[2], field, count, requests[ROWS + 1];
     double row[COLUMNS];
-    long long number;
+    long long numbers[ROWS];
     begin(&argc, &argv, &rank, &ranks);
     MPI_Info info;
     MPI_Info_create(&info);
@@ -28,11 +28,12 @@ int main(int argc, char **argv)
             row[x] = rank + y / 2.0 + x / 16.0;
         OK(ncmpi_bput_vara(ncid, field, start, box, row, COLUMNS, MPI_DOUBLE, &requests[y]));
     }
-    MPI_Offset at[1] = {rank * ROWS};
-    number = 1000000000000 + rank;
-    OK(ncmpi_bput_var1_longlong(ncid, count, at, &number, &requests[ROWS]));
+    MPI_Offset at[1] = {rank * ROWS}, rows[1] = {ROWS};
+    for (int y = 0; y < ROWS; y++)
+        numbers[y] = 1000000000000 * (rank + 1) + y;
+    OK(ncmpi_bput_var1_longlong(ncid, count, at, numbers, &requests[ROWS]));
     OK(ncmpi_cancel(ncid, 1, &requests[ROWS], NULL));
-    OK(ncmpi_put_var1_longlong_all(ncid, count, at, &number));
+    OK(ncmpi_put_vara_longlong_all(ncid, count, at, rows, numbers));
     OK(ncmpi_wait_all(ncid, NC_REQ_ALL, NULL, NULL));
     OK(ncmpi_buffer_detach(ncid));
     MPI_Info_free(&info);

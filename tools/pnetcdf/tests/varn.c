@@ -1,5 +1,5 @@
 /* Each rank posts the squares of a chessboard that are its own, many boxes in one request, and one wait of all ranks writes
-   them; then each posts a get of a row and one of many boxes. */
+   them; then each posts a get of a row, one of two squares of another row, and waits for both. */
 #include "test.h"
 
 enum { SIDE = 8 };
@@ -26,7 +26,7 @@ int main(int argc, char **argv)
     }
     OK(ncmpi_iput_varn_int(ncid, board, parts, start, count, values, &requests[0]));
     OK(ncmpi_wait_all(ncid, 1, requests, statuses));
-    MPI_Offset from[2] = {rank, 0}, whole[2] = {1, SIDE};
+    MPI_Offset from[2] = {rank % (SIDE / 2) + SIDE / 2, 0}, whole[2] = {1, SIDE};
     OK(ncmpi_iget_vara_int(ncid, board, from, whole, row, &requests[0]));
     OK(ncmpi_iget_varn_int(ncid, board, 2, start, count, values, &requests[1]));
     OK(ncmpi_wait_all(ncid, 2, requests, statuses));
