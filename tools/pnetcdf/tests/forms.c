@@ -40,7 +40,6 @@ static void independent(int ncid, int rank, int var, int real)
     OK(ncmpi_wait(ncid, NC_REQ_ALL, NULL, NULL));
     OK(ncmpi_sync_numrecs(ncid));
     OK(ncmpi_end_indep_data(ncid));
-    OK(ncmpi_end_indep_data(ncid));
     OK(ncmpi_put_vara_float(ncid, real, start, count, values));
 }
 
