@@ -57,10 +57,6 @@ static bool all_fit(const External *type, const Values *values)
 const External *memory_type(const External *own, const Values *values)
 {
     const External *wide = external_of_type(NC_INT64), *widest = external_of_type(NC_UINT64);
-    if (values->kind == CHARACTERS)
-        return external_of_type(NC_CHAR);
-    if (own->type == NC_CHAR)
-        return external_of_type(NC_INT);
     if (all_fit(own, values))
         return own;
     return all_fit(wide, values) ? wide : all_fit(widest, values) ? widest : NULL;

@@ -15,7 +15,7 @@ typedef struct {
     Verb verb;
     bool all;
     Form form;
-    int varid, dims, parts;
+    int varid, dims, parts, record;     /* record: the place of the record dimension, -1 for none */
     const External *type, *memory_type;
     MPI_Offset start[DIMS], count[DIMS], stride[DIMS], imap[DIMS], length[DIMS];
     MPI_Offset **starts, **counts;
@@ -88,7 +88,8 @@ static bool read_verb(const char *word, Access *access)
 static void find_variable(int ncid, const char *name, Access *access)
 {
     nc_type type = NC_INT;
-    int ids[DIMS];
+    int ids[DIMS], unlimited = -1;
+    access->record = -1;
     if (ncmpi_inq_varid(ncid, name, &access->varid) != NC_NOERR) {
         ncmpi_inq_nvars(ncid, &access->varid);
         access->dims = -1;
@@ -96,8 +97,12 @@ static void find_variable(int ncid, const char *name, Access *access)
         ncmpi_inq_vartype(ncid, access->varid, &type);
         ncmpi_inq_varndims(ncid, access->varid, &access->dims);
         ncmpi_inq_vardimid(ncid, access->varid, ids);
-        for (int i = 0; i < access->dims; i++)
+        ncmpi_inq_unlimdim(ncid, &unlimited);
+        for (int i = 0; i < access->dims; i++) {
             ncmpi_inq_dimlen(ncid, ids[i], &access->length[i]);
+            if (ids[i] == unlimited)
+                access->record = i;
+        }
     }
     access->type = access->memory_type = external_of_type(type);
 }
@@ -168,7 +173,45 @@ static void measure(Access *access)
         access->refusal = "ETOOLARGE";
 }
 
-/* Puts the values into memory; what PnetCDF doesn't test is refused here. */
+static bool box_inside(const Access *access, const MPI_Offset *start, const MPI_Offset *count, const MPI_Offset *stride)
+{
+    for (int i = 0; i < access->dims; i++) {
+        MPI_Offset n = count == NULL ? 1 : count[i], step = stride == NULL ? 1 : stride[i];
+        if (step < 1)
+            return false;
+        if (n > 0 && i != access->record
+            && (start[i] >= access->length[i] || n - 1 > (access->length[i] - 1 - start[i]) / step))
+            return false;
+    }
+    return true;
+}
+
+/* Whether a put's region lies in its variable; else PnetCDF is to say what is wrong with it. */
+static bool lies_inside(const Access *access)
+{
+    for (int k = 0; k < access->parts; k++)
+        if (!box_inside(access, access->starts[k], access->counts[k], NULL))
+            return false;
+    if (access->dims < 0 || access->form == VAR || access->form == VARN)
+        return access->dims >= 0;
+    return box_inside(access, access->start, access->form == VAR1 ? NULL : access->count,
+                      access->form >= VARS ? access->stride : NULL);
+}
+
+/* What is wrong with a put's values that PnetCDF can't be asked: its flexible functions end the program at text for numbers,
+   turn floats into numbers, and read as many values as the region has. */
+static const char *values_refused(const Access *access, const Values *values)
+{
+    bool bits = access->type->type == NC_FLOAT || access->type->type == NC_DOUBLE;
+    if (access->elements == 0 || !lies_inside(access))
+        return NULL;
+    if ((access->type->type == NC_CHAR) != (values->kind == CHARACTERS))
+        return "NC_ECHAR";
+    if (values->kind != CHARACTERS && bits != (values->kind == PATTERNS))
+        return "NC_EBADTYPE";
+    return values->count < (size_t)access->reach ? "EMAPSIZE" : NULL;
+}
+
 static void take_values(const Line *line, int at, Access *access)
 {
     bool put = access->verb != GET && access->verb != IGET;
@@ -177,19 +220,13 @@ static void take_values(const Line *line, int at, Access *access)
         values = read_values(line, at);
     else if (at < line->count)
         stop(line->number, "word too many");
-    bool bits = access->type->type == NC_FLOAT || access->type->type == NC_DOUBLE;
     size_t length = access->refusal == NULL ? (size_t)access->reach : 0;
-    if (put) {
+    if (put && access->refusal == NULL)
+        access->refusal = values_refused(access, &values);
+    if (put && values.kind != CHARACTERS)
         access->memory_type = memory_type(access->type, &values);
-        bool text = values.kind == CHARACTERS || access->type->type == NC_CHAR;
-        if (access->memory_type == NULL)
-            stop(line->number, "a number that no type of C holds");
-        if (access->refusal == NULL && !text && access->elements > 0 && bits != (values.kind == PATTERNS))
-            access->refusal = "NC_EBADTYPE";
-        if (access->refusal == NULL && access->elements > 0 && values.count < length
-            && (access->type->type == NC_CHAR) == (values.kind == CHARACTERS))
-            access->refusal = "EMAPSIZE";
-    }
+    if (access->memory_type == NULL)
+        stop(line->number, "a number that no type of C holds");
     access->memory = room(length > values.count ? length : values.count, 8);
     for (size_t i = 0; i < values.count; i++)
         store_value(access->memory_type, access->memory, i, values.of[i]);
