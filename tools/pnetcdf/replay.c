@@ -2,6 +2,7 @@
    prints what each call answered as ncrun prints it. */
 #include "replay.h"
 
+#include <limits.h>
 #include <stdio.h>
 #include <stdlib.h>
 #include <string.h>
@@ -137,6 +138,8 @@ static Text gathered(const Text *own, int rank, int of, int tag)
 {
     Text text = *own;
     long long length = (long long)own->length;
+    if (length > INT_MAX)
+        stop(0, "a rank's text is too long for a message");
     if (rank == of && rank != 0) {
         MPI_Send(&length, 1, MPI_LONG_LONG_INT, 0, tag, MPI_COMM_WORLD);
         MPI_Send(own->bytes, (int)length, MPI_CHAR, 0, tag, MPI_COMM_WORLD);

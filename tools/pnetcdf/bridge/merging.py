@@ -324,7 +324,7 @@ class Merged:
         return ["rank %d: %s; the script ends before it" % (r.number, r.stopped) for r in self.ranks if r.stopped]
 
     def script(self, extra=()):
-        lines = ["# %s by %d ranks of a traced program" % (self.opening.shown, len(self.ranks))]
+        lines = ["# %s of a traced program" % self.opening.shown]
         lines += ["# " + note for note in self.notes()]
         lines += self.head[:-1] + list(extra) + self.head[-1:]
         lines += ["%d %s" % (r.number, c.words) for r in self.ranks for c in r.calls]

@@ -41,9 +41,10 @@ class Opening:
 
     @property
     def shown(self):
-        """The path, from the folder of the user where it lies below it, and whether it was created or opened."""
-        path = os.path.relpath(self.path)
-        return "%s, %s" % (self.path if path.startswith("..") else path, {"create": "created", "open": "opened"}[self.how])
+        """The path, from the folder of the user where it lies below it, whether it was created or opened, and by how many ranks."""
+        path, count = os.path.relpath(self.path), len(self.world)
+        how = "created" if self.how == "create" else "opened"
+        return "%s, %s by %d rank%s" % (self.path if path.startswith("..") else path, how, count, "" if count == 1 else "s")
 
     def first(self):
         return next(events[0] for events in self.events if events)
