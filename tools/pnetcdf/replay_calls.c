@@ -5,7 +5,7 @@
 #include <stdlib.h>
 #include <string.h>
 
-enum { DIMS = 32, PARTS = 1024, ELEMENTS = 1 << 20, NO_REQUEST = 0x7ffffff0 };
+enum { DIMS = 32, PARTS = 1024, ELEMENTS = 1 << 20, NO_REQUEST = 0x7ffffff0, NOT_TOLD = 1 };
 
 typedef enum { VAR1, VAR, VARA, VARS, VARM, VARN } Form;
 typedef enum { PUT, GET, IPUT, IGET, BPUT } Verb;
@@ -343,34 +343,42 @@ static int choose(const Line *line, Post ***chosen)
     return count;
 }
 
+/* The line of one id; a status that PnetCDF left as it was is -. */
 static void item(Run *run, long long id, Post *post, int status, bool filled)
 {
     bool null = post != NULL && post->request == NC_REQ_NULL;
-    add(&run->answers, "\n  %lld %s", id, null ? "null" : code_name(status));
+    add(&run->answers, "\n  %lld %s", id, null ? "null" : status == NOT_TOLD ? "-" : code_name(status));
     if (filled && post != NULL && post->get && post->open && status == NC_NOERR)
         add_values(&run->answers, post->access.type, post->access.memory, (size_t)post->access.reach);
 }
 
+static int wait_for(int ncid, const Line *line, int count, int *requests, int *statuses)
+{
+    if (is_word(line, 1, "cancel"))
+        return ncmpi_cancel(ncid, count, requests, statuses);
+    if (is_word(line, 1, "wait_all"))
+        return ncmpi_wait_all(ncid, count, requests, statuses);
+    return ncmpi_wait(ncid, count, requests, statuses);
+}
+
 static void do_wait(Run *run, const Line *line)
 {
-    bool cancel = is_word(line, 1, "cancel"), every = is_word(line, 2, "all");
+    bool every = is_word(line, 2, "all");
     Post **chosen;
     int count = choose(line, &chosen);
     int *requests = room((size_t)count, sizeof(int)), *statuses = room((size_t)count, sizeof(int));
     for (int i = 0; i < count; i++) {
         Post *post = chosen[i];
         requests[i] = post == NULL || (!post->open && post->request != NC_REQ_NULL) ? NO_REQUEST : post->request;
+        statuses[i] = NOT_TOLD;
     }
-    int code = cancel ? ncmpi_cancel(run->ncid, count, requests, statuses)
-        : is_word(line, 1, "wait_all") ? ncmpi_wait_all(run->ncid, count, requests, statuses)
-        : ncmpi_wait(run->ncid, count, requests, statuses);
-    bool refused = code == NC_EINDEP || code == NC_ENOTINDEP;
-    add(&run->answers, " %s", code_name(refused || code != NC_EINVAL_REQUEST ? code : NC_NOERR));
-    for (int i = 0; i < count && !refused; i++) {
-        Post *post = chosen[i];
-        item(run, every ? post->id : size_of_word(line, 2 + i), post, statuses[i], !cancel);
-        if (post != NULL)
-            post->open = false;
+    int code = wait_for(run->ncid, line, count, requests, statuses);
+    bool undone = code == NC_EINVAL_REQUEST;
+    add(&run->answers, " %s", code_name(code));
+    for (int i = 0; i < count && code != NC_EINDEP && code != NC_ENOTINDEP; i++) {
+        item(run, every ? chosen[i]->id : size_of_word(line, 2 + i), chosen[i], statuses[i], !undone && !is_word(line, 1, "cancel"));
+        if (chosen[i] != NULL && !undone)
+            chosen[i]->open = false;
     }
     free(chosen);
     free(requests);

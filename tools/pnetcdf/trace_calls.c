@@ -295,6 +295,18 @@ int ncmpi_inq_dim(int ncid, int dimid, char *name, MPI_Offset *lenp)
     return end_call(code);
 }
 
+/* The statuses of a wait, and the names of those that are codes. */
+static void statuses_fields(int count, const int *statuses)
+{
+    char field[32];
+    ids_field("statuses", count, statuses);
+    for (int i = 0; i < count; i++) {
+        snprintf(field, sizeof field, "status%d", statuses[i]);
+        if (statuses[i] != NC_NOERR)
+            text_field(field, ncmpi_strerrno(statuses[i]));
+    }
+}
+
 static int waiting(const char *name, int ncid, int count, int *requests, int *statuses,
                    int (*real)(int, int, int *, int *))
 {
@@ -309,7 +321,8 @@ static int waiting(const char *name, int ncid, int count, int *requests, int *st
     ids_field("requests", count, count > 0 ? named : NULL);
     call_made();
     int code = real(ncid, count, requests, statuses);
-    ids_field("statuses", count, count > 0 ? statuses : NULL);
+    if (count > 0 && statuses != NULL)
+        statuses_fields(count, statuses);
     bool filled = strcmp(name, "cancel") != 0 && (code == NC_NOERR || code == NC_ERANGE);
     tell_posted_gets(ncid, count, named, filled);
     free(named);

@@ -81,7 +81,8 @@ class Diagnosis:
             done = running.run(self.program, self.merged.script(SERIAL), before, folder)
             text = running.read_text(done.text)
         self.tell_codes(text)
-        self.tell_file(done.file)
+        if not any(r.stopped for r in self.merged.ranks):
+            self.tell_file(done.file)
 
     # ---- calls that the ranks don't make alike, and that never came back
 
@@ -189,8 +190,6 @@ class Diagnosis:
             return
         if header.records != proved_header.records:
             self.tell("the file: %d records, and %d in the proved file" % (header.records, proved_header.records))
-        if any(r.stopped for r in self.merged.ranks):
-            return
         for name in dict.fromkeys(d.name for d in found):
             self.tell_variable(name, [d for d in found if d.name == name])
 

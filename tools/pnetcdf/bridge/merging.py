@@ -13,6 +13,8 @@ LISTS = {"var1": ["start"], "var": [], "vara": ["start", "count"], "vars": ["sta
 MEETINGS = {"begin_indep_data", "end_indep_data", "sync_numrecs", "fill_var_rec"}
 PLAIN = {"begin_indep_data", "end_indep_data", "sync_numrecs", "buffer_detach"}
 ENDS = {"close", "abort"}
+# The answers of a wait that completed nothing.
+UNDONE = {"NC_EINDEP", "NC_ENOTINDEP", "NC_EINVAL_REQUEST", "-"}
 ALL, ALL_GETS, ALL_PUTS, NULL = -1, -2, -3, -1
 NO_ID = (1 << 32) - 1
 MOST_ELEMENTS, MOST_PARTS, MOST_RANKS = 1 << 20, 1024, 64
@@ -229,17 +231,18 @@ class RankMerger:
         word, listed = self.chosen(event.given)
         answer = event.answer or {}
         codes = dict(zip(event.given.get("requests", []), answer.get("statuses", [])))
+        names = {r: "ok" if code == 0 else answer["status%d" % code] for r, code in codes.items()}
         gets = dict(answer.get("gets", []))
         named = [self.ids.get(r, NO_ID) for r in listed]
-        refused = event.code in ("NC_EINDEP", "NC_ENOTINDEP", "-")
-        items = [] if refused else [self.item(r, codes.get(r, 0), gets.get(r)) for r in listed]
-        self.add(event, (event.call + " " + word).rstrip(), items=items, requests=named)
+        refused = event.code in UNDONE
+        items = [] if refused else [self.item(r, names.get(r, "ok"), gets.get(r)) for r in listed]
+        self.add(event, (event.call + " " + word).rstrip(), items=items, requests=[] if refused else named)
         for request in [] if refused else listed:
             self.rank.pending.pop(self.ids.pop(request, None), None)
 
-    def item(self, request, code, values):
+    def item(self, request, name, values):
         number = self.ids.get(request, NO_ID)
-        line = "  %d %s" % (number, "ok" if code == 0 else "NC_EINVAL_REQUEST" if number == NO_ID else code)
+        line = "  %d %s" % (number, name)
         if values is None or number == NO_ID:
             return line
         _, kind, memory = self.posts[number]

@@ -65,7 +65,10 @@ def run(program, script, before, folder):
         os.remove(dataset)
     if before is not None:
         shutil.copy(before, dataset)
-    done = subprocess.run([program, dataset], input=script.encode(), stdout=subprocess.PIPE, timeout=SECONDS, check=False)
+    try:
+        done = subprocess.run([program, dataset], input=script.encode(), stdout=subprocess.PIPE, timeout=SECONDS, check=False)
+    except subprocess.TimeoutExpired:
+        raise RunFault("%s didn't end in %d seconds" % (program, SECONDS))
     file = b""
     if os.path.exists(dataset):
         with open(dataset, "rb") as made:

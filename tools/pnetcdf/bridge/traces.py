@@ -100,6 +100,8 @@ def read_openings(paths):
         seen = {}
         for events in datasets:
             given = events[0].given
+            if given.get("before"):
+                given["before"] = os.path.join(os.path.dirname(path), os.path.basename(given["before"]))
             name = (given["path"], tuple(given["world"]))
             seen[name] = seen.get(name, 0) + 1
             opening = openings.get(name + (seen[name],))
