@@ -18,7 +18,8 @@ abbrev pub or_fault : {A : Type 0} → ScriptKind → Option A → Result A Scri
 or_fault e None = Err e
 or_fault e (Some x) = Ok x
 
--- A word as it stands: a text that is no text is refused where it is looked at, and a text is no other word.
+-- A word as it stands: a text that is no text is refused where it is looked at, and a text is no other word: it counts as a
+-- lone quote (34), which no word is.
 abbrev pub bare : Word → Result (List ℕ) ScriptKind
 bare (Plain w) = Ok w
 bare (Quoted text) = Ok (34 ∷ [])

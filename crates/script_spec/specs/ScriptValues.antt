@@ -162,7 +162,7 @@ bits_values t before ws = each_value (pattern_for t) t before [] ws >>= λ ns. O
 
 abbrev pub begins_x : List ℕ → Bool
 begins_x [] = false
-begins_x (c ∷ cs) = c == 120
+begins_x (c ∷ cs) = c == 120  -- x
 
 -- the kind of values that are written out: an attribute's by its type, a call's by the first word
 abbrev pub listed_kind : Option NcType → List ℕ → Class

@@ -27,7 +27,7 @@ use Rattle.script_spec.specs.Texts.{type_word, call_word, line, joined, value_wo
 use Rattle.script_spec.specs.ScriptDefinitions.{hint_forms}
 
 abbrev pub bracketed : List (List ℕ) → List ℕ
-bracketed ws = 91 ∷ joined 44 ws ++ 93 ∷ []
+bracketed ws = 91 ∷ joined 44 ws ++ 93 ∷ []  -- [ and ], with commas between
 
 abbrev pub size_list : List ℕ → List ℕ
 size_list ns = bracketed (map decimal ns)

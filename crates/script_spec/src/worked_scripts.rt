@@ -1,16 +1,17 @@
 //! What scripts mean, and which are refused.
 
-ghost use Rattle.std.specs.Prelude.{◌≡◌, ◌+◌, [], ◌∷◌, ◌++◌, length, None, true, codes, Ok, false};
+ghost use Rattle.std.specs.Prelude.{◌≡◌, ℕ, List, nat_lt, ◌^◌, ◌+◌, [], ◌∷◌, ◌++◌, length, None, true, codes, Ok, Err, false};
 ghost use Rattle.serial_spec.specs.HeaderGrammar.{is_writable};
 ghost use Rattle.serial_spec.specs.Examples.{laid_out};
 ghost use Rattle.script_spec.specs.TextExamples.{script_halves, halves_read, fault_at, start_lines, script_read};
-ghost use Rattle.script_spec.specs.ScriptGrammar.{fault_of, script_of_utf8};
+ghost use Rattle.script_spec.specs.ScriptGrammar.{fault_of, script_fault, script_of_lines, script_of_utf8, within_lines};
 ghost use Rattle.script_spec.specs.Shown.{shown};
 ghost use Rattle.script_spec.specs.Texts.{text_line};
 ghost use Rattle.script_spec.specs.RunScripts.{script_atts, script_modes, script_varn, script_fill_record, script_extras};
 ghost use Rattle.script_spec.specs.FaultyScripts.{faulty_unclosed, faulty_escape, faulty_glued, faulty_extra, faulty_name, faulty_later_record, faulty_kind, faulty_post_twice, faulty_opened, faulty_fits, faulty_new_type, faulty_extra_twice, faulty_extra_shape, faulty_without_end, faulty_after_end, faulty_dimensions};
 ghost use Rattle.serial_spec.specs.Lawful.{is_lawful};
 ghost use Rattle.nc_base.specs.declared.errors.ScriptKind.TheVariants as kind;
+ghost use Rattle.nc_base.specs.declared.script.Script.{Script};
 ghost use Rattle.nc_base.specs.declared.errors.LimitName.TheVariants as limit;
 ghost use Rattle.nc_base.specs.declared.request.Call.TheVariants as call;
 
@@ -47,6 +48,16 @@ pub fn worked_script_faults()
         ≡ fault_at 5 (kind.Limit limit.Elements) }
     ensures mismatch { fault_of (script_of_utf8 (text_line (codes "create 1") ++ text_line (codes "ranks 2") ++ text_line (codes "dim x 4") ++ text_line (codes "var int v [x]") ++ text_line (codes "data") ++ text_line (codes "0 iput_var1 0 v [0] 9") ++ text_line (codes "0 wait_all all") ++ text_line (codes "end")))
         ≡ fault_at 8 (kind.Mismatch 0 0 1) }
+{}
+
+/// Texts past the limits of bytes and of lines: of 2^20 + 1 lines the fault is that limit, but for one of a line before.
+pub fn worked_limits()
+    ensures bytes { (text : List ℕ) → nat_lt (2 ^ 26) (length text) ≡ true → script_fault text ≡ fault_at 1 (kind.Limit limit.Script) }
+    ensures no_line { fault_of (script_of_lines (2 ^ 20 + 1) []) ≡ fault_at 1 kind.NoHead }
+    ensures no_line_past { fault_of (script_of_lines (2 ^ 20 + 2) []) ≡ fault_at 1048577 (kind.Limit limit.Lines) }
+    ensures whole { (s : Script) → fault_of (within_lines (2 ^ 20 + 1) (Ok s)) ≡ fault_at 1048577 (kind.Limit limit.Lines) }
+    ensures before { fault_of (within_lines (2 ^ 20 + 1) (script_of_utf8 (text_line (codes "x")))) ≡ fault_at 1 kind.NoHead }
+    ensures differ { fault_of (within_lines (2 ^ 20 + 1) (Err (record { line = 8; kind = kind.Mismatch 0 0 1 }))) ≡ fault_at 1048577 (kind.Limit limit.Lines) }
 {}
 
 /// Where a word is looked at, and what it is then.

@@ -31,8 +31,8 @@ fn one_dim(alloc: Global, letter: u8, len: u64) -> Result<DimList, Memory>
 }
 
 /// A variable over the first dimension, where the header ends.
-fn one_var(alloc: Global, letter: u8, kind: NcType) -> Result<VarList, Memory>
-    ensures { IfOk result (λ vars. vars ≡ record (var letter kind (0 ∷ [])) { begin = 80 } ∷ []) }
+fn one_var(alloc: Global, letter: u8, kind: NcType, begin: u64) -> Result<VarList, Memory>
+    ensures { IfOk result (λ vars. vars ≡ record (var letter kind (0 ∷ [])) { begin = begin } ∷ []) }
 {
     let name = name(alloc, letter)?;
     let mut dims = IdList::new(alloc);
@@ -43,7 +43,7 @@ fn one_var(alloc: Global, letter: u8, kind: NcType) -> Result<VarList, Memory>
         dims,
         attrs: AttrList::new(alloc),
         kind,
-        begin: 80,
+        begin,
     })?;
     Ok(vars)
 }
@@ -54,7 +54,7 @@ fn fixed(alloc: Global) -> Result<Header, Memory>
     ensures { IfOk result (λ header. is_redefinable header ≡ true) }
 {
     let dims = one_dim(alloc, b'x', 4)?;
-    let vars = one_var(alloc, b'v', NcType::Int)?;
+    let vars = one_var(alloc, b'v', NcType::Int, 80)?;
     Ok(Header {
         version: 1,
         records: 0,
@@ -70,10 +70,44 @@ fn recorded(alloc: Global) -> Result<Header, Memory>
     ensures { IfOk result (λ header. is_redefinable header ≡ true) }
 {
     let dims = one_dim(alloc, b't', 0)?;
-    let vars = one_var(alloc, b's', NcType::Short)?;
+    let vars = one_var(alloc, b's', NcType::Short, 80)?;
     Ok(Header {
         version: 1,
         records: 4,
+        dims,
+        attrs: AttrList::new(alloc),
+        vars,
+    })
+}
+
+/// The dimensions x of length 4, x without a limit and y of length 3.
+fn three_dims(alloc: Global) -> Result<DimList, Memory>
+    ensures { IfOk result (λ dims. dims ≡ dim 120 4 ∷ dim 120 0 ∷ dim 121 3 ∷ []) }
+{
+    let second = name(alloc, b'x')?;
+    let third = name(alloc, b'y')?;
+    let mut dims = one_dim(alloc, b'x', 4)?;
+    dims.push(Dim {
+        name: second,
+        len: 0,
+    })?;
+    dims.push(Dim {
+        name: third,
+        len: 3,
+    })?;
+    Ok(dims)
+}
+
+/// A header with two dimensions of one name, and the int variable v over the first.
+#[tactic(auto, unfolding(serial_spec::specs::HeaderGrammar::canon))]
+fn twice_named(alloc: Global) -> Result<Header, Memory>
+    ensures { IfOk result (λ header. is_redefinable header ≡ true) }
+{
+    let dims = three_dims(alloc)?;
+    let vars = one_var(alloc, b'v', NcType::Int, 104)?;
+    Ok(Header {
+        version: 1,
+        records: 0,
         dims,
         attrs: AttrList::new(alloc),
         vars,
@@ -101,6 +135,21 @@ fn more_var(alloc: Global, letter: u8, kind: NcType, over: u8) -> Result<Extra, 
     Ok(Extra::Var {
         kind,
         name: name(alloc, letter)?,
+        dims,
+    })
+}
+
+/// The int variable q over the dimensions y and x.
+fn inner_x(alloc: Global) -> Result<Extra, Memory>
+    ensures lawful { IfOk result (λ extra. is_lawful_extra extra ≡ true) }
+    ensures whole { IfOk result (λ extra. is_whole_extra extra ≡ true) }
+{
+    let mut dims = NameList::new(alloc);
+    dims.push(name(alloc, b'y')?)?;
+    dims.push(name(alloc, b'x')?)?;
+    Ok(Extra::Var {
+        kind: NcType::Int,
+        name: name(alloc, b'q')?,
         dims,
     })
 }
@@ -133,6 +182,14 @@ fn record_variable_stands_behind_the_one_that_moves(rt: HostRuntime) -> Result<(
     let header = recorded(rt.alloc())?;
     let extra = more_var(rt.alloc(), b'q', NcType::Int, b't')?;
     assert_eq!(rt; begins(rt.alloc(), &header, extra), Ok((116, 120)));
+    Ok(())
+}
+
+#[test]
+fn first_dimension_of_a_name_counts(rt: HostRuntime) -> Result<(), Fail> {
+    let header = twice_named(rt.alloc())?;
+    let extra = inner_x(rt.alloc())?;
+    assert_eq!(rt; begins(rt.alloc(), &header, extra), Ok((144, 160)));
     Ok(())
 }
 
