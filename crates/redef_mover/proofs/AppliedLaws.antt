@@ -56,7 +56,7 @@ pub record HasLaws (old new : Header) : Type 0 where
   pub all : (s : Slab) → In (rising old new) s ↔ In (slabs old new) s
   pub falls : highest_first (filter changes (slabs old new)) ≡ filter changes (reverse (rising old new))
   pub zeros : (z : ℕ) → 0 < z → zero_calls z old new ≡ gap_calls z (gaps (header_len new) (new_end old new) (rising old new))
-  pub moved : (file and_first : List ℕ) → IsMoved old new file and_first → and_first ≡ redefined file old new
+  pub moved : (file left : List ℕ) → IsMoved old new file left → left ≡ redefined file old new
 
 pub has_laws : (old new : Header) (extras : List Extra) → IsApplied old extras new → is_writable new ≡ true
     → AreShifted (header_len old) (header_len new) (new_end old new) (slabs old new) → ((s : Slab) → In (rising old new) s ↔ In (slabs old new) s)

@@ -107,16 +107,16 @@ record EachValue (A : Type 0) (P : A → Type 0) (before : ℕ) (xs : List A) : 
   good : AllByRecursion P xs
   few : FewMore before (length xs)
 
-each_read : {A : Type 0} (f : List ℕ → Option A) (P : A → Type 0) (before : ℕ) (faultless_some : List A) (ws : List Word) → ((v : List ℕ) (x : A) → f v ≡ Some x → P x)
-    → EachValue A P before faultless_some → IfOk (each_value f None before faultless_some ws) (EachValue A P before)
-each_read f P before faultless_some [] h all = all
-each_read {A} f P before faultless_some (w ∷ ws) h all =
-    ok_then (one_value f None before (length faultless_some) w) (λ x. each_value f None before (faultless_some ++ x ∷ []) ws) _ (OneValue A P before (length faultless_some))
-    (one_read f P before (length faultless_some) w h)
-    (λ x one. each_read f P before (faultless_some ++ x ∷ []) ws h (record { good = each_push P faultless_some x all.good one.good; few = grown x one.few }))
+each_read : {A : Type 0} (f : List ℕ → Option A) (P : A → Type 0) (before : ℕ) (found : List A) (ws : List Word) → ((v : List ℕ) (x : A) → f v ≡ Some x → P x)
+    → EachValue A P before found → IfOk (each_value f None before found ws) (EachValue A P before)
+each_read f P before found [] h all = all
+each_read {A} f P before found (w ∷ ws) h all =
+    ok_then (one_value f None before (length found) w) (λ x. each_value f None before (found ++ x ∷ []) ws) _ (OneValue A P before (length found))
+    (one_read f P before (length found) w h)
+    (λ x one. each_read f P before (found ++ x ∷ []) ws h (record { good = each_push P found x all.good one.good; few = grown x one.few }))
   where
-    grown : (x : A) → FewMore before (length faultless_some + 1) → FewMore before (length (faultless_some ++ x ∷ []))
-    grown x few = record { most = let m = few.most in omega (arith, length-append faultless_some (x ∷ [])); all = let m = few.all in omega (arith, length-append faultless_some (x ∷ [])) }
+    grown : (x : A) → FewMore before (length found + 1) → FewMore before (length (found ++ x ∷ []))
+    grown x few = record { most = let m = few.most in omega (arith, length-append found (x ∷ [])); all = let m = few.all in omega (arith, length-append found (x ∷ [])) }
 
 count_read : (suits : Bool) (before : ℕ) (ws : List Word) → IfOk (sequence_count suits None before ws) (λ n. FewMore before n.0)
 count_read suits before ws =

@@ -91,9 +91,9 @@ definitions_kept past version lines most known (l ∷ ls) h f =
 -- ---- the whole
 
 -- of what a script that is read is made, of at most so many lines
-pub record FitsParts (most version size : ℕ) (faultless_some : Known) (called : List (List Call)) : Type 0 where
+pub record FitsParts (most version size : ℕ) (found : Known) (called : List (List Call)) : Type 0 where
   pub head : IsHead version
-  pub known : FitsKnown version most faultless_some
+  pub known : FitsKnown version most found
   pub ranks : InRange 1 64 1 size
   pub values : ℕ
   pub calls : FitsCalled size most found.values (record { calls = called; values = values })
