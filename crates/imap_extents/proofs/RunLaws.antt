@@ -1,6 +1,6 @@
 -- The first values of runs, one run more of them.
 use Rattle.std.proofs.Common.{◌≡◌, ℕ, zero, suc, ◌+◌, ◌-◌, ◌<◌, refl, ◌∙◌, ap, sym, arith, List, [], ◌∷◌, ◌++◌, ◌||◌, length, map, take, drop, get_or, append-nil, append_assoc, length-append, Bool, true, false}
-use Rattle.std.specs.Prelude.{flat_map, min, ℤ, pos, ◌+ℤ◌, ◌*ℤ◌, ◌*◌, ◌%◌, ◌^◌}
+use Rattle.std.specs.Prelude.{flat_map, min, pos, ◌+ℤ◌, ◌*ℤ◌, ◌*◌, ◌%◌, ◌^◌}
 use Rattle.std.specs.List.{list_any, range_with_len}
 use Rattle.std.proofs.lemmas.List.{take_more, length-map, take-append-drop}
 use Rattle.std.proofs.lemmas.List.Concat.{flat_map-append}

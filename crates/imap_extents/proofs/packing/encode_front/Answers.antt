@@ -1,4 +1,4 @@
-use Rattle.std.proofs.Common.{◌≡◌, ◌∙◌, refl, sym, subst, Bool}
+use Rattle.std.proofs.Common.{◌∙◌, refl, sym, subst, Bool}
 use Rattle.std.specs.Prelude.{IfErr}
 use Rattle.std.proofs.lemmas.Result.{IfOk-weaker, on_ok_weaker}
 use Rattle.imap_extents.specs.Refusals.{IsRangeRefusal}

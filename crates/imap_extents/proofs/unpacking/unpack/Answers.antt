@@ -1,4 +1,4 @@
-use Rattle.std.proofs.Common.{◌≡◌, ◌*◌, ◌/◌, ◌∙◌, refl, sym, ap, ℕ, List, Option, length, map}
+use Rattle.std.proofs.Common.{◌*◌, ◌/◌, ◌∙◌, refl, sym, ap, ℕ, List, Option, length, map}
 use Rattle.std.proofs.lemmas.Result.{IfOk-weaker}
 use Rattle.serial_spec.specs.ExternalForm.{size_of}
 use Rattle.serial_spec.specs.Layout.{product}

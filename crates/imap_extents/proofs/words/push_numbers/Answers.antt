@@ -1,8 +1,7 @@
-use Rattle.std.proofs.Common.{◌≡◌, ◌++◌, ◌∙◌, ap, sym, subst, not, take, map, ℕ, List, Bool}
-use Rattle.std.specs.Prelude.{ℤ, flat_map, IfErr}
+use Rattle.std.proofs.Common.{◌++◌, ◌∙◌, ap, sym, subst, not, take, map, ℕ, List, Bool}
+use Rattle.std.specs.Prelude.{ℤ, IfErr}
 use Rattle.std.specs.List.{list_any}
 use Rattle.std.proofs.lemmas.Result.{on_ok_weaker}
-use Rattle.nc_base.specs.declared.request.Value.{Value}
 use Rattle.nc_base.specs.declared.request.Value.TheVariants as value
 use Rattle.nc_base.specs.NumberForms.{numbers_in}
 use Rattle.serial_spec.specs.ExternalForm.{ext, fits}

@@ -1,4 +1,4 @@
-use Rattle.std.proofs.Common.{◌≡◌, ◌-◌, ◌++◌, ◌∙◌, ap, sym, refl, not, map, append-nil, arith, ℕ, List}
+use Rattle.std.proofs.Common.{◌-◌, ◌++◌, ◌∙◌, ap, sym, refl, not, map, append-nil, arith, ℕ, List}
 use Rattle.std.specs.Prelude.{min, flat_map}
 use Rattle.std.specs.List.{list_any, range_with_len}
 use Rattle.std.proofs.lemmas.Result.{err_from_is_err_and}
