@@ -8,9 +8,7 @@
 mod packing;
 mod positions;
 mod unpacking;
+mod words;
 
 pub use packing::pack;
 pub use unpacking::unpack;
-
-#[cfg(test)]
-mod tests;

@@ -1,5 +1,5 @@
 // Where memory has the elements of a region.
-ghost use Rattle.std.specs.Prelude.{◌≡◌, ◌+◌, ◌*◌, ◌≤◌, ◌++◌, length, map, flat_map, IfOk, OnOk};
+ghost use Rattle.std.specs.Prelude.{◌≡◌, ◌+◌, ◌*◌, ◌≤◌, ◌++◌, false, length, map, flat_map, IfOk, OnOk};
 ghost use Rattle.std.specs.List.{range_with_len};
 ghost use Rattle.serial_spec.specs.Layout.{product};
 ghost use Rattle.serial_spec.specs.Limits.{most_elements};
@@ -10,15 +10,13 @@ ghost use Rattle.imap_extents.specs.Saturated.{saturated};
 use nc_base::{Memory, Region};
 use std::alloc::Global;
 
-/// The position of each element in memory, in row-major order.
+/// The position of each element in memory that is not packed, in row-major order.
 pub(crate) fn positions_of(alloc: Global, region: &Region) -> Result<Vec<u64>, Memory>
     requires mapped { IsMapped region.now }
+    requires spread { region.now.packed ≡ false }
     ensures { IfOk result (λ all. all.items ≡ positions region.now) }
 {
     let elements = element_count(region.count.as_slice());
-    if region.packed {
-        return numbers_below(alloc, elements);
-    }
     if elements == 0 {
         return Ok(Vec::new(alloc));
     }
@@ -26,7 +24,7 @@ pub(crate) fn positions_of(alloc: Global, region: &Region) -> Result<Vec<u64>, M
 }
 
 /// How many elements a region has.
-fn element_count(counts: &[u64]) -> u64
+pub(crate) fn element_count(counts: &[u64]) -> u64
     requires { product counts.now ≤ most_elements }
     ensures { result ≡ product counts.now }
 {
@@ -35,17 +33,6 @@ fn element_count(counts: &[u64]) -> u64
         [0, ..] => 0,
         [count, counts @ ..] => *count * element_count(counts),
     }
-}
-
-/// The numbers from 0 to `count`, which is left out.
-fn numbers_below(alloc: Global, count: u64) -> Result<Vec<u64>, Memory>
-    ensures { IfOk result (λ all. all.items ≡ range_with_len 0 count) }
-{
-    let mut numbers = Vec::with_capacity(alloc, count as usize)?;
-    for number in 0..count {
-        numbers.push(number)?;
-    }
-    Ok(numbers)
 }
 
 /// The positions by an index map. A dimension of count 1 costs nothing for each element.

@@ -1,12 +1,13 @@
 // From the bytes of a request to memory.
-ghost use Rattle.std.specs.Prelude.{◌≡◌, ◌+◌, ◌*◌, ◌<◌, ◌≤◌, length, map, replicate, None, IfOk};
+ghost use Rattle.std.specs.Prelude.{◌≡◌, ◌+◌, ◌*◌, ◌/◌, ◌<◌, ◌≤◌, length, map, replicate, None, Some, IfOk};
 ghost use Rattle.std.specs.List.{range_with_len};
+ghost use Rattle.std.specs.Simd.{first_chunks};
 ghost use Rattle.serial_spec.specs.ExternalForm as external;
 ghost use Rattle.serial_spec.specs.Layout.{product, greatest};
 ghost use Rattle.serial_spec.specs.Limits.{most_elements};
 ghost use Rattle.serial_spec.specs.Request.{cells, number_in, spread};
 ghost use Rattle.imap_extents.specs.Mapped.{IsMapped};
-ghost use Rattle.imap_extents.specs.Found.{value_of_last, char_in, bits_in};
+ghost use Rattle.imap_extents.specs.Found.{value_of_last, char_in, bits_in, in_order};
 
 use crate::positions::positions_of;
 use nc_base::{BitList, Blob, Memory, NcType, NumberList, Region, Value, Values};
@@ -21,14 +22,114 @@ pub fn unpack(alloc: Global, kind: NcType, region: &Region, bytes: &[u8]) -> Res
     requires long { length bytes.now ≡ product region.now.count * external.size_of kind }
     ensures { IfOk result (λ values. values ≡ spread kind region.now bytes.now) }
 {
+    if region.packed {
+        return unpack_front(alloc, kind, bytes);
+    }
     let positions = positions_of(alloc, region)?;
     let found = last_values(alloc, kind, &positions, bytes)?;
     match kind {
         NcType::Char => Ok(Values::Text(Blob::from_vec(characters(alloc, &found)?))),
-        NcType::Float | NcType::Double => {
-            Ok(Values::Bits(BitList::from_vec(patterns(alloc, &found)?)))
-        }
-        _ => Ok(Values::Numbers(NumberList::from_vec(numbers(alloc, &found)?))),
+        NcType::Float | NcType::Double => { Ok(Values::Bits(patterns(alloc, &found)?)) }
+        _ => Ok(Values::Numbers(numbers(alloc, &found)?)),
+    }
+}
+
+/// The values of bytes, one after another.
+fn unpack_front(alloc: Global, kind: NcType, bytes: &[u8]) -> Result<Values, Memory>
+    ensures { IfOk result (λ values. values ≡ in_order kind (length bytes.now / external.size_of kind) bytes.now) }
+{
+    match kind {
+        NcType::Char => Ok(Values::Text(Blob::from_vec(decode_text(alloc, bytes)?))),
+        NcType::Float => Ok(Values::Bits(decode_patterns::<4>(alloc, NcType::Float, bytes)?)),
+        NcType::Double => Ok(Values::Bits(decode_patterns::<8>(alloc, NcType::Double, bytes)?)),
+        NcType::Byte => Ok(Values::Numbers(decode_numbers::<1>(alloc, NcType::Byte, bytes)?)),
+        NcType::UByte => Ok(Values::Numbers(decode_numbers::<1>(alloc, NcType::UByte, bytes)?)),
+        NcType::Short => Ok(Values::Numbers(decode_numbers::<2>(alloc, NcType::Short, bytes)?)),
+        NcType::UShort => Ok(Values::Numbers(decode_numbers::<2>(alloc, NcType::UShort, bytes)?)),
+        NcType::Int => Ok(Values::Numbers(decode_numbers::<4>(alloc, NcType::Int, bytes)?)),
+        NcType::UInt => Ok(Values::Numbers(decode_numbers::<4>(alloc, NcType::UInt, bytes)?)),
+        NcType::Int64 => Ok(Values::Numbers(decode_numbers::<8>(alloc, NcType::Int64, bytes)?)),
+        NcType::UInt64 => Ok(Values::Numbers(decode_numbers::<8>(alloc, NcType::UInt64, bytes)?)),
+    }
+}
+
+/// The numbers of bytes, `N` for each.
+#[inline(always)]
+fn decode_numbers<const N: usize>(
+    alloc: Global,
+    kind: NcType,
+    bytes: &[u8],
+) -> Result<NumberList, Memory>
+    requires some { 0 < N }
+    requires size { N ≡ external.size_of kind }
+    ensures { IfOk result (λ all. all ≡ map (λ b. number_in (Some (external.val kind b))) (first_chunks N (length bytes.now / N) bytes.now)) }
+{
+    let (forms, _) = bytes.as_chunks::<N>();
+    let mut numbers = NumberList::with_capacity(alloc, forms.len())?;
+    for form in forms {
+        numbers.push(number_of(decode_one(kind, form)))?;
+    }
+    Ok(numbers)
+}
+
+#[inline(always)]
+fn number_of(value: Value) -> i128
+    ensures { result ≡ number_in (Some value) }
+{
+    match value {
+        Value::Number(number) => number,
+        _ => 0,
+    }
+}
+
+/// The bit patterns of bytes, `N` for each.
+#[inline(always)]
+fn decode_patterns<const N: usize>(
+    alloc: Global,
+    kind: NcType,
+    bytes: &[u8],
+) -> Result<BitList, Memory>
+    requires some { 0 < N }
+    requires size { N ≡ external.size_of kind }
+    ensures { IfOk result (λ all. all ≡ map (λ b. bits_in (Some (external.val kind b))) (first_chunks N (length bytes.now / N) bytes.now)) }
+{
+    let (forms, _) = bytes.as_chunks::<N>();
+    let mut patterns = BitList::with_capacity(alloc, forms.len())?;
+    for form in forms {
+        patterns.push(bits_of(decode_one(kind, form)))?;
+    }
+    Ok(patterns)
+}
+
+#[inline(always)]
+fn bits_of(value: Value) -> u64
+    ensures { result ≡ bits_in (Some value) }
+{
+    match value {
+        Value::Bits(pattern) => pattern,
+        _ => 0,
+    }
+}
+
+/// The bytes of text.
+fn decode_text(alloc: Global, bytes: &[u8]) -> Result<Vec<u8>, Memory>
+    ensures { IfOk result (λ all. all.items ≡ map (λ b. char_in (Some (external.val NcType.Char b))) (first_chunks 1 (length bytes.now / 1) bytes.now)) }
+{
+    let (forms, _) = bytes.as_chunks::<1>();
+    let mut characters = Vec::with_capacity(alloc, forms.len())?;
+    for form in forms {
+        characters.push(char_of(decode_one(NcType::Char, form)))?;
+    }
+    Ok(characters)
+}
+
+#[inline(always)]
+fn char_of(value: Value) -> u8
+    ensures { result ≡ char_in (Some value) }
+{
+    match value {
+        Value::Char(character) => character,
+        _ => 0,
     }
 }
 
@@ -74,10 +175,10 @@ fn none_found(alloc: Global, count: usize) -> Result<Vec<Option<Value>>, Memory>
 }
 
 /// The numbers, 0 where there is none.
-fn numbers(alloc: Global, found: &[Option<Value>]) -> Result<Vec<i128>, Memory>
-    ensures { IfOk result (λ all. all.items ≡ map number_in found.now) }
+fn numbers(alloc: Global, found: &[Option<Value>]) -> Result<NumberList, Memory>
+    ensures { IfOk result (λ all. all ≡ map number_in found.now) }
 {
-    let mut numbers = Vec::with_capacity(alloc, found.len())?;
+    let mut numbers = NumberList::with_capacity(alloc, found.len())?;
     for value in found {
         numbers.push(number_in(*value))?;
     }
@@ -114,10 +215,10 @@ fn char_in(value: Option<Value>) -> u8
 }
 
 /// The bit patterns, 0 where there is none.
-fn patterns(alloc: Global, found: &[Option<Value>]) -> Result<Vec<u64>, Memory>
-    ensures { IfOk result (λ all. all.items ≡ map bits_in found.now) }
+fn patterns(alloc: Global, found: &[Option<Value>]) -> Result<BitList, Memory>
+    ensures { IfOk result (λ all. all ≡ map bits_in found.now) }
 {
-    let mut patterns = Vec::with_capacity(alloc, found.len())?;
+    let mut patterns = BitList::with_capacity(alloc, found.len())?;
     for value in found {
         patterns.push(bits_in(*value))?;
     }

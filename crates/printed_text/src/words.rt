@@ -5,7 +5,7 @@ ghost use Rattle.script_spec.specs.Texts.{call_word, code_word, form_word, hex, 
 ghost use Rattle.printed_text.specs.Spaced.{spaced};
 
 use itoa::Buffer;
-use nc_base::{Call, Code, Form, Memory, NcType, PostKind, Values};
+use nc_base::{BitList, Call, Code, Form, Memory, NcType, NumberList, PostKind, Values};
 
 /// Bytes as they are.
 pub fn push_bytes(out: &mut Vec<u8>, bytes: &[u8]) -> Result<(), Memory>
@@ -223,33 +223,31 @@ pub fn push_values(out: &mut Vec<u8>, digits: u8, values: &Values) -> Result<(),
     ensures { OnOk result (out.new.items ≡ out.old.items ++ spaced (value_words digits values.now)) }
 {
     match values {
-        Values::Numbers(numbers) => push_numbers(out, numbers.as_slice()),
+        Values::Numbers(numbers) => push_numbers(out, numbers),
         Values::Text(text) => {
             out.push(b' ')?;
             push_quoted(out, text.as_slice())
         }
-        Values::Bits(patterns) => push_patterns(out, digits, patterns.as_slice()),
+        Values::Bits(patterns) => push_patterns(out, digits, patterns),
     }
 }
 
-#[tactic(auto, using(crate::proofs::WordLaws::spaced_more))]
-fn push_numbers(out: &mut Vec<u8>, numbers: &[i128]) -> Result<(), Memory>
+fn push_numbers(out: &mut Vec<u8>, numbers: &NumberList) -> Result<(), Memory>
     ensures { OnOk result (out.new.items ≡ out.old.items ++ spaced (map signed_decimal numbers.now)) }
 {
-    for number in numbers {
+    for k in 0..numbers.len() {
         out.push(b' ')?;
-        push_signed(out, *number)?;
+        push_signed(out, numbers.at(k))?;
     }
     Ok(())
 }
 
-#[tactic(auto, using(crate::proofs::WordLaws::spaced_more))]
-fn push_patterns(out: &mut Vec<u8>, digits: u8, patterns: &[u64]) -> Result<(), Memory>
+fn push_patterns(out: &mut Vec<u8>, digits: u8, patterns: &BitList) -> Result<(), Memory>
     ensures { OnOk result (out.new.items ≡ out.old.items ++ spaced (map (λ n. 120 ∷ hex digits n) patterns.now)) }
 {
-    for pattern in patterns {
+    for k in 0..patterns.len() {
         push_bytes(out, b" x")?;
-        push_hex(out, digits, *pattern)?;
+        push_hex(out, digits, patterns.at(k))?;
     }
     Ok(())
 }

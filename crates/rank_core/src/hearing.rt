@@ -10,7 +10,7 @@ ghost use Rattle.rank_core.specs.Heard.{joined, filled_by, AreFound, IsGetOf, Ar
 ghost use Rattle.rank_core.specs.Requests.{AreOnce};
 
 use imap_extents::unpack;
-use nc_base::{Blob, Code, Header, Item, ItemList, Items, Memory, Post, Values};
+use nc_base::{BitList, Blob, Code, Header, Item, ItemList, Memory, NumberList, Post, Values};
 use std::alloc::Global;
 use std::collections::BTreeMap;
 
@@ -68,23 +68,39 @@ fn with_more(values: Values, more: Values) -> Result<Values, Memory>
 {
     match (values, more) {
         (Values::Numbers(numbers), Values::Numbers(more)) => {
-            Ok(Values::Numbers(appended(numbers, more)?))
+            Ok(Values::Numbers(more_numbers(numbers, more)?))
         }
-        (Values::Text(bytes), Values::Text(more)) => Ok(Values::Text(appended(bytes, more)?)),
+        (Values::Text(bytes), Values::Text(more)) => Ok(Values::Text(more_text(bytes, more)?)),
         (Values::Bits(patterns), Values::Bits(more)) => {
-            Ok(Values::Bits(appended(patterns, more)?))
+            Ok(Values::Bits(more_patterns(patterns, more)?))
         }
         (values, _) => Ok(values),
     }
 }
 
-fn appended<T: Drop>(list: Items<T>, more: Items<T>) -> Result<Items<T>, Memory>
-    ensures { IfOk result (λ all. all ≡ list ++ more) }
+fn more_numbers(numbers: NumberList, more: NumberList) -> Result<NumberList, Memory>
+    ensures { IfOk result (λ all. all ≡ numbers ++ more) }
 {
-    let mut all = list.into_vec();
+    let mut all = numbers;
+    all.append(more)?;
+    Ok(all)
+}
+
+fn more_patterns(patterns: BitList, more: BitList) -> Result<BitList, Memory>
+    ensures { IfOk result (λ all. all ≡ patterns ++ more) }
+{
+    let mut all = patterns;
+    all.append(more)?;
+    Ok(all)
+}
+
+fn more_text(bytes: Blob, more: Blob) -> Result<Blob, Memory>
+    ensures { IfOk result (λ all. all ≡ bytes ++ more) }
+{
+    let mut all = bytes.into_vec();
     let mut more = more.into_vec();
     all.append(&mut more)?;
-    Ok(Items::from_vec(all))
+    Ok(Blob::from_vec(all))
 }
 
 /// The values of a blocking call, which are those of id 0, or else the items with theirs.

@@ -1,10 +1,24 @@
-use Rattle.std.proofs.Common.{◌≡◌, ◌*◌, ◌∙◌, sym, ap, ℕ, List, Option, length, map}
+use Rattle.std.proofs.Common.{◌*◌, ◌/◌, ◌∙◌, refl, sym, ap, ℕ, List, Option, length, map}
+use Rattle.std.proofs.lemmas.Result.{IfOk-weaker}
 use Rattle.serial_spec.specs.ExternalForm.{size_of}
-use Rattle.imap_extents.specs.Found.{char_in, bits_in}
+use Rattle.serial_spec.specs.Layout.{product}
+use Rattle.imap_extents.specs.Found.{char_in, bits_in, in_order}
 use Rattle.nc_base.specs.declared.request.Value.{Value}
 use Rattle.imap_extents.proofs.PositionLaws.{length-positions}
+use Rattle.imap_extents.proofs.OrderLaws.{spread_packed, all_of_them}
 use Rattle.imap_extents.proofs.PlacingLaws.{spread_text, spread_bits}
 use Rattle.imap_extents.proofs.unpacking.unpack.Goals as goal
+
+pub returns-then-region : goal.returns-then-region
+returns-then-region c =
+    let g = c.args.region.now in
+    let kind = c.args.kind in
+    let bytes = c.args.bytes.now in
+    IfOk-weaker c.unpack_front.result _ _
+    (λ values e. e
+    ∙ ap (λ (n : ℕ). in_order kind n bytes) (ap (λ (m : ℕ). m / size_of kind) c.requires.long ∙ all_of_them kind (product g.count))
+    ∙ spread_packed kind g bytes (product g.count) c.if-region.true refl)
+    c.unpack_front.ensures
 
 pub last_values-requires-clause-long : goal.last_values-requires-clause-long
 last_values-requires-clause-long c =
@@ -20,6 +34,6 @@ returns-in-Char c =
 
 pub returns-in-Float : goal.returns-in-Float
 returns-in-Float c =
-    spread_bits c.args.kind c.args.region.now c.args.bytes.now c.deref.result.now c.in_ok-found.found.items c.from_vec-in-Float.result
+    spread_bits c.args.kind c.args.region.now c.args.bytes.now c.deref.result.now c.in_ok-found.found.items c.in_ok-patterns-in-Float.field-0
     c.in-Float.is (c.deref.ensures.value ∙ c.in_ok-positions.ensures) c.in_ok-found.ensures
-    (c.from_vec-in-Float.ensures ∙ c.in_ok-patterns-in-Float.ensures ∙ ap (λ (l : List (Option Value)). map bits_in l) c.deref-in-Float.ensures.value)
+    (c.in_ok-patterns-in-Float.ensures ∙ ap (λ (l : List (Option Value)). map bits_in l) c.deref-in-Float.ensures.value)

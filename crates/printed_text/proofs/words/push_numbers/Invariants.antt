@@ -3,5 +3,5 @@ use Rattle.std.specs.Fmt.{signed_decimal}
 use Rattle.printed_text.specs.Spaced.{spaced}
 use Rattle.printed_text.proofs.words.push_numbers.Given as goal
 
-abbrev pub invariant-loop-number : goal.invariant-loop-number
-invariant-loop-number l = l.out.items ≡ l.initial.out.items ++ spaced (map signed_decimal (take l.number-index l.numbers))
+abbrev pub invariant-loop-k : goal.invariant-loop-k
+invariant-loop-k l = l.out.items ≡ l.initial.out.items ++ spaced (map signed_decimal (take l.k l.numbers))

@@ -1,9 +1,13 @@
 // Memory and bytes side by side. Two rows of three, which memory has column by column: the map 1, 2.
-ghost use Rattle.std.specs.Prelude.{◌≡◌, ◌∷◌, [], IfOk};
+ghost use Rattle.std.specs.Prelude.{◌≡◌, ◌≤◌, ◌∷◌, [], IfOk};
+ghost use Rattle.serial_spec.specs.Limits.{most_elements};
 ghost use Rattle.imap_extents.specs.Mapped.{IsMapped};
 
-use crate::{pack, unpack};
-use nc_base::{BitList, Blob, CallErr, Code, Memory, NcType, NumberList, Region, SizeList, Values};
+use imap_extents::{pack, unpack};
+use nc_base::{
+    BitList, BitRun, Blob, CallErr, Code, Memory, NcType, NumberList, NumberRun, Region, SizeList,
+    Values,
+};
 use std::alloc::Global;
 use std::test::Fail;
 
@@ -38,23 +42,6 @@ fn together(alloc: Global) -> Result<Region, Memory>
         stride: sizes(alloc, &[1])?,
         imap: sizes(alloc, &[0])?,
         packed: false,
-    })
-}
-
-/// Elements one after another, in packed memory.
-fn one_or_two(alloc: Global, two: bool) -> Result<Region, Memory>
-    ensures mapped { IfOk result IsMapped }
-{
-    Ok(Region {
-        start: sizes(alloc, &[0])?,
-        count: if two {
-            sizes(alloc, &[2])?
-        } else {
-            sizes(alloc, &[1])?
-        },
-        stride: sizes(alloc, &[1])?,
-        imap: SizeList::new(alloc),
-        packed: true,
     })
 }
 
@@ -133,7 +120,8 @@ fn refusal(
     two: bool,
     values: Values,
 ) -> Result<Option<CallErr>, Memory> {
-    Ok(pack(alloc, kind, &one_or_two(alloc, two)?, &values).err())
+    let count = if two { 2 } else { 1 };
+    Ok(pack(alloc, kind, &packed(alloc, count)?, &values).err())
 }
 
 #[test]
@@ -160,5 +148,116 @@ fn causes_of_refusals(rt: HostRuntime) -> Result<(), Fail> {
         let refused = refusal(alloc, kind, two, values)?;
         assert!(rt; refused == Some(CallErr::Code(code)));
     }
+    Ok(())
+}
+
+/// So many elements one after another, in packed memory.
+fn packed(alloc: Global, count: u64) -> Result<Region, Memory>
+    requires { count ≤ most_elements }
+    ensures mapped { IfOk result IsMapped }
+{
+    Ok(Region {
+        start: sizes(alloc, &[0])?,
+        count: sizes(alloc, &[count])?,
+        stride: sizes(alloc, &[1])?,
+        imap: SizeList::new(alloc),
+        packed: true,
+    })
+}
+
+/// The numbers -2 and 1 as one run, and then 300, 299 and 298 as another.
+fn two_runs(alloc: Global) -> Result<Values, Memory> {
+    let mut list = NumberList::new(alloc);
+    list.push_run(NumberRun {
+        first: -2,
+        step: 3,
+        count: 2,
+    })?;
+    list.push_run(NumberRun {
+        first: 300,
+        step: -1,
+        count: 3,
+    })?;
+    Ok(Values::Numbers(list))
+}
+
+// Four of the five numbers, so that a run is cut; a byte has no 300.
+#[test]
+fn runs_are_packed(rt: HostRuntime) -> Result<(), Fail> {
+    let alloc = rt.alloc();
+    let values = two_runs(alloc)?;
+    let bytes = pack(alloc, NcType::Short, &packed(alloc, 4)?, &values)?;
+    assert!(rt; bytes.as_slice() == [0xff, 0xfe, 0, 1, 1, 0x2c, 1, 0x2b].as_slice());
+    let bytes = pack(alloc, NcType::Byte, &packed(alloc, 2)?, &values)?;
+    assert!(rt; bytes.as_slice() == [0xfe, 1].as_slice());
+    let refused = pack(alloc, NcType::Byte, &packed(alloc, 3)?, &values).err();
+    assert!(rt; refused == Some(CallErr::Code(Code::ERange)));
+    let mut floats = BitList::new(alloc);
+    floats.push_run(BitRun {
+        first: 0x3f80_0000,
+        step: 0x0080_0000,
+        count: 2,
+    })?;
+    let bytes = pack(
+        alloc,
+        NcType::Float,
+        &packed(alloc, 2)?,
+        &Values::Bits(floats),
+    )?;
+    assert!(rt; bytes.as_slice() == [0x3f, 0x80, 0, 0, 0x40, 0, 0, 0].as_slice());
+    Ok(())
+}
+
+// The least and the greatest number of a type of each width.
+#[test]
+fn words_of_each_width(rt: HostRuntime) -> Result<(), Fail> {
+    let alloc = rt.alloc();
+    for (kind, values, form) in [
+        (
+            NcType::Int,
+            numbers(alloc, &[-2147483648])?,
+            [0x80, 0, 0, 0].as_slice(),
+        ),
+        (
+            NcType::Int64,
+            numbers(alloc, &[9223372036854775807])?,
+            [0x7f, 0xff, 0xff, 0xff, 0xff, 0xff, 0xff, 0xff].as_slice(),
+        ),
+        (
+            NcType::UInt64,
+            numbers(alloc, &[18446744073709551615])?,
+            [0xff, 0xff, 0xff, 0xff, 0xff, 0xff, 0xff, 0xff].as_slice(),
+        ),
+        (
+            NcType::Double,
+            bits(alloc, &[0x3ff0_0000_0000_0000])?,
+            [0x3f, 0xf0, 0, 0, 0, 0, 0, 0].as_slice(),
+        ),
+    ] {
+        let region = packed(alloc, 1)?;
+        let bytes = pack(alloc, kind, &region, &values)?;
+        assert!(rt; bytes.as_slice() == form);
+    }
+    Ok(())
+}
+
+// 2^24 numbers of one step are one run; the last of the 2^20 that a request may have is 1048575.
+#[test]
+fn a_long_sequence_is_packed(rt: HostRuntime) -> Result<(), Fail> {
+    let alloc = rt.alloc();
+    let mut list = NumberList::new(alloc);
+    list.push_run(NumberRun {
+        first: 0,
+        step: 1,
+        count: 16_777_216,
+    })?;
+    let bytes = pack(
+        alloc,
+        NcType::Int,
+        &packed(alloc, 1_048_576)?,
+        &Values::Numbers(list),
+    )?;
+    assert!(rt; bytes.len() == 4_194_304);
+    assert!(rt; bytes.as_slice().ends_with(&[0, 0x0f, 0xff, 0xff]));
     Ok(())
 }

@@ -1,0 +1,56 @@
+use Rattle.std.proofs.Common.{◌-◌, ◌++◌, ◌∙◌, ap, sym, refl, not, map, append-nil, arith, ℕ, List}
+use Rattle.std.specs.Prelude.{min, flat_map}
+use Rattle.std.specs.List.{list_any, range_with_len}
+use Rattle.std.proofs.lemmas.Result.{err_from_is_err_and}
+use Rattle.nc_base.specs.declared.request.Value.{Value}
+use Rattle.serial_spec.specs.ExternalForm.{ext, fits}
+use Rattle.imap_extents.proofs.RefusalLaws.{part_refused}
+use Rattle.imap_extents.proofs.RunLaws.{forms_more, fits_more, rest_more, part_hit, none_first}
+use Rattle.imap_extents.proofs.words.push_runs.Goals as goal
+
+pub loop-run-init : goal.loop-run-init
+loop-run-init g c =
+    let bytes = c.args.bytes.now.items in
+    let count = c.args.count in
+    record {
+      form = sym (append-nil bytes) ∙ ap (λ (l : List Value). bytes ++ flat_map (λ v. ext c.args.kind v) l) (sym (none_first count));
+      fit = ap (λ (l : List Value). list_any (λ v. not (fits c.args.kind v)) l) (none_first count);
+      rest = omega arith;
+    }
+
+pub loop-run-preserved : goal.loop-run-preserved
+loop-run-preserved g c =
+    let at = g.R.Run.told_at in
+    let size = g.R.Run.size in
+    let run = c.run-item.result in
+    let left = c.loop-run.left in
+    let here = c.lesser-here.result in
+    let now = c.loop-run.bytes.items in
+    let part = c.lesser-here.ensures ∙ ap (λ (n : ℕ). min n left) c.count.ensures ∙ ap (λ (r : g.row.R.Denot). min (size r) left) c.run-item.is in
+    record {
+      form = forms_more at size (λ v. ext c.args.kind v) c.args.bytes.now.items now c.push_run.new.bytes.items c.args.runs.now c.loop-run.run-index
+          c.args.count left here run c.loop-run-test.true c.loop-run.invariant.rest part c.loop-run.invariant.form
+          (c.in_ok-push_run.ensures.ok ∙ ap (λ (r : g.row.R.Denot). now ++ flat_map (λ v. ext c.args.kind v) (map (at r) (range_with_len 0 here))) c.run-item.is);
+      fit = fits_more at size (λ v. not (fits c.args.kind v)) c.args.runs.now c.loop-run.run-index c.args.count left here run
+          c.loop-run-test.true c.loop-run.invariant.rest part c.loop-run.invariant.fit
+          (sym (ap (λ (r : g.row.R.Denot). list_any (λ v. not (fits c.args.kind v)) (map (at r) (range_with_len 0 here))) c.run-item.is) ∙ c.in_ok-push_run.ensures.right);
+      rest = rest_more at size c.args.runs.now c.loop-run.run-index c.args.count left here (left - here) run
+          c.loop-run-test.true c.loop-run.invariant.rest part refl;
+    }
+
+pub returns-in_err-push_run-clause-refused : goal.returns-in_err-push_run-clause-refused
+returns-in_err-push_run-clause-refused g c =
+    let at = g.R.Run.told_at in
+    let size = g.R.Run.size in
+    let run = c.run-item.result in
+    let left = c.loop-run.left in
+    let here = c.lesser-here.result in
+    let part = c.lesser-here.ensures ∙ ap (λ (n : ℕ). min n left) c.count.ensures ∙ ap (λ (r : g.row.R.Denot). min (size r) left) c.run-item.is in
+    let why =
+    part_refused (list_any (λ v. not (fits c.args.kind v)) _) _ c.in_err-push_run.field-0.0
+    (λ hit. part_hit at size (λ v. not (fits c.args.kind v)) c.args.runs.now c.loop-run.run-index c.args.count left here run
+    c.loop-run-test.true c.loop-run.invariant.rest part
+    (sym (ap (λ (r : g.row.R.Denot). list_any (λ v. not (fits c.args.kind v)) (map (at r) (range_with_len 0 here))) c.run-item.is) ∙ hit))
+    c.in_err-push_run.ensures.refused in
+    let p = err_from_is_err_and c.from_residual.result c.from_residual.ensures.1 in
+    rw (p.1, p.2) why

@@ -1,0 +1,5 @@
+//! Tests of imap_extents.
+#![tactic(auto)]
+
+#[cfg(test)]
+mod tests;

@@ -1,0 +1,14 @@
+use Rattle.std.proofs.Common.{◌≡◌, arith}
+use Rattle.std.proofs.lemmas.Grind.{common_steps}
+use Rattle.std.proofs.lemmas.Int.{to_z-of_z}
+use mir.Syntax.{w128}
+use mir.Val.{to_z, of_z}
+use Rattle.std.specs.Fmt.{signed_decimal}
+use Rattle.printed_text.proofs.WordLaws.{spaced_next}
+use Rattle.printed_text.proofs.words.push_numbers.Goals as goal
+
+pub loop-k-preserved : goal.loop-k-preserved
+loop-k-preserved c =
+    let told : to_z w128 (of_z w128 c.at.result) ≡ c.at.result = grind (arith, to_z-of_z) in
+    let more = spaced_next signed_decimal c.args.out.now.items c.args.numbers.now c.loop-k.k c.at.result c.at.ensures in
+    grind (arith, common_steps, told, more)

@@ -1,0 +1,10 @@
+use Rattle.std.proofs.Common.{◌≡◌, ◌∷◌, ℕ, arith}
+use Rattle.std.proofs.lemmas.Grind.{common_steps}
+use Rattle.script_spec.specs.Texts.{hex}
+use Rattle.printed_text.proofs.WordLaws.{spaced_next}
+use Rattle.printed_text.proofs.words.push_patterns.Goals as goal
+
+pub loop-k-preserved : goal.loop-k-preserved
+loop-k-preserved c =
+    let more = spaced_next (λ (n : ℕ). 120 ∷ hex c.args.digits n) c.args.out.now.items c.args.patterns.now c.loop-k.k c.at.result c.at.ensures in
+    grind (arith, common_steps, more)
