@@ -84,11 +84,7 @@ fn push_fixed(
 }
 
 /// Adds the old record variables.
-fn push_records(
-    order: &mut Items<NumberedVar>,
-    header: &Header,
-    n: usize,
-) -> Result<(), Memory>
+fn push_records(order: &mut Items<NumberedVar>, header: &Header, n: usize) -> Result<(), Memory>
     ensures { OnOk result (order.new ≡ order.old ++ map (record_var header.now) (records_at header.now n Old)) }
 {
     for (number, var) in header.vars.as_slice().iter().enumerate() {
