@@ -10,6 +10,7 @@ use Rattle.run_laws.proofs.TogetherLaws.{call_fresh, call_lawful, call_posts}
 use Rattle.run_laws.proofs.CallLaws.{meets_keeps, solo_keeps, alone_keeps}
 use Rattle.turn_run.specs.Counts.{IsAsked}
 use Rattle.turn_run.specs.Seated.{between, asking, IsPlaced}
+use Rattle.turn_run.proofs.HintLaws.{on_err}
 use Rattle.turn_run.proofs.ListLaws.{drop_get}
 use Rattle.turn_run.proofs.SeatLaws.{next_call, way_on, advance_on, placed_meeting, placed_alone, advance_meeting, advance_alone, answers_on_way, said_at, asked_meeting, asked_alone, sound_at, few_at}
 use Rattle.turn_run.proofs.seats.Seat.go_on.Goals as goal
@@ -136,8 +137,10 @@ returns-in-Meet-clause-advanced g c =
     c.calls.invariant.advanced ∙ by c.in-Meet.is
 
 pub returns-in_err-answer-clause-some : goal.returns-in_err-answer-clause-some
-returns-in_err-answer-clause-some g c = on_err c.from_residual.result (answers_on_way c.args.header.now _ c.args.calls.now c.calls.self.rank.state c.calls.self.answers _ c.calls.invariant.advanced refl)
+returns-in_err-answer-clause-some g c =
+    on_err c.from_residual.result (answers_on_way c.args.header.now _ c.args.calls.now c.calls.self.rank.state c.calls.self.answers _ c.calls.invariant.advanced refl)
 
-pub returns-in_err-push-clause-some : goal.returns-in_err-push-clause-some
-returns-in_err-push-clause-some g c =
-    on_err c.from_residual.result (answers_on_way c.args.header.now _ c.args.calls.now c.calls.self.rank.state c.calls.self.answers c.push.new.self c.calls.invariant.advanced (on_err c.push.ensures.err))
+pub returns-in_err-push-in-Answered-clause-some : goal.returns-in_err-push-in-Answered-clause-some
+returns-in_err-push-in-Answered-clause-some g c =
+    on_err c.from_residual-in_err-push-in-Answered.result
+    (answers_on_way c.args.header.now _ c.args.calls.now c.calls.self.rank.state c.calls.self.answers c.push.new.self c.calls.invariant.advanced c.in_err-push-in-Answered.ensures.err)
