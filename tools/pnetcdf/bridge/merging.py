@@ -1,9 +1,10 @@
 """One script of the calls that the ranks of a program made on a dataset, and the codes that they got."""
 import re
 from dataclasses import dataclass, field
+from itertools import zip_longest
 
 from . import words
-from .definitions import Definitions, NoWord
+from .definitions import Definitions, NoWord, parted
 from .traces import text_of
 
 ACCESS = re.compile(r"(put|get|iput|iget|bput)_(var1|vara|vars|varm|varn|var)(?:_(?!all$)[a-z]+)?(_all)?")
@@ -282,16 +283,20 @@ class Merged:
         definitions = Definitions(opening)
         self.version, self.definitions = definitions.version, definitions
         self.head = definitions.script_lines(len(opening.events))
+        first_defined = parted(opening.events[0])[0]
         for number, events in enumerate(opening.events):
-            self.compare_definitions(number, events, definitions.count)
-            self.ranks.append(RankMerger(definitions, number).take(events[definitions.count:]))
+            defined, calls = parted(events)
+            self.compare_definitions(number, defined, first_defined)
+            self.ranks.append(RankMerger(definitions, number).take(calls))
         self.cut_where_stopped()
 
-    def compare_definitions(self, number, events, count):
+    @staticmethod
+    def compare_definitions(number, defined, first_defined):
         """All ranks define alike, or the script would be that of rank 0 alone."""
-        for own, first in zip(events[1:count], self.opening.events[0][1:count]):
-            if own.given != first.given:
-                raise NoWord("definitions that differ: rank 0 calls %s, rank %d %s" % (first.call, number, own.call))
+        for own, first in zip_longest(defined, first_defined):
+            if own is None or first is None or own.given != first.given:
+                made = [e.call if e else "nothing more" for e in (first, own)]
+                raise NoWord("definitions that differ: rank 0 makes %s, rank %d %s" % (made[0], number, made[1]))
 
     def cut_where_stopped(self):
         """Ends every rank before the first meeting that a rank which stops doesn't come to."""
