@@ -12,7 +12,7 @@ static External externals[] = {
     {NC_UINT, "uint", 0, 4}, {NC_INT64, "int64", 0, 8}, {NC_UINT64, "uint64", 0, 8},
 };
 
-enum { TYPES = sizeof externals / sizeof *externals };
+enum { TYPES = sizeof externals / sizeof *externals, DIMS = 1024 };
 
 static const External *with_memory(External *type)
 {
@@ -175,9 +175,11 @@ static void add_variables(Text *text, int ncid, int vars, int unlimited, bool re
 {
     add(text, records ? "record variables:\n" : "fixed-size variables:\n");
     for (int i = 0; i < vars; i++) {
-        int count, dims[1024];
+        int count, dims[DIMS];
         MPI_Offset begin;
         check(ncmpi_inq_varndims(ncid, i, &count), "a variable");
+        if (count > DIMS)
+            stop(0, "variable %d has more than %d dimensions", i, DIMS);
         check(ncmpi_inq_vardimid(ncid, i, dims), "a variable");
         if ((count > 0 && dims[0] == unlimited) != records)
             continue;

@@ -96,6 +96,8 @@ static void find_variable(int ncid, const char *name, Access *access)
     } else {
         ncmpi_inq_vartype(ncid, access->varid, &type);
         ncmpi_inq_varndims(ncid, access->varid, &access->dims);
+        if (access->dims > DIMS)
+            stop(0, "variable %s has more than %d dimensions", name, DIMS);
         ncmpi_inq_vardimid(ncid, access->varid, ids);
         ncmpi_inq_unlimdim(ncid, &unlimited);
         for (int i = 0; i < access->dims; i++) {

@@ -37,8 +37,9 @@ def name_of(parameter):
     return re.search(r"(\w+)(?:\[\])?$", parameter).group(1)
 
 
-def wrapper(name, parameters, body):
-    names = ", ".join(map(name_of, parameters))
+def wrapper(name, parameters, body, renamed=None):
+    """A function of that name, in whose body CALL is the call of PnetCDF's own."""
+    names = ", ".join((renamed or {}).get(n, n) for n in map(name_of, parameters))
     return "int ncmpi_%s(%s)\n{\n%s}\n" % (name, ", ".join(parameters), body.replace("CALL", "REAL(%s)(%s)" % (name, names)))
 
 
@@ -53,12 +54,14 @@ def access(name, parameters, match):
     fields.append(".type = " + (TYPES[type_word] if type_word else "buftype"))
     if not type_word:
         fields += [".flexible = true", ".bufcount = bufcount"]
-    request = "req" if "req" in names else "NULL"
+    # A program that doesn't want to know the request passes NULL; the trace needs it all the same.
+    post = "req" in names
+    own = "    int own = NC_REQ_NULL, *request = req != NULL ? req : &own;\n" if post else ""
     return wrapper(name, parameters, """    Access access = {%s};
     Memory memory;
-    begin_access(&access, &memory);
+%s    begin_access(&access, &memory);
     return end_access(&access, &memory, CALL, %s);
-""" % (", ".join(fields), request))
+""" % (", ".join(fields), own, "request" if post else "NULL"), {"req": "request"})
 
 
 def attribute(name, parameters, match):

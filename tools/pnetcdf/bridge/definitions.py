@@ -5,6 +5,8 @@ from .traces import text_of
 UNLIMITED = 0
 FILL = 0        # PnetCDF's number for the mode in which variables are filled
 DEFINES = {"def_dim", "def_var", "put_att", "set_fill", "def_var_fill"}
+# What a program may do among its definitions that a script does after them.
+EARLY = {"inq_dimlen", "buffer_attach"}
 HINTS = {"cb_nodes": 64, "cb_buffer_size": 1 << 25, "ind_rd_buffer_size": 1 << 25, "ind_wr_buffer_size": 1 << 25,
          "striping_unit": 1 << 25}
 GREATEST_ALIGNMENT = 1 << 20
@@ -35,6 +37,21 @@ def attribute_values(kind, memory, values):
     return [words.pattern(kind, v) for v in values] if kind in (words.FLOAT, words.DOUBLE) else values
 
 
+def parted(events):
+    """The definitions at the front of a rank's calls, with the enddef, and the other calls."""
+    place = 1
+    if events[0].call == "open":
+        while place < len(events) and events[place].call in EARLY:
+            place += 1
+        if place == len(events) or events[place].call != "redef" or not events[place].ok:
+            return [], events[1:]
+    ends = ("enddef", "close", "abort")
+    end = next((k for k in range(place, len(events)) if events[k].call in ends), len(events))
+    after = end + 1 if end < len(events) and events[end].call == "enddef" else end
+    front, early = events[1:after], [e for e in events[1:after] if e.call in EARLY]
+    return [e for e in front if e.call not in EARLY], early + events[after:]
+
+
 class Definitions:
     """Dimensions, variables and attributes by their numbers in PnetCDF, with what a script says of them."""
 
@@ -52,7 +69,7 @@ class Definitions:
             raise NoWord("a dataset that is none of the classic format")
         if not self.fresh:
             self.take_contents()
-        self.count = 1 + self.take(events)
+        self.take(parted(events)[0])
 
     def take_contents(self):
         """What an opened dataset had."""
@@ -66,22 +83,13 @@ class Definitions:
             k += 1
 
     def take(self, events):
-        """Takes the definitions at the front; the answer is how many calls they were, with the enddef."""
-        if not self.fresh and (len(events) < 2 or events[1].call != "redef" or not events[1].ok):
-            return 0
-        for number, event in enumerate(events[1:], 1):
+        for event in events:
             if event.call == "enddef":
-                if event.answer:
-                    self.answer = event.answer
-                return number
-            if event.call in DEFINES:
-                if event.ok:
-                    getattr(self, event.call)(event.given)
-            elif event.call not in ("redef", "inq_dimlen"):
-                if event.call == "close":
-                    return number - 1
+                self.answer = event.answer or self.answer
+            elif event.call in DEFINES and event.ok:
+                getattr(self, event.call)(event.given)
+            elif event.call not in DEFINES and event.call != "redef":
                 raise NoWord("%s among the definitions" % event.call)
-        return len(events) - 1
 
     def def_dim(self, given):
         name = text_of(given["dim"])

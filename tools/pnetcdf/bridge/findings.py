@@ -7,6 +7,7 @@ from . import classic, running, words
 from .merging import Merged
 
 SHOWN = 5       # how many elements of a variable are told one by one
+LONGEST = 60    # how many characters of an answer
 MISMATCH = re.compile(r"ncrun: script line \d+: ranks (\d+) and (\d+) differ at collective call (\d+)")
 PAIR = re.compile(r"overlap (\d+) (\d+) (\d+) (\d+) (\d+)")
 SERIAL = ["hint overlap serial"]
@@ -103,8 +104,9 @@ class Diagnosis:
                 return "rank %d makes %s" % (rank, "call %d, %s" % (call.number, call.short))
             closed = self.merged.ranks[rank].closed
             return "rank %d makes none%s" % (rank, " and closes the dataset" if closed else " any more")
-        self.tell("ranks differ: as collective call %d (counted from 0) %s, and %s; PnetCDF waits there for ever" % (
-            number, made(first), made(other)))
+        alone = not self.merged.meeting(first, number) or not self.merged.meeting(other, number)
+        self.tell("ranks differ: as collective call %d (counted from 0) %s, and %s; %s" % (
+            number, made(first), made(other), "PnetCDF waits there for ever" if alone else "what PnetCDF does there is open"))
         self.merged.cut(number)
 
     # ---- what the proved run tells
@@ -134,7 +136,7 @@ class Diagnosis:
         """Tells each pair of puts that overlap, once; the answer is whether there is any."""
         told = set()
         for rank, call, answer in self.calls(text):
-            pair = PAIR.search("%s %s" % (answer.code, answer.rest))
+            pair = PAIR.fullmatch("overlap " + answer.rest if answer.code == "overlap" else answer.rest)
             meeting = self.merged.meeting_number(rank, call) if call.meets else (rank, call.number)
             if not pair or meeting in told:
                 continue
@@ -159,15 +161,20 @@ class Diagnosis:
         codes = running.read_text(self.merged.codes())
         for (rank, call, proved), own in zip(self.calls(text), (a for r in codes.ranks for a in r)):
             self.checked += 1
-            if own.code == "-" or call.event.answer is None:
+            if own.code == "-":
                 continue
             if own.code != proved.code:
                 self.tell("code: %s answered %s, and %s in the proved run" % (call_word(rank, call), own.code, proved.code))
-            elif own.rest != proved.rest:
-                self.tell("values: %s got %s, and %s in the proved run" % (call_word(rank, call), cut(own.rest), cut(proved.rest)))
+                continue
+            if own.rest != proved.rest:
+                self.tell_values(call_word(rank, call), own.rest, proved.rest)
             for mine, other in zip(own.items, proved.items):
                 if mine != other:
-                    self.tell("values: %s got for request %s, and in the proved run %s" % (call_word(rank, call), cut(mine), cut(other)))
+                    post = self.merged.post(rank, int(mine.split()[0])) or call
+                    self.tell_values("the request of " + call_word(rank, post), *(i.split(" ", 1)[1] for i in (mine, other)))
+
+    def tell_values(self, what, own, proved):
+        self.tell("values: %s got %s, and %s in the proved run" % (what, shortened(own), shortened(proved)))
 
     def program_file(self):
         """The dataset as the program left it: as it stands, or as it was when it was opened next."""
@@ -194,20 +201,20 @@ class Diagnosis:
             self.tell_variable(name, [d for d in found if d.name == name])
 
     def tell_variable(self, name, found):
-        puts = [c for r in self.merged.ranks for c in r.calls
-                if c.words.split()[0].lstrip("ib").startswith("put") and name in c.words.split()[1:3]]
-        put = [d for d in found if any(holds(c, d.index) for c in puts)]
+        puts = [c for r in self.merged.ranks for c in r.calls if c.puts_to(name)]
+        put, left = [], []
+        for difference in found:
+            (put if any(holds(c, difference.index) for c in puts) else left).append(difference)
         for difference in put[:SHOWN]:
             self.tell("the file: %s%s is %s, and %s in the proved file" % (
                 name, index_word(difference.index), difference.first, difference.second))
         if len(put) > SHOWN:
             self.tell("the file: %d more elements of %s differ" % (len(put) - SHOWN, name))
-        if len(found) > len(put):
-            left = next(d for d in found if d not in put)
-            self.tell("the file: %d elements of %s that no call put aren't zero, the first %s%s" % (
-                len(found) - len(put), name, name, index_word(left.index)))
+        if left:
+            self.tell("the file: %d elements of %s that no call put aren't as they were, the first %s%s" % (
+                len(left), name, name, index_word(left[0].index)))
 
 
-def cut(text):
+def shortened(text):
     text = text or "nothing"
-    return text if len(text) <= 60 else text[:57] + ".."
+    return text if len(text) <= LONGEST else text[:LONGEST] + " .."

@@ -1,12 +1,15 @@
 """One script of the calls that the ranks of a program made on a dataset, and the codes that they got."""
 import re
 from dataclasses import dataclass, field
+from itertools import zip_longest
 
 from . import words
-from .definitions import Definitions, NoWord
+from .definitions import Definitions, NoWord, parted
 from .traces import text_of
 
 ACCESS = re.compile(r"(put|get|iput|iget|bput)_(var1|vara|vars|varm|varn|var)(?:_(?!all$)[a-z]+)?(_all)?")
+SHORT = re.compile(r"(put|get|iput|iget|bput)_(var1|vara|vars|varm|varn|var)")
+LONGEST = 12    # how many words of a call are shown
 POST = re.compile(r"(iput|bput|iget)_")
 LISTS = {"var1": ["start"], "var": [], "vara": ["start", "count"], "vars": ["start", "count", "stride"],
          "varm": ["start", "count", "stride", "imap"]}
@@ -36,15 +39,22 @@ class Told:
         word = self.words.split()[0]
         return word.endswith("_all") or word in MEETINGS
 
+    def puts_to(self, name):
+        """Whether it is a put or the post of a put to that variable."""
+        match, told = SHORT.match(self.words), self.words.split(" ")
+        return bool(match) and match.group(1) in ("put", "iput", "bput") and told[1 if match.group(1) == "put" else 2] == name
+
     @property
     def short(self):
-        """The call without its values."""
-        kept = []
-        for word in self.words.split(" "):
-            if kept and kept[-1].startswith("[") and not word.startswith("["):
-                break
-            kept.append(word)
-        return " ".join(kept[:12])
+        """The call without its values, and of many boxes the first ones."""
+        told = self.words.split(" ")
+        match = SHORT.match(told[0])
+        if not match:
+            return " ".join(told[:LONGEST]) + (" .." if len(told) > LONGEST else "")
+        first = last = (2 if match.group(1) in ("put", "get") else 3) + (match.group(2) == "varn")
+        while last < len(told) and told[last].startswith("["):
+            last += 1
+        return " ".join(told[:min(last, first + 4)]) + (" .." if last > first + 4 else "")
 
 
 @dataclass
@@ -52,7 +62,6 @@ class Rank:
     number: int
     calls: list = field(default_factory=list)
     stopped: str = None         # why its calls end before the program's
-    pending: dict = field(default_factory=dict)     # the posts that wait, by id: the call
     hung: object = None         # the call that never came back
     closed: bool = False
 
@@ -62,8 +71,8 @@ class RankMerger:
 
     def __init__(self, definitions, number):
         self.definitions, self.rank = definitions, Rank(number)
-        self.ids = {}           # the id of a pending request by PnetCDF's number
-        self.posts = {}         # by id: direction, type of the variable
+        self.ids = {}           # the ids of pending requests by PnetCDF's numbers, in order of posting
+        self.posts = {}         # of each id its verb, the type of the variable and that of memory
         self.next = 0
 
     def take(self, events):
@@ -210,7 +219,6 @@ class RankMerger:
         elif request is not None:
             self.ids[request] = self.next
             self.posts[self.next] = verb, kind, event.given.get("memory")
-            self.rank.pending[self.next] = self.rank.calls[-1]
         self.next += 1
 
     # ---- waits
@@ -219,7 +227,7 @@ class RankMerger:
         """The word of the choice, and PnetCDF's numbers that it stands for."""
         count = given["count"]
         if count == ALL:
-            return "all", [r for i in self.rank.pending for r, known in self.ids.items() if known == i]
+            return "all", list(self.ids)
         if count in (ALL_GETS, ALL_PUTS):
             gets = count == ALL_GETS
             listed = [r for r, i in self.ids.items() if (self.posts[i][0] == "iget") == gets]
@@ -238,7 +246,7 @@ class RankMerger:
         items = [] if refused else [self.item(r, names.get(r, "ok"), gets.get(r)) for r in listed]
         self.add(event, (event.call + " " + word).rstrip(), items=items, requests=[] if refused else named)
         for request in [] if refused else listed:
-            self.rank.pending.pop(self.ids.pop(request, None), None)
+            self.ids.pop(request, None)
 
     def item(self, request, name, values):
         number = self.ids.get(request, NO_ID)
@@ -280,18 +288,22 @@ class Merged:
         if len(opening.events) > MOST_RANKS:
             raise NoWord("more than %d ranks" % MOST_RANKS)
         definitions = Definitions(opening)
-        self.version, self.definitions = definitions.version, definitions
+        self.definitions = definitions
         self.head = definitions.script_lines(len(opening.events))
+        first_defined = parted(opening.events[0])[0]
         for number, events in enumerate(opening.events):
-            self.compare_definitions(number, events, definitions.count)
-            self.ranks.append(RankMerger(definitions, number).take(events[definitions.count:]))
+            defined, calls = parted(events)
+            self.compare_definitions(number, defined, first_defined)
+            self.ranks.append(RankMerger(definitions, number).take(calls))
         self.cut_where_stopped()
 
-    def compare_definitions(self, number, events, count):
+    @staticmethod
+    def compare_definitions(number, defined, first_defined):
         """All ranks define alike, or the script would be that of rank 0 alone."""
-        for own, first in zip(events[1:count], self.opening.events[0][1:count]):
-            if own.given != first.given:
-                raise NoWord("definitions that differ: rank 0 calls %s, rank %d %s" % (first.call, number, own.call))
+        for own, first in zip_longest(defined, first_defined):
+            if own is None or first is None or own.given != first.given:
+                made = [e.call if e else "nothing more" for e in (first, own)]
+                raise NoWord("definitions that differ: rank 0 makes %s, rank %d %s" % (made[0], number, made[1]))
 
     def cut_where_stopped(self):
         """Ends every rank before the first meeting that a rank which stops doesn't come to."""
@@ -319,8 +331,8 @@ class Merged:
         return sum(c.meets for c in self.ranks[rank].calls[:call.number])
 
     def post(self, rank, number):
-        """The call by which a rank posted the request of that id."""
-        return next(c for c in self.ranks[rank].calls if POST.match(c.words) and int(c.words.split()[1]) == number)
+        """The call by which a rank posted the request of that id, None where it posted none."""
+        return next((c for c in self.ranks[rank].calls if POST.match(c.words) and int(c.words.split()[1]) == number), None)
 
     def notes(self):
         """What of the program the script leaves out."""

@@ -13,6 +13,7 @@ int main(int argc, char **argv)
     MPI_Info info;
     MPI_Info_create(&info);
     MPI_Info_set(info, "nc_var_align_size", "64");
+    MPI_Info_set(info, "cb_nodes", "2");
     OK(ncmpi_create(MPI_COMM_WORLD, argv[1], NC_CLOBBER | NC_64BIT_DATA, info, &ncid));
     OK(ncmpi_def_dim(ncid, "y", ranks * ROWS, &dims[0]));
     OK(ncmpi_def_dim(ncid, "x", COLUMNS, &dims[1]));
