@@ -4,4 +4,3 @@
 mod round;
 
 pub use round::{close_window, get_window, lay, open_window, put_window};
-

@@ -10,4 +10,3 @@ mod room;
 
 pub use attached::{Attached, Ticket};
 pub use room::Room;
-

@@ -13,4 +13,3 @@ mod walk;
 pub use get::{collect_entry, sieve_get};
 pub use put::{lay_entry, sieve_put};
 pub use walk::{begun_before, ended_by};
-

@@ -6,4 +6,3 @@ mod walk;
 
 pub use domain::cut;
 pub use walk::{Window, WindowWalk, windows};
-

@@ -10,4 +10,3 @@ mod values;
 pub use shares::{boxes, share};
 pub use slabs::prefill;
 pub use values::fill_value;
-

@@ -11,4 +11,3 @@ pub use joined::cover;
 pub use serial::resolve;
 pub use shared::first_pair;
 pub use sorted::gather;
-

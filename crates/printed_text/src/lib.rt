@@ -14,4 +14,3 @@ pub mod words;
 pub use faults::{disk_line, header_line, layout_line, redef_line, script_line, usage_line};
 pub use offsets::offsets_text;
 pub use runs::run_text;
-

@@ -16,4 +16,3 @@ mod slabs;
 
 pub use applying::apply;
 pub use relocating::relocate;
-

@@ -9,4 +9,3 @@ mod taking;
 
 pub use queue::Queue;
 pub use taking::Taken;
-

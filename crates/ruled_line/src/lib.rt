@@ -14,4 +14,3 @@ mod line_rule;
 pub use inbox_ends::{InPut, InPutList, InTake, inbox, settle_from};
 pub use line_ends::{LinePut, LineTake, line, settle};
 pub use line_list::LinePutList;
-

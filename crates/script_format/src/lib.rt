@@ -32,4 +32,3 @@ pub fn canonical_text(alloc: Global, text: &[u8]) -> Result<Blob, ScriptErr>
         }),
     }
 }
-

@@ -24,4 +24,3 @@ pub use placing::lay_out;
 pub use record::{recsize, recsize_of};
 pub use sizes::{is_record, length_of, slab, slab_of, vsize, vsize_of};
 pub use written::header_len;
-

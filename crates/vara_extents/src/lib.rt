@@ -18,4 +18,3 @@ pub use laws::{extents_law, writing_law};
 pub use needs::records_needed;
 pub use parts::check_parts;
 pub use walk::Extents;
-
