@@ -1,0 +1,55 @@
+#!/usr/bin/env python3
+"""The scripts of the benchmark.
+
+  scripts.py ROW N > SCRIPT     the script of a row at size N
+"""
+import sys
+
+RANKS = 8           # of the row variables
+COLUMN = 3          # the column that is read
+
+
+def vector(n):
+    """The definitions of a new dataset with one variable of n ints, and one rank."""
+    return ["create 1", "ranks 1", f"dim x {n}", "var int v [x]", "data"]
+
+
+def calls(n):
+    """n collective puts of one element each."""
+    return vector(n) + [f"0 put_var1_all v [{k}] {k}" for k in range(n)]
+
+
+def variables(n):
+    """n record variables, of which each rank writes an element of one record by one collective put a variable."""
+    return (["create 1", f"ranks {RANKS}", "dim t unlimited", f"dim x {RANKS}"]
+            + [f"var int v{k} [t,x]" for k in range(n)] + ["data"]
+            + [f"{rank} put_vara_all v{k} [0,{rank}] [1,1] {RANKS * k + rank}" for k in range(n) for rank in range(RANKS)])
+
+
+def waits(n):
+    """n puts of one element each that are posted, and then waited for one by one, in order of posting."""
+    return (vector(n) + [f"0 iput_var1 {k} v [{k}] {k}" for k in range(n)]
+            + [f"0 wait_all {k}" for k in range(n)])
+
+
+def attributes(n):
+    """n attributes that are added to the variable of a dataset."""
+    return ["open", "ranks 1"] + [f"att v a{k} int {k}" for k in range(n)] + ["data"]
+
+
+def column(n):
+    """A get of a column of n elements, each of which lies alone in the file."""
+    return ["open", "ranks 1", "data", f"0 get_vara_all v [0,{COLUMN}] [{n},1]"]
+
+
+ROWS = {"calls": calls, "variables": variables, "waits": waits, "attributes": attributes, "column": column}
+
+
+def script(row, n):
+    return "\n".join(ROWS[row](n) + ["end", ""])
+
+
+if __name__ == "__main__":
+    if len(sys.argv) != 3 or sys.argv[1] not in ROWS:
+        sys.exit(__doc__)
+    sys.stdout.write(script(sys.argv[1], int(sys.argv[2])))
