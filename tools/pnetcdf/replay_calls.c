@@ -28,7 +28,7 @@ typedef struct {
 typedef struct Post {
     struct Post *next;
     long long id;
-    int request, call;
+    int request;
     bool open, get;
     Access access;
 } Post;
@@ -287,7 +287,7 @@ static void do_post(Run *run, long long id, Access *access)
         return;
     }
     Post *post = room(1, sizeof *post);
-    *post = (Post){.id = id, .request = request, .call = run->call, .open = request != NC_REQ_NULL,
+    *post = (Post){.id = id, .request = request, .open = request != NC_REQ_NULL,
                    .get = access->verb == IGET, .access = *access};
     *last_post = post;
     last_post = &post->next;
