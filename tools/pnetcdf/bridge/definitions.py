@@ -105,7 +105,10 @@ class Definitions:
     def put_att(self, given):
         if "values" not in given:
             raise NoWord("the values of an attribute")
-        values = attribute_values(given["type"], given["memory"], given["values"])
+        try:
+            values = attribute_values(given["type"], given["memory"], given["values"])
+        except (OverflowError, ValueError):
+            raise NoWord("an attribute's values of that size")
         self.attributes[given["var"], text_of(given["attribute"])] = given["type"], values
 
     def set_fill(self, given):

@@ -5,7 +5,6 @@ from itertools import zip_longest
 
 from . import words
 from .definitions import Definitions, NoWord, parted
-from .traces import text_of
 
 ACCESS = re.compile(r"(put|get|iput|iget|bput)_(var1|vara|vars|varm|varn|var)(?:_(?!all$)[a-z]+)?(_all)?")
 SHORT = re.compile(r"(put|get|iput|iget|bput)_(var1|vara|vars|varm|varn|var)")
