@@ -6,7 +6,7 @@ use Rattle.std.specs.List.{list_any, range_with_len}
 use Rattle.std.proofs.lemmas.Bool.{le-ltb, or_parts, or_from, or_left, or_right, lt-leb}
 use Rattle.std.proofs.lemmas.List.{length-append}
 use Rattle.std.proofs.lemmas.List.Concat.{flat_map-append}
-use Rattle.std.proofs.lemmas.List.Folds.{list_any-append, or-false}
+use Rattle.std.proofs.lemmas.List.Folds.{list_any-append}
 use Rattle.std.proofs.lemmas.List.FromFn.{length-range_with_len}
 use Rattle.std.proofs.lemmas.List.Sums.{sum_by-cons}
 use Rattle.list_laws.proofs.Ranges.{range_append}
@@ -89,13 +89,17 @@ values_more kind values k n j h =
     ∙ flat_map-append f (range_with_len k n) (j ∷ [])
     ∙ ap (λ (l : List ℕ). flat_map f (range_with_len k n) ++ l) (append-nil (f j))
 
+or_false : (b : Bool) → (b || false) ≡ b
+or_false true = refl
+or_false false = refl
+
 pub unfit_more : (kind : NcType) (values : Values) (k n j : ℕ) → k + n ≡ j
     → some_unfit kind (Some values) k (n + 1) ≡ (some_unfit kind (Some values) k n || unfit_at kind values j)
 unfit_more kind values k n j h =
     let test = λ (m : ℕ). unfit_at kind values m in
     ap (λ (l : List ℕ). list_any test l) (range_more k n j h)
     ∙ list_any-append test (range_with_len k n) (j ∷ [])
-    ∙ ap (λ (b : Bool). list_any test (range_with_len k n) || b) (or-false (test j))
+    ∙ ap (λ (b : Bool). list_any test (range_with_len k n) || b) (or_false (test j))
 
 pub still_fit : (a b c : Bool) → c ≡ (a || b) → a ≡ false → b ≡ false → c ≡ false
 still_fit a b c e f g = e ∙ or_from a b f g
