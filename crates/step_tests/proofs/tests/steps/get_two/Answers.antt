@@ -1,8 +1,11 @@
 -- Both posts are gets of records that the file has.
+use Rattle.std.proofs.Common.{ℕ, subst}
+use Rattle.collective_round.specs.Rounds.{gets_in, AreGets}
 use Rattle.step_tests.proofs.TwoPosts.{two_gets}
 use Rattle.step_tests.proofs.tests.steps.get_two.Goals as goal
 
 pub get_all-requires-clause-gets : goal.get_all-requires-clause-gets
 get_all-requires-clause-gets g c κs within =
-    two_gets c.args.set.now.header _ c.args.a c.args.b c.in_ok-job.job.batches c.in_ok-batch_of_get.field-0 c.in_ok-batch_of_get-2.field-0 c.in_ok-job.ensures
-    c.in_ok-batch_of_get.ensures c.in_ok-batch_of_get-2.ensures c.is_get.ensures c.is_get-2.ensures
+    subst (λ (n : ℕ). AreGets c.args.set.now.header n (gets_in c.in_ok-job.job.batches)) c.size-len.ensures.size
+    (two_gets c.args.set.now.header c.size-len.result c.args.a c.args.b c.in_ok-job.job.batches c.in_ok-batch_of_get.field-0 c.in_ok-batch_of_get-2.field-0 c.in_ok-job.ensures
+    c.in_ok-batch_of_get.ensures c.in_ok-batch_of_get-2.ensures c.is_get.ensures c.is_get-2.ensures)
