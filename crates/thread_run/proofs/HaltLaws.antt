@@ -27,7 +27,6 @@ use Rattle.thread_run.proofs.AlikeLaws.{lines_as, lines_none, lines_twice}
 use Rattle.turn_run.proofs.ListLaws.{get_replicate}
 use Rattle.thread_run.proofs.RunLaws.{run_more, run_none}
 use Rattle.thread_run.proofs.StopLaws.{more_none, more_one}
-use Rattle.rank_meeting.specs.declared.serving.Halt.TheVariants as halt
 
 pub served_none : (hints : Hints) (s : Setting) (old : Receiver RankItem) (flags : List Bool) (x : Standing) → HaveEnded flags [] → HasServed hints s old old flags x x
 served_none hints s old flags x h = record { more = []; taken = more_none old; ended = h; run = run_none hints s x }

@@ -8,7 +8,6 @@ use Rattle.turn_run.proofs.ListLaws.{get_long}
 use Rattle.turn_run.proofs.MeetHear.{answered_by}
 use Rattle.turn_run.proofs.MeetLists.{each_more, left_more, read_at}
 use Rattle.turn_run.proofs.meeting.hear_all.Goals as goal
-use Rattle.rank_meeting.proofs.meeting.hear_all.Goals as goal
 
 pub hear-requires-clause-waits : goal.hear-requires-clause-waits
 hear-requires-clause-waits c =
