@@ -30,6 +30,7 @@ fn served<R: Wait>(
     requires whole { length disk.old.bytes ≡ 96 }
     requires two { taken.old.senders ≡ 2 }
     requires lines { length lines.old ≡ 2 }
+    ensures { length lines.new ≡ length lines.old }
 {
     let header = four_ints(alloc, 80)?;
     let mut records = header.records;
@@ -154,7 +155,7 @@ fn arrive<R: Abort + Wait>(
     let mut items = [zero.into_iter(), one.into_iter()];
     let mut senders = senders;
     for number in [0usize, 1, 1, 0, 0, 1, 0, 1] {
-        let item = items[number].next().ok_or("item")?;
+        let item = items.get_mut(number).ok_or("rank")?.next().ok_or("item")?;
         senders.get_mut(number).ok_or("sender")?.put(rt, item);
     }
     Ok(())
