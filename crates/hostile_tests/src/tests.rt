@@ -122,12 +122,7 @@ fn is_refused<R: Abort + Threads + Wait + Sync>(
 }
 
 /// The header with these bytes in place of its own, from a place on.
-fn changed(
-    alloc: Global,
-    header: &[u8],
-    at: usize,
-    bytes: &[u8],
-) -> Result<Vec<u8>, AllocError> {
+fn changed(alloc: Global, header: &[u8], at: usize, bytes: &[u8]) -> Result<Vec<u8>, AllocError> {
     let mut held = Vec::from_slice(alloc, header)?;
     for (own, new) in held.iter_mut().skip(at).zip(bytes) {
         *own = *new;

@@ -1,6 +1,6 @@
 // Headers with the greatest numbers. Nothing is allocated by a number before what it counts is read, so the answer comes at once.
 use crate::tests::files::{WHOLE_1, WHOLE_2, WHOLE_5};
-use crate::tests::{Change, all_refused, changed, is_listed};
+use crate::tests::{Change, all_refused, changed, is_listed, is_refused};
 use std::test::*;
 
 const MOST: &[u8] = b"\x7f\xff\xff\xff";
@@ -55,10 +55,16 @@ fn the_greatest_counts_are_refused(rt: HostRuntime) -> Result<(), Fail> {
     all_refused(&rt, rt.alloc(), WHOLE_5, &MOST_5)
 }
 
-// The same with no dimension, attribute or variable behind the count.
+// Headers that end behind a count, or before one.
 const BARE: [(&[u8], &str); 7] = [
-    (b"CDF\x01\x00\x00\x00\x00\x00\x00\x00\x0a\x7f\xff\xff\xff", "is too large"),
-    (b"CDF\x01\x00\x00\x00\x00\x00\x00\x00\x0a\x00\x00\x04\x00", "truncated at byte 16"),
+    (
+        b"CDF\x01\x00\x00\x00\x00\x00\x00\x00\x0a\x7f\xff\xff\xff",
+        "is too large",
+    ),
+    (
+        b"CDF\x01\x00\x00\x00\x00\x00\x00\x00\x0a\x00\x00\x04\x00",
+        "truncated at byte 16",
+    ),
     (
         b"CDF\x02\x00\x00\x00\x00\x00\x00\x00\x00\x00\x00\x00\x00\x00\x00\x00\x0c\x7f\xff\xff\xff",
         "truncated at byte 24",
@@ -66,8 +72,16 @@ const BARE: [(&[u8], &str); 7] = [
     (b"CDF\x05", "truncated at byte 4"),
     (b"", "truncated at byte 0"),
     (b"CD", "truncated at byte 0"),
-    (b"C\0F", "truncated at byte 0"),
+    (b"C\x00F", "truncated at byte 0"),
 ];
+
+#[test]
+fn a_header_that_ends_behind_a_count_is_refused(rt: HostRuntime) -> Result<(), Fail> {
+    for (held, fault) in &BARE {
+        is_refused(&rt, rt.alloc(), held, fault)?;
+    }
+    Ok(())
+}
 
 const LONG_1: &[u8] = b"\
     // file format: CDF-1\nfile header:\n  size = 128 bytes\n  extent = 128 bytes\ndimensions:\n  depth = 2147483647\n\

@@ -4,11 +4,26 @@ use std::test::*;
 
 const REFUSED: [(&[u8], &[u8]); 18] = [
     (b"", b"ncrun: script line 1: no head\n"),
-    (b"create 18446744073709551615\n", b"ncrun: script line 1: bad number\n"),
-    (b"create 1\nranks 18446744073709551616\n", b"ncrun: script line 2: bad number\n"),
-    (b"create 1\nranks 1\n\xff\n", b"ncrun: script line 3: not utf-8\n"),
-    (b"create 1\nranks 1\n\0\n", b"ncrun: script line 3: unknown word\n"),
-    (b"create 5\nranks 1\ndim x 9223372036854775807\n", b"ncrun: script line 3: bad number\n"),
+    (
+        b"create 18446744073709551615\n",
+        b"ncrun: script line 1: bad number\n",
+    ),
+    (
+        b"create 1\nranks 18446744073709551616\n",
+        b"ncrun: script line 2: bad number\n",
+    ),
+    (
+        b"create 1\nranks 1\n\xff\n",
+        b"ncrun: script line 3: not utf-8\n",
+    ),
+    (
+        b"create 1\nranks 1\n\0\n",
+        b"ncrun: script line 3: unknown word\n",
+    ),
+    (
+        b"create 5\nranks 1\ndim x 9223372036854775807\n",
+        b"ncrun: script line 3: bad number\n",
+    ),
     (
         b"create 1\nranks 1\ndim x 4\nvar int v [x,x,x,x,x,x,x,x,x,x,x,x,x,x,x,x,x,x,x,x,x,x,x,x,x,x,x,x,x,x,x,x,x]\n",
         b"ncrun: script line 4: limit of vardims\n",
@@ -37,7 +52,10 @@ const REFUSED: [(&[u8], &[u8]); 18] = [
         b"create 1\nranks 1\ndata\n0 put_var_all v \"ab\\x4\"\nend\n",
         b"ncrun: script line 4: bad text\n",
     ),
-    (b"create 1\nranks 1\ndata\n0 put_var_all v \"ab\\", b"ncrun: script line 4: bad text\n"),
+    (
+        b"create 1\nranks 1\ndata\n0 put_var_all v \"ab\\",
+        b"ncrun: script line 4: bad text\n",
+    ),
     (
         b"create 1\nranks 1\ndata\n0 get_varn_all v 9223372036854775807 [0] [1]\nend\n",
         b"ncrun: script line 4: limit of parts\n",
@@ -72,5 +90,11 @@ fn blanks_past_the_longest_script_are_refused(rt: HostRuntime) -> Result<(), Fai
         script: blanks.as_slice(),
         ..PLAIN
     };
-    ends(&rt, rt.alloc(), &run, 3, b"ncrun: script line 1: limit of script\n")
+    ends(
+        &rt,
+        rt.alloc(),
+        &run,
+        3,
+        b"ncrun: script line 1: limit of script\n",
+    )
 }

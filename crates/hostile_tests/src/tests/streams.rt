@@ -3,7 +3,7 @@ use crate::tests::files::SMALL_1;
 use crate::tests::{LIST, PLAIN, Run, ends};
 use std::test::*;
 
-// A header without values; a script that gets them finds zeros, once the file is as long as it is to be.
+// A dataset of one dimension alone.
 const OPENED: Run<'static> = Run {
     held: b"\
         CDF\x01\x00\x00\x00\x00\x00\x00\x00\x0a\x00\x00\x00\x01\x00\x00\x00\x01x\x00\x00\x00\x00\x00\x00\x04\
@@ -24,9 +24,30 @@ const LISTED: Run<'static> = Run {
 
 // The source's first call gives the whole script, and its second one tells that there is no more.
 const SOURCES: [(Run<'static>, u8, &[u8]); 4] = [
-    (Run { takes: &[0], ..OPENED }, 5, b""),
-    (Run { takes: &[1], ..OPENED }, 5, b""),
-    (Run { takes: &[2], ..OPENED }, 0, TEXT),
+    (
+        Run {
+            takes: &[0],
+            ..OPENED
+        },
+        5,
+        b"",
+    ),
+    (
+        Run {
+            takes: &[1],
+            ..OPENED
+        },
+        5,
+        b"",
+    ),
+    (
+        Run {
+            takes: &[2],
+            ..OPENED
+        },
+        0,
+        TEXT,
+    ),
     // The fault of the source comes before that of the script.
     (
         Run {
@@ -49,7 +70,14 @@ fn a_source_that_fails_is_told_by_the_status(rt: HostRuntime) -> Result<(), Fail
 
 // A sink that takes ten bytes at its first call is called a second time.
 const SINKS: [(Run<'static>, u8, &[u8]); 4] = [
-    (Run { gives: &[0], ..OPENED }, 6, b""),
+    (
+        Run {
+            gives: &[0],
+            ..OPENED
+        },
+        6,
+        b"",
+    ),
     (
         Run {
             gives: &[1],
@@ -59,8 +87,22 @@ const SINKS: [(Run<'static>, u8, &[u8]); 4] = [
         6,
         b"ranks 1\nor",
     ),
-    (Run { gives: &[0], ..LISTED }, 6, b""),
-    (Run { gives: &[1], ..OPENED }, 0, TEXT),
+    (
+        Run {
+            gives: &[0],
+            ..LISTED
+        },
+        6,
+        b"",
+    ),
+    (
+        Run {
+            gives: &[1],
+            ..OPENED
+        },
+        0,
+        TEXT,
+    ),
 ];
 
 #[test]
@@ -71,9 +113,15 @@ fn a_sink_that_fails_has_what_it_took(rt: HostRuntime) -> Result<(), Fail> {
     Ok(())
 }
 
-const NO_WORDS: Run<'static> = Run { words: &[], ..PLAIN };
+const NO_WORDS: Run<'static> = Run {
+    words: &[],
+    ..PLAIN
+};
 
-const NO_HEAD: Run<'static> = Run { script: b"", ..PLAIN };
+const NO_HEAD: Run<'static> = Run {
+    script: b"",
+    ..PLAIN
+};
 
 const NO_START: Run<'static> = Run {
     starts: false,
@@ -91,7 +139,10 @@ const FAULTS: [(Run<'static>, u8, &[u8]); 4] = [
 #[test]
 fn a_sink_that_fails_on_a_line_leaves_the_status(rt: HostRuntime) -> Result<(), Fail> {
     for (run, status, begun) in &FAULTS {
-        let first = Run { gives: &[0], ..*run };
+        let first = Run {
+            gives: &[0],
+            ..*run
+        };
         ends(&rt, rt.alloc(), &first, *status, b"")?;
         let second = Run { room: 9, ..*run };
         ends(&rt, rt.alloc(), &second, *status, begun)?;

@@ -16,12 +16,24 @@ const CHANGES_1: [Change; 16] = [
     // The second dimension has no name and is that of the records; behind it stands the tag of the variables.
     (12, b"\x00\x00\x00\x02", "has a bad tag at byte 36"),
     // The second of so many attributes has the type 0.
-    (28, b"\x00\x00\x00\x0c\x7f\xff\xff\xff", "has a bad type at byte 64"),
+    (
+        28,
+        b"\x00\x00\x00\x0c\x7f\xff\xff\xff",
+        "has a bad type at byte 64",
+    ),
     (52, b"\x00\x00\x00\x21", "is too large"),
-    (56, b"\x00\x00\x00\x05", "has a bad dimension id in variable 0"),
+    (
+        56,
+        b"\x00\x00\x00\x05",
+        "has a bad dimension id in variable 0",
+    ),
     (64, b"\x00\x00\x00\x01", "has a bad number at byte 64"),
     (68, b"\x00\x00\x00\x07", "has a bad type at byte 68"),
-    (76, b"\x00\x00\x00\x4c", "has shared bytes of variables 0 and 0"),
+    (
+        76,
+        b"\x00\x00\x00\x4c",
+        "has shared bytes of variables 0 and 0",
+    ),
 ];
 
 const CHANGES_2: [Change; 16] = [
@@ -34,36 +46,80 @@ const CHANGES_2: [Change; 16] = [
     (12, b"\x80\x00\x00\x00", "has a bad number at byte 12"),
     (12, b"\x00\x00\x04\x01", "is too large"),
     (12, b"\x00\x00\x00\x02", "has a bad tag at byte 36"),
-    (28, b"\x00\x00\x00\x0c\x7f\xff\xff\xff", "has a bad type at byte 64"),
+    (
+        28,
+        b"\x00\x00\x00\x0c\x7f\xff\xff\xff",
+        "has a bad type at byte 64",
+    ),
     (40, b"\x00\x00\x20\x01", "is too large"),
     (52, b"\x00\x00\x00\x21", "is too large"),
-    (56, b"\x00\x00\x00\x01", "has a bad dimension id in variable 0"),
+    (
+        56,
+        b"\x00\x00\x00\x01",
+        "has a bad dimension id in variable 0",
+    ),
     (64, b"\x00\x00\x00\x01", "has a bad number at byte 64"),
     (68, b"\x00\x00\x00\x0b", "has a bad type at byte 68"),
-    (76, b"\x00\x00\x00\x00\x00\x00\x00\x53", "has shared bytes of variables 0 and 0"),
+    (
+        76,
+        b"\x00\x00\x00\x00\x00\x00\x00\x53",
+        "has shared bytes of variables 0 and 0",
+    ),
 ];
 
 const CHANGES_5: [Change; 17] = [
     (0, b"CdF\x05", "is not CDF"),
     (3, b"\x00", "has an unknown version"),
-    (4, b"\xff\xff\xff\xff\xff\xff\xff\xff", "has a streaming record count"),
-    (4, b"\xff\xff\xff\xff\x00\x00\x00\x00", "has a bad number at byte 4"),
+    (
+        4,
+        b"\xff\xff\xff\xff\xff\xff\xff\xff",
+        "has a streaming record count",
+    ),
+    (
+        4,
+        b"\xff\xff\xff\xff\x00\x00\x00\x00",
+        "has a bad number at byte 4",
+    ),
     // 2^62 records.
     (4, b"\x40\x00\x00\x00\x00\x00\x00\x00", "is too large"),
     (12, b"\x00\x00\x00\x0b", "has a bad tag at byte 12"),
     (12, b"\x00\x00\x00\x00", "has a bad number at byte 16"),
-    (16, b"\x80\x00\x00\x00\x00\x00\x00\x00", "has a bad number at byte 16"),
+    (
+        16,
+        b"\x80\x00\x00\x00\x00\x00\x00\x00",
+        "has a bad number at byte 16",
+    ),
     (16, b"\x00\x00\x00\x00\x00\x00\x04\x01", "is too large"),
     // The second dimension has no name and the length 11; a zero tag follows, with a count of 2^32.
-    (16, b"\x00\x00\x00\x00\x00\x00\x00\x02", "has a bad number at byte 64"),
+    (
+        16,
+        b"\x00\x00\x00\x00\x00\x00\x00\x02",
+        "has a bad number at byte 64",
+    ),
     // The first of so many attributes has a name of 11 * 2^32 bytes.
-    (44, b"\x00\x00\x00\x0c\x7f\xff\xff\xff\xff\xff\xff\xff", "truncated at byte 64"),
+    (
+        44,
+        b"\x00\x00\x00\x0c\x7f\xff\xff\xff\xff\xff\xff\xff",
+        "truncated at byte 64",
+    ),
     (60, b"\x00\x00\x00\x00\x00\x00\x20\x01", "is too large"),
     (80, b"\x00\x00\x00\x00\x00\x00\x00\x21", "is too large"),
-    (88, b"\x00\x00\x00\x01\x00\x00\x00\x00", "has a bad dimension id in variable 0"),
-    (100, b"\x00\x00\x00\x00\x00\x00\x00\x01", "has a bad number at byte 100"),
+    (
+        88,
+        b"\x00\x00\x00\x01\x00\x00\x00\x00",
+        "has a bad dimension id in variable 0",
+    ),
+    (
+        100,
+        b"\x00\x00\x00\x00\x00\x00\x00\x01",
+        "has a bad number at byte 100",
+    ),
     (108, b"\x00\x00\x00\x0c", "has a bad type at byte 108"),
-    (120, b"\x00\x00\x00\x00\x00\x00\x00\x7f", "has shared bytes of variables 0 and 0"),
+    (
+        120,
+        b"\x00\x00\x00\x00\x00\x00\x00\x7f",
+        "has shared bytes of variables 0 and 0",
+    ),
 ];
 
 #[test]
