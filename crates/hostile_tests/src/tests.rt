@@ -124,8 +124,10 @@ fn is_refused<R: Abort + Threads + Wait + Sync>(
 /// The header with these bytes in place of its own, from a place on.
 fn changed(alloc: Global, header: &[u8], at: usize, bytes: &[u8]) -> Result<Vec<u8>, AllocError> {
     let mut held = Vec::from_slice(alloc, header)?;
-    for (own, new) in held.iter_mut().skip(at).zip(bytes) {
-        *own = *new;
+    for (place, byte) in bytes.iter().enumerate() {
+        if let Some(own) = held.get_mut(at.saturating_add(place)) {
+            *own = *byte;
+        }
     }
     Ok(held)
 }
