@@ -90,3 +90,11 @@ done
 } > most
 little 'a header that goes on and on' most 4 'ncrun: header is too large'
 rm -f most attributes
+
+# A script of one blank more than a script may have bytes.
+printf 'old' > kept
+given=$(head -c 67108865 < /dev/zero | tr '\0' ' ' | "$program" kept)
+same 'a script that is too long: status' 3 $?
+same 'a script that is too long: line' 'ncrun: script line 1: limit of script' "$given"
+same 'a script that is too long: the file' old "$(cat kept)"
+rm -f kept

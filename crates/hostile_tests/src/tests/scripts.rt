@@ -82,19 +82,3 @@ fn a_script_that_asks_for_too_much_is_told_by_its_line(rt: HostRuntime) -> Resul
     }
     Ok(())
 }
-
-#[test]
-fn blanks_past_the_longest_script_are_refused(rt: HostRuntime) -> Result<(), Fail> {
-    let blanks = vec![in rt.alloc(); b' '; (1 << 26) + 1]?;
-    let run = Run {
-        script: blanks.as_slice(),
-        ..PLAIN
-    };
-    ends(
-        &rt,
-        rt.alloc(),
-        &run,
-        3,
-        b"ncrun: script line 1: limit of script\n",
-    )
-}
