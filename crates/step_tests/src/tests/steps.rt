@@ -196,10 +196,11 @@ fn is_get(rt: &impl Abort, header: &Header, len: u64, post: &Post)
     assert!(rt; file_end(header, needed) <= len);
 }
 
-/// The file is as long as it is without a record.
+/// The file is as long as it is without a record, and small.
 fn is_long(rt: &impl Abort, header: &Header, disk: &MemDisk)
     ensures from { disk.now.from ≡ 0 }
     ensures long { end_of header.now (header_len header.now) 0 ≤ length disk.now.bytes }
+    ensures small { length disk.now.bytes < 1000 }
 {
     let end = file_end(header, 0);
     let size = disk.size();

@@ -1,8 +1,14 @@
 -- Both posts are gets of records that the file has.
-use Rattle.std.proofs.Common.{ℕ, subst}
+use Rattle.std.proofs.Common.{ℕ, subst, arith}
 use Rattle.collective_round.specs.Rounds.{gets_in, AreGets}
 use Rattle.step_tests.proofs.TwoPosts.{two_gets}
 use Rattle.step_tests.proofs.tests.steps.get_two.Goals as goal
+
+pub is_get-requires : goal.is_get-requires
+is_get-requires g c = omega (arith, c.size-len.ensures.size, c.is_long.ensures.small)
+
+pub is_get-requires-2 : goal.is_get-requires-2
+is_get-requires-2 g c = omega (arith, c.size-len.ensures.size, c.is_long.ensures.small)
 
 pub get_all-requires-clause-gets : goal.get_all-requires-clause-gets
 get_all-requires-clause-gets g c κs within =
