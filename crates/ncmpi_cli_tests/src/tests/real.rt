@@ -98,6 +98,8 @@ fn parts_share_the_file_that_was_opened(rt: HostRuntime) -> Result<(), Fail> {
     fs::write(&rt, "opened.nc", b"abcdef")?;
     let mut disk = FileDisk::new(rt.clone()?);
     assert!(rt; disk.start(alloc, "opened.nc", false).is_ok());
+    let size = disk.size();
+    assert!(rt; size == 6);
     fs::rename(&rt, "opened.nc", "moved.nc")?;
     fs::write(&rt, "opened.nc", b"another")?;
     let Ok(mut rest) = disk.split_off(alloc, 3) else {
