@@ -1,6 +1,7 @@
 /* What the traced programs share: each takes the path of the dataset that it makes. */
 #include <mpi.h>
 #include <pnetcdf.h>
+#include <stdbool.h>
 #include <stdio.h>
 #include <stdlib.h>
 
