@@ -94,8 +94,7 @@ static void extend(const char *path, int rank, int ranks, int *values)
     OK(ncmpi_put_varn_int_all(ncid, more, 2, starts, NULL, values));
     OK(ncmpi_begin_indep_data(ncid));
     box[0][0] = box[1][0] = 1;
-    if (rank == 2)
-        OK(ncmpi_put_varn(ncid, more, 2, starts, NULL, values, 2, MPI_INT));
+    OK(ncmpi_put_varn(ncid, more, 2, starts, NULL, values, 2, MPI_INT));
     OK(ncmpi_end_indep_data(ncid));
     OK(ncmpi_sync_numrecs(ncid));
     OK(ncmpi_get_varn_int_all(ncid, more, 2, starts, NULL, values));
