@@ -1,0 +1,4 @@
+//! Laws of a whole run, in the words of its contract. Each law is the contract of a function.
+#![tactic(auto)]
+
+pub mod bytes;
