@@ -1,3 +1,4 @@
 pub mod Completed
 pub mod Orders
 pub mod Transfers
+pub mod Told

@@ -2,3 +2,7 @@
 #![tactic(auto)]
 
 pub mod bytes;
+pub mod counts;
+pub mod orders;
+pub mod overlaps;
+pub mod transfers;
