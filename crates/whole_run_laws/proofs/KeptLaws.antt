@@ -41,7 +41,7 @@ nothing_said : (header : Header) (pair : Option Pair) (x b : ℕ) → b ≡ byte
 nothing_said header None x b = refl
 nothing_said header (Some p) x b = refl
 
-meeting_said : (s : Setting) (offers : List Offer) (c : Counted) (x : ℕ) → IsBesideCount s.header x
+pub meeting_said : (s : Setting) (offers : List Offer) (c : Counted) (x : ℕ) → IsBesideCount s.header x
     → at (meeting s offers c).0.file x ≡ byte_or (said_at (said_by_puts s.header (completed s (puts_met offers))) x) (at c.file x)
 meeting_said s offers c x h =
     let puts = puts_met offers in

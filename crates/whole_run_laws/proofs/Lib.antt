@@ -5,3 +5,5 @@ pub mod HullLengths
 pub mod Courses
 pub mod CountLaws
 pub mod ToldLaws
+pub mod FilledLaws
+pub mod FillCalls

@@ -241,7 +241,7 @@ heard_pair : (header : Header) (g : Going) (y : Reply) (o : Open) → g.rank.«o
 heard_pair header g y o e =
     (g.answers, (hear_open header g.rank y g.rank.«open»).1, refl, ap (λ (m : Option Open). (hear_open header g.rank y m).1.pair) e)
 
-along_at : (script : Script) (header : Header) (file : List ℕ) (before later : List Mark) → is_lawful script ≡ true → IsLegal script (before ++ later)
+pub along_at : (script : Script) (header : Header) (file : List ℕ) (before later : List Mark) → is_lawful script ≡ true → IsLegal script (before ++ later)
     → AreAlong script.ranks later (state_after script header file before).1
 along_at script header file before later lawful legal =
     marks_along (setting_of script header) script.ranks before later (first_state header file script.calls) legal.known_ranks (first_along script header (before ++ later) lawful legal)
@@ -368,7 +368,7 @@ mark_begins s ranks r (Solo q n) rest c goings known a b e =
     let st = steps s c ranks a.met q n a.kinds_left rest goings (ltb-true q ranks known) a.on in
     let next = hears s.header (advance s.header st.before).0 (solo s q st.at.asks.offer c).1 in
     subst (λ (z : Counted × List Going). (g : Going) × ((slice_get z.1 r ≡ Some g) × BeginsWith b.answers g.answers)) (sym st.state)
-    (by next (heard_begins s.header st.before (solo s q st.at.asks.offer c).1) st.before st.was (eqb_tells q r))
+    (by next st.before (heard_begins s.header st.before (solo s q st.at.asks.offer c).1) st.was (eqb_tells q r))
   where
     by : (next : Going) (before : Going) → BeginsWith before.answers next.answers → slice_get goings q ≡ Some before
         → (((q == r) ≡ true) × (q ≡ r)) ⊎ (((q == r) ≡ false) × (q ≡ r → ⊥)) → (g : Going) × ((slice_get (set goings q next) r ≡ Some g) × BeginsWith b.answers g.answers)

@@ -3,6 +3,7 @@
 
 pub mod bytes;
 pub mod counts;
+pub mod fills;
 pub mod orders;
 pub mod overlaps;
 pub mod transfers;
