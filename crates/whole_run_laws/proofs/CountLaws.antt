@@ -1,5 +1,5 @@
 -- The record count of a run: the greater of the old one and the greatest that a completed put needed.
-use Rattle.std.proofs.Common.{◌≡◌, ℕ, zero, suc, ◌+◌, ◌<◌, ◌≤◌, refl, sym, ◌∙◌, ap, subst, inl, inr, ◌⊎◌, List, [], ◌∷◌, ◌++◌, length, map, set, max, Bool, true, false, cond, Option, Some, None, arith}
+use Rattle.std.proofs.Common.{◌≡◌, ℕ, zero, suc, ◌<◌, ◌≤◌, refl, sym, ◌∙◌, ap, subst, inl, inr, ◌⊎◌, List, [], ◌∷◌, ◌++◌, map, set, max, Bool, true, false, cond, Option, Some, None, arith}
 use Rattle.std.proofs.lemmas.List.{map-append}
 use Rattle.std.proofs.lemmas.Option.{slice_get_within, same_Some}
 use Rattle.std.proofs.lemmas.Bool.Decides.{eqb_tells}
@@ -17,19 +17,17 @@ use Rattle.nc_base.specs.declared.step.Mark.{Mark}
 use Rattle.nc_base.specs.declared.step.Mark.TheVariants.{Meet, Solo}
 use Rattle.nc_base.specs.declared.step.MeetKind.{MeetKind}
 use Rattle.nc_base.specs.declared.step.Offer.{Offer}
-use Rattle.nc_base.specs.declared.step.Reply.{Reply}
 use Rattle.serial_spec.specs.FileStep.{after_puts, Counted, known_by, meeting, needs, raised, Setting, solo, told}
-use Rattle.serial_spec.specs.HeaderGrammar.{count}
 use Rattle.serial_spec.specs.History.{is_of_rank_below, IsLegal}
 use Rattle.serial_spec.specs.Lawful.{is_lawful}
 use Rattle.serial_spec.specs.Layout.{greatest}
 use Rattle.serial_spec.specs.Records.{needed, needed_by, with_records}
-use Rattle.serial_spec.specs.SerialEnd.{advance, after_mark, after_meeting, after_solo, closed, first_going, first_state, Going, hears, offers_of, rank_offer, serial_from, setting_of}
+use Rattle.serial_spec.specs.SerialEnd.{advance, after_mark, after_meeting, closed, first_going, first_state, Going, hears, offers_of, rank_offer, serial_from, setting_of}
 use Rattle.serial_spec.specs.SharedByte.{Puts}
 use Rattle.join_laws.proofs.RankLaws.{go_went, hear_known, Went}
 use Rattle.join_laws.proofs.StepLaws.{meeting_within}
 use Rattle.whole_run_laws.specs.Completed.{completed, completed_from, completed_puts, puts_asked, puts_at, puts_met, unless_told}
-use Rattle.whole_run_laws.proofs.Courses.{AreAlong, AreOn, Asks, AtMeeting, first_along, Heard, heard_by, hears_then, mapped_from, mark_along, meets, met_long, offer_met, offers_met_long, set_cases, Stepped, steps}
+use Rattle.whole_run_laws.proofs.Courses.{AreAlong, AreOn, first_along, Heard, heard_by, hears_then, mapped_from, mark_along, meets, offer_met, offers_met_long, set_cases, Stepped, steps}
 
 -- ---- counts
 
@@ -125,10 +123,10 @@ module _ (s : Setting) (ranks k j n : ℕ) (ks : List MeetKind) (rest : List Mar
     reached =
         let later = greatest (known_of (after_meeting s (c, goings)).1) in
         let grew : greatest (known_of goings) ≤ later = known_below goings later (λ q b e.
-            let g = hears_then s c ranks k j q ks rest goings b on e in
-            let same : g.1.1.before ≡ b = same_Some g.1.1.before b (sym g.1.1.was ∙ e) in
-            rose b.rank.known g.1.1.before.rank.known (meeting s offers c).0.records g.0.rank.known later (ap (λ (z : Going). z.rank.known) same)
-            (heard_known q g.0 g.1.1) (known_at (after_meeting s (c, goings)).1 q g.0 g.1.0)) in
+        let g = hears_then s c ranks k j q ks rest goings b on e in
+        let same : g.1.1.before ≡ b = same_Some g.1.1.before b (sym g.1.1.was ∙ e) in
+        rose b.rank.known g.1.1.before.rank.known (meeting s offers c).0.records g.0.rank.known later (ap (λ (z : Going). z.rank.known) same)
+        (heard_known q g.0 g.1.1) (known_at (after_meeting s (c, goings)).1 q g.0 g.1.0)) in
         reaches c.records (greatest (known_of goings)) (meeting s offers c).0.records later asked counts.reached met_least.0 grew met_least.1;
   }
     where

@@ -1,10 +1,10 @@
 -- The ranks along a legal order: at each mark they stand at the offers of its step.
-use Rattle.std.proofs.Common.{◌≡◌, ℕ, zero, suc, ◌<◌, ◌≤◌, refl, sym, ◌∙◌, ap, subst, inl, inr, ◌⊎◌, List, [], ◌∷◌, ◌++◌, length, map, set, drop, Bool, true, false, cond, Option, Some, None, arith}
+use Rattle.std.proofs.Common.{◌≡◌, ℕ, zero, suc, ◌<◌, refl, sym, ◌∙◌, ap, subst, inl, inr, ◌⊎◌, List, [], ◌∷◌, ◌++◌, length, map, set, drop, Bool, true, false, cond, Option, Some, None, arith}
 use Rattle.std.proofs.lemmas.List.{length-map, length-set}
 use Rattle.std.proofs.lemmas.Option.{slice_get-map, same_Some}
 use Rattle.std.proofs.lemmas.Option.{slice_get_within}
 use Rattle.std.proofs.lemmas.Bool.Decides.{eqb_tells}
-use Rattle.std.specs.Prelude.{fold, slice_get, filter, zip, ◌==◌}
+use Rattle.std.specs.Prelude.{fold, slice_get, filter, ◌==◌}
 use Rattle.std.specs.List.{list_all}
 use borrow.Author.Tests.{ltb-true}
 use Rattle.list_laws.proofs.Places.{entry_below, entry_set, entry_set_other}
@@ -19,15 +19,15 @@ use Rattle.nc_base.specs.declared.step.Offer.{Offer}
 use Rattle.nc_base.specs.declared.step.OfferKind.TheVariants as offer
 use Rattle.nc_base.specs.declared.step.Reply.{Reply}
 use Rattle.serial_spec.specs.RankMachine.{Open}
-use Rattle.serial_spec.specs.History.{concerns, is_of_rank_below, IsLegal, kinds, marks, marks_from}
+use Rattle.serial_spec.specs.History.{concerns, is_of_rank_below, IsLegal, kinds, marks_from}
 use Rattle.serial_spec.specs.Lawful.{is_lawful}
 use Rattle.serial_spec.specs.FileStep.{Counted, Setting, meeting, solo}
-use Rattle.serial_spec.specs.SerialEnd.{Going, advance, after_mark, after_meeting, after_solo, first_going, first_state, hears, offers_of, solo_of}
+use Rattle.serial_spec.specs.SerialEnd.{Going, advance, after_mark, after_meeting, after_solo, first_going, hears, offers_of}
 use Rattle.run_laws.specs.Ways.{kinds_of}
 use Rattle.run_laws.proofs.LawfulLaws.{own_lawful, ranks_lawful}
 use Rattle.run_laws.proofs.StandingLaws.{solo_goes}
-use Rattle.join_laws.proofs.RankLaws.{Went, Offers, Closes, Kinded, at_meeting, at_solo, go_went, hear_known, hear_mode, hear_length}
-use Rattle.join_laws.proofs.StepLaws.{going_after, goings_after, goings_long, replied, solo_of_is}
+use Rattle.join_laws.proofs.RankLaws.{Went, Kinded, at_meeting, at_solo, go_went, hear_mode, hear_length}
+use Rattle.join_laws.proofs.StepLaws.{going_after, goings_long, replied, solo_of_is}
 
 -- ---- one rank
 
@@ -212,9 +212,10 @@ pub hears_then : (s : Setting) (c : Counted) (ranks k j q : ℕ) (ks : List Meet
     → slice_get goings q ≡ Some b → (g : Going) × ((slice_get (after_meeting s (c, goings)).1 q ≡ Some g) × Heard s c goings q g)
 hears_then s c ranks k j q ks rest goings b on e =
     let offers = offers_of (map (advance s.header) goings) in
-    let y = replied s offers c q (meets s.header ranks k j q ks rest goings b on e).asks.offer (offer_met s.header ranks k j q ks rest goings b on e) in
-    (hears s.header (advance s.header b).0 y.reply,
-    (going_after s offers c goings q b y.reply e y.is, record { before = b; was = e; reply = y.reply; is_reply = y.is; records = y.records; is = refl }))
+    let y = replied s offers c q (meets s.header ranks k j q ks rest goings b on e).asks.offer (offer_met s.header ranks k j q ks rest goings b on e) in (
+      hears s.header (advance s.header b).0 y.reply,
+      (going_after s offers c goings q b y.reply e y.is, record { before = b; was = e; reply = y.reply; is_reply = y.is; records = y.records; is = refl }),
+    )
 
 pub met_long : (s : Setting) (c : Counted) (ranks k j : ℕ) (ks : List MeetKind) (rest : List Mark) (goings : List Going) → AreOn ranks k ks (Meet j ∷ rest) goings
     → length (after_meeting s (c, goings)).1 ≡ length goings

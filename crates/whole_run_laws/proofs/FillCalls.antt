@@ -1,5 +1,5 @@
 -- A meeting to which every rank comes to fill its share of a record.
-use Rattle.std.proofs.Common.{◌≡◌, ℕ, ◌+◌, ◌-◌, ◌||◌, ◌<◌, ◌≤◌, refl, sym, ◌∙◌, ap, subst, List, [], ◌∷◌, ◌++◌, length, map, Bool, true, false, cond, Option, Some, None, arith}
+use Rattle.std.proofs.Common.{◌≡◌, ℕ, ◌+◌, ◌-◌, ◌||◌, ◌≤◌, refl, sym, ◌∙◌, ap, List, [], ◌∷◌, ◌++◌, length, map, Bool, true, false, cond, Option, Some, None, arith}
 use Rattle.std.proofs.lemmas.Option.{slice_get_within, same_Some}
 use Rattle.std.specs.Prelude.{nat_lt, slice_get}
 use Rattle.list_laws.proofs.Places.{entry_below}
@@ -10,13 +10,10 @@ use Rattle.nc_base.specs.declared.plan.Batch.{Batch}
 use Rattle.nc_base.specs.declared.request.Call.TheVariants as call
 use Rattle.nc_base.specs.declared.script.Script.{Script}
 use Rattle.nc_base.specs.declared.step.Mark.{Mark}
-use Rattle.nc_base.specs.declared.step.Mark.TheVariants.{Meet, Solo}
-use Rattle.nc_base.specs.declared.step.MeetKind.{MeetKind}
+use Rattle.nc_base.specs.declared.step.Mark.TheVariants.{Meet}
 use Rattle.nc_base.specs.declared.step.MeetKind.TheVariants as meets_as
 use Rattle.nc_base.specs.declared.step.Offer.{Offer}
 use Rattle.nc_base.specs.declared.step.OfferKind.TheVariants as offer
-use Rattle.nc_base.specs.declared.step.Want.{Want}
-use Rattle.nc_base.specs.declared.step.Want.TheVariants as want
 use Rattle.serial_spec.specs.ExternalForm.{size_of}
 use Rattle.serial_spec.specs.File.{read}
 use Rattle.serial_spec.specs.FileStep.{Counted, Setting, told}
@@ -30,12 +27,11 @@ use Rattle.serial_spec.specs.Place.{IsIndex, place}
 use Rattle.serial_spec.specs.RankMachine as machine
 use Rattle.serial_spec.specs.RankMachine.{code_of_look, find_var, fills, fills_record, is_record_past, look_fill, look_record, offers, no_posts, posts_of, Rank, step}
 use Rattle.serial_spec.specs.SerialEnd.{advance, after_meeting, Going, offers_of, setting_of, state_after}
-use Rattle.run_laws.specs.Standing.{asking, HasCome}
 use Rattle.run_laws.proofs.OrderLaws.{state_more}
 use Rattle.run_laws.proofs.StandingLaws.{comes_to_meeting}
 use Rattle.whole_run_laws.specs.Completed.{puts_at, puts_met}
 use Rattle.whole_run_laws.specs.Filling.{AllFill, filling, Fills, share_boxes}
-use Rattle.whole_run_laws.proofs.Courses.{AreAlong, AreOn, meets, offer_met, offers_met_long}
+use Rattle.whole_run_laws.proofs.Courses.{AreAlong, meets, offer_met, offers_met_long}
 use Rattle.whole_run_laws.proofs.FilledLaws.{record_puts, record_reads}
 use Rattle.whole_run_laws.proofs.Hints.{some_rank}
 use Rattle.whole_run_laws.proofs.ToldLaws.{along_at}
@@ -60,7 +56,7 @@ step_fills : (header : Header) (rank : Rank) (name : List ℕ) (number r ranks :
 step_fills header rank name number r ranks e =
     let l = look_fill header name number r ranks in
     ap (λ (b : Bool). cond b (offers rank (offer.Meet meets_as.Put) no_posts code.EIndep [] true rank.independent)
-        (offers rank (offer.Meet meets_as.Put) (share_batch l) (code_of_look l) [] true rank.independent)) e
+    (offers rank (offer.Meet meets_as.Put) (share_batch l) (code_of_look l) [] true rank.independent)) e
 
 -- so its offer brings it
 fill_offer : (header : Header) (name : List ℕ) (number ranks r : ℕ) (g : Going) (o : Offer) → Fills header name number ranks r g → (advance header g).1 ≡ Some o
@@ -69,17 +65,20 @@ fill_offer header name number ranks r g o f e =
     let l = look_fill header name number r ranks in
     let own = offers f.there.rank (offer.Meet meets_as.Put) (share_batch l) (code_of_look l) [] true f.there.rank.independent in
     let at = comes_to_meeting header g f.there own.0 (record { kind = offer.Meet meets_as.Put; known = f.there.rank.known; batch = share_batch l }) (call.FillRec name number r ranks) f.later
-        f.comes f.next (sym (step_fills header f.there.rank name number r ranks f.collective)) in
+    f.comes f.next (sym (step_fills header f.there.rank name number r ranks f.collective)) in
     ap (λ (z : Offer). z.batch.puts) (same_Some o _ (sym e ∙ ap (λ (p : Going × Option Offer). p.1) at))
 
 of_records : (header : Header) (k number r ranks : ℕ) (v : Var) → code_of_look (look_record header k number r ranks v) ≡ code.Ok → is_record header v ≡ true
 of_records header k number r ranks v e =
     by (is_record header v) (nat_lt most_elements (share_begin (product (inner_lengths header v)) (r + 1) ranks - share_begin (product (inner_lengths header v)) r ranks) || is_record_past header number) e
   where
-    by : (a b : Bool) → code_of_look (elim a as (λ z. machine.Look) [ false ↦ machine.Refused code.ENotRec | true ↦ elim b as (λ z. machine.Look) [
-      | true ↦ machine.Refused code.ETooLarge
-      | false ↦ fills k v number (share_boxes (inner_lengths header v) r ranks)
-    ] ]) ≡ code.Ok → a ≡ true
+    by : (a b : Bool) → code_of_look (elim a as (λ z. machine.Look) [
+      | false ↦ machine.Refused code.ENotRec
+      | true ↦ elim b as (λ z. machine.Look) [
+        | true ↦ machine.Refused code.ETooLarge
+        | false ↦ fills k v number (share_boxes (inner_lengths header v) r ranks)
+      ]
+    ]) ≡ code.Ok → a ≡ true
     by true b f = refl
     by false b f = absurd cc
 

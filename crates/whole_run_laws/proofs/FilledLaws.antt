@@ -1,16 +1,14 @@
 -- Elements that were written with their fill values, no two of which share a byte, read them.
-use Rattle.std.proofs.Common.{◌≡◌, ℕ, zero, suc, ◌+◌, ◌-◌, ◌*◌, ◌/◌, ◌<◌, ◌≤◌, refl, sym, ◌∙◌, ap, subst, inl, inr, ◌⊎◌, List, [], ◌∷◌, ◌++◌, length, map, take, drop, replicate, get_or, Bool, true, false, cond, not, Option, Some, None, add-one, arith}
+use Rattle.std.proofs.Common.{◌≡◌, ℕ, zero, suc, ◌+◌, ◌-◌, ◌*◌, ◌/◌, ◌<◌, ◌≤◌, refl, sym, ◌∙◌, ap, subst, inl, inr, ◌⊎◌, List, [], ◌∷◌, ◌++◌, length, map, take, drop, replicate, get_or, Bool, true, false, not, Option, Some, None, add-one, arith}
 use Rattle.std.proofs.Math.Nat.{mul-div_cancel, mul-le-mul_left}
 use Rattle.std.proofs.Math.Seq.{drop-append-add, take-add, take_all}
-use Rattle.std.proofs.lemmas.Bool.{eqb-true}
 use Rattle.std.proofs.lemmas.Bool.Decides.{eqb_tells}
 use Rattle.std.proofs.lemmas.Grind.{flat_map-append, fold-append}
 use Rattle.std.proofs.lemmas.List.{append-nil, drop-drop, length-map, map-append, take_at}
 use Rattle.std.proofs.lemmas.List.Folds.{fold-map}
 use Rattle.std.proofs.lemmas.Option.{same_Some}
-use Rattle.std.specs.Prelude.{filter, flat_map, fold, slice_get, zip, ◌==◌, ◌||◌, MatchBool, max, nat_lt}
-use Rattle.std.specs.List.{AllByRecursion, enumerate_from, list_any, range_with_len}
-use Rattle.std.specs.Int.{byte_len}
+use Rattle.std.specs.Prelude.{flat_map, fold, slice_get, zip, ◌==◌, ◌||◌, MatchBool, nat_lt}
+use Rattle.std.specs.List.{AllByRecursion, enumerate_from, range_with_len}
 use Rattle.std.specs.Option.{option_or}
 use Rattle.list_laws.proofs.Optional.{first_counts, second_counts}
 use Rattle.list_laws.proofs.Each.{each_weaker}
@@ -21,7 +19,6 @@ use Rattle.nc_base.specs.declared.header.Header.{Header}
 use Rattle.nc_base.specs.declared.header.Var.{Var}
 use Rattle.nc_base.specs.declared.plan.Post.{Post}
 use Rattle.nc_base.specs.declared.request.Part.{Part}
-use Rattle.nc_base.specs.declared.request.Region.{Region}
 use Rattle.nc_base.specs.declared.script.Script.{Script}
 use Rattle.nc_base.specs.declared.step.Mark.{Mark}
 use Rattle.nc_base.specs.declared.step.Offer.{Offer}
@@ -30,18 +27,18 @@ use Rattle.nc_base.specs.declared.answer.Pair.{Pair}
 use Rattle.serial_spec.specs.ExternalForm.{size_of}
 use Rattle.serial_spec.specs.File.{at, longer, read, written}
 use Rattle.serial_spec.specs.FileStep.{Counted, end_for, meeting, puts_of, Setting, told}
-use Rattle.serial_spec.specs.Fill.{box_indices, boxes, fill_bytes, fill_var, filled, share_begin, shifted}
-use Rattle.serial_spec.specs.HeaderGrammar.{canon, count_width, header_len, is_sound}
+use Rattle.serial_spec.specs.Fill.{box_indices, fill_bytes, fill_var, filled, share_begin, shifted}
+use Rattle.serial_spec.specs.HeaderGrammar.{canon, header_len, is_sound}
 use Rattle.serial_spec.specs.Layout.{fixed_variables, inner_lengths, is_record, product}
 use Rattle.serial_spec.specs.Limits.{most_elements}
 use Rattle.serial_spec.specs.Lists.{In}
 use Rattle.serial_spec.specs.Place.{AreApart, HasRecord, IsElement, IsIndex, place, row, within_record}
 use Rattle.serial_spec.specs.RankMachine as machine
 use Rattle.serial_spec.specs.RankMachine.{box_post, box_region, code_of_look, fills, is_record_past, look_record, posts_of}
-use Rattle.serial_spec.specs.Request.{cells, coordinates, elements, index_at, places}
+use Rattle.serial_spec.specs.Request.{cells, coordinates, elements, index_at}
 use Rattle.serial_spec.specs.Said.{byte_or, Cell, said_at, said_by, write_cells}
 use Rattle.serial_spec.specs.SerialEnd.{serial, setting_of, start}
-use Rattle.serial_spec.specs.SharedByte.{bytes_of, bytes_of_some, Puts, said_by_puts}
+use Rattle.serial_spec.specs.SharedByte.{bytes_of, bytes_of_some, said_by_puts}
 use Rattle.serial_spec.proofs.AcceptLaws.{coordinates_all}
 use Rattle.serial_spec.proofs.ApartLaws.{elements_apart, elements_past_header}
 use Rattle.serial_spec.proofs.BoxLaws.{boxes_right}
@@ -113,8 +110,8 @@ read_all file (v ∷ value) p (suc n) e f =
     let here : p ≡ p + 0 = omega arith in
     let first : at file p ≡ v = ap (λ (k : ℕ). at file k) here ∙ f 0 (omega arith) in
     let rest : read file (p + 1) n ≡ value = read_all file value (p + 1) n (omega arith) (λ i l.
-        let next : p + 1 + i ≡ p + suc i = omega arith in
-        ap (λ (k : ℕ). at file k) next ∙ f (suc i) (omega arith)) in
+    let next : p + 1 + i ≡ p + suc i = omega arith in
+    ap (λ (k : ℕ). at file k) next ∙ f (suc i) (omega arith)) in
     λ t. first t ∷ rest t
 
 -- ---- elements of a header
@@ -218,12 +215,12 @@ filled_reads header file k v index sound e fixed h =
     let there : In (fixed_variables header header.vars) v =
     in_filter (λ z. not (is_record header z)) header.vars v (at_in header.vars k v e) (ap not fixed) in
     let mine = in_flat (cells_of_var header) (fixed_variables header header.vars) v (cell_of header v index) there
-        (in_map (cell_of header v) (coordinates (inner_lengths header v)) index (index_in (inner_lengths header v) index h)) in
+    (in_map (cell_of header v) (coordinates (inner_lengths header v)) index (index_in (inner_lengths header v) index h)) in
     read_all (filled header file) (fill_bytes v) (place header v index) (size_of v.kind) (sym (fill_long v)) (λ i l.
-        ap (λ (f : List ℕ). at f (place header v index + i)) (vars_cells header (fixed_variables header header.vars) file)
-        ∙ cells_said all file (place header v index + i)
-        ∙ ap (λ (o : Option ℕ). byte_or o (at file (place header v index + i)))
-        (says_that (cell_of header v index) i l all mine (filled_apart header k v index sound e fixed h)))
+    ap (λ (f : List ℕ). at f (place header v index + i)) (vars_cells header (fixed_variables header header.vars) file)
+    ∙ cells_said all file (place header v index + i)
+    ∙ ap (λ (o : Option ℕ). byte_or o (at file (place header v index + i)))
+    (says_that (cell_of header v index) i l all mine (filled_apart header k v index sound e fixed h)))
 
 past_count : (header : Header) (x : ℕ) → header_len header ≤ x → IsBesideCount header x
 past_count header x h = let whole = canon_len header in inr (omega arith)
@@ -234,8 +231,8 @@ read_kept new old p (suc n) f =
     let here : p ≡ p + 0 = omega arith in
     let first : at new p ≡ at old p = ap (λ (k : ℕ). at new k) here ∙ f 0 (omega arith) ∙ ap (λ (k : ℕ). at old k) (sym here) in
     let rest : read new (p + 1) n ≡ read old (p + 1) n = read_kept new old (p + 1) n (λ i l.
-        let next : p + 1 + i ≡ p + suc i = omega arith in
-        ap (λ (k : ℕ). at new k) next ∙ f (suc i) (omega arith) ∙ ap (λ (k : ℕ). at old k) (sym next)) in
+    let next : p + 1 + i ≡ p + suc i = omega arith in
+    ap (λ (k : ℕ). at new k) next ∙ f (suc i) (omega arith) ∙ ap (λ (k : ℕ). at old k) (sym next)) in
     λ t. first t ∷ rest t
 
 starts_filled : (script : Script) (header : Header) (file : List ℕ) → script.fresh ≡ true → script.filled ≡ true
@@ -333,14 +330,20 @@ pub record_puts : (header : Header) (k number r ranks : ℕ) (v : Var) → code_
 record_puts header k number r ranks v e =
     by (is_record header v) (nat_lt most_elements (share_begin (product (inner_lengths header v)) (r + 1) ranks - share_begin (product (inner_lengths header v)) r ranks) || is_record_past header number) e
   where
-    by : (a b : Bool) → code_of_look (elim a as (λ z. machine.Look) [ false ↦ machine.Refused code.ENotRec | true ↦ elim b as (λ z. machine.Look) [
-      | true ↦ machine.Refused code.ETooLarge
-      | false ↦ fills k v number (share_boxes (inner_lengths header v) r ranks)
-    ] ]) ≡ code.Ok
-        → posts_of (elim a as (λ z. machine.Look) [ false ↦ machine.Refused code.ENotRec | true ↦ elim b as (λ z. machine.Look) [
-          | true ↦ machine.Refused code.ETooLarge
-          | false ↦ fills k v number (share_boxes (inner_lengths header v) r ranks)
-        ] ]) ≡ filling header k v number ranks r
+    by : (a b : Bool) → code_of_look (elim a as (λ z. machine.Look) [
+      | false ↦ machine.Refused code.ENotRec
+      | true ↦ elim b as (λ z. machine.Look) [
+        | true ↦ machine.Refused code.ETooLarge
+        | false ↦ fills k v number (share_boxes (inner_lengths header v) r ranks)
+      ]
+    ]) ≡ code.Ok
+        → posts_of (elim a as (λ z. machine.Look) [
+          | false ↦ machine.Refused code.ENotRec
+          | true ↦ elim b as (λ z. machine.Look) [
+            | true ↦ machine.Refused code.ETooLarge
+            | false ↦ fills k v number (share_boxes (inner_lengths header v) r ranks)
+          ]
+        ]) ≡ filling header k v number ranks r
     by false b f = absurd cc
     by true true f = absurd cc
     by true false f = posts_filled k v number (share_boxes (inner_lengths header v) r ranks)
@@ -463,10 +466,10 @@ record_reads s offers c k number v index sound there of_records fill some none h
     ∙ all_said header k number v there offers 0 (length offers) (λ r o e. let here : r ≡ 0 + r = omega arith in fill r o e ∙ ap (λ (z : ℕ). filling header k v number (length offers) z) here)
     ∙ ap (λ (es : List (List ℕ)). said_by (map cell es)) (shares_all lengths (length offers) some) in
     read_all (meeting s offers c).0.file (fill_bytes v) (place header v (number ∷ index)) (size_of v.kind) (sym (fill_long v)) (λ i l.
-        meeting_said s offers c (place header v (number ∷ index) + i) (past_count header (place header v (number ∷ index) + i) (omega arith))
-        ∙ ap (λ (ps : List (ℕ × ℕ)). byte_or (said_at ps (place header v (number ∷ index) + i)) (at c.file (place header v (number ∷ index) + i))) says
-        ∙ ap (λ (o : Option ℕ). byte_or o (at c.file (place header v (number ∷ index) + i)))
-        (says_that (cell index) i l (map cell (coordinates lengths)) mine apart))
+    meeting_said s offers c (place header v (number ∷ index) + i) (past_count header (place header v (number ∷ index) + i) (omega arith))
+    ∙ ap (λ (ps : List (ℕ × ℕ)). byte_or (said_at ps (place header v (number ∷ index) + i)) (at c.file (place header v (number ∷ index) + i))) says
+    ∙ ap (λ (o : Option ℕ). byte_or o (at c.file (place header v (number ∷ index) + i)))
+    (says_that (cell index) i l (map cell (coordinates lengths)) mine apart))
   where
     apart : (d : Cell) → In (map (λ (i : List ℕ). cell_of s.header v (number ∷ i)) (coordinates (inner_lengths s.header v))) d → IsThatOrApart (cell_of s.header v (number ∷ index)) d
     apart d m =

@@ -1,7 +1,5 @@
 -- No window's hull is longer than its buffer, and no call of a step transfers more.
-use Rattle.std.proofs.Common.{◌≡◌, ℕ, zero, suc, ◌+◌, ◌-◌, ◌*◌, ◌/◌, ◌%◌, ◌<◌, ◌≤◌, refl, sym, ◌∙◌, ap, subst, inl, inr, ◌⊎◌, List, [], ◌∷◌, ◌++◌, length, map, Bool, true, false, cond, not, max, ◌&&◌, Option, Some, None, arith}
-use Rattle.std.proofs.lemmas.Bool.{and_from}
-use Rattle.std.proofs.lemmas.Bool.Decides.{nat_tests}
+use Rattle.std.proofs.Common.{◌≡◌, ℕ, zero, suc, ◌+◌, ◌-◌, ◌*◌, ◌/◌, ◌%◌, ◌<◌, ◌≤◌, refl, ap, subst, inl, inr, ◌⊎◌, List, [], ◌∷◌, ◌++◌, length, map, Bool, true, false, cond, not, max, ◌&&◌, Option, Some, None, arith}
 use Rattle.std.proofs.lemmas.Nat.{mod_below, div-add-mod'}
 use Rattle.std.specs.Prelude.{filter, flat_map, nat_le, nat_lt, ◌==◌, is_none}
 use Rattle.std.specs.List.{enumerate_from, range_with_len}
@@ -174,7 +172,7 @@ meeting_short hints s offers c call l h =
     (λ k. put_short s (collective_windows hints) puts (length c.file) hints.cb_buffer call (λ w g. collective_short hints (covered s.header puts) w l g) k)
     (λ k. count_stored s (nat_lt c.records (meeting s offers c).0.records) call k)
     (λ k. get_short (collective_windows hints (get_bytes s asked)) hints.cb_buffer call
-        (λ w g. collective_short hints (flat_map (λ p. bytes_of s.header p) asked) w l g) k)
+    (λ w g. collective_short hints (flat_map (λ p. bytes_of s.header p) asked) w l g) k)
     h
 
 pub solo_short : (hints : Hints) (s : Setting) (r : ℕ) (o : Offer) (c : Counted) (call : DiskCall) → 1 ≤ hints.wr_buffer → 1 ≤ hints.rd_buffer

@@ -3,9 +3,7 @@ use Rattle.std.proofs.Common.{◌≡◌, ℕ, ◌+◌, ◌<◌, ◌≤◌, refl,
 use Rattle.std.proofs.lemmas.Grind.{common_steps, flat_map-append}
 use Rattle.std.proofs.lemmas.List.{get_or_past}
 use Rattle.std.specs.Prelude.{fold, zip, nat_lt, slice_get}
-use Rattle.std.specs.Option.{option_or}
 use Rattle.nc_base.specs.declared.header.Header.{Header}
-use Rattle.nc_base.specs.declared.header.Var.{Var}
 use Rattle.nc_base.specs.declared.answer.Pair.{Pair}
 use Rattle.nc_base.specs.declared.plan.Post.{Post}
 use Rattle.nc_base.specs.declared.script.Script.{Script}
@@ -18,7 +16,7 @@ use Rattle.serial_spec.specs.Layout.{greatest}
 use Rattle.serial_spec.specs.Records.{needed_by, with_records}
 use Rattle.serial_spec.specs.Said.{Cell, said_at, byte_or, write_cells}
 use Rattle.serial_spec.specs.SharedByte.{Puts, bytes_of, said_by_puts}
-use Rattle.serial_spec.specs.FileStep.{Setting, Counted, after_puts, end_for, known_by, meeting, needs, put_post, raised, solo, told}
+use Rattle.serial_spec.specs.FileStep.{Setting, Counted, after_puts, end_for, known_by, meeting, needs, put_post, raised, told}
 use Rattle.serial_spec.specs.SerialEnd.{Going, advance, after_mark, closed, first_state, offers_of, serial_from, setting_of, solo_of}
 use Rattle.serial_spec.proofs.KeepLaws.{count_long, puts_keep, raised_keeps}
 use Rattle.serial_spec.proofs.FileLaws.{at-longer}

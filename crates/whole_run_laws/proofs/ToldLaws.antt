@@ -1,7 +1,7 @@
 -- What a step tells its ranks, and that a step with a pair changes nothing.
-use Rattle.std.proofs.Common.{◌≡◌, ℕ, zero, suc, ◌+◌, ◌<◌, ◌≤◌, refl, sym, ◌∙◌, ap, subst, inl, inr, ◌⊎◌, List, [], ◌∷◌, ◌++◌, length, map, set, max, Bool, true, false, cond, Option, Some, None, arith, append_assoc}
+use Rattle.std.proofs.Common.{◌≡◌, ℕ, suc, ◌+◌, ◌<◌, refl, sym, ◌∙◌, ap, subst, inl, inr, ◌⊎◌, List, [], ◌∷◌, ◌++◌, length, map, set, max, Bool, true, false, cond, Option, Some, None, arith, append_assoc}
 use Rattle.std.proofs.lemmas.List.{append-nil, length-map}
-use Rattle.std.proofs.lemmas.Option.{slice_get_within, same_Some, slice_get-map}
+use Rattle.std.proofs.lemmas.Option.{slice_get_within, same_Some}
 use Rattle.std.proofs.lemmas.Bool.Decides.{eqb_tells, nat_tests}
 use Rattle.std.specs.Prelude.{fold, flat_map, slice_get, nat_lt, ◌==◌}
 use Rattle.std.specs.List.{enumerate_from, list_all}
@@ -44,7 +44,7 @@ use Rattle.serial_spec.proofs.PairLaws.{pair_found}
 use Rattle.run_laws.proofs.OrderLaws.{state_more, states_more}
 use Rattle.whole_run_laws.specs.Completed.{puts_asked, puts_at, puts_met}
 use Rattle.whole_run_laws.specs.Told.{answers_after, answers_of, IsLastTold}
-use Rattle.whole_run_laws.proofs.Courses.{AreAlong, AreOn, first_along, Heard, heard_by, hears_then, mapped_from, mark_along, marks_along, meets, offer_met, offers_met_long, set_cases, Stepped, steps}
+use Rattle.whole_run_laws.proofs.Courses.{AreAlong, AreOn, first_along, hears_then, mapped_from, mark_along, marks_along, meets, offer_met, offers_met_long, Stepped, steps}
 
 -- ---- one step
 
@@ -224,8 +224,8 @@ module _ (s : Setting) (ranks k j : ℕ) (ks : List MeetKind) (rest : List Mark)
       by_kind : (kind : MeetKind) (others : List MeetKind) → ks ≡ kind ∷ others → (t : Bool) → raises (offer.Meet kind) ≡ t → (meeting s offers c).0 ≡ c
       by_kind kind others f true g =
           no_pair s p (sym (ap (λ (ps : Puts). told s ps) (none_asked offers 0 (λ q o h.
-              let w = offered q o h in
-              quiet_go s.header o w.going.calls w.going.rank w.going.answers w.is (same_raises kind others f q o h ∙ g)))) ∙ e)
+          let w = offered q o h in
+          quiet_go s.header o w.going.calls w.going.rank w.going.answers w.is (same_raises kind others f q o h ∙ g)))) ∙ e)
       by_kind kind others f false g = meeting_nothing s offers c p e (none_known offers (λ q o h. same_raises kind others f q o h ∙ g))
 
       -- where no kind is left there is no rank, and no put
@@ -361,9 +361,14 @@ mark_begins : (s : Setting) (ranks r : ℕ) (m : Mark) (rest : List Mark) (c : C
 mark_begins s ranks r (Meet j) rest c goings known a b e =
     let g = hears_then s c ranks a.met j r a.kinds_left rest goings b a.on e in
     let h = g.1.1 in
-    let same : h.before ≡ b = same_Some h.before b (sym h.was ∙ e) in
-    (g.0, (g.1.0, subst (λ (z : Going). BeginsWith b.answers z.answers) (sym h.is)
-    (subst (λ (z : Going). BeginsWith z.answers (hears s.header (advance s.header h.before).0 h.reply).answers) same (heard_begins s.header h.before h.reply))))
+    let same : h.before ≡ b = same_Some h.before b (sym h.was ∙ e) in (
+      g.0,
+      (
+        g.1.0,
+        subst (λ (z : Going). BeginsWith b.answers z.answers) (sym h.is)
+            (subst (λ (z : Going). BeginsWith z.answers (hears s.header (advance s.header h.before).0 h.reply).answers) same (heard_begins s.header h.before h.reply)),
+      ),
+    )
 mark_begins s ranks r (Solo q n) rest c goings known a b e =
     let st = steps s c ranks a.met q n a.kinds_left rest goings (ltb-true q ranks known) a.on in
     let next = hears s.header (advance s.header st.before).0 (solo s q st.at.asks.offer c).1 in

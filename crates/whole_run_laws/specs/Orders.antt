@@ -3,12 +3,12 @@
 --     has_independent script         some rank makes such a call
 --     has_solo script                some rank has a step of its own
 --     all_meetings script            the meetings of the ranks in turn
-use Rattle.std.specs.Prelude.{ℕ, List, map, length, Bool, not, ◌&&◌}
+use Rattle.std.specs.Prelude.{List, map, length, Bool, not, ◌&&◌}
 use Rattle.std.specs.List.{list_any, range_with_len}
 use Rattle.nc_base.specs.declared.request.Call.{Call}
 use Rattle.nc_base.specs.declared.script.Script.{Script}
 use Rattle.nc_base.specs.declared.step.Mark.{Mark}
-use Rattle.nc_base.specs.declared.step.Mark.TheVariants.{Meet, Solo}
+use Rattle.nc_base.specs.declared.step.Mark.TheVariants.{Meet}
 use Rattle.serial_spec.specs.History.{is_collective, is_data, marks}
 use Rattle.run_laws.specs.Ways.{is_meeting, kinds_of}
 

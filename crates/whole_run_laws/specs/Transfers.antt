@@ -2,7 +2,7 @@
 --     transferred call           how many bytes the call reads or writes; a growth transfers none
 --     is_count_store header call it stores the record count in its field
 --     longest hints              the longest of the three buffers
-use Rattle.std.specs.Prelude.{ℕ, max, Bool, true, false, ◌&&◌, ◌==◌}
+use Rattle.std.specs.Prelude.{ℕ, max, Bool, false, ◌&&◌, ◌==◌}
 use Rattle.std.specs.Int.{byte_len}
 use Rattle.nc_base.specs.declared.header.Header.{Header}
 use Rattle.nc_base.specs.declared.script.Hints.{Hints}
