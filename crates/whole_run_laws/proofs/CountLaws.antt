@@ -1,0 +1,270 @@
+-- The record count of a run: the greater of the old one and the greatest that a completed put needed.
+use Rattle.std.proofs.Common.{◌≡◌, ℕ, zero, suc, ◌<◌, ◌≤◌, refl, sym, ◌∙◌, ap, subst, inl, inr, ◌⊎◌, List, [], ◌∷◌, ◌++◌, map, set, max, Bool, true, false, cond, Option, Some, None, arith}
+use Rattle.std.proofs.lemmas.List.{map-append}
+use Rattle.std.proofs.lemmas.Option.{slice_get_within, same_Some}
+use Rattle.std.proofs.lemmas.Bool.Decides.{eqb_tells}
+use Rattle.std.specs.Prelude.{fold, slice_get, nat_lt, ◌==◌}
+use Rattle.std.specs.List.{list_all}
+use borrow.Author.Tests.{ltb-true, ltb-false}
+use Rattle.list_laws.proofs.Places.{entry_below, entry_set, entry_set_other}
+use Rattle.list_laws.proofs.Truth.{and_first, and_second}
+use Rattle.nc_base.specs.declared.answer.Pair.{Pair}
+use Rattle.nc_base.specs.declared.header.Header.{Header}
+use Rattle.nc_base.specs.declared.request.Call.{Call}
+use Rattle.nc_base.specs.declared.plan.Post.{Post}
+use Rattle.nc_base.specs.declared.script.Script.{Script}
+use Rattle.nc_base.specs.declared.step.Mark.{Mark}
+use Rattle.nc_base.specs.declared.step.Mark.TheVariants.{Meet, Solo}
+use Rattle.nc_base.specs.declared.step.MeetKind.{MeetKind}
+use Rattle.nc_base.specs.declared.step.Offer.{Offer}
+use Rattle.serial_spec.specs.FileStep.{after_puts, Counted, known_by, meeting, needs, raised, Setting, solo, told}
+use Rattle.serial_spec.specs.History.{is_of_rank_below, IsLegal}
+use Rattle.serial_spec.specs.Lawful.{is_lawful}
+use Rattle.serial_spec.specs.Layout.{greatest}
+use Rattle.serial_spec.specs.Records.{needed, needed_by, with_records}
+use Rattle.serial_spec.specs.SerialEnd.{advance, after_mark, after_meeting, closed, first_going, first_state, Going, hears, offers_of, rank_offer, serial_from, setting_of}
+use Rattle.serial_spec.specs.SharedByte.{Puts}
+use Rattle.join_laws.proofs.RankLaws.{go_went, hear_known, Went}
+use Rattle.join_laws.proofs.StepLaws.{meeting_within}
+use Rattle.whole_run_laws.specs.Completed.{completed, completed_from, completed_puts, puts_asked, puts_at, puts_met, unless_told}
+use Rattle.whole_run_laws.proofs.Courses.{AreAlong, AreOn, first_along, Heard, heard_by, hears_then, mapped_from, mark_along, meets, offer_met, offers_met_long, set_cases, Stepped, steps}
+
+-- ---- counts
+
+raised_is : (s : Setting) (c : Counted) (n : ℕ) → (raised s c n).records ≡ max c.records n
+raised_is s c n = by (nat_lt c.records n) refl
+  where
+    by : (t : Bool) → nat_lt c.records n ≡ t → (cond t (record { file = with_records s.header.version c.file n; records = n }) c).records ≡ max c.records n
+    by true e = let l : c.records < n = ltb-true _ _ e in omega arith
+    by false e = let l : n ≤ c.records = ltb-false _ _ e in omega arith
+
+abbrev known_of : List Going → List ℕ
+known_of goings = map (λ g. g.rank.known) goings
+
+known_at : (goings : List Going) (q : ℕ) (g : Going) → slice_get goings q ≡ Some g → g.rank.known ≤ greatest (known_of goings)
+known_at [] q g e = cc
+known_at (x ∷ goings) zero g e = let k : x.rank.known ≡ g.rank.known = ap (λ (z : Going). z.rank.known) (same_Some x g e) in omega arith
+known_at (x ∷ goings) (suc q) g e = let h = known_at goings q g e in omega arith
+
+known_below : (goings : List Going) (m : ℕ) → ((q : ℕ) (g : Going) → slice_get goings q ≡ Some g → g.rank.known ≤ m) → greatest (known_of goings) ≤ m
+known_below [] m f = omega arith
+known_below (x ∷ goings) m f = let a = f 0 x refl in let b = known_below goings m (λ q g e. f (suc q) g e) in omega arith
+
+completed_needs : (s : Setting) (puts : Puts) (pair : Option Pair) → needed_by s.header (unless_told puts pair) ≡ needs s puts pair
+completed_needs s puts None = refl
+completed_needs s puts (Some p) = refl
+
+greatest_both : (xs ys : List ℕ) → greatest (xs ++ ys) ≡ max (greatest xs) (greatest ys)
+greatest_both [] ys = omega arith
+greatest_both (x ∷ xs) ys = let h = greatest_both xs ys in omega arith
+
+needed_both : (header : Header) (a b : Puts) → needed_by header (a ++ b) ≡ max (needed_by header a) (needed_by header b)
+needed_both header a b =
+    let f : ℕ × Post → ℕ = λ p. needed header p.1 in
+    ap (λ (xs : List ℕ). greatest xs) (map-append f a b) ∙ greatest_both (map f a) (map f b)
+
+-- ---- the greatest of the file's count and of those that the ranks know
+
+pub record Counts (n : ℕ) (c : Counted) (goings : List Going) : Type 0 where
+  pub count : c.records ≤ n
+  pub known : (q : ℕ) (g : Going) → slice_get goings q ≡ Some g → g.rank.known ≤ n
+  pub reached : n ≤ max c.records (greatest (known_of goings))
+
+no_less : (a b n : ℕ) → a ≡ b → b ≤ n → a ≤ n
+no_less a b n e h = omega arith
+
+le_two : (a b n : ℕ) → a ≤ b → b ≤ n → a ≤ n
+le_two a b n h k = omega arith
+
+-- ---- a meeting
+
+module _ (s : Setting) (ranks k j n : ℕ) (ks : List MeetKind) (rest : List Mark) (c : Counted) (goings : List Going) (on : AreOn ranks k ks (Meet j ∷ rest) goings)
+    (counts : Counts n c goings) where
+  abbrev offers : List Offer
+  offers = offers_of (map (advance s.header) goings)
+
+  abbrev asked : ℕ
+  asked = needs s (puts_met offers) (told s (puts_met offers))
+
+  offers_within : (q : ℕ) (o : Offer) → slice_get offers q ≡ Some o → o.known ≤ n
+  offers_within q o e =
+      let long = offers_met_long s.header ranks k j ks rest goings on in
+      let below = slice_get_within offers q o e in
+      let g = entry_below goings q (omega arith) in
+      let at = meets s.header ranks k j q ks rest goings g.0 on g.1 in
+      let same : at.asks.offer ≡ o = same_Some at.asks.offer o (sym (offer_met s.header ranks k j q ks rest goings g.0 on g.1) ∙ e) in
+      no_less o.known g.0.rank.known n (sym (ap (λ (z : Offer). z.known) same) ∙ at.asks.told) (counts.known q g.0 g.1)
+
+  met_most : (meeting s offers c).0.records ≤ max n asked
+  met_most = meeting_within s offers c n counts.count offers_within
+
+  met_least : (c.records ≤ (meeting s offers c).0.records) × (asked ≤ (meeting s offers c).0.records)
+  met_least =
+      let known = greatest (map (λ o. known_by o.kind o.known) offers) in
+      let file = after_puts s (puts_met offers) (told s (puts_met offers)) c.file in
+      both c.records asked known (meeting s offers c).0.records (raised_is s (record { file = file; records = c.records }) (max asked known))
+    where
+      both : (a b d m : ℕ) → m ≡ max a (max b d) → (a ≤ m) × (b ≤ m)
+      both a b d m e = (omega arith, omega arith)
+
+  heard_known : (q : ℕ) (g : Going) (h : Heard s c goings q g) → g.rank.known ≡ max h.before.rank.known (meeting s offers c).0.records
+  heard_known q g h =
+      let at = meets s.header ranks k j q ks rest goings h.before on h.was in
+      ap (λ (z : Going). z.rank.known) h.is
+      ∙ hear_known s.header (advance s.header h.before).0 h.reply at.asks.open_with at.asks.is_open
+      ∙ (λ i. max (at.asks.known i) (h.records i))
+
+  met_counts : Counts (max n asked) (meeting s offers c).0 (after_meeting s (c, goings)).1
+  met_counts = record {
+    count = met_most;
+    known = λ q g e.
+        let h = heard_by s c ranks k j q ks rest goings g on e in
+        within g.rank.known h.before.rank.known (meeting s offers c).0.records asked (heard_known q g h) (counts.known q h.before h.was) met_most;
+    reached =
+        let later = greatest (known_of (after_meeting s (c, goings)).1) in
+        let grew : greatest (known_of goings) ≤ later = known_below goings later (λ q b e.
+        let g = hears_then s c ranks k j q ks rest goings b on e in
+        let same : g.1.1.before ≡ b = same_Some g.1.1.before b (sym g.1.1.was ∙ e) in
+        rose b.rank.known g.1.1.before.rank.known (meeting s offers c).0.records g.0.rank.known later (ap (λ (z : Going). z.rank.known) same)
+        (heard_known q g.0 g.1.1) (known_at (after_meeting s (c, goings)).1 q g.0 g.1.0)) in
+        reaches c.records (greatest (known_of goings)) (meeting s offers c).0.records later asked counts.reached met_least.0 grew met_least.1;
+  }
+    where
+      within : (g b m a : ℕ) → g ≡ max b m → b ≤ n → m ≤ max n a → g ≤ max n a
+      within g b m a e h l = omega arith
+
+      rose : (b b' m g later : ℕ) → b' ≡ b → g ≡ max b' m → g ≤ later → b ≤ later
+      rose b b' m g later e f h = omega arith
+
+      reaches : (a b m later asked : ℕ) → n ≤ max a b → a ≤ m → b ≤ later → asked ≤ m → max n asked ≤ max m later
+      reaches a b m later asked h i l o = omega arith
+
+-- ---- a step of one rank
+
+module _ (s : Setting) (ranks k r n : ℕ) (ks : List MeetKind) (rest : List Mark) (c : Counted) (goings : List Going) (counts : Counts n c goings)
+    (st : Stepped s r c goings k ks rest) where
+  abbrev own : Offer
+  own = st.at.asks.offer
+
+  abbrev asked_alone : ℕ
+  asked_alone = needs s (puts_asked r (Some own)) (told s (puts_asked r (Some own)))
+
+  abbrev next : Going
+  next = hears s.header (advance s.header st.before).0 (solo s r own c).1
+
+  next_known : next.rank.known ≡ max st.before.rank.known (max st.before.rank.known asked_alone)
+  next_known =
+      hear_known s.header (advance s.header st.before).0 (solo s r own c).1 st.at.asks.open_with st.at.asks.is_open
+      ∙ (λ i. max (st.at.asks.known i) (max (st.at.asks.told i) asked_alone))
+
+  solo_counts : Counts (max n asked_alone) (solo s r own c).0 (set goings r next)
+  solo_counts = record {
+    count = more c.records asked_alone counts.count;
+    known = λ q g e. by q g (set_cases goings r q next g e);
+    reached =
+        let later = greatest (known_of (set goings r next)) in
+        let at : slice_get (set goings r next) r ≡ Some next = entry_set goings r st.before next st.was in
+        let mine : next.rank.known ≤ later = known_at (set goings r next) r next at in
+        let grew : greatest (known_of goings) ≤ later = known_below goings later (λ q b e. rose q b e (b_or q)) in
+        reaches c.records (greatest (known_of goings)) later asked_alone st.before.rank.known next.rank.known counts.reached grew next_known mine;
+  }
+    where
+      more : (a b : ℕ) → a ≤ n → a ≤ max n b
+      more a b h = omega arith
+
+      within : (g b a : ℕ) → g ≡ max b (max b a) → b ≤ n → g ≤ max n a
+      within g b a e h = omega arith
+
+      by : (q : ℕ) (g : Going) → ((q ≡ r) × (g ≡ next)) ⊎ (((r == q) ≡ false) × (slice_get goings q ≡ Some g)) → g.rank.known ≤ max n asked_alone
+      by q g (inl (a, b)) =
+          within g.rank.known st.before.rank.known asked_alone (ap (λ (z : Going). z.rank.known) b ∙ next_known) (counts.known r st.before st.was)
+      by q g (inr (a, b)) = more g.rank.known asked_alone (counts.known q g b)
+
+      b_or : (q : ℕ) → ((r == q) ≡ true) × (r ≡ q) ⊎ ((r == q) ≡ false) × (r ≡ q → ⊥)
+      b_or q = eqb_tells r q
+
+      up : (b g b' later a : ℕ) → b' ≡ b → g ≡ max b' (max b' a) → g ≤ later → b ≤ later
+      up b g b' later a e f h = omega arith
+
+      rose : (q : ℕ) (b : Going) → slice_get goings q ≡ Some b → ((r == q) ≡ true) × (r ≡ q) ⊎ ((r == q) ≡ false) × (r ≡ q → ⊥) → b.rank.known ≤ greatest (known_of (set goings r next))
+      rose q b e (inl (f, g)) =
+          let same : st.before ≡ b = same_Some st.before b (sym st.was ∙ ap (λ (z : ℕ). slice_get goings z) g ∙ e) in
+          up b.rank.known next.rank.known st.before.rank.known (greatest (known_of (set goings r next))) asked_alone (ap (λ (z : Going). z.rank.known) same) next_known
+          (known_at (set goings r next) r next (entry_set goings r st.before next st.was))
+      rose q b e (inr (f, ne)) = known_at (set goings r next) q b (entry_set_other goings r q next (λ g. ne (sym g)) ∙ e)
+
+      reaches : (a b later asked was now : ℕ) → n ≤ max a b → b ≤ later → now ≡ max was (max was asked) → now ≤ later → max n asked ≤ max a later
+      reaches a b later asked was now h i e l = omega arith
+
+  puts_alone : puts_asked r (rank_offer s goings r) ≡ puts_asked r (Some own)
+  puts_alone = ap (λ (m : Option Offer). puts_asked r m)
+      (ap (λ (m : Option Going). elim m as (λ z. Option Offer) [ None ↦ None | Some g ↦ (advance s.header g).1 ]) st.was ∙ st.at.asks.is_offer)
+
+-- ---- a run
+
+mark_counts : (s : Setting) (ranks n : ℕ) (m : Mark) (rest : List Mark) (c : Counted) (goings : List Going) → is_of_rank_below ranks m ≡ true
+    → AreAlong ranks (m ∷ rest) goings → Counts n c goings
+    → Counts (max n (needed_by s.header (completed s (puts_at s (c, goings) m)))) (after_mark s (c, goings) m).0 (after_mark s (c, goings) m).1
+mark_counts s ranks n (Meet j) rest c goings known a counts =
+    let puts = puts_met (offers_of (map (advance s.header) goings)) in
+    subst (λ (z : ℕ). Counts (max n z) (after_meeting s (c, goings)).0 (after_meeting s (c, goings)).1) (sym (completed_needs s puts (told s puts)))
+    (met_counts s ranks a.met j n a.kinds_left rest c goings a.on counts)
+mark_counts s ranks n (Solo r i) rest c goings known a counts =
+    let st = steps s c ranks a.met r i a.kinds_left rest goings (ltb-true r ranks known) a.on in
+    let puts = puts_asked r (Some st.at.asks.offer) in
+    let asked : needed_by s.header (completed s (puts_asked r (rank_offer s goings r))) ≡ needs s puts (told s puts) =
+    ap (λ (ps : Puts). needed_by s.header (completed s ps)) (puts_alone s ranks a.met r n a.kinds_left rest c goings counts st) ∙ completed_needs s puts (told s puts) in
+    subst (λ (z : Counted × List Going). Counts (max n (needed_by s.header (completed s (puts_asked r (rank_offer s goings r))))) z.0 z.1) (sym st.state)
+    (subst (λ (z : ℕ). Counts (max n z) (solo s r st.at.asks.offer c).0 (set goings r (hears s.header (advance s.header st.before).0 (solo s r st.at.asks.offer c).1))) (sym asked)
+    (solo_counts s ranks a.met r n a.kinds_left rest c goings counts st))
+
+went_known : (q k n : ℕ) (ks : List MeetKind) (ms : List Mark) (p : Going × Option Offer) → Went q k n ks ms p → p.0.rank.known ≡ n
+went_known q k n ks ms (g, None) w = w.known
+went_known q k n ks ms (g, Some o) w = w.known
+
+ends_known : (header : Header) (goings : List Going) → known_of (map (λ g. (advance header g).0) goings) ≡ known_of goings
+ends_known header [] = refl
+ends_known header (g ∷ goings) =
+    let first = went_known 0 0 g.rank.known _ _ (advance header g) (go_went header 0 0 g.rank g.answers g.calls) in
+    λ i. first i ∷ ends_known header goings i
+
+closed_count : (s : Setting) (n : ℕ) (c : Counted) (goings : List Going) → Counts n c goings → (closed s (c, goings)).records ≡ n
+closed_count s n c goings counts =
+    raised_is s c (greatest (known_of (map (λ g. (advance s.header g).0) goings)))
+    ∙ ap (λ (xs : List ℕ). max c.records (greatest xs)) (ends_known s.header goings)
+    ∙ whole c.records (greatest (known_of goings)) counts.count (known_below goings n counts.known) counts.reached
+  where
+    whole : (a b : ℕ) → a ≤ n → b ≤ n → n ≤ max a b → max a b ≡ n
+    whole a b h k l = omega arith
+
+order_count : (s : Setting) (ranks n : ℕ) (order : List Mark) (state : Counted × List Going) → list_all (is_of_rank_below ranks) order ≡ true
+    → AreAlong ranks order state.1 → Counts n state.0 state.1
+    → (closed s (fold (after_mark s) state order)).records ≡ max n (needed_by s.header (completed_from s state order))
+order_count s ranks n [] state known a counts = closed_count s n state.0 state.1 counts ∙ none n
+  where
+    none : (n : ℕ) → n ≡ max n 0
+    none n = omega arith
+order_count s ranks n (m ∷ order) state known a counts =
+    let now = completed s (puts_at s state m) in
+    let later = completed_from s (after_mark s state m) order in
+    let here = and_first (is_of_rank_below ranks m) _ known in
+    order_count s ranks (max n (needed_by s.header now)) order (after_mark s state m) (and_second (is_of_rank_below ranks m) _ known)
+    (mark_along s ranks m order state here a) (mark_counts s ranks n m order state.0 state.1 here a counts)
+    ∙ both n (needed_by s.header now) (needed_by s.header later)
+    ∙ ap (λ (z : ℕ). max n z) (sym (needed_both s.header now later))
+  where
+    both : (a b d : ℕ) → max (max a b) d ≡ max a (max b d)
+    both a b d = omega arith
+
+first_counts : (header : Header) (file : List ℕ) (calls : List (List Call)) → Counts header.records (record { file = file; records = header.records }) (map (first_going header) calls)
+first_counts header file calls = record {
+  count = omega arith;
+  known = λ q g e. let own = mapped_from (first_going header) calls q g e in no_less g.rank.known header.records header.records (ap (λ (z : Going). z.rank.known) own.1.1) (omega arith);
+  reached = omega arith;
+}
+
+pub end_count : (script : Script) (header : Header) (file : List ℕ) (order : List Mark) → is_lawful script ≡ true → IsLegal script order
+    → (serial_from script header file order).records ≡ max header.records (needed_by header (completed_puts script header file order))
+end_count script header file order lawful legal =
+    order_count (setting_of script header) script.ranks header.records order (first_state header file script.calls) legal.known_ranks
+    (first_along script header order lawful legal) (first_counts header file script.calls)

@@ -1,0 +1,340 @@
+-- The ranks along a legal order: at each mark they stand at the offers of its step.
+use Rattle.std.proofs.Common.{◌≡◌, ℕ, zero, suc, ◌<◌, refl, sym, ◌∙◌, ap, subst, inl, inr, ◌⊎◌, List, [], ◌∷◌, ◌++◌, length, map, set, drop, Bool, true, false, cond, Option, Some, None, arith}
+use Rattle.std.proofs.lemmas.List.{length-map, length-set}
+use Rattle.std.proofs.lemmas.Option.{slice_get-map, same_Some}
+use Rattle.std.proofs.lemmas.Option.{slice_get_within}
+use Rattle.std.proofs.lemmas.Bool.Decides.{eqb_tells}
+use Rattle.std.specs.Prelude.{fold, slice_get, filter, ◌==◌}
+use Rattle.std.specs.List.{list_all}
+use borrow.Author.Tests.{ltb-true}
+use Rattle.list_laws.proofs.Places.{entry_below, entry_set, entry_set_other}
+use Rattle.list_laws.proofs.Truth.{and_first, and_second, equal_itself}
+use Rattle.nc_base.specs.declared.header.Header.{Header}
+use Rattle.nc_base.specs.declared.request.Call.{Call}
+use Rattle.nc_base.specs.declared.script.Script.{Script}
+use Rattle.nc_base.specs.declared.step.Mark.{Mark}
+use Rattle.nc_base.specs.declared.step.Mark.TheVariants.{Meet, Solo}
+use Rattle.nc_base.specs.declared.step.MeetKind.{MeetKind}
+use Rattle.nc_base.specs.declared.step.Offer.{Offer}
+use Rattle.nc_base.specs.declared.step.OfferKind.TheVariants as offer
+use Rattle.nc_base.specs.declared.step.Reply.{Reply}
+use Rattle.serial_spec.specs.RankMachine.{Open}
+use Rattle.serial_spec.specs.History.{concerns, is_of_rank_below, IsLegal, kinds, marks_from}
+use Rattle.serial_spec.specs.Lawful.{is_lawful}
+use Rattle.serial_spec.specs.FileStep.{Counted, Setting, meeting, solo}
+use Rattle.serial_spec.specs.SerialEnd.{Going, advance, after_mark, after_meeting, after_solo, first_going, hears, offers_of}
+use Rattle.run_laws.specs.Ways.{kinds_of}
+use Rattle.run_laws.proofs.LawfulLaws.{own_lawful, ranks_lawful}
+use Rattle.run_laws.proofs.StandingLaws.{solo_goes}
+use Rattle.join_laws.proofs.RankLaws.{Went, Kinded, at_meeting, at_solo, go_went, hear_mode, hear_length}
+use Rattle.join_laws.proofs.StepLaws.{going_after, goings_long, replied, solo_of_is}
+
+-- ---- one rank
+
+-- these kinds of meetings and these marks are left to it, after k meetings
+pub record OnCourse (q k : ℕ) (ks : List MeetKind) (rest : List Mark) (g : Going) : Type 0 where
+  pub marks : marks_from q (length g.answers) k g.rank.independent g.calls ≡ filter (concerns q) rest
+  pub kinds : kinds g.calls ≡ ks
+
+-- it stands at an offer, and these marks are left after it
+pub record Asks (q k n : ℕ) (rest : List Mark) (p : Going × Option Offer) : Type 0 where
+  pub offer : Offer
+  pub is_offer : p.1 ≡ Some offer
+  pub known : p.0.rank.known ≡ n
+  pub told : offer.known ≡ n
+  pub open_with : Open
+  pub is_open : p.0.rank.«open» ≡ Some open_with
+  pub left : marks_from q (suc (length p.0.answers)) k open_with.independent p.0.calls ≡ filter (concerns q) rest
+
+pub record AtMeeting (q k n : ℕ) (ks : List MeetKind) (rest : List Mark) (p : Going × Option Offer) : Type 0 where
+  pub asks : Asks q (suc k) n rest p
+  pub kind : MeetKind
+  pub of_kind : asks.offer.kind ≡ offer.Meet kind
+  pub kinds : ks ≡ kind ∷ kinds p.0.calls
+
+pub record AtSolo (q k n : ℕ) (ks : List MeetKind) (rest : List Mark) (p : Going × Option Offer) : Type 0 where
+  pub asks : Asks q k n rest p
+  pub of_kind : asks.offer.kind ≡ offer.Solo
+  pub kinds : ks ≡ kinds p.0.calls
+
+tails : (a b : Mark) (xs ys : List Mark) → a ∷ xs ≡ b ∷ ys → xs ≡ ys
+tails a b xs ys e = cc
+
+not_solo : {A : Type 0} (k q n : ℕ) (xs ys : List Mark) → Solo q n ∷ xs ≡ Meet k ∷ ys → A
+not_solo k q n xs ys e = absurd cc
+
+not_nothing : {A : Type 0} (m : Mark) (ys : List Mark) → [] ≡ m ∷ ys → A
+not_nothing m ys e = absurd cc
+
+to_meeting : (q k n j : ℕ) (ks ks' : List MeetKind) (ms rest : List Mark) (p : Going × Option Offer) → Went q k n ks ms p → ks ≡ ks'
+    → ms ≡ Meet j ∷ filter (concerns q) rest → AtMeeting q k n ks' rest p
+to_meeting q k n j ks ks' ms rest (g, None) w f e = not_nothing (Meet j) (filter (concerns q) rest) (sym w.marks_none ∙ e)
+to_meeting q k n j ks ks' ms rest (g, Some o) w f e = by w.kinded
+  where
+    by : Kinded q k ks ms g w.open_with.independent o → AtMeeting q k n ks' rest (g, Some o)
+    by (at_meeting kind a b d) = record {
+      asks = record {
+        offer = o;
+        is_offer = refl;
+        known = w.known;
+        told = w.told;
+        open_with = w.open_with;
+        is_open = w.is_open;
+        left = tails (Meet k) (Meet j) _ _ (sym d ∙ e);
+      };
+      kind = kind;
+      of_kind = a;
+      kinds = sym f ∙ b;
+    }
+    by (at_solo a b d) = not_solo j q (length g.answers) _ (filter (concerns q) rest) (sym d ∙ e)
+
+to_solo : (q k n c : ℕ) (ks ks' : List MeetKind) (ms rest : List Mark) (p : Going × Option Offer) → Went q k n ks ms p → ks ≡ ks'
+    → ms ≡ Solo q c ∷ filter (concerns q) rest → AtSolo q k n ks' rest p
+to_solo q k n c ks ks' ms rest (g, None) w f e = not_nothing (Solo q c) (filter (concerns q) rest) (sym w.marks_none ∙ e)
+to_solo q k n c ks ks' ms rest (g, Some o) w f e = by w.kinded
+  where
+    by : Kinded q k ks ms g w.open_with.independent o → AtSolo q k n ks' rest (g, Some o)
+    by (at_solo a b d) = record {
+      asks = record {
+        offer = o;
+        is_offer = refl;
+        known = w.known;
+        told = w.told;
+        open_with = w.open_with;
+        is_open = w.is_open;
+        left = tails (Solo q (length g.answers)) (Solo q c) _ _ (sym d ∙ e);
+      };
+      of_kind = a;
+      kinds = sym f ∙ b;
+    }
+    by (at_meeting kind a b d) = not_solo k q c (filter (concerns q) rest) _ (sym e ∙ d)
+
+-- a rank that hears goes on
+heard_on : (header : Header) (q k n : ℕ) (ks : List MeetKind) (rest : List Mark) (p : Going × Option Offer) (y : Reply) → Asks q k n rest p
+    → kinds p.0.calls ≡ ks → OnCourse q k ks rest (hears header p.0 y)
+heard_on header q k n ks rest p y a e = record {
+  marks = (λ i. marks_from q (hear_length header p.0 y i) k (hear_mode header p.0 y a.open_with a.is_open i) p.0.calls) ∙ a.left;
+  kinds = e;
+}
+
+other_on : (q k r c : ℕ) (ks : List MeetKind) (rest : List Mark) (g : Going) → (r == q) ≡ false → OnCourse q k ks (Solo r c ∷ rest) g → OnCourse q k ks rest g
+other_on q k r c ks rest g e on = record {
+  marks = on.marks ∙ ap (λ (b : Bool). cond b (Solo r c ∷ filter (concerns q) rest) (filter (concerns q) rest)) e;
+  kinds = on.kinds;
+}
+
+-- ---- all ranks
+
+pub record AreOn (ranks k : ℕ) (ks : List MeetKind) (rest : List Mark) (goings : List Going) : Type 0 where
+  pub long : length goings ≡ ranks
+  pub each : (q : ℕ) (g : Going) → slice_get goings q ≡ Some g → OnCourse q k ks rest g
+
+pub meets : (header : Header) (ranks k j q : ℕ) (ks : List MeetKind) (rest : List Mark) (goings : List Going) (g : Going) → AreOn ranks k ks (Meet j ∷ rest) goings
+    → slice_get goings q ≡ Some g → AtMeeting q k g.rank.known ks rest (advance header g)
+meets header ranks k j q ks rest goings g on e =
+    let own = on.each q g e in
+    to_meeting q k g.rank.known j (kinds g.calls) ks (marks_from q (length g.answers) k g.rank.independent g.calls) rest (advance header g)
+    (go_went header q k g.rank g.answers g.calls) own.kinds own.marks
+
+pub goes_alone : (header : Header) (ranks k r c : ℕ) (ks : List MeetKind) (rest : List Mark) (goings : List Going) (g : Going) → AreOn ranks k ks (Solo r c ∷ rest) goings
+    → slice_get goings r ≡ Some g → AtSolo r k g.rank.known ks rest (advance header g)
+goes_alone header ranks k r c ks rest goings g on e =
+    let own = on.each r g e in
+    to_solo r k g.rank.known c (kinds g.calls) ks (marks_from r (length g.answers) k g.rank.independent g.calls) rest (advance header g)
+    (go_went header r k g.rank g.answers g.calls) own.kinds
+    (own.marks ∙ ap (λ (b : Bool). cond b (Solo r c ∷ filter (concerns r) rest) (filter (concerns r) rest)) (equal_itself r))
+
+-- ---- the offers of a meeting
+
+abbrev pub AllAsk : List (Going × Option Offer) → Type 0
+AllAsk ps = (q : ℕ) (p : Going × Option Offer) → slice_get ps q ≡ Some p → (o : Offer) × (p.1 ≡ Some o)
+
+no_offer : {A : Type 0} → ((o : Offer) × (None ≡ Some o)) → A
+no_offer (o, e) = absurd cc
+
+offers_long : (ps : List (Going × Option Offer)) → AllAsk ps → length (offers_of ps) ≡ length ps
+offers_long [] f = refl
+offers_long ((g, None) ∷ ps) f = no_offer (f 0 (g, None) refl)
+offers_long ((g, Some o) ∷ ps) f = let h = offers_long ps (λ q p e. f (suc q) p e) in omega arith
+
+offer_at : (ps : List (Going × Option Offer)) (q : ℕ) (p : Going × Option Offer) (o : Offer) → AllAsk ps → slice_get ps q ≡ Some p → p.1 ≡ Some o
+    → slice_get (offers_of ps) q ≡ Some o
+offer_at [] q p o f e h = cc
+offer_at ((g, None) ∷ ps) q p o f e h = no_offer (f 0 (g, None) refl)
+offer_at ((g, Some o') ∷ ps) zero p o f e h =
+    let same : (g, Some o') ≡ p = same_Some _ p e in
+    ap (λ (z : Going × Option Offer). z.1) same ∙ h
+offer_at ((g, Some o') ∷ ps) (suc q) p o f e h = offer_at ps q p o (λ r z d. f (suc r) z d) e h
+
+mapped_at : {X Y : Type 0} (f : X → Y) (xs : List X) (q : ℕ) (x : X) → slice_get xs q ≡ Some x → slice_get (map f xs) q ≡ Some (f x)
+mapped_at {X} {Y} f xs q x e = slice_get-map f xs q ∙ ap (λ (m : Option X). elim m as (λ z. Option Y) [ None ↦ None | Some z ↦ Some (f z) ]) e
+
+-- what stands in a mapped list
+pub mapped_from : {X Y : Type 0} (f : X → Y) (xs : List X) (q : ℕ) (y : Y) → slice_get (map f xs) q ≡ Some y → (x : X) × ((slice_get xs q ≡ Some x) × (y ≡ f x))
+mapped_from f xs q y e =
+    let long = length-map xs f in
+    let below = slice_get_within (map f xs) q y e in
+    let x = entry_below xs q (omega arith) in
+    (x.0, (x.1, same_Some y (f x.0) (sym e ∙ mapped_at f xs q x.0 x.1)))
+
+pub all_ask : (header : Header) (ranks k j : ℕ) (ks : List MeetKind) (rest : List Mark) (goings : List Going) → AreOn ranks k ks (Meet j ∷ rest) goings
+    → AllAsk (map (advance header) goings)
+all_ask header ranks k j ks rest goings on q p e =
+    let g = mapped_from (advance header) goings q p e in
+    let at = meets header ranks k j q ks rest goings g.0 on g.1.0 in
+    (at.asks.offer, ap (λ (z : Going × Option Offer). z.1) g.1.1 ∙ at.asks.is_offer)
+
+pub offer_met : (header : Header) (ranks k j q : ℕ) (ks : List MeetKind) (rest : List Mark) (goings : List Going) (g : Going) (on : AreOn ranks k ks (Meet j ∷ rest) goings)
+    → (e : slice_get goings q ≡ Some g) → slice_get (offers_of (map (advance header) goings)) q ≡ Some (meets header ranks k j q ks rest goings g on e).asks.offer
+offer_met header ranks k j q ks rest goings g on e =
+    let at = meets header ranks k j q ks rest goings g on e in
+    offer_at (map (advance header) goings) q (advance header g) at.asks.offer (all_ask header ranks k j ks rest goings on)
+    (mapped_at (advance header) goings q g e) at.asks.is_offer
+
+pub offers_met_long : (header : Header) (ranks k j : ℕ) (ks : List MeetKind) (rest : List Mark) (goings : List Going) → AreOn ranks k ks (Meet j ∷ rest) goings
+    → length (offers_of (map (advance header) goings)) ≡ length goings
+offers_met_long header ranks k j ks rest goings on =
+    offers_long (map (advance header) goings) (all_ask header ranks k j ks rest goings on) ∙ length-map goings (advance header)
+
+-- ---- after a meeting
+
+-- the rank after it, and what it heard
+pub record Heard (s : Setting) (c : Counted) (goings : List Going) (q : ℕ) (g : Going) : Type 0 where
+  pub before : Going
+  pub was : slice_get goings q ≡ Some before
+  pub reply : Reply
+  pub is_reply : slice_get (meeting s (offers_of (map (advance s.header) goings)) c).1 q ≡ Some reply
+  pub records : reply.records ≡ (meeting s (offers_of (map (advance s.header) goings)) c).0.records
+  pub is : g ≡ hears s.header (advance s.header before).0 reply
+
+-- a rank before it is one after it
+pub hears_then : (s : Setting) (c : Counted) (ranks k j q : ℕ) (ks : List MeetKind) (rest : List Mark) (goings : List Going) (b : Going) → AreOn ranks k ks (Meet j ∷ rest) goings
+    → slice_get goings q ≡ Some b → (g : Going) × ((slice_get (after_meeting s (c, goings)).1 q ≡ Some g) × Heard s c goings q g)
+hears_then s c ranks k j q ks rest goings b on e =
+    let offers = offers_of (map (advance s.header) goings) in
+    let y = replied s offers c q (meets s.header ranks k j q ks rest goings b on e).asks.offer (offer_met s.header ranks k j q ks rest goings b on e) in (
+      hears s.header (advance s.header b).0 y.reply,
+      (going_after s offers c goings q b y.reply e y.is, record { before = b; was = e; reply = y.reply; is_reply = y.is; records = y.records; is = refl }),
+    )
+
+pub met_long : (s : Setting) (c : Counted) (ranks k j : ℕ) (ks : List MeetKind) (rest : List Mark) (goings : List Going) → AreOn ranks k ks (Meet j ∷ rest) goings
+    → length (after_meeting s (c, goings)).1 ≡ length goings
+met_long s c ranks k j ks rest goings on =
+    goings_long s (offers_of (map (advance s.header) goings)) c goings (offers_met_long s.header ranks k j ks rest goings on)
+
+pub heard_by : (s : Setting) (c : Counted) (ranks k j q : ℕ) (ks : List MeetKind) (rest : List Mark) (goings : List Going) (g : Going) → AreOn ranks k ks (Meet j ∷ rest) goings
+    → slice_get (after_meeting s (c, goings)).1 q ≡ Some g → Heard s c goings q g
+heard_by s c ranks k j q ks rest goings g on e =
+    let long = met_long s c ranks k j ks rest goings on in
+    let below = slice_get_within (after_meeting s (c, goings)).1 q g e in
+    let b = entry_below goings q (omega arith) in
+    let h = hears_then s c ranks k j q ks rest goings b.0 on b.1 in
+    subst (λ (z : Going). Heard s c goings q z) (same_Some h.0 g (sym h.1.0 ∙ e)) h.1.1
+
+met_on : (s : Setting) (c : Counted) (ranks k j : ℕ) (ks : List MeetKind) (rest : List Mark) (goings : List Going) → AreOn ranks k ks (Meet j ∷ rest) goings
+    → AreOn ranks (suc k) (drop 1 ks) rest (after_meeting s (c, goings)).1
+met_on s c ranks k j ks rest goings on = record {
+  long = met_long s c ranks k j ks rest goings on ∙ on.long;
+  each = λ q g e.
+      let h = heard_by s c ranks k j q ks rest goings g on e in
+      let at = meets s.header ranks k j q ks rest goings h.before on h.was in
+      subst (λ (z : Going). OnCourse q (suc k) (drop 1 ks) rest z) (sym h.is)
+      (heard_on s.header q (suc k) h.before.rank.known (drop 1 ks) rest (advance s.header h.before) h.reply at.asks
+      (sym (ap (λ (xs : List MeetKind). drop 1 xs) at.kinds)));
+}
+
+-- ---- after a step of one rank
+
+pub set_cases : {X : Type 0} (xs : List X) (r q : ℕ) (x y : X) → slice_get (set xs r x) q ≡ Some y → ((q ≡ r) × (y ≡ x)) ⊎ (((r == q) ≡ false) × (slice_get xs q ≡ Some y))
+set_cases {X} xs r q x y e = by (eqb_tells r q)
+  where
+    by : (((r == q) ≡ true) × (r ≡ q)) ⊎ (((r == q) ≡ false) × (r ≡ q → ⊥)) → ((q ≡ r) × (y ≡ x)) ⊎ (((r == q) ≡ false) × (slice_get xs q ≡ Some y))
+    by (inl (f, g)) =
+        let there : slice_get (set xs r x) r ≡ Some y = ap (λ (k : ℕ). slice_get (set xs r x) k) g ∙ e in
+        let long = length-set xs r x in
+        let below = slice_get_within (set xs r x) r y there in
+        let was = entry_below xs r (omega arith) in
+        inl (sym g, same_Some y x (sym there ∙ entry_set xs r was.0 x was.1))
+    by (inr (f, n)) = inr (f, sym (entry_set_other xs r q x (λ g. n (sym g))) ∙ e)
+
+-- the rank's step
+pub record Stepped (s : Setting) (r : ℕ) (c : Counted) (goings : List Going) (k : ℕ) (ks : List MeetKind) (rest : List Mark) : Type 0 where
+  pub before : Going
+  pub was : slice_get goings r ≡ Some before
+  pub at : AtSolo r k before.rank.known ks rest (advance s.header before)
+  pub state : after_solo s r c goings ≡ ((solo s r at.asks.offer c).0, set goings r (hears s.header (advance s.header before).0 (solo s r at.asks.offer c).1))
+
+pub steps : (s : Setting) (c : Counted) (ranks k r n : ℕ) (ks : List MeetKind) (rest : List Mark) (goings : List Going) → r < ranks → AreOn ranks k ks (Solo r n ∷ rest) goings
+    → Stepped s r c goings k ks rest
+steps s c ranks k r n ks rest goings l on =
+    let long = on.long in
+    let b = entry_below goings r (omega arith) in
+    let at = goes_alone s.header ranks k r n ks rest goings b.0 on b.1 in
+    record {
+      before = b.0;
+      was = b.1;
+      at = at;
+      state = solo_goes s r c goings b.0 b.1
+          ∙ ap (λ (z : Counted × Going). (z.0, set goings r z.1)) (solo_of_is s r c (advance s.header b.0) at.asks.offer at.asks.is_offer);
+    }
+
+solo_on : (s : Setting) (c : Counted) (ranks k r n : ℕ) (ks : List MeetKind) (rest : List Mark) (goings : List Going) → r < ranks → AreOn ranks k ks (Solo r n ∷ rest) goings
+    → AreOn ranks k ks rest (after_solo s r c goings).1
+solo_on s c ranks k r n ks rest goings l on =
+    let st = steps s c ranks k r n ks rest goings l on in
+    let y = (solo s r st.at.asks.offer c).1 in
+    let next = hears s.header (advance s.header st.before).0 y in
+    let own : OnCourse r k ks rest next = heard_on s.header r k st.before.rank.known ks rest (advance s.header st.before) y st.at.asks (sym st.at.kinds) in
+    subst (λ (z : List Going). AreOn ranks k ks rest z) (sym (ap (λ (z : Counted × List Going). z.1) st.state))
+    (record {
+      long = length-set goings r next ∙ on.long;
+      each = λ q g e. by q g next own (set_cases goings r q next g e);
+    })
+  where
+    by : (q : ℕ) (g next : Going) → OnCourse r k ks rest next → ((q ≡ r) × (g ≡ next)) ⊎ (((r == q) ≡ false) × (slice_get goings q ≡ Some g)) → OnCourse q k ks rest g
+    by q g next own (inl (a, b)) =
+        subst (λ (z : ℕ). OnCourse z k ks rest g) (sym a) (subst (λ (z : Going). OnCourse r k ks rest z) (sym b) own)
+    by q g next own (inr (a, b)) = other_on q k r n ks rest g a (on.each q g b)
+
+-- ---- along an order
+
+pub record AreAlong (ranks : ℕ) (rest : List Mark) (goings : List Going) : Type 0 where
+  pub met : ℕ
+  pub kinds_left : List MeetKind
+  pub on : AreOn ranks met kinds_left rest goings
+
+pub mark_along : (s : Setting) (ranks : ℕ) (m : Mark) (rest : List Mark) (state : Counted × List Going) → is_of_rank_below ranks m ≡ true → AreAlong ranks (m ∷ rest) state.1
+    → AreAlong ranks rest (after_mark s state m).1
+mark_along s ranks (Meet j) rest (c, goings) known a =
+    record { met = suc a.met; kinds_left = drop 1 a.kinds_left; on = met_on s c ranks a.met j a.kinds_left rest goings a.on }
+mark_along s ranks (Solo r n) rest (c, goings) known a =
+    record { met = a.met; kinds_left = a.kinds_left; on = solo_on s c ranks a.met r n a.kinds_left rest goings (ltb-true r ranks known) a.on }
+
+pub marks_along : (s : Setting) (ranks : ℕ) (order rest : List Mark) (state : Counted × List Going) → list_all (is_of_rank_below ranks) (order ++ rest) ≡ true
+    → AreAlong ranks (order ++ rest) state.1 → AreAlong ranks rest (fold (after_mark s) state order).1
+marks_along s ranks [] rest state known a = a
+marks_along s ranks (m ∷ order) rest state known a =
+    marks_along s ranks order rest (after_mark s state m) (and_second (is_of_rank_below ranks m) _ known)
+    (mark_along s ranks m (order ++ rest) state (and_first (is_of_rank_below ranks m) _ known) a)
+
+pub first_along : (script : Script) (header : Header) (order : List Mark) → is_lawful script ≡ true → IsLegal script order
+    → AreAlong script.ranks order (map (first_going header) script.calls)
+first_along script header order lawful legal = record {
+  met = 0;
+  kinds_left = kinds_of script;
+  on = record {
+    long = length-map script.calls (first_going header) ∙ (ranks_lawful script lawful).one_each;
+    each = λ q g e.
+        let own = mapped_from (first_going header) script.calls q g e in
+        subst (λ (z : Going). OnCourse q 0 (kinds_of script) order z) (sym own.1.1) (begins q own.0 own.1.0);
+  };
+}
+  where
+    begins : (q : ℕ) (own : List Call) → slice_get script.calls q ≡ Some own → OnCourse q 0 (kinds_of script) order (first_going header own)
+    begins q own e =
+        let below = slice_get_within script.calls q own e in
+        let long = (ranks_lawful script lawful).one_each in
+        record {
+          marks = sym (ap (λ (m : Option (List Call)). elim m as (λ z. List Mark) [ None ↦ [] | Some calls ↦ marks_from q 0 0 false calls ]) e) ∙ sym (legal.each_rank q (omega arith));
+          kinds = (own_lawful script q own lawful e).agreed;
+        }

@@ -1,0 +1,224 @@
+-- No window's hull is longer than its buffer, and no call of a step transfers more.
+use Rattle.std.proofs.Common.{◌≡◌, ℕ, zero, suc, ◌+◌, ◌-◌, ◌*◌, ◌/◌, ◌%◌, ◌<◌, ◌≤◌, refl, ap, subst, inl, inr, ◌⊎◌, List, [], ◌∷◌, ◌++◌, length, map, Bool, true, false, cond, not, max, ◌&&◌, Option, Some, None, arith}
+use Rattle.std.proofs.lemmas.Nat.{mod_below, div-add-mod'}
+use Rattle.std.specs.Prelude.{filter, flat_map, nat_le, nat_lt, ◌==◌, is_none}
+use Rattle.std.specs.List.{enumerate_from, range_with_len}
+use Rattle.std.specs.Int.{byte_len}
+use borrow.Author.Tests.{eqb-true, ltb-true, ltb-false}
+use Rattle.list_laws.proofs.Truth.{equal_itself}
+use Rattle.overlay_laws.specs.Hulls.{IsAscending}
+use Rattle.overlay_laws.proofs.HullLaws.{filter_ascends, filter_in, first_least, flat_in, in_either, in_order_ascends, last_below}
+use Rattle.overlay_laws.proofs.Members.{map_in}
+use Rattle.nc_base.specs.declared.header.Header.{Header}
+use Rattle.nc_base.specs.declared.script.Hints.{Hints}
+use Rattle.nc_base.specs.declared.script.Script.{Script}
+use Rattle.nc_base.specs.declared.step.DiskCall.{DiskCall}
+use Rattle.nc_base.specs.declared.step.DiskCall.TheVariants.{Grow, Load, Store}
+use Rattle.nc_base.specs.declared.step.Mark.{Mark}
+use Rattle.nc_base.specs.declared.step.Mark.TheVariants.{Meet, Solo}
+use Rattle.nc_base.specs.declared.step.Offer.{Offer}
+use Rattle.serial_spec.specs.DeviceCalls.{calls_from, collective_windows, domain_size, domains, first_of, get_bytes, gets_of, grow_to, hull_len, in_order, is_empty, last_of, loads, mark_calls, meeting_calls, not_empty, overlays, put_calls, run_calls, sieved, sieving_windows, solo_calls, store_records, windows}
+use Rattle.serial_spec.specs.FileStep.{Counted, Setting, end_for, meeting, puts_of, told}
+use Rattle.serial_spec.specs.HeaderGrammar.{count_width}
+use Rattle.serial_spec.specs.Lawful.{is_lawful}
+use Rattle.serial_spec.specs.Lists.{In}
+use Rattle.serial_spec.specs.Records.{needed_by}
+use Rattle.serial_spec.specs.SerialEnd.{Going, advance, after_mark, closed, first_state, offers_of, rank_offer, setting_of}
+use Rattle.serial_spec.specs.SharedByte.{Puts, bytes_of, covered}
+use Rattle.whole_run_laws.specs.Transfers.{is_count_store, longest, transferred}
+use Rattle.whole_run_laws.proofs.Hints.{some_buffers}
+
+-- ---- hulls
+
+hull_short : (w : List ℕ) (n : ℕ) → 1 ≤ n → ((x y : ℕ) → In w x → In w y → x < y + n) → hull_len w ≤ n
+hull_short [] n l h = omega arith
+hull_short (a ∷ w) n l h =
+    let last : last_of (a ∷ w) + 1 ≤ a + n = last_below (a ∷ w) (a + n) (omega arith) (λ x k. h x a k (inl refl)) in
+    omega arith
+
+-- two bytes with one quotient
+one_part : (lo buffer j x y : ℕ) → 1 ≤ buffer → lo ≤ x → lo ≤ y → (x - lo) / buffer ≡ j → (y - lo) / buffer ≡ j → x < y + buffer
+one_part lo buffer j x y h a b e f =
+    let whole = div-add-mod' (x - lo) buffer in
+    let part = mod_below (x - lo) buffer (omega arith) in
+    let other = div-add-mod' (y - lo) buffer in
+    let same : (x - lo) / buffer * buffer ≡ j * buffer = ap (λ (n : ℕ). n * buffer) e in
+    let too : (y - lo) / buffer * buffer ≡ j * buffer = ap (λ (n : ℕ). n * buffer) f in
+    omega arith
+
+abbrev window_at : ℕ → List ℕ → ℕ → List ℕ
+window_at buffer bytes j = filter (λ x. (x - first_of bytes) / buffer == j) bytes
+
+window_short : (buffer : ℕ) (bytes w : List ℕ) → 1 ≤ buffer → IsAscending bytes → In (windows buffer bytes) w → hull_len w ≤ buffer
+window_short buffer bytes w l asc h =
+    let js = range_with_len 0 ((last_of bytes - first_of bytes) / buffer + 1) in
+    let kept = filter_in (λ w. not (is_empty w)) (map (window_at buffer bytes) js) w h in
+    let m = map_in (window_at buffer bytes) js w kept.0 in
+    let lo : (x : ℕ) → In (window_at buffer bytes m.0) x → first_of bytes ≤ x =
+    λ x k. first_least bytes x asc (filter_in (λ x. (x - first_of bytes) / buffer == m.0) bytes x k).0 in
+    let part : (x : ℕ) → In (window_at buffer bytes m.0) x → (x - first_of bytes) / buffer ≡ m.0 =
+    λ x k. eqb-true _ _ (filter_in (λ x. (x - first_of bytes) / buffer == m.0) bytes x k).1 in
+    subst (λ (v : List ℕ). hull_len v ≤ buffer) m.2
+    (hull_short (window_at buffer bytes m.0) buffer l (λ x y k g. one_part (first_of bytes) buffer m.0 x y l (lo x k) (lo y g) (part x k) (part y g)))
+
+domain_ascends : (nodes unit : ℕ) (bytes d : List ℕ) → IsAscending bytes → In (domains nodes unit bytes) d → IsAscending d
+domain_ascends nodes unit bytes d asc h =
+    let lo = first_of bytes in
+    let low = lo - lo % unit in
+    let s = max 1 (domain_size low (last_of bytes + 1) nodes unit) in
+    let m = map_in (λ a. filter (λ x. (x - low) / s == a) bytes) (range_with_len 0 nodes) d h in
+    subst IsAscending m.2 (filter_ascends (λ x. (x - low) / s == m.0) bytes asc)
+
+pub collective_short : (hints : Hints) (bytes w : List ℕ) → 1 ≤ hints.cb_buffer → In (collective_windows hints (in_order bytes)) w → hull_len w ≤ hints.cb_buffer
+collective_short hints bytes w l h =
+    let all = domains hints.cb_nodes hints.striping_unit (in_order bytes) in
+    let d = flat_in (λ d. windows hints.cb_buffer d) (not_empty all) w h in
+    let kept = filter_in (λ w. not (is_empty w)) all d.0 d.1 in
+    window_short hints.cb_buffer d.0 w l (domain_ascends hints.cb_nodes hints.striping_unit (in_order bytes) d.0 (in_order_ascends bytes) kept.0) d.2
+
+front_short : (x buffer : ℕ) (rest : List ℕ) (t : Bool) → 1 ≤ buffer → nat_lt x (x + buffer) ≡ t
+    → ((y : ℕ) → In (cond t (x ∷ rest) rest) y → y < x + buffer) → hull_len (cond t (x ∷ rest) rest) ≤ buffer
+front_short x buffer rest true l e h = let last : last_of (x ∷ rest) + 1 ≤ x + buffer = last_below (x ∷ rest) (x + buffer) (omega arith) h in omega arith
+front_short x buffer rest false l e h = let k : x + buffer ≤ x = ltb-false _ _ e in absurd (omega arith)
+
+sieved_short : (fuel buffer : ℕ) (bytes w : List ℕ) → 1 ≤ buffer → In (sieved fuel buffer bytes) w → hull_len w ≤ buffer
+sieved_short zero buffer bytes w l h = absurd h
+sieved_short (suc fuel) buffer [] w l h = absurd h
+sieved_short (suc fuel) buffer (x ∷ bytes) w l (inl e) =
+    subst (λ (v : List ℕ). hull_len v ≤ buffer) e
+    (front_short x buffer (filter (λ y. nat_lt y (x + buffer)) bytes) (nat_lt x (x + buffer)) l refl
+    (λ y k. ltb-true _ _ (filter_in (λ y. nat_lt y (x + buffer)) (x ∷ bytes) y k).1))
+sieved_short (suc fuel) buffer (x ∷ bytes) w l (inr h) = sieved_short fuel buffer (filter (λ y. nat_le (x + buffer) y) bytes) w l h
+
+pub sieving_short : (buffer : ℕ) (bytes w : List ℕ) → 1 ≤ buffer → In (sieving_windows buffer bytes) w → hull_len w ≤ buffer
+sieving_short buffer bytes w l h = sieved_short (length bytes) buffer bytes w l h
+
+-- ---- the calls of a step
+
+no_more : (a b n : ℕ) → a ≤ b → b ≤ n → a ≤ n
+no_more a b n h k = omega arith
+
+call_short : (a call : DiskCall) (n : ℕ) → a ≡ call → transferred a ≤ n → transferred call ≤ n
+call_short a call n e h = subst (λ (c : DiskCall). transferred c ≤ n) e h
+
+load_short : (w : List ℕ) (n : ℕ) (call : DiskCall) → hull_len w ≤ n → In (loads w) call → transferred call ≤ n
+load_short w n call l (inl e) = call_short (Load (first_of w) (hull_len w)) call n e l
+load_short w n call l (inr h) = absurd h
+
+overlay_short : (w : List ℕ) (n : ℕ) (call : DiskCall) → hull_len w ≤ n → In (overlays w) call → transferred call ≤ n
+overlay_short w n call l h = by (length w == hull_len w) h
+  where
+    stored : In (Store (first_of w) (hull_len w) ∷ []) call → transferred call ≤ n
+    stored (inl e) = call_short (Store (first_of w) (hull_len w)) call n e l
+    stored (inr k) = absurd k
+
+    by : (t : Bool) → In (cond t [] (loads w) ++ Store (first_of w) (hull_len w) ∷ []) call → transferred call ≤ n
+    by true k = stored k
+    by false (inl e) = call_short (Load (first_of w) (hull_len w)) call n e l
+    by false (inr k) = stored k
+
+grow_short : (size end n : ℕ) (call : DiskCall) → In (grow_to size end) call → transferred call ≤ n
+grow_short size end n call h = by (nat_lt size end) h
+  where
+    by : (t : Bool) → In (cond t (Grow end ∷ []) []) call → transferred call ≤ n
+    by true (inl e) = call_short (Grow end) call n e (omega arith)
+    by true (inr k) = absurd k
+    by false k = absurd k
+
+put_short : (s : Setting) (cut : List ℕ → List (List ℕ)) (puts : Puts) (size n : ℕ) (call : DiskCall)
+    → ((w : List ℕ) → In (cut (in_order (covered s.header puts))) w → hull_len w ≤ n) → In (put_calls s cut puts size) call → transferred call ≤ n
+put_short s cut puts size n call f h = by (is_none (told s puts) && not (is_empty (in_order (covered s.header puts)))) h
+  where
+    either : In (grow_to size (end_for s (needed_by s.header puts))) call ⊎ In (flat_map overlays (cut (in_order (covered s.header puts)))) call → transferred call ≤ n
+    either (inl k) = grow_short size (end_for s (needed_by s.header puts)) n call k
+    either (inr k) = let w = flat_in overlays (cut (in_order (covered s.header puts))) call k in overlay_short w.0 n call (f w.0 w.1) w.2
+
+    by : (t : Bool) → In (cond t (grow_to size (end_for s (needed_by s.header puts)) ++ flat_map overlays (cut (in_order (covered s.header puts)))) []) call → transferred call ≤ n
+    by true k = either (in_either (grow_to size (end_for s (needed_by s.header puts))) (flat_map overlays (cut (in_order (covered s.header puts)))) call k)
+    by false k = absurd k
+
+get_short : (ws : List (List ℕ)) (n : ℕ) (call : DiskCall) → ((w : List ℕ) → In ws w → hull_len w ≤ n) → In (flat_map loads ws) call → transferred call ≤ n
+get_short ws n call f h = let w = flat_in loads ws call h in load_short w.0 n call (f w.0 w.1) w.2
+
+count_stored : (s : Setting) (grew : Bool) (call : DiskCall) → In (store_records s grew) call → is_count_store s.header call ≡ true
+count_stored s true call (inl e) =
+    subst (λ (c : DiskCall). is_count_store s.header c ≡ true) e (equal_itself (byte_len (count_width s.header.version)))
+count_stored s true call (inr k) = absurd k
+count_stored s false call k = absurd k
+
+abbrev ShortOrCount : ℕ → Header → DiskCall → Type 0
+ShortOrCount n header call = (transferred call ≤ n) ⊎ (is_count_store header call ≡ true)
+
+-- puts, the record count, gets
+three_short : (n : ℕ) (header : Header) (a b d : List DiskCall) (call : DiskCall) → (In a call → transferred call ≤ n) → (In b call → is_count_store header call ≡ true)
+    → (In d call → transferred call ≤ n) → In ((a ++ b) ++ d) call → ShortOrCount n header call
+three_short n header a b d call f g h k = by_last (in_either (a ++ b) d call k)
+  where
+    by_first : In a call ⊎ In b call → ShortOrCount n header call
+    by_first (inl m) = inl (f m)
+    by_first (inr m) = inr (g m)
+
+    by_last : In (a ++ b) call ⊎ In d call → ShortOrCount n header call
+    by_last (inl m) = by_first (in_either a b call m)
+    by_last (inr m) = inl (h m)
+
+pub meeting_short : (hints : Hints) (s : Setting) (offers : List Offer) (c : Counted) (call : DiskCall) → 1 ≤ hints.cb_buffer
+    → In (meeting_calls hints s offers c) call → (transferred call ≤ hints.cb_buffer) ⊎ (is_count_store s.header call ≡ true)
+meeting_short hints s offers c call l h =
+    let puts = flat_map puts_of (enumerate_from 0 offers) in
+    let asked = flat_map gets_of offers in
+    three_short hints.cb_buffer s.header (put_calls s (collective_windows hints) puts (length c.file))
+    (store_records s (nat_lt c.records (meeting s offers c).0.records)) (flat_map loads (collective_windows hints (get_bytes s asked))) call
+    (λ k. put_short s (collective_windows hints) puts (length c.file) hints.cb_buffer call (λ w g. collective_short hints (covered s.header puts) w l g) k)
+    (λ k. count_stored s (nat_lt c.records (meeting s offers c).0.records) call k)
+    (λ k. get_short (collective_windows hints (get_bytes s asked)) hints.cb_buffer call
+    (λ w g. collective_short hints (flat_map (λ p. bytes_of s.header p) asked) w l g) k)
+    h
+
+pub solo_short : (hints : Hints) (s : Setting) (r : ℕ) (o : Offer) (c : Counted) (call : DiskCall) → 1 ≤ hints.wr_buffer → 1 ≤ hints.rd_buffer
+    → In (solo_calls hints s r o c) call → transferred call ≤ max hints.wr_buffer hints.rd_buffer
+solo_short hints s r o c call l m h =
+    by (in_either (put_calls s (sieving_windows hints.wr_buffer) (puts_of (r, o)) (length c.file))
+    (flat_map loads (sieving_windows hints.rd_buffer (get_bytes s (gets_of o)))) call h)
+  where
+    by : In (put_calls s (sieving_windows hints.wr_buffer) (puts_of (r, o)) (length c.file)) call
+        ⊎ In (flat_map loads (sieving_windows hints.rd_buffer (get_bytes s (gets_of o)))) call → transferred call ≤ max hints.wr_buffer hints.rd_buffer
+    by (inl k) = no_more (transferred call) hints.wr_buffer _
+        (put_short s (sieving_windows hints.wr_buffer) (puts_of (r, o)) (length c.file) hints.wr_buffer call
+        (λ w g. sieving_short hints.wr_buffer (in_order (covered s.header (puts_of (r, o)))) w l g) k) (omega arith)
+    by (inr k) = no_more (transferred call) hints.rd_buffer _
+        (get_short (sieving_windows hints.rd_buffer (get_bytes s (gets_of o))) hints.rd_buffer call
+        (λ w g. sieving_short hints.rd_buffer (get_bytes s (gets_of o)) w m g) k) (omega arith)
+
+-- ---- the calls of a run
+
+abbrev Short : Hints → Header → DiskCall → Type 0
+Short hints header call = (transferred call ≤ longest hints) ⊎ (is_count_store header call ≡ true)
+
+mark_short : (hints : Hints) (s : Setting) (state : Counted × List Going) (m : Mark) (call : DiskCall) → 1 ≤ hints.cb_buffer → 1 ≤ hints.wr_buffer → 1 ≤ hints.rd_buffer
+    → In (mark_calls hints s state m) call → Short hints s.header call
+mark_short hints s (c, goings) (Meet k) call a b d h = by (meeting_short hints s (offers_of (map (advance s.header) goings)) c call a h)
+  where
+    by : (transferred call ≤ hints.cb_buffer) ⊎ (is_count_store s.header call ≡ true) → Short hints s.header call
+    by (inl l) = inl (no_more (transferred call) hints.cb_buffer (longest hints) l (omega arith))
+    by (inr e) = inr e
+mark_short hints s (c, goings) (Solo r n) call a b d h = by (rank_offer s goings r) h
+  where
+    by : (o : Option Offer) → In (elim o as (λ x. List DiskCall) [ None ↦ [] | Some p ↦ solo_calls hints s r p c ]) call → Short hints s.header call
+    by None k = absurd k
+    by (Some o) k = inl (no_more (transferred call) (max hints.wr_buffer hints.rd_buffer) (longest hints) (solo_short hints s r o c call b d k) (omega arith))
+
+calls_short : (hints : Hints) (s : Setting) (state : Counted × List Going) (order : List Mark) (call : DiskCall) → 1 ≤ hints.cb_buffer → 1 ≤ hints.wr_buffer → 1 ≤ hints.rd_buffer
+    → In (calls_from hints s state order) call → Short hints s.header call
+calls_short hints s state [] call a b d h = inr (count_stored s (nat_lt state.0.records (closed s state).records) call h)
+calls_short hints s state (m ∷ order) call a b d h =
+    elim (in_either (mark_calls hints s state m) (calls_from hints s (after_mark s state m) order) call h) [
+      | inl k ↦ mark_short hints s state m call a b d k
+      | inr k ↦ calls_short hints s (after_mark s state m) order call a b d k
+    ]
+
+pub run_short : (script : Script) (header : Header) (file : List ℕ) (order : List Mark) (call : DiskCall) → is_lawful script ≡ true
+    → In (run_calls script header file order) call → (transferred call ≤ longest script.hints) ⊎ (is_count_store header call ≡ true)
+run_short script header file order call lawful h =
+    let some = some_buffers script lawful in
+    calls_short script.hints (setting_of script header) (first_state header file script.calls) order call some.cb some.wr some.rd h

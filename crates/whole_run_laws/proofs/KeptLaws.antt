@@ -1,0 +1,180 @@
+-- What a run leaves of each byte: what the last completed put that holds it says, else the old one.
+use Rattle.std.proofs.Common.{◌≡◌, ℕ, ◌+◌, ◌<◌, ◌≤◌, refl, sym, ◌∙◌, ap, inl, inr, ◌⊎◌, List, [], ◌∷◌, ◌++◌, length, map, set, Bool, true, false, cond, max, Option, Some, None, arith}
+use Rattle.std.proofs.lemmas.Grind.{common_steps, flat_map-append}
+use Rattle.std.proofs.lemmas.List.{get_or_past}
+use Rattle.std.specs.Prelude.{fold, zip, nat_lt, slice_get}
+use Rattle.nc_base.specs.declared.header.Header.{Header}
+use Rattle.nc_base.specs.declared.answer.Pair.{Pair}
+use Rattle.nc_base.specs.declared.plan.Post.{Post}
+use Rattle.nc_base.specs.declared.script.Script.{Script}
+use Rattle.nc_base.specs.declared.step.Mark.{Mark}
+use Rattle.nc_base.specs.declared.step.Mark.TheVariants.{Meet, Solo}
+use Rattle.nc_base.specs.declared.step.Offer.{Offer}
+use Rattle.serial_spec.specs.File.{at, longer, written}
+use Rattle.serial_spec.specs.HeaderGrammar.{count}
+use Rattle.serial_spec.specs.Layout.{greatest}
+use Rattle.serial_spec.specs.Records.{needed_by, with_records}
+use Rattle.serial_spec.specs.Said.{Cell, said_at, byte_or, write_cells}
+use Rattle.serial_spec.specs.SharedByte.{Puts, bytes_of, said_by_puts}
+use Rattle.serial_spec.specs.FileStep.{Setting, Counted, after_puts, end_for, known_by, meeting, needs, put_post, raised, told}
+use Rattle.serial_spec.specs.SerialEnd.{Going, advance, after_mark, closed, first_state, offers_of, serial_from, setting_of, solo_of}
+use Rattle.serial_spec.proofs.KeepLaws.{count_long, puts_keep, raised_keeps}
+use Rattle.serial_spec.proofs.FileLaws.{at-longer}
+use Rattle.serial_spec.proofs.SaidLaws.{byte_or_later, puts_are_cells, puts_said, said_append}
+use Rattle.overlay_laws.specs.Entries.{cells_of_puts}
+use Rattle.whole_run_laws.specs.Completed.{completed, completed_from, completed_puts, IsBesideCount, is_held, puts_asked, puts_at, puts_met, unless_told}
+
+-- ---- a step
+
+beside : (s : Setting) (n x : ℕ) → IsBesideCount s.header x → (x < 4) ⊎ (4 + length (count s.header.version n) ≤ x)
+beside s n x (inl l) = inl l
+beside s n x (inr l) = let e = count_long s.header.version n in inr (omega arith)
+
+after_said : (s : Setting) (puts : Puts) (pair : Option Pair) (file : List ℕ) (x : ℕ)
+    → at (after_puts s puts pair file) x ≡ byte_or (said_at (said_by_puts s.header (unless_told puts pair)) x) (at file x)
+after_said s puts None file x = puts_said s puts file x
+after_said s puts (Some p) file x = refl
+
+nothing_said : (header : Header) (pair : Option Pair) (x b : ℕ) → b ≡ byte_or (said_at (said_by_puts header (unless_told [] pair)) x) b
+nothing_said header None x b = refl
+nothing_said header (Some p) x b = refl
+
+pub meeting_said : (s : Setting) (offers : List Offer) (c : Counted) (x : ℕ) → IsBesideCount s.header x
+    → at (meeting s offers c).0.file x ≡ byte_or (said_at (said_by_puts s.header (completed s (puts_met offers))) x) (at c.file x)
+meeting_said s offers c x h =
+    let puts = puts_met offers in
+    let pair = told s puts in
+    let n = max (needs s puts pair) (greatest (map (λ o. known_by o.kind o.known) offers)) in
+    let written : Counted = record { file = after_puts s puts pair c.file; records = c.records } in
+    raised_keeps s written n x (beside s n x h) ∙ after_said s puts pair c.file x
+
+solo_said : (s : Setting) (r : ℕ) (c : Counted) (p : Going × Option Offer) (x : ℕ)
+    → at (solo_of s r c p).0.file x ≡ byte_or (said_at (said_by_puts s.header (completed s (puts_asked r p.1))) x) (at c.file x)
+solo_said s r c (g, None) x = nothing_said s.header (told s []) x (at c.file x)
+solo_said s r c (g, Some o) x = after_said s (puts_asked r (Some o)) (told s (puts_asked r (Some o))) c.file x
+
+mark_said : (s : Setting) (state : Counted × List Going) (m : Mark) (x : ℕ) → IsBesideCount s.header x
+    → at (after_mark s state m).0.file x ≡ byte_or (said_at (said_by_puts s.header (completed s (puts_at s state m))) x) (at state.0.file x)
+mark_said s (c, goings) (Meet k) x h = meeting_said s (offers_of (map (advance s.header) goings)) c x h
+mark_said s (c, goings) (Solo r n) x h = by (slice_get goings r)
+  where
+    by : (m : Option Going)
+        → at (elim m as (λ w. Counted × List Going) [
+          | None ↦ (c, goings)
+          | Some g ↦ ((solo_of s r c (advance s.header g)).0, set goings r (solo_of s r c (advance s.header g)).1)
+        ]).0.file x
+        ≡ byte_or (said_at (said_by_puts s.header (completed s (puts_asked r (elim m as (λ w. Option Offer) [ None ↦ None | Some g ↦ (advance s.header g).1 ])))) x) (at c.file x)
+    by None = nothing_said s.header (told s []) x (at c.file x)
+    by (Some g) = solo_said s r c (advance s.header g) x
+
+-- ---- a run
+
+said_both : (header : Header) (a b : Puts) (x old : ℕ)
+    → byte_or (said_at (said_by_puts header b) x) (byte_or (said_at (said_by_puts header a) x) old) ≡ byte_or (said_at (said_by_puts header (a ++ b)) x) old
+said_both header a b x old =
+    byte_or_later (said_at (said_by_puts header b) x) (said_at (said_by_puts header a) x) old
+    ∙ ap (λ (o : Option ℕ). byte_or o old) (sym (said_append (said_by_puts header a) (said_by_puts header b) x))
+    ∙ ap (λ (ps : List (ℕ × ℕ)). byte_or (said_at ps x) old) (sym (flat_map-append (λ (p : ℕ × Post). zip (bytes_of header p.1) p.1.bytes) a b))
+
+state_said : (s : Setting) (state : Counted × List Going) (order : List Mark) (x : ℕ) → IsBesideCount s.header x
+    → at (fold (after_mark s) state order).0.file x ≡ byte_or (said_at (said_by_puts s.header (completed_from s state order)) x) (at state.0.file x)
+state_said s state [] x h = refl
+state_said s state (m ∷ order) x h =
+    let later = completed_from s (after_mark s state m) order in
+    let now = completed s (puts_at s state m) in
+    state_said s (after_mark s state m) order x h
+    ∙ ap (λ (b : ℕ). byte_or (said_at (said_by_puts s.header later) x) b) (mark_said s state m x h)
+    ∙ said_both s.header now later x (at state.0.file x)
+
+closed_keeps : (s : Setting) (state : Counted × List Going) (x : ℕ) → IsBesideCount s.header x → at (closed s state).bytes x ≡ at state.0.file x
+closed_keeps s (c, goings) x h =
+    let n = greatest (map (λ g. g.rank.known) (map (λ g. (advance s.header g).0) goings)) in
+    raised_keeps s c n x (beside s n x h)
+
+pub end_said : (script : Script) (header : Header) (file : List ℕ) (order : List Mark) (x : ℕ) → IsBesideCount header x
+    → at (serial_from script header file order).bytes x ≡ byte_or (said_at (said_by_puts header (completed_puts script header file order)) x) (at file x)
+end_said script header file order x h =
+    let s = setting_of script header in
+    let state = first_state header file script.calls in
+    closed_keeps s (fold (after_mark s) state order) x h ∙ state_said s state order x h
+
+-- ---- what no put holds
+
+-- what the puts make of a file that has the byte is what is said of it
+untouched : (s : Setting) (puts : Puts) (file : List ℕ) (x : ℕ) → is_held s.header puts x ≡ false
+    → byte_or (said_at (said_by_puts s.header puts) x) (at file x) ≡ at file x
+untouched s puts file x h =
+    sym (puts_said s puts file x) ∙ puts_keep s puts (longer file (end_for s (needed_by s.header puts))) x h ∙ at-longer file (end_for s (needed_by s.header puts)) x
+
+pub end_kept : (script : Script) (header : Header) (file : List ℕ) (order : List Mark) (x : ℕ) → IsBesideCount header x
+    → is_held header (completed_puts script header file order) x ≡ false → at (serial_from script header file order).bytes x ≡ at file x
+end_kept script header file order x h k =
+    end_said script header file order x h ∙ untouched (setting_of script header) (completed_puts script header file order) file x k
+
+pub end_grown : (script : Script) (header : Header) (file : List ℕ) (order : List Mark) (x : ℕ) → IsBesideCount header x
+    → is_held header (completed_puts script header file order) x ≡ false → length file ≤ x → at (serial_from script header file order).bytes x ≡ 0
+end_grown script header file order x h k l = end_kept script header file order x h k ∙ get_or_past file x 0 l
+
+-- ---- lengths
+
+written_long : (file : List ℕ) (x : ℕ) (b : List ℕ) → length file ≤ length (written file x b)
+written_long file x b = grind (arith, common_steps)
+
+cells_long : (cells : List Cell) (file : List ℕ) → length file ≤ length (write_cells file cells)
+cells_long [] file = omega arith
+cells_long (c ∷ cells) file = let a = written_long file c.0 c.1 in let b = cells_long cells (written file c.0 c.1) in omega arith
+
+longer_long : (file : List ℕ) (n : ℕ) → length file ≤ length (longer file n)
+longer_long file n = grind (arith, common_steps)
+
+after_long : (s : Setting) (puts : Puts) (pair : Option Pair) (file : List ℕ) → length file ≤ length (after_puts s puts pair file)
+after_long s puts (Some p) file = omega arith
+after_long s puts None file =
+    let whole = longer file (end_for s (needed_by s.header puts)) in
+    let a = longer_long file (end_for s (needed_by s.header puts)) in
+    let b = cells_long (cells_of_puts s.header puts) whole in
+    let e : length (fold (put_post s) whole puts) ≡ length (write_cells whole (cells_of_puts s.header puts)) = ap (λ (f : List ℕ). length f) (puts_are_cells s puts whole) in
+    omega arith
+
+raised_long : (s : Setting) (c : Counted) (n : ℕ) → length c.file ≤ length (raised s c n).file
+raised_long s c n = by (nat_lt c.records n)
+  where
+    by : (t : Bool) → length c.file ≤ length (cond t (record { file = with_records s.header.version c.file n; records = n }) c).file
+    by true = written_long c.file 4 (count s.header.version n)
+    by false = omega arith
+
+solo_long : (s : Setting) (r : ℕ) (c : Counted) (p : Going × Option Offer) → length c.file ≤ length (solo_of s r c p).0.file
+solo_long s r c (g, None) = omega arith
+solo_long s r c (g, Some o) = after_long s (puts_asked r (Some o)) (told s (puts_asked r (Some o))) c.file
+
+mark_long : (s : Setting) (state : Counted × List Going) (m : Mark) → length state.0.file ≤ length (after_mark s state m).0.file
+mark_long s (c, goings) (Meet k) =
+    let offers = offers_of (map (advance s.header) goings) in
+    let puts = puts_met offers in
+    let pair = told s puts in
+    let n = max (needs s puts pair) (greatest (map (λ o. known_by o.kind o.known) offers)) in
+    let a = after_long s puts pair c.file in
+    let b = raised_long s (record { file = after_puts s puts pair c.file; records = c.records }) n in
+    omega arith
+mark_long s (c, goings) (Solo r n) = by (slice_get goings r)
+  where
+    by : (m : Option Going)
+        → length c.file ≤ length (elim m as (λ w. Counted × List Going) [
+          | None ↦ (c, goings)
+          | Some g ↦ ((solo_of s r c (advance s.header g)).0, set goings r (solo_of s r c (advance s.header g)).1)
+        ]).0.file
+    by None = omega arith
+    by (Some g) = solo_long s r c (advance s.header g)
+
+state_long : (s : Setting) (state : Counted × List Going) (order : List Mark) → length state.0.file ≤ length (fold (after_mark s) state order).0.file
+state_long s state [] = omega arith
+state_long s state (m ∷ order) = let a = mark_long s state m in let b = state_long s (after_mark s state m) order in omega arith
+
+pub end_long : (script : Script) (header : Header) (file : List ℕ) (order : List Mark) → length file ≤ length (serial_from script header file order).bytes
+end_long script header file order =
+    let s = setting_of script header in
+    let state = first_state header file script.calls in
+    let last = fold (after_mark s) state order in
+    let a = state_long s state order in
+    let b = raised_long s last.0 (greatest (map (λ g. g.rank.known) (map (λ g. (advance s.header g).0) last.1))) in
+    omega arith

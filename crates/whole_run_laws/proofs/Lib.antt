@@ -1,0 +1,9 @@
+pub mod KeptLaws
+pub mod Hints
+pub mod OneOrder
+pub mod HullLengths
+pub mod Courses
+pub mod CountLaws
+pub mod ToldLaws
+pub mod FilledLaws
+pub mod FillCalls

@@ -1,0 +1,174 @@
+-- A script whose ranks have no steps of their own has one order: all its meetings in turn.
+use Rattle.std.proofs.Common.{◌≡◌, ℕ, zero, suc, ◌+◌, ◌<◌, refl, sym, ◌∙◌, ap, subst, List, [], ◌∷◌, length, map, Bool, true, false, cond, not, ◌&&◌, Option, Some, None, arith}
+use Rattle.std.proofs.Math.Bool.{and-false}
+use Rattle.std.proofs.lemmas.Bool.{or_from}
+use Rattle.std.specs.Prelude.{slice_get, filter, ◌==◌, is_some}
+use Rattle.std.specs.List.{list_all, list_any, range_with_len}
+use borrow.Author.Tests.{ltb-true}
+use Rattle.list_laws.proofs.Each.{fails_each, fails_at}
+use Rattle.list_laws.proofs.Places.{entry_below}
+use Rattle.list_laws.proofs.Truth.{and_first, equal_itself, no_false, or_first_false, or_second_false}
+use Rattle.overlay_laws.proofs.HullLaws.{in_range}
+use Rattle.overlay_laws.proofs.Members.{each_in}
+use Rattle.nc_base.specs.declared.header.Header.{Header}
+use Rattle.nc_base.specs.declared.request.Call.{Call}
+use Rattle.nc_base.specs.declared.request.Call.TheVariants as call
+use Rattle.nc_base.specs.declared.script.Script.{Script}
+use Rattle.nc_base.specs.declared.step.Mark.{Mark}
+use Rattle.nc_base.specs.declared.step.Mark.TheVariants.{Meet, Solo}
+use Rattle.nc_base.specs.declared.step.MeetKind.{MeetKind}
+use Rattle.serial_spec.specs.History.{concerns, is_collective, is_data, is_of_rank_below, IsLegal, kind_of_call, kinds, marks, marks_from, mode_after}
+use Rattle.serial_spec.specs.Lawful.{is_lawful}
+use Rattle.serial_spec.specs.SerialEnd.{serial_from}
+use Rattle.run_laws.specs.Ways.{is_meeting, kinds_of}
+use Rattle.run_laws.proofs.LawfulLaws.{own_lawful, ranks_lawful}
+use Rattle.run_laws.proofs.WayLaws.{kinds_skip, kinds_take, marks_alone, marks_meet, marks_solo}
+use Rattle.whole_run_laws.proofs.Hints.{some_rank}
+use Rattle.whole_run_laws.specs.Orders.{all_meetings, has_independent, has_solo, is_independent}
+
+abbrev is_solo : Mark → Bool
+is_solo m = not (is_meeting m)
+
+-- n meetings from the k-th on
+abbrev meets_from : ℕ → ℕ → List Mark
+meets_from k n = map (λ j. Meet j) (range_with_len k n)
+
+-- ---- the marks of one rank
+
+meets_more : (k n m : ℕ) → m ≡ suc n → Meet k ∷ meets_from (suc k) n ≡ meets_from k m
+meets_more k n m e =
+    let next : suc k ≡ k + 1 = omega arith in
+    ap (λ (j : ℕ). Meet k ∷ meets_from j n) next ∙ ap (λ (j : ℕ). meets_from k j) (sym e)
+
+collective_kind : (c : Call) → is_collective c ≡ is_some (kind_of_call c)
+collective_kind (call.Put true name given vs) = refl
+collective_kind (call.Put false name given vs) = refl
+collective_kind (call.Get true name given) = refl
+collective_kind (call.Get false name given) = refl
+collective_kind (call.Wait true ch) = refl
+collective_kind (call.Wait false ch) = refl
+collective_kind c = refl
+
+same_alone : (a b : List Mark) → a ≡ b → list_any is_solo a ≡ false → list_any is_solo b ≡ false
+same_alone a b e h = subst (λ (ms : List Mark). list_any is_solo ms ≡ false) e h
+
+marks_meet_all : (r c k : ℕ) (ind : Bool) (calls : List Call) → list_any is_solo (marks_from r c k ind calls) ≡ false
+    → marks_from r c k ind calls ≡ meets_from k (length (kinds calls))
+marks_meet_all r c k ind [] h = refl
+marks_meet_all r c k ind (x ∷ calls) h =
+    by_kind (kind_of_call x) refl (ind && is_data x) refl (λ j i g. marks_meet_all r (suc c) j i calls g)
+  where
+    long : (kind : MeetKind) → kind_of_call x ≡ Some kind → length (kinds (x ∷ calls)) ≡ suc (length (kinds calls))
+    long kind e = ap (λ (ks : List MeetKind). length ks) (kinds_take x calls kind e) ∙ (omega arith)
+
+    by_kind : (o : Option MeetKind) → kind_of_call x ≡ o → (t : Bool) → (ind && is_data x) ≡ t
+        → ((j : ℕ) (i : Bool) → list_any is_solo (marks_from r (suc c) j i calls) ≡ false → marks_from r (suc c) j i calls ≡ meets_from j (length (kinds calls)))
+        → marks_from r c k ind (x ∷ calls) ≡ meets_from k (length (kinds (x ∷ calls)))
+    by_kind (Some kind) e t f later =
+        let m = marks_meet r c k ind x calls (collective_kind x ∙ ap (λ (o : Option MeetKind). is_some o) e) in
+        let rest = later (suc k) (mode_after ind x) (same_alone _ _ m h) in
+        m ∙ ap (λ (ms : List Mark). Meet k ∷ ms) rest ∙ meets_more k (length (kinds calls)) (length (kinds (x ∷ calls))) (long kind e)
+    by_kind None e true f later =
+        let m = marks_solo r c k ind x calls (collective_kind x ∙ ap (λ (o : Option MeetKind). is_some o) e) f in
+        no_false (sym (same_alone _ _ m h))
+    by_kind None e false f later =
+        let m = marks_alone r c k ind x calls (collective_kind x ∙ ap (λ (o : Option MeetKind). is_some o) e) f in
+        m ∙ later k ind (same_alone _ _ m h) ∙ ap (λ (ks : List MeetKind). meets_from k (length ks)) (sym (kinds_skip x calls e))
+
+-- ---- no step of its own
+
+not_data : (c : Call) → is_collective c ≡ false → is_independent c ≡ false → is_data c ≡ false
+not_data c e h = by (is_data c) (is_collective c) e h
+  where
+    by : (d t : Bool) → t ≡ false → (d && not t) ≡ false → d ≡ false
+    by true true e h = cc
+    by true false e h = cc
+    by false t e h = refl
+
+none_alone : (r c k : ℕ) (ind : Bool) (calls : List Call) → list_any is_independent calls ≡ false → list_any is_solo (marks_from r c k ind calls) ≡ false
+none_alone r c k ind [] h = refl
+none_alone r c k ind (x ∷ calls) h =
+    by_kind (is_collective x) refl (λ j i. none_alone r (suc c) j i calls (or_second_false (is_independent x) _ h))
+  where
+    by_kind : (t : Bool) → is_collective x ≡ t → ((j : ℕ) (i : Bool) → list_any is_solo (marks_from r (suc c) j i calls) ≡ false)
+        → list_any is_solo (marks_from r c k ind (x ∷ calls)) ≡ false
+    by_kind true e later = same_alone _ _ (sym (marks_meet r c k ind x calls e)) (later (suc k) (mode_after ind x))
+    by_kind false e later =
+        let f : (ind && is_data x) ≡ false = ap (λ (b : Bool). ind && b) (not_data x e (or_first_false (is_independent x) _ h)) ∙ and-false ind in
+        same_alone _ _ (sym (marks_alone r c k ind x calls e f)) (later k ind)
+
+abbrev marks_of_own : ℕ → Option (List Call) → List Mark
+marks_of_own r m = elim m [ None ↦ [] | Some own ↦ marks_from r 0 0 false own ]
+
+rank_not_alone : (script : Script) (r : ℕ) → has_independent script ≡ false → list_any is_solo (marks script.calls r) ≡ false
+rank_not_alone script r h = by (slice_get script.calls r) refl
+  where
+    by : (m : Option (List Call)) → slice_get script.calls r ≡ m → list_any is_solo (marks_of_own r m) ≡ false
+    by None e = refl
+    by (Some own) e = none_alone r 0 0 false own (fails_at (λ (o : List Call). list_any is_independent o) script.calls r own h e)
+
+none_any : (p : ℕ → Bool) (xs : List ℕ) → ((x : ℕ) → p x ≡ false) → list_any p xs ≡ false
+none_any p [] f = refl
+none_any p (x ∷ xs) f = or_from (p x) (list_any p xs) (f x) (none_any p xs f)
+
+pub no_step_alone : (script : Script) → is_lawful script ≡ true → has_independent script ≡ false → has_solo script ≡ false
+no_step_alone script lawful h = none_any (λ r. list_any is_solo (marks script.calls r)) (range_with_len 0 script.ranks) (λ r. rank_not_alone script r h)
+
+-- ---- the marks of all ranks
+
+rank_meets : (script : Script) (r : ℕ) → has_solo script ≡ false → r < script.ranks → list_any is_solo (marks script.calls r) ≡ false
+rank_meets script r h l =
+    each_in (λ q. list_any is_solo (marks script.calls q) ≡ false) (range_with_len 0 script.ranks) r
+    (fails_each (λ q. list_any is_solo (marks script.calls q)) (range_with_len 0 script.ranks) h) (in_range 0 script.ranks r (omega arith) (omega arith))
+
+one_list_each : (script : Script) (r : ℕ) → is_lawful script ≡ true → r < script.ranks → (own : List Call) × (slice_get script.calls r ≡ Some own)
+one_list_each script r lawful l = let e = (ranks_lawful script lawful).one_each in entry_below script.calls r (omega arith)
+
+pub all_marks : (script : Script) (r : ℕ) → is_lawful script ≡ true → has_solo script ≡ false → r < script.ranks → marks script.calls r ≡ all_meetings script
+all_marks script r lawful h l =
+    let own = one_list_each script r lawful l in
+    let is : marks script.calls r ≡ marks_from r 0 0 false own.0 = ap (λ (m : Option (List Call)). marks_of_own r m) own.1 in
+    is ∙ marks_meet_all r 0 0 false own.0 (same_alone _ _ is (rank_meets script r h l))
+    ∙ ap (λ (ks : List MeetKind). meets_from 0 (length ks)) (own_lawful script r own.0 lawful own.1).agreed
+
+-- ---- the order
+
+meetings_concern : (r k n : ℕ) → filter (concerns r) (meets_from k n) ≡ meets_from k n
+meetings_concern r k zero = refl
+meetings_concern r k (suc n) = ap (λ (ms : List Mark). Meet k ∷ ms) (meetings_concern r (k + 1) n)
+
+meetings_known : (ranks k n : ℕ) → list_all (is_of_rank_below ranks) (meets_from k n) ≡ true
+meetings_known ranks k zero = refl
+meetings_known ranks k (suc n) = meetings_known ranks (k + 1) n
+
+pub meetings_legal : (script : Script) → is_lawful script ≡ true → has_solo script ≡ false → IsLegal script (all_meetings script)
+meetings_legal script lawful h = record {
+  known_ranks = meetings_known script.ranks 0 (length (kinds_of script));
+  each_rank = λ r l. meetings_concern r 0 (length (kinds_of script)) ∙ sym (all_marks script r lawful h l);
+}
+
+-- each mark of a legal order is a meeting, so each concerns the first rank
+all_concern : (ranks : ℕ) (order : List Mark) → list_all (is_of_rank_below ranks) order ≡ true
+    → ((r : ℕ) → r < ranks → list_any is_solo (filter (concerns r) order) ≡ false) → filter (concerns 0) order ≡ order
+all_concern ranks [] known f = refl
+all_concern ranks (Meet k ∷ order) known f =
+    ap (λ (ms : List Mark). Meet k ∷ ms) (all_concern ranks order known (λ r l. f r l))
+all_concern ranks (Solo q n ∷ order) known f =
+    let own = f q (ltb-true q ranks (and_first _ _ known)) in
+    let alone : list_any is_solo (cond (q == q) (Solo q n ∷ filter (concerns q) order) (filter (concerns q) order)) ≡ false = own in
+    no_false (sym (subst (λ (b : Bool). list_any is_solo (cond b (Solo q n ∷ filter (concerns q) order) (filter (concerns q) order)) ≡ false) (equal_itself q) alone))
+
+meetings_not_alone : (k n : ℕ) → list_any is_solo (meets_from k n) ≡ false
+meetings_not_alone k zero = refl
+meetings_not_alone k (suc n) = meetings_not_alone (k + 1) n
+
+pub no_other : (script : Script) (order : List Mark) → is_lawful script ≡ true → has_solo script ≡ false → IsLegal script order → order ≡ all_meetings script
+no_other script order lawful h legal =
+    sym (all_concern script.ranks order legal.known_ranks (λ r l. same_alone _ _ (sym (legal.each_rank r l ∙ all_marks script r lawful h l))
+    (meetings_not_alone 0 (length (kinds_of script)))))
+    ∙ legal.each_rank 0 (some_rank script lawful) ∙ all_marks script 0 lawful h (some_rank script lawful)
+
+pub one_end : (script : Script) (header : Header) (file : List ℕ) (a b : List Mark) → is_lawful script ≡ true → has_solo script ≡ false
+    → IsLegal script a → IsLegal script b → serial_from script header file a ≡ serial_from script header file b
+one_end script header file a b lawful h k l =
+    ap (λ (order : List Mark). serial_from script header file order) (no_other script a lawful h k ∙ sym (no_other script b lawful h l))

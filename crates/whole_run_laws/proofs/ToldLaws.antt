@@ -1,0 +1,426 @@
+-- What a step tells its ranks, and that a step with a pair changes nothing.
+use Rattle.std.proofs.Common.{◌≡◌, ℕ, suc, ◌+◌, ◌<◌, refl, sym, ◌∙◌, ap, subst, inl, inr, ◌⊎◌, List, [], ◌∷◌, ◌++◌, length, map, set, max, Bool, true, false, cond, Option, Some, None, arith, append_assoc}
+use Rattle.std.proofs.lemmas.List.{append-nil, length-map}
+use Rattle.std.proofs.lemmas.Option.{slice_get_within, same_Some}
+use Rattle.std.proofs.lemmas.Bool.Decides.{eqb_tells, nat_tests}
+use Rattle.std.specs.Prelude.{fold, flat_map, slice_get, nat_lt, ◌==◌}
+use Rattle.std.specs.List.{enumerate_from, list_all}
+use borrow.Author.Tests.{ltb-true}
+use Rattle.list_laws.proofs.Places.{entry_below, entry_set, entry_set_other}
+use Rattle.list_laws.proofs.Truth.{and_first, and_second}
+use Rattle.overlay_laws.proofs.Members.{in_at}
+use Rattle.nc_base.specs.declared.answer.Answer.{Answer}
+use Rattle.nc_base.specs.declared.answer.Code.{Code}
+use Rattle.nc_base.specs.declared.answer.Code.TheVariants as code
+use Rattle.nc_base.specs.declared.answer.Pair.{Pair}
+use Rattle.nc_base.specs.declared.header.Header.{Header}
+use Rattle.nc_base.specs.declared.plan.Post.{Post}
+use Rattle.nc_base.specs.declared.request.Call.{Call}
+use Rattle.nc_base.specs.declared.request.Call.TheVariants as call
+use Rattle.nc_base.specs.declared.request.PostKind.{PostKind}
+use Rattle.nc_base.specs.declared.script.OverlapRule.{OverlapRule}
+use Rattle.nc_base.specs.declared.script.OverlapRule.TheVariants.{Refuse, Serial}
+use Rattle.nc_base.specs.declared.script.Script.{Script}
+use Rattle.nc_base.specs.declared.step.Mark.{Mark}
+use Rattle.nc_base.specs.declared.step.Mark.TheVariants.{Meet, Solo}
+use Rattle.nc_base.specs.declared.step.MeetKind.{MeetKind}
+use Rattle.nc_base.specs.declared.step.MeetKind.TheVariants as meets_as
+use Rattle.nc_base.specs.declared.step.Offer.{Offer}
+use Rattle.nc_base.specs.declared.step.OfferKind.{OfferKind}
+use Rattle.nc_base.specs.declared.step.OfferKind.TheVariants as offer
+use Rattle.nc_base.specs.declared.step.Reply.{Reply}
+use Rattle.nc_base.specs.declared.step.Want.{Want}
+use Rattle.nc_base.specs.declared.step.Want.TheVariants as want
+use Rattle.serial_spec.specs.FileStep.{after_puts, Counted, get_post, known_by, meeting, needs, puts_of, raised, raises, Setting, solo, told, told_under}
+use Rattle.serial_spec.specs.History.{is_of_rank_below, IsLegal}
+use Rattle.serial_spec.specs.Lawful.{is_lawful}
+use Rattle.serial_spec.specs.Layout.{greatest}
+use Rattle.serial_spec.specs.Lists.{In}
+use Rattle.serial_spec.specs.RankMachine.{Asks, Empty, hear_open, Look, look, Open, post_after, posts, Rank, Refused, step, values_of_post}
+use Rattle.serial_spec.specs.Records.{with_records}
+use Rattle.serial_spec.specs.SerialEnd.{advance, after_mark, after_meeting, after_solo, first_state, go, Going, hears, offers_of, rank_offer, serial_from, setting_of, state_after}
+use Rattle.serial_spec.specs.SharedByte.{holdings, IsSharedPair, Puts, shared_pair}
+use Rattle.serial_spec.proofs.PairLaws.{pair_found}
+use Rattle.run_laws.proofs.OrderLaws.{state_more, states_more}
+use Rattle.whole_run_laws.specs.Completed.{puts_asked, puts_at, puts_met}
+use Rattle.whole_run_laws.specs.Told.{answers_after, answers_of, IsLastTold}
+use Rattle.whole_run_laws.proofs.Courses.{AreAlong, AreOn, first_along, hears_then, mapped_from, mark_along, marks_along, meets, offer_met, offers_met_long, Stepped, steps}
+
+-- ---- one step
+
+pub replies_each : (s : Setting) (offers : List Offer) (c : Counted) → length (meeting s offers c).1 ≡ length offers
+replies_each s offers c = length-map offers _
+
+reply_told : (s : Setting) (offers : List Offer) (c : Counted) (q : ℕ) (y : Reply) → slice_get (meeting s offers c).1 q ≡ Some y → y.pair ≡ told s (puts_met offers)
+reply_told s offers c q y e =
+    let next = (meeting s offers c).0 in
+    let o = mapped_from (λ (o : Offer). let z : Reply = record { pair = told s (puts_met offers); records = next.records; got = map (get_post s next.file) o.batch.gets } in z) offers q y e in
+    ap (λ (z : Reply). z.pair) o.1.1
+
+pub replies_told : (s : Setting) (offers : List Offer) (c : Counted) (y : Reply) → In (meeting s offers c).1 y → y.pair ≡ told s (puts_met offers)
+replies_told s offers c y h = let at = in_at (meeting s offers c).1 y h in reply_told s offers c at.0 y at.1
+
+told_shared : (rule : OverlapRule) (pair : Option Pair) (p : Pair) → told_under rule pair ≡ Some p → (pair ≡ Some p) × (rule ≡ Refuse)
+told_shared Refuse pair p e = (e, refl)
+told_shared Serial pair p e = cc
+
+pub pair_is_least : (s : Setting) (puts : Puts) (p : Pair) → told s puts ≡ Some p → IsSharedPair (holdings s.header puts) p
+pair_is_least s puts p e = pair_found (holdings s.header puts) p (told_shared s.overlap (shared_pair s.header puts) p e).0
+
+pub only_refused : (s : Setting) (puts : Puts) (p : Pair) → told s puts ≡ Some p → s.overlap ≡ Refuse
+only_refused s puts p e = (told_shared s.overlap (shared_pair s.header puts) p e).1
+
+-- ---- an offer that raises the count by its kind brings no put
+
+abbrev IsQuiet : Rank × Want → Type 0
+IsQuiet (r, want.Answered a) = Unit {0}
+IsQuiet (r, want.Solo o) = raises o.kind ≡ true → o.batch.puts ≡ []
+IsQuiet (r, want.Meet o) = raises o.kind ≡ true → o.batch.puts ≡ []
+
+quiet_if : (t : Bool) (p q : Rank × Want) → IsQuiet p → IsQuiet q → IsQuiet (cond t p q)
+quiet_if true p q a b = a
+quiet_if false p q a b = b
+
+quiet_after : (r : Rank) (id : ℕ) (kind : PostKind) (asked : List Post) (c : Code) → IsQuiet (post_after r id kind asked c)
+quiet_after r id kind asked code.Ok = tt
+quiet_after r id kind asked _ = tt
+
+quiet_posts : (r : Rank) (id : ℕ) (kind : PostKind) (l : Look) → IsQuiet (posts r id kind l)
+quiet_posts r id kind (Refused c) = tt
+quiet_posts r id kind Empty = tt
+quiet_posts r id kind (Asks asked) = quiet_after r id kind asked _
+
+quiet_step : (header : Header) (r : Rank) (c : Call) → IsQuiet (step header r c)
+quiet_step header r (call.Put all name given values) =
+    quiet_if all _ _ (quiet_if r.independent _ _ (λ e. absurd cc) (λ e. absurd cc)) (quiet_if r.independent _ _ (λ e. absurd cc) tt)
+quiet_step header r (call.Get all name given) =
+    quiet_if all _ _ (quiet_if r.independent _ _ (λ e. absurd cc) (λ e. absurd cc)) (quiet_if r.independent _ _ (λ e. absurd cc) tt)
+quiet_step header r (call.Post id kind name given values) = quiet_posts r id kind (look header r.known id name given (values_of_post kind values))
+quiet_step header r (call.Wait true choice) = quiet_if r.independent _ _ (λ e. absurd cc) (λ e. absurd cc)
+quiet_step header r (call.Wait false choice) = quiet_if r.independent _ _ (λ e. absurd cc) tt
+quiet_step header r (call.Cancel choice) = tt
+quiet_step header r (call.Attach size) = tt
+quiet_step header r call.Detach = tt
+quiet_step header r call.BeginIndep = λ e. absurd cc
+quiet_step header r call.EndIndep = λ e. refl
+quiet_step header r call.SyncRecords = λ e. refl
+quiet_step header r (call.InqDim name) = tt
+quiet_step header r (call.FillRec name number share ranks) = quiet_if r.independent _ _ (λ e. absurd cc) (λ e. absurd cc)
+
+quiet_go : (header : Header) (o : Offer) (calls : List Call) (r : Rank) (answers : List Answer) → (go header r answers calls).1 ≡ Some o → raises o.kind ≡ true → o.batch.puts ≡ []
+quiet_go header o [] r answers e = absurd (never e)
+  where
+    never : None ≡ Some o → ⊥
+    never z = cc
+quiet_go header o (c ∷ calls) r answers e = by (step header r c) (quiet_step header r c) (λ r' answers' f. quiet_go header o calls r' answers' f) e
+  where
+    by : (next : Rank × Want) → IsQuiet next → ((r' : Rank) (answers' : List Answer) → (go header r' answers' calls).1 ≡ Some o → raises o.kind ≡ true → o.batch.puts ≡ [])
+        → (elim next.1 as (λ (x : Want). Going × Option Offer) [
+          | want.Answered a ↦ go header next.0 (answers ++ a ∷ []) calls
+          | want.Meet p ↦ (record { rank = next.0; answers = answers; calls = calls }, Some p)
+          | want.Solo p ↦ (record { rank = next.0; answers = answers; calls = calls }, Some p)
+        ]).1 ≡ Some o → raises o.kind ≡ true → o.batch.puts ≡ []
+    by (r', want.Answered a) q again f = again r' (answers ++ a ∷ []) f
+    by (r', want.Meet p) q again f = subst (λ (z : Offer). raises z.kind ≡ true → z.batch.puts ≡ []) (same_Some p o f) q
+    by (r', want.Solo p) q again f = subst (λ (z : Offer). raises z.kind ≡ true → z.batch.puts ≡ []) (same_Some p o f) q
+
+-- ---- nothing is done
+
+no_pair : {A : Type 0} (s : Setting) (p : Pair) → told s [] ≡ Some p → A
+no_pair s p e = by s.overlap e
+  where
+    by : {A : Type 0} (rule : OverlapRule) → told_under rule (shared_pair s.header []) ≡ Some p → A
+    by Refuse f = absurd cc
+    by Serial f = absurd cc
+
+none_asked : (offers : List Offer) (a : ℕ) → ((q : ℕ) (o : Offer) → slice_get offers q ≡ Some o → o.batch.puts ≡ []) → flat_map puts_of (enumerate_from a offers) ≡ []
+none_asked [] a f = refl
+none_asked (o ∷ offers) a f =
+    let own : puts_of (a, o) ≡ [] = ap (λ (ps : List Post). map (λ (p : Post). (a, p)) ps) (f 0 o refl) in
+    let others = none_asked offers (a + 1) (λ q p e. f (suc q) p e) in
+    λ i. own i ++ others i
+
+none_known : (offers : List Offer) → ((q : ℕ) (o : Offer) → slice_get offers q ≡ Some o → raises o.kind ≡ false) → greatest (map (λ o. known_by o.kind o.known) offers) ≡ 0
+none_known [] f = refl
+none_known (o ∷ offers) f =
+    let own : known_by o.kind o.known ≡ 0 = by o.kind (f 0 o refl) in
+    let others = none_known offers (λ q p e. f (suc q) p e) in
+    omega arith
+  where
+    by : (k : OfferKind) → raises k ≡ false → known_by k o.known ≡ 0
+    by (offer.Meet meets_as.End) e = cc
+    by (offer.Meet meets_as.Sync) e = cc
+    by k e = refl
+
+not_raised : (s : Setting) (c : Counted) → raised s c 0 ≡ c
+not_raised s c = by (nat_lt c.records 0) (below c.records)
+  where
+    below : (n : ℕ) → nat_lt n 0 ≡ false
+    below n = grind (arith, nat_tests)
+
+    by : (t : Bool) → t ≡ false → cond t (record { file = with_records s.header.version c.file 0; records = 0 }) c ≡ c
+    by true e = cc
+    by false e = refl
+
+meeting_nothing : (s : Setting) (offers : List Offer) (c : Counted) (p : Pair) → told s (puts_met offers) ≡ Some p
+    → greatest (map (λ o. known_by o.kind o.known) offers) ≡ 0 → (meeting s offers c).0 ≡ c
+meeting_nothing s offers c p e f =
+    let puts = puts_met offers in
+    let known = greatest (map (λ o. known_by o.kind o.known) offers) in
+    ap (λ (pair : Option Pair). raised s (record { file = after_puts s puts pair c.file; records = c.records }) (max (needs s puts pair) known)) e
+    ∙ ap (λ (n : ℕ). raised s c (max 0 n)) f ∙ not_raised s c
+
+solo_nothing : (s : Setting) (r : ℕ) (o : Offer) (c : Counted) (p : Pair) → told s (puts_of (r, o)) ≡ Some p → (solo s r o c).0 ≡ c
+solo_nothing s r o c p e = ap (λ (pair : Option Pair). let d : Counted = record { file = after_puts s (puts_of (r, o)) pair c.file; records = c.records } in d) e
+
+-- the kind of a meeting is the first of the kinds that are left
+kind_left : (k : MeetKind) (ks xs : List MeetKind) (j : MeetKind) (ys : List MeetKind) → ks ≡ k ∷ xs → ks ≡ j ∷ ys → k ≡ j
+kind_left k ks xs j ys e f = first (sym e ∙ f)
+  where
+    first : k ∷ xs ≡ j ∷ ys → k ≡ j
+    first g = cc
+
+-- ---- in a run
+
+module _ (s : Setting) (ranks k j : ℕ) (ks : List MeetKind) (rest : List Mark) (c : Counted) (goings : List Going) (on : AreOn ranks k ks (Meet j ∷ rest) goings) where
+  abbrev offers : List Offer
+  offers = offers_of (map (advance s.header) goings)
+
+  -- an offer is one of a rank
+  pub record IsOffered (q : ℕ) (o : Offer) : Type 0 where
+    pub going : Going
+    pub was : slice_get goings q ≡ Some going
+    pub is : (advance s.header going).1 ≡ Some o
+    pub kind : MeetKind
+    pub others : List MeetKind
+    pub of_kind : o.kind ≡ offer.Meet kind
+    pub kinds : ks ≡ kind ∷ others
+
+  offered : (q : ℕ) (o : Offer) → slice_get offers q ≡ Some o → IsOffered q o
+  offered q o e =
+      let long = offers_met_long s.header ranks k j ks rest goings on in
+      let below = slice_get_within offers q o e in
+      let g = entry_below goings q (omega arith) in
+      let at = meets s.header ranks k j q ks rest goings g.0 on g.1 in
+      let same : at.asks.offer ≡ o = same_Some at.asks.offer o (sym (offer_met s.header ranks k j q ks rest goings g.0 on g.1) ∙ e) in
+      record {
+        going = g.0;
+        was = g.1;
+        is = at.asks.is_offer ∙ ap (λ (z : Offer). Some z) same;
+        kind = at.kind;
+        others = _;
+        of_kind = sym (ap (λ (z : Offer). z.kind) same) ∙ at.of_kind;
+        kinds = at.kinds;
+      }
+
+  meeting_alike : (p : Pair) → told s (puts_met offers) ≡ Some p → (meeting s offers c).0 ≡ c
+  meeting_alike p e = by_first ks refl
+    where
+      same_raises : (kind : MeetKind) (others : List MeetKind) → ks ≡ kind ∷ others → (q : ℕ) (o : Offer) → slice_get offers q ≡ Some o → raises o.kind ≡ raises (offer.Meet kind)
+      same_raises kind others f q o h =
+          let w = offered q o h in
+          ap (λ (z : OfferKind). raises z) w.of_kind ∙ ap (λ (z : MeetKind). raises (offer.Meet z)) (kind_left w.kind ks w.others kind others w.kinds f)
+
+      by_kind : (kind : MeetKind) (others : List MeetKind) → ks ≡ kind ∷ others → (t : Bool) → raises (offer.Meet kind) ≡ t → (meeting s offers c).0 ≡ c
+      by_kind kind others f true g =
+          no_pair s p (sym (ap (λ (ps : Puts). told s ps) (none_asked offers 0 (λ q o h.
+          let w = offered q o h in
+          quiet_go s.header o w.going.calls w.going.rank w.going.answers w.is (same_raises kind others f q o h ∙ g)))) ∙ e)
+      by_kind kind others f false g = meeting_nothing s offers c p e (none_known offers (λ q o h. same_raises kind others f q o h ∙ g))
+
+      -- where no kind is left there is no rank, and no put
+      by_first : (xs : List MeetKind) → ks ≡ xs → (meeting s offers c).0 ≡ c
+      by_first [] f = meeting_nothing s offers c p e (none_known offers (λ q o h. no_kind (offered q o h).kind _ (sym f ∙ (offered q o h).kinds)))
+        where
+          no_kind : {A : Type 0} (kind : MeetKind) (others : List MeetKind) → [] ≡ kind ∷ others → A
+          no_kind kind others g = absurd cc
+      by_first (kind ∷ others) f = by_kind kind others f (raises (offer.Meet kind)) refl
+
+-- the pair of the answer to a reply
+heard_pair : (header : Header) (g : Going) (y : Reply) (o : Open) → g.rank.«open» ≡ Some o → IsLastTold (hears header g y).answers y.pair
+heard_pair header g y o e =
+    (g.answers, (hear_open header g.rank y g.rank.«open»).1, refl, ap (λ (m : Option Open). (hear_open header g.rank y m).1.pair) e)
+
+pub along_at : (script : Script) (header : Header) (file : List ℕ) (before later : List Mark) → is_lawful script ≡ true → IsLegal script (before ++ later)
+    → AreAlong script.ranks later (state_after script header file before).1
+along_at script header file before later lawful legal =
+    marks_along (setting_of script header) script.ranks before later (first_state header file script.calls) legal.known_ranks (first_along script header (before ++ later) lawful legal)
+
+known_mark : (ranks : ℕ) (before later : List Mark) (m : Mark) → list_all (is_of_rank_below ranks) (before ++ m ∷ later) ≡ true → is_of_rank_below ranks m ≡ true
+known_mark ranks [] later m h = and_first (is_of_rank_below ranks m) _ h
+known_mark ranks (x ∷ before) later m h = known_mark ranks before later m (and_second (is_of_rank_below ranks x) _ h)
+
+offered_alone : (s : Setting) (r : ℕ) (c : Counted) (goings : List Going) (k : ℕ) (ks : List MeetKind) (rest : List Mark) (st : Stepped s r c goings k ks rest)
+    → puts_asked r (rank_offer s goings r) ≡ puts_of (r, st.at.asks.offer)
+offered_alone s r c goings k ks rest st = ap (λ (m : Option Offer). puts_asked r m)
+    (ap (λ (m : Option Going). elim m as (λ z. Option Offer) [ None ↦ None | Some g ↦ (advance s.header g).1 ]) st.was ∙ st.at.asks.is_offer)
+
+step_nothing : (s : Setting) (ranks : ℕ) (m : Mark) (rest : List Mark) (c : Counted) (goings : List Going) (p : Pair) → is_of_rank_below ranks m ≡ true
+    → AreAlong ranks (m ∷ rest) goings → told s (puts_at s (c, goings) m) ≡ Some p → (after_mark s (c, goings) m).0 ≡ c
+step_nothing s ranks (Meet j) rest c goings p known a e = meeting_alike s ranks a.met j a.kinds_left rest c goings a.on p e
+step_nothing s ranks (Solo r n) rest c goings p known a e =
+    let st = steps s c ranks a.met r n a.kinds_left rest goings (ltb-true r ranks known) a.on in
+    ap (λ (z : Counted × List Going). z.0) st.state
+    ∙ solo_nothing s r st.at.asks.offer c p (sym (ap (λ (ps : Puts). told s ps) (offered_alone s r c goings a.met a.kinds_left rest st)) ∙ e)
+
+pub mark_nothing : (script : Script) (header : Header) (file : List ℕ) (before later : List Mark) (m : Mark) (p : Pair)
+    → is_lawful script ≡ true → IsLegal script (before ++ m ∷ later)
+    → told (setting_of script header) (puts_at (setting_of script header) (state_after script header file before) m) ≡ Some p
+    → (state_after script header file (before ++ m ∷ [])).0 ≡ (state_after script header file before).0
+mark_nothing script header file before later m p lawful legal e =
+    let state = state_after script header file before in
+    ap (λ (z : Counted × List Going). z.0) (state_more script header file before m)
+    ∙ step_nothing (setting_of script header) script.ranks m later state.0 state.1 p (known_mark script.ranks before later m legal.known_ranks)
+    (along_at script header file before (m ∷ later) lawful legal) e
+
+last_at : (goings : List Going) (q : ℕ) (g : Going) (pair : Option Pair) → slice_get goings q ≡ Some g → IsLastTold g.answers pair
+    → IsLastTold (answers_of (slice_get goings q)) pair
+last_at goings q g pair e w = subst (λ (m : Option Going). IsLastTold (answers_of m) pair) (sym e) w
+
+met_told : (s : Setting) (ranks j r : ℕ) (rest : List Mark) (c : Counted) (goings : List Going) → AreAlong ranks (Meet j ∷ rest) goings → r < ranks
+    → IsLastTold (answers_of (slice_get (after_meeting s (c, goings)).1 r)) (told s (puts_met (offers_of (map (advance s.header) goings))))
+met_told s ranks j r rest c goings a l =
+    let offers = offers_of (map (advance s.header) goings) in
+    let long = a.on.long in
+    let b = entry_below goings r (omega arith) in
+    let g = hears_then s c ranks a.met j r a.kinds_left rest goings b.0 a.on b.1 in
+    let h = g.1.1 in
+    let at = meets s.header ranks a.met j r a.kinds_left rest goings h.before a.on h.was in
+    let last : IsLastTold g.0.answers h.reply.pair =
+    subst (λ (z : Going). IsLastTold z.answers h.reply.pair) (sym h.is) (heard_pair s.header (advance s.header h.before).0 h.reply at.asks.open_with at.asks.is_open) in
+    last_at (after_meeting s (c, goings)).1 r g.0 (told s (puts_met offers)) g.1.0
+    (subst (λ (pair : Option Pair). IsLastTold g.0.answers pair) (reply_told s offers c r h.reply h.is_reply) last)
+
+pub meeting_told : (script : Script) (header : Header) (file : List ℕ) (before later : List Mark) (k r : ℕ)
+    → is_lawful script ≡ true → IsLegal script (before ++ Meet k ∷ later) → r < script.ranks
+    → IsLastTold (answers_after script header file (before ++ Meet k ∷ []) r)
+    (told (setting_of script header) (puts_at (setting_of script header) (state_after script header file before) (Meet k)))
+meeting_told script header file before later k r lawful legal l =
+    let s = setting_of script header in
+    let state = state_after script header file before in
+    subst (λ (z : Counted × List Going). IsLastTold (answers_of (slice_get z.1 r)) (told s (puts_at s state (Meet k)))) (sym (state_more script header file before (Meet k)))
+    (met_told s script.ranks k r later state.0 state.1 (along_at script header file before (Meet k ∷ later) lawful legal) l)
+
+alone_told : (s : Setting) (ranks r n : ℕ) (rest : List Mark) (c : Counted) (goings : List Going) → AreAlong ranks (Solo r n ∷ rest) goings → r < ranks
+    → IsLastTold (answers_of (slice_get (after_solo s r c goings).1 r)) (told s (puts_asked r (rank_offer s goings r)))
+alone_told s ranks r n rest c goings a l =
+    let st = steps s c ranks a.met r n a.kinds_left rest goings l a.on in
+    let o = st.at.asks.offer in
+    let y = (solo s r o c).1 in
+    let next = hears s.header (advance s.header st.before).0 y in
+    subst (λ (ps : Puts). IsLastTold (answers_of (slice_get (after_solo s r c goings).1 r)) (told s ps)) (sym (offered_alone s r c goings a.met a.kinds_left rest st))
+    (subst (λ (z : Counted × List Going). IsLastTold (answers_of (slice_get z.1 r)) (told s (puts_of (r, o)))) (sym st.state)
+    (last_at (set goings r next) r next (told s (puts_of (r, o))) (entry_set goings r st.before next st.was)
+    (heard_pair s.header (advance s.header st.before).0 y st.at.asks.open_with st.at.asks.is_open)))
+
+pub solo_told : (script : Script) (header : Header) (file : List ℕ) (before later : List Mark) (r c : ℕ)
+    → is_lawful script ≡ true → IsLegal script (before ++ Solo r c ∷ later)
+    → IsLastTold (answers_after script header file (before ++ Solo r c ∷ []) r)
+    (told (setting_of script header) (puts_at (setting_of script header) (state_after script header file before) (Solo r c)))
+solo_told script header file before later r c lawful legal =
+    let s = setting_of script header in
+    let state = state_after script header file before in
+    subst (λ (z : Counted × List Going). IsLastTold (answers_of (slice_get z.1 r)) (told s (puts_at s state (Solo r c)))) (sym (state_more script header file before (Solo r c)))
+    (alone_told s script.ranks r c later state.0 state.1 (along_at script header file before (Solo r c ∷ later) lawful legal)
+    (ltb-true r script.ranks (known_mark script.ranks before later (Solo r c) legal.known_ranks)))
+
+-- ---- answers stay
+
+abbrev BeginsWith : List Answer → List Answer → Type 0
+BeginsWith front whole = (rest : List Answer) × (front ++ rest ≡ whole)
+
+begins_same : (a : List Answer) → BeginsWith a a
+begins_same a = ([], append-nil a)
+
+begins_then : (a b d : List Answer) → BeginsWith a b → BeginsWith b d → BeginsWith a d
+begins_then a b d (x, e) (y, f) = (x ++ y, sym (append_assoc a x y) ∙ ap (λ (z : List Answer). z ++ y) e ∙ f)
+
+go_begins : (header : Header) (calls : List Call) (r : Rank) (answers : List Answer) → BeginsWith answers (go header r answers calls).0.answers
+go_begins header [] r answers = begins_same answers
+go_begins header (c ∷ calls) r answers = by (step header r c) (λ r' answers'. go_begins header calls r' answers')
+  where
+    by : (next : Rank × Want) → ((r' : Rank) (answers' : List Answer) → BeginsWith answers' (go header r' answers' calls).0.answers)
+        → BeginsWith answers (elim next.1 as (λ (x : Want). Going × Option Offer) [
+          | want.Answered a ↦ go header next.0 (answers ++ a ∷ []) calls
+          | want.Meet p ↦ (record { rank = next.0; answers = answers; calls = calls }, Some p)
+          | want.Solo p ↦ (record { rank = next.0; answers = answers; calls = calls }, Some p)
+        ]).0.answers
+    by (r', want.Answered a) again = begins_then answers (answers ++ a ∷ []) _ (a ∷ [], refl) (again r' (answers ++ a ∷ []))
+    by (r', want.Meet p) again = begins_same answers
+    by (r', want.Solo p) again = begins_same answers
+
+heard_begins : (header : Header) (g : Going) (y : Reply) → BeginsWith g.answers (hears header (advance header g).0 y).answers
+heard_begins header g y =
+    begins_then g.answers (advance header g).0.answers _ (go_begins header g.calls g.rank g.answers) ((hear_open header (advance header g).0.rank y (advance header g).0.rank.«open»).1 ∷ [], refl)
+
+answers_from : (goings : List Going) (q : ℕ) (g : Going) → slice_get goings q ≡ Some g → answers_of (slice_get goings q) ≡ g.answers
+answers_from goings q g e = ap answers_of e
+
+mark_begins : (s : Setting) (ranks r : ℕ) (m : Mark) (rest : List Mark) (c : Counted) (goings : List Going) → is_of_rank_below ranks m ≡ true
+    → AreAlong ranks (m ∷ rest) goings → (b : Going) → slice_get goings r ≡ Some b → (g : Going) × ((slice_get (after_mark s (c, goings) m).1 r ≡ Some g) × BeginsWith b.answers g.answers)
+mark_begins s ranks r (Meet j) rest c goings known a b e =
+    let g = hears_then s c ranks a.met j r a.kinds_left rest goings b a.on e in
+    let h = g.1.1 in
+    let same : h.before ≡ b = same_Some h.before b (sym h.was ∙ e) in (
+      g.0,
+      (
+        g.1.0,
+        subst (λ (z : Going). BeginsWith b.answers z.answers) (sym h.is)
+            (subst (λ (z : Going). BeginsWith z.answers (hears s.header (advance s.header h.before).0 h.reply).answers) same (heard_begins s.header h.before h.reply)),
+      ),
+    )
+mark_begins s ranks r (Solo q n) rest c goings known a b e =
+    let st = steps s c ranks a.met q n a.kinds_left rest goings (ltb-true q ranks known) a.on in
+    let next = hears s.header (advance s.header st.before).0 (solo s q st.at.asks.offer c).1 in
+    subst (λ (z : Counted × List Going). (g : Going) × ((slice_get z.1 r ≡ Some g) × BeginsWith b.answers g.answers)) (sym st.state)
+    (by next st.before (heard_begins s.header st.before (solo s q st.at.asks.offer c).1) st.was (eqb_tells q r))
+  where
+    by : (next : Going) (before : Going) → BeginsWith before.answers next.answers → slice_get goings q ≡ Some before
+        → (((q == r) ≡ true) × (q ≡ r)) ⊎ (((q == r) ≡ false) × (q ≡ r → ⊥)) → (g : Going) × ((slice_get (set goings q next) r ≡ Some g) × BeginsWith b.answers g.answers)
+    by next before w was (inl (f, h)) =
+        let same : before ≡ b = same_Some before b (sym was ∙ ap (λ (z : ℕ). slice_get goings z) h ∙ e) in
+        (next, (ap (λ (z : ℕ). slice_get (set goings q next) z) (sym h) ∙ entry_set goings q before next was, subst (λ (z : Going). BeginsWith z.answers next.answers) same w))
+    by next before w was (inr (f, n)) = (b, (entry_set_other goings q r next (λ h. n (sym h)) ∙ e, begins_same b.answers))
+
+order_begins : (s : Setting) (ranks r : ℕ) (order : List Mark) (state : Counted × List Going) → list_all (is_of_rank_below ranks) order ≡ true
+    → AreAlong ranks order state.1 → (b : Going) → slice_get state.1 r ≡ Some b
+    → (g : Going) × ((slice_get (fold (after_mark s) state order).1 r ≡ Some g) × BeginsWith b.answers g.answers)
+order_begins s ranks r [] state known a b e = (b, (e, begins_same b.answers))
+order_begins s ranks r (m ∷ order) state known a b e =
+    let here = and_first (is_of_rank_below ranks m) _ known in
+    let g = mark_begins s ranks r m order state.0 state.1 here a b e in
+    let later = order_begins s ranks r order (after_mark s state m) (and_second (is_of_rank_below ranks m) _ known) (mark_along s ranks m order state here a) g.0 g.1.0 in
+    (later.0, (later.1.0, begins_then b.answers g.0.answers later.0.answers g.1.1 later.1.1))
+
+known_later : (ranks : ℕ) (before later : List Mark) → list_all (is_of_rank_below ranks) (before ++ later) ≡ true → list_all (is_of_rank_below ranks) later ≡ true
+known_later ranks [] later h = h
+known_later ranks (m ∷ before) later h = known_later ranks before later (and_second (is_of_rank_below ranks m) _ h)
+
+-- the answers of a rank that went on from b are those of the end
+ends_begin : (header : Header) (b g last end : Going) (answers : List Answer) → BeginsWith b.answers g.answers → g ≡ last → end ≡ (advance header last).0 → answers ≡ end.answers
+    → BeginsWith b.answers answers
+ends_begin header b g last end answers w same e f =
+    subst (λ (z : List Answer). BeginsWith b.answers z) (sym (f ∙ ap (λ (z : Going). z.answers) e))
+    (begins_then b.answers last.answers (advance header last).0.answers (subst (λ (z : Going). BeginsWith b.answers z.answers) same w)
+    (go_begins header last.calls last.rank last.answers))
+
+pub answers_stay : (script : Script) (header : Header) (file : List ℕ) (before later : List Mark) (r : ℕ) (answers : List Answer)
+    → is_lawful script ≡ true → IsLegal script (before ++ later) → slice_get (serial_from script header file (before ++ later)).answers r ≡ Some answers
+    → (rest : List Answer) × (answers_after script header file before r ++ rest ≡ answers)
+answers_stay script header file before later r answers lawful legal e =
+    let s = setting_of script header in
+    let state = state_after script header file before in
+    let whole = state_after script header file (before ++ later) in
+    let end = mapped_from (λ (g : Going). g.answers) (map (λ g. (advance header g).0) whole.1) r answers e in
+    let last = mapped_from (λ (g : Going). (advance header g).0) whole.1 r end.0 end.1.0 in
+    by end.0 last.0 end.1.1 last.1.1 last.1.0 (slice_get state.1 r) refl
+  where
+    by : (end last : Going) → answers ≡ end.answers → end ≡ (advance header last).0 → slice_get (state_after script header file (before ++ later)).1 r ≡ Some last
+        → (m : Option Going) → slice_get (state_after script header file before).1 r ≡ m → BeginsWith (answers_of m) answers
+    by end last f h at None k = (answers, refl)
+    by end last f h at (Some b) k =
+        let s = setting_of script header in
+        let state = state_after script header file before in
+        let g = order_begins s script.ranks r later state (known_later script.ranks before later legal.known_ranks) (along_at script header file before later lawful legal) b k in
+        let same : g.0 ≡ last = same_Some g.0 last (sym g.1.0 ∙ ap (λ (z : Counted × List Going). slice_get z.1 r) (sym (states_more script header file before later)) ∙ at) in
+        ends_begin header b g.0 last end answers g.1.1 same h f

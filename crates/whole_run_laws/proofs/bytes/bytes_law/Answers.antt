@@ -1,0 +1,14 @@
+use Rattle.whole_run_laws.proofs.KeptLaws.{end_said, end_kept, end_grown, end_long}
+use Rattle.whole_run_laws.proofs.bytes.bytes_law.Goals as goal
+
+pub returns-clause-last_put : goal.returns-clause-last_put
+returns-clause-last_put c = end_said
+
+pub returns-clause-as_it_was : goal.returns-clause-as_it_was
+returns-clause-as_it_was c = end_kept
+
+pub returns-clause-zero_where_it_grew : goal.returns-clause-zero_where_it_grew
+returns-clause-zero_where_it_grew c = end_grown
+
+pub returns-clause-no_shorter : goal.returns-clause-no_shorter
+returns-clause-no_shorter c = end_long

@@ -1,0 +1,5 @@
+use Rattle.whole_run_laws.proofs.FilledLaws.{record_reads}
+use Rattle.whole_run_laws.proofs.fills.record_law.Goals as goal
+
+pub returns : goal.returns
+returns c = record_reads

@@ -1,0 +1,18 @@
+use Rattle.std.proofs.Common.{refl}
+use Rattle.whole_run_laws.proofs.ToldLaws.{replies_each, replies_told, pair_is_least, only_refused}
+use Rattle.whole_run_laws.proofs.overlaps.telling_law.Goals as goal
+
+pub returns-clause-one_each : goal.returns-clause-one_each
+returns-clause-one_each c = replies_each
+
+pub returns-clause-same_pair : goal.returns-clause-same_pair
+returns-clause-same_pair c = replies_told
+
+pub returns-clause-own_pair : goal.returns-clause-own_pair
+returns-clause-own_pair c = λ s r o d. refl
+
+pub returns-clause-least : goal.returns-clause-least
+returns-clause-least c = pair_is_least
+
+pub returns-clause-refused : goal.returns-clause-refused
+returns-clause-refused c = only_refused
