@@ -21,6 +21,7 @@ use Rattle.serial_spec.specs.History.{Arrival, is_offer}
 use Rattle.serial_spec.specs.Joined.{HasEnd}
 use Rattle.collective_round.specs.Rounds.{counted}
 use Rattle.join_laws.specs.Alike.{AreAlike}
+use Rattle.join_laws.proofs.JoinLaws.{owed_stop}
 use Rattle.thread_run.specs.Halted.{of_fault, of_stranger, HasFinished, HasHalted, HasSeenAll, IsHaltAt, IsLeft, IsNoMore, IsStrangeAt}
 use Rattle.thread_run.specs.Owned.{desk_at, desk_calls, opening_standing, run, AreSingle, GoesSo, Grows, HasRun, HoldSingle, Standing}
 use Rattle.thread_run.specs.Serving.{arrived, gained, more_on, opening, HasFailed, HasTaken, HavePut, IsCutOff, IsDone, IsDoneSo}
@@ -28,7 +29,7 @@ use Rattle.thread_run.specs.Stopping.{stops_for, AllHaveEnded, HaveEnded, IsMore
 use Rattle.thread_run.specs.declared.serving.Halt.{Halt}
 use Rattle.thread_run.specs.declared.serving.Halt.TheVariants as halt
 use Rattle.thread_run.proofs.AlikeLaws.{alike_by, alike_long, alike_same, alike_two, lines_as, lines_twice}
-use Rattle.thread_run.proofs.DeskRuns.{calls_stop, goes_on, owed_stop, stops_at, GoesOn}
+use Rattle.thread_run.proofs.DeskRuns.{calls_stop, goes_on, stops_at, GoesOn}
 use Rattle.turn_run.proofs.ListLaws.{get_replicate, get_there}
 use Rattle.join_laws.proofs.TieLaws.{one_if, owed_count}
 use Rattle.thread_run.proofs.StopLaws.{filter_joined, own_joined, stops_joined}

@@ -17,10 +17,10 @@ use Rattle.serial_spec.specs.Layout.{greatest}
 use Rattle.serial_spec.specs.Desk.{Seat, freed, holds, offers_held}
 use Rattle.collective_round.proofs.NeedLaws.{greatest_joined}
 use Rattle.turn_run.specs.Counts.{IsCount, IsFit, IsRise}
+use Rattle.list_laws.proofs.Optional.{some_or_none}
 use Rattle.thread_run.specs.Owned.{AreOfOneKind, HoldAll, HoldSingle, IsHeld, IsSteady, Standing, IsSingleOffer}
 use Rattle.turn_run.specs.Steps.{batches_of, known_of, IsJob, IsOneRise}
 use Rattle.turn_run.proofs.CountLaws.{count_longer, count_max}
-use Rattle.thread_run.proofs.DeskRuns.{some_or_none}
 use Rattle.turn_run.proofs.MeetLists.{take_next}
 use Rattle.turn_run.proofs.MeetOffers.{offers_job, one_rise, rise_brought}
 
@@ -39,14 +39,6 @@ held_few (x ∷ seats) = by x.held (held_few seats)
     by : (m : Option Offer) → length (offers_held seats) ≤ length seats → length (offers_held (record { held = m; ended = x.ended } ∷ seats)) ≤ suc (length seats)
     by None l = omega arith
     by (Some o) l = omega arith
-
-pub held_long : (seats : List Seat) → list_all holds seats ≡ true → length (offers_held seats) ≡ length seats
-held_long [] h = refl
-held_long (x ∷ seats) h = by x.held (and_first (holds x) (list_all holds seats) h) (held_long seats (and_second (holds x) (list_all holds seats) h))
-  where
-    by : (m : Option Offer) → is_some m ≡ true → length (offers_held seats) ≡ length seats → length (offers_held (record { held = m; ended = x.ended } ∷ seats)) ≡ suc (length seats)
-    by None e l = absurd cc
-    by (Some o) e l = ap suc l
 
 -- ---- seats from which the offers are taken, one after another
 

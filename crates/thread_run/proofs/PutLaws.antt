@@ -12,10 +12,12 @@ use Rattle.nc_base.specs.declared.step.RankItem.TheVariants as item
 use Rattle.ruled_line.specs.Ends.{with_item, End}
 use Rattle.serial_spec.specs.Desk.{holds, own_items, stop_held, Seat}
 use Rattle.serial_spec.specs.History.{is_offer}
+use Rattle.join_laws.proofs.EventLaws.{own_here, own_other}
+use Rattle.list_laws.proofs.Truth.{equal_itself}
 use Rattle.thread_run.specs.Owned.{Grows}
 use Rattle.thread_run.specs.Stopping.{put_one, seat_stops, stops_for}
 use Rattle.thread_run.proofs.AlikeLaws.{lines_as, lines_none, lines_twice}
-use Rattle.thread_run.proofs.DeskRuns.{other_number, own_here, own_other, same_number}
+use Rattle.thread_run.proofs.DeskRuns.{other_number}
 
 abbrev Lines : Type 0
 Lines = List (End OwnerItem)
@@ -23,7 +25,7 @@ Lines = List (End OwnerItem)
 -- ---- one item
 
 pub put_here : (r : ℕ) (x : OwnerItem) → put_one r x r ≡ x ∷ []
-put_here r x = rw (same_number r, put_one) refl
+put_here r x = rw (equal_itself r, put_one) refl
 
 pub put_other : (q r : ℕ) (x : OwnerItem) → (q ≡ r → ⊥) → put_one r x q ≡ []
 put_other q r x n = rw (other_number q r n, put_one) refl
@@ -150,7 +152,7 @@ one_more old mid now n f own g same h = lines_as old now (λ q. below n f q ++ e
         by : (q ≡ n) ⊎ (q ≡ n → ⊥) → below (n + 1) f q ≡ below n f q ++ elim (q == n) [ true ↦ own | false ↦ [] ]
         by (inl s) =
             below_is (n + 1) q f (omega arith) ∙ ap f s ∙ same
-            ∙ sym (at true q (ap (λ (m : ℕ). m == n) s ∙ same_number n) ∙ ap (λ (items : List OwnerItem). items ++ own) (below_not n q f (omega arith)))
+            ∙ sym (at true q (ap (λ (m : ℕ). m == n) s ∙ equal_itself n) ∙ ap (λ (items : List OwnerItem). items ++ own) (below_not n q f (omega arith)))
         by (inr m) = below_next n f q m ∙ sym (at false q (other_number q n m) ∙ append-nil (below n f q))
 
 pub all_below : (old now : Lines) (n : ℕ) (f : ℕ → List OwnerItem) → Grows old (below n f) now → length old ≤ n → Grows old f now

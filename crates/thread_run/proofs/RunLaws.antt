@@ -13,9 +13,10 @@ use Rattle.serial_spec.specs.FileStep.{Setting}
 use Rattle.serial_spec.specs.History.{Arrival}
 use Rattle.serial_spec.specs.Desk.{Desk, Event, event, given_along, is_strange, served}
 use Rattle.join_laws.specs.Alike.{AreAlike}
+use Rattle.join_laws.proofs.JoinLaws.{served_on}
 use Rattle.thread_run.specs.Owned.{desk_at, desk_calls, event_calls, run, AreSingle, GoesAlike, GoesSo, HasDone, HasMoved, HasRun, HoldSingle, IsSingle, Standing}
 use Rattle.thread_run.proofs.AlikeLaws.{alike_by, alike_two, lines_none, lines_twice}
-use Rattle.thread_run.proofs.DeskRuns.{goes_on, served_on, GoesOn, ServedOn}
+use Rattle.thread_run.proofs.DeskRuns.{goes_on, GoesOn}
 use Rattle.turn_run.proofs.StageLaws.{ended_twice}
 
 pub run_none : (hints : Hints) (s : Setting) (x : Standing) → HasRun hints s [] x x

@@ -14,10 +14,10 @@ use Rattle.ruled_line.specs.Ends.{End, Receiver}
 use Rattle.serial_spec.specs.Desk.{own_items}
 use Rattle.serial_spec.specs.History.{Arrival, is_from, is_offer}
 use Rattle.serial_spec.specs.Joined.{HasEnd}
+use Rattle.join_laws.proofs.EventLaws.{own_here}
 use Rattle.thread_run.specs.Owned.{Grows}
 use Rattle.thread_run.specs.Stopping.{stops_for, HaveEnded, HaveMet, IsMore}
 use Rattle.thread_run.proofs.AlikeLaws.{lines_as, lines_none, lines_twice}
-use Rattle.thread_run.proofs.DeskRuns.{own_here, own_other}
 use Rattle.turn_run.proofs.ListLaws.{get_long, get_set, get_set_other, get_there}
 
 -- ---- items of one number

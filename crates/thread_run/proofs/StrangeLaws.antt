@@ -32,9 +32,13 @@ use Rattle.rank_items.specs.Own.{HasOwnElements}
 use Rattle.rank_items.proofs.OwnBytes.{own_bytes}
 use Rattle.vara_extents.proofs.PartLaws.{ok_is}
 use Rattle.turn_run.specs.Counts.{IsCount, IsFit}
+use Rattle.join_laws.proofs.StrangeLaws.{event_is}
+use Rattle.list_laws.proofs.Each.{fails_at}
+use Rattle.list_laws.proofs.Places.{entry_set}
+use Rattle.overlay_laws.proofs.Members.{at_in}
 use Rattle.thread_run.specs.Owned.{AreOfOneKind, HoldAll, IsHeld}
 use Rattle.thread_run.specs.Strange.{fails_as_offer, fails_test, leaves_behind, leaves_with}
-use Rattle.thread_run.proofs.DeskRuns.{event_is, seat_ended, seat_held}
+use Rattle.thread_run.proofs.DeskRuns.{seat_ended, seat_held}
 
 -- ---- one element of a list is changed
 
@@ -68,11 +72,6 @@ any_there p (z ∷ xs) (suc r) x e h = ap (λ (t : Bool). p z || t) (any_there p
     or_true : (a : Bool) → (a || true) ≡ true
     or_true true = refl
     or_true false = refl
-
-pub none_at : {X : Type 0} (p : X → Bool) (xs : List X) (r : ℕ) (x : X) → list_any p xs ≡ false → slice_get xs r ≡ Some x → p x ≡ false
-none_at p [] r x h e = absurd cc
-none_at p (z ∷ xs) zero x h e = ap p (sym (same_Some z x e)) ∙ (or_parts (p z) (list_any p xs) h).0
-none_at p (z ∷ xs) (suc r) x h e = none_at p xs r x (or_parts (p z) (list_any p xs) h).1 e
 
 -- ---- who is left behind
 
@@ -141,11 +140,6 @@ meeting_leaves s d r x o e f there false h =
     and_true (list_any has_left (set d.seats r (seat_held x o))) (list_any holds (set d.seats r (seat_held x o))) (any_there holds (set d.seats r (seat_held x o)) r (seat_held x o) there refl)
     ∙ any_set has_left d.seats r x (seat_held x o) e (stays x f) ∙ or_false (list_any has_left d.seats)
 
-set_there : {X : Type 0} (xs : List X) (r : ℕ) (x y : X) → slice_get xs r ≡ Some x → slice_get (set xs r y) r ≡ Some y
-set_there [] r x y e = absurd cc
-set_there (z ∷ xs) zero x y e = refl
-set_there (z ∷ xs) (suc r) x y e = set_there xs r x y e
-
 leaves : (s : Setting) (d : Desk) (r : ℕ) (i : RankItem) (x : Seat) → slice_get d.seats r ≡ Some x → x.ended ≡ None → left_behind (at_item s d r x i).desk.seats ≡ leaves_behind d.seats x i
 leaves s d r (item.Ended memory) x e f = ended_leaves d.seats r x memory e f
 leaves s d r (item.Offer c o) x e f = by o.kind
@@ -153,7 +147,7 @@ leaves s d r (item.Offer c o) x e f = by o.kind
     by : (k : OfferKind) → left_behind (at_offer s d r c o x k).desk.seats ≡ leaves_with d.seats k
     by offer.Solo = refl
     by (offer.Meet kind) =
-        meeting_leaves s d r x o e f (set_there d.seats r x (seat_held x o) e) (list_all holds (set d.seats r (seat_held x o))) refl
+        meeting_leaves s d r x o e f (entry_set d.seats r x (seat_held x o) e) (list_all holds (set d.seats r (seat_held x o))) refl
 
 -- ---- the tests
 
@@ -250,11 +244,6 @@ whole_length header p e = by (slice_get header.vars p.var) e
         same : (n m : ℕ) → (n == m) ≡ true → n ≡ m
         same n m h = grind (arith, nat_tests)
 
-in_at : {X : Type 0} (xs : List X) (i : ℕ) (x : X) → slice_get xs i ≡ Some x → In xs x
-in_at [] i x e = absurd cc
-in_at (z ∷ xs) zero x e = inl (same_Some z x e)
-in_at (z ∷ xs) (suc i) x e = inr (in_at xs i x e)
-
 sound_offer : (header : Header) (o : Offer) → is_sound header ≡ true → bad_batch header o ≡ false → HasOwnElements o.batch.puts → IsSoundOffer header o
 sound_offer header o sound e own =
     let a = or_parts (list_any (λ p. refused header o.known way.Put p || wrong_length header p) o.batch.puts || list_any (λ p. refused header o.known way.Get p) o.batch.gets) _ e in
@@ -263,7 +252,7 @@ sound_offer header o sound e own =
       puts = λ p i. put p (none_in (λ p. refused header o.known way.Put p || wrong_length header p) o.batch.puts p b.0 i);
       gets = λ p i. not_refused header o.known way.Get p (none_in (λ p. refused header o.known way.Get p) o.batch.gets p b.1 i);
       own = own_bytes header o.batch.puts sound
-          (λ i p f. (o.known, way.Put, (put p (none_in (λ p. refused header o.known way.Put p || wrong_length header p) o.batch.puts p b.0 (in_at o.batch.puts i p f))).accepted)) own;
+          (λ i p f. (o.known, way.Put, (put p (none_in (λ p. refused header o.known way.Put p || wrong_length header p) o.batch.puts p b.0 (at_in o.batch.puts i p f))).accepted)) own;
     }
   where
     put : (p : Post) → (refused header o.known way.Put p || wrong_length header p) ≡ false → IsPut header o.known p
@@ -293,7 +282,7 @@ one_kind a b e = absurd cc
 
 pub kind_is : (seats : List Seat) (kind : MeetKind) (r : ℕ) (x : Seat) (o : Offer) (own : MeetKind) → list_any (λ y. differs (kind_held y) (Some kind)) seats ≡ false → slice_get seats r ≡ Some x
     → x.held ≡ Some o → o.kind ≡ offer.Meet own → own ≡ kind
-kind_is seats kind r x o own h e f k = one_kind own kind (sym (ap (λ (m : Option MeetKind). differs m (Some kind)) held) ∙ none_at (λ y. differs (kind_held y) (Some kind)) seats r x h e)
+kind_is seats kind r x o own h e f k = one_kind own kind (sym (ap (λ (m : Option MeetKind). differs m (Some kind)) held) ∙ fails_at (λ y. differs (kind_held y) (Some kind)) seats r x h e)
   where
     by : (m : Option Offer) → m ≡ Some o → option_then m (λ p. kind_of_meeting p.kind) ≡ Some own
     by None g = absurd cc

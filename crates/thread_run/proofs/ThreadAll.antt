@@ -23,9 +23,10 @@ use Rattle.serial_spec.specs.Lawful.{is_lawful}
 use Rattle.serial_spec.specs.SerialEnd.{serial_from, setting_of}
 use Rattle.collective_round.specs.Rounds.{as_setting, counted}
 use Rattle.turn_run.specs.Begun.{HasBegun}
+use Rattle.turn_run.specs.Run.{IsRun}
 use Rattle.thread_run.specs.Owned.{AreSingle, desk_calls}
 use Rattle.thread_run.specs.Serving.{HasFailed, IsDone, IsDoneSo, opening}
-use Rattle.thread_run.specs.Threads.{HasClosed, IsRun, NoneBroke, most_known_of}
+use Rattle.thread_run.specs.Threads.{HasClosed, NoneBroke, most_known_of}
 use Rattle.turn_run.proofs.StageLaws.{ended_twice}
 use Rattle.thread_run.proofs.ThreadRuns.{Finished, FinishedSo, finished, finished_so}
 use Rattle.thread_run.proofs.ThreadTies.{Told, begun}
@@ -104,13 +105,13 @@ module _ (script : Script) (header : Header) (arrivals : List Arrival) (given : 
         (c.closed none).bytes ∙ ap (λ (m : Option (List ℕ)). after (λ f. (raised (as_setting header) (counted f count) (most_known_of ends)).file) m) so.told
         ∙ (λ i. Some (raised (as_setting header) (counted (state file).desk.state.file (so.records i)) (most_known_of ends)).file)
         ∙ ap (λ (f : List ℕ). Some f) (fin_so none file so).bytes ∙ ap (λ (ms : List Mark). Some (serial_from script header file ms).bytes) (sym c.order));
-    count = λ none. if_both held (o.bytes (c.went none).0) (o.bytes (c.went none).0) (λ file so more.
+    records = λ none. if_both held (o.bytes (c.went none).0) (o.bytes (c.went none).0) (λ file so more.
         counts none file so ∙ ap (λ (ms : List Mark). (serial_from script header file ms).records) (sym c.order));
     answers = λ none. if_both held (o.bytes (c.went none).0) (o.bytes (c.went none).0) (λ file so more.
         c.answers none ∙ (fin_so none file so).answers ∙ ap (λ (ms : List Mark). (serial_from script header file ms).answers) (sym c.order));
     pending = λ none. if_both held (o.bytes (c.went none).0) (o.bytes (c.went none).0) (λ file so more.
         c.pending none ∙ (fin_so none file so).pending ∙ ap (λ (ms : List Mark). (serial_from script header file ms).pending) (sym c.order));
-    device = λ none. if_both held (o.bytes (c.went none).0) (o.device (c.went none).0 (fin none).single) (λ file so made_so.
+    calls = λ none. if_both held (o.bytes (c.went none).0) (o.device (c.went none).0 (fin none).single) (λ file so made_so.
         (c.closed none).device ∙ ap (λ (m : Option (List DiskCall)). with_end m (store_records (as_setting header) (nat_lt count records))) made_so
         ∙ ended_twice calls (desk_calls script.hints (setting_of script header) (opening script.ranks (counted file header.records)) arrivals) (store_records (setting_of script header) (nat_lt count records))
         ∙ (λ i. with_end calls (desk_calls script.hints (setting_of script header) (opening script.ranks (counted file header.records)) arrivals
@@ -118,7 +119,7 @@ module _ (script : Script) (header : Header) (arrivals : List Arrival) (given : 
         ∙ ap (λ (cs : List DiskCall). with_end calls cs) (sym (fin_so none file so).calls) ∙ ap (λ (ms : List Mark). with_end calls (run_calls script header file ms)) (sym c.order));
     sound = c.sound;
     begun = subst (λ (ms : List Mark). HasBegun script ms) (sym c.order) (order_begun held calls faults held' calls' faults' count before o);
-    cause = λ disk. cause disk (some_fault before.fault);
+    fault = λ disk. cause disk (some_fault before.fault);
     later = le_both faults faults' failed o.later c.later;
   }
     where

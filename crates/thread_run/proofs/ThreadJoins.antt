@@ -9,7 +9,7 @@ use Rattle.nc_base.specs.declared.step.RankItem.{RankItem}
 use Rattle.ruled_line.specs.Ends.{End, items_under}
 use Rattle.thread_run.specs.Resident.{IsSettledOf}
 use Rattle.thread_run.specs.declared.resident.Resident.{Resident}
-use Rattle.thread_run.proofs.ThreadStarts.{get_push, get_low}
+use Rattle.thread_run.proofs.ThreadStarts.{get_push}
 
 pub map_snoc : {P X : Type 0} (f : P → X) (ps : List P) (p : P) (xs : List X) → map f (ps ++ p ∷ []) ++ xs ≡ map f ps ++ f p ∷ xs
 map_snoc f [] p xs = refl

@@ -3,26 +3,17 @@
 --     NoneBroke ends           no rank ended for want of memory
 --     most_known_of ends       the greatest record count that a rank knew at its end
 --     HasClosed ..             the close
---     IsRun script header ..   what a run of a script tells, by bytes, device calls and faults before and after it
-use Rattle.std.specs.Prelude.{◌≡◌, ℕ, ◌≤◌, List, [], map, max, length, nat_lt, true, All, IfSome, None, Option, Some, slice_get, vec_capacity}
+use Rattle.std.specs.Prelude.{◌≡◌, ℕ, ◌≤◌, List, [], map, max, length, nat_lt, All, Option, Some, slice_get, vec_capacity}
 use Rattle.std.specs.List.{range_with_len}
 use Rattle.nc_base.specs.declared.header.Header.{Header}
 use Rattle.nc_base.specs.declared.run.RankEnd.{RankEnd}
 use Rattle.nc_base.specs.declared.run.RankStop.TheVariants as stop
-use Rattle.nc_base.specs.declared.run.RunEnd.{RunEnd}
-use Rattle.nc_base.specs.declared.script.Script.{Script}
 use Rattle.nc_base.specs.declared.step.DiskCall.{DiskCall}
-use Rattle.nc_base.specs.declared.step.StepErr.TheVariants as fault
-use Rattle.nc_outside.specs.Cause.{Rose}
 use Rattle.nc_outside.specs.Told.{after, with_end}
-use Rattle.serial_spec.specs.DeviceCalls.{run_calls, store_records}
+use Rattle.serial_spec.specs.DeviceCalls.{store_records}
 use Rattle.serial_spec.specs.FileStep.{raised}
-use Rattle.serial_spec.specs.HeaderGrammar.{is_sound}
-use Rattle.serial_spec.specs.History.{IsLegal}
 use Rattle.serial_spec.specs.Layout.{greatest}
-use Rattle.serial_spec.specs.SerialEnd.{serial_from}
 use Rattle.collective_round.specs.Rounds.{as_setting, counted}
-use Rattle.turn_run.specs.Begun.{HasBegun}
 use Rattle.thread_run.specs.declared.rank_threads.Rooms.{Rooms}
 
 pub record HasRooms (ranks : ℕ) (rooms : Rooms) : Type 0 where
@@ -50,16 +41,3 @@ pub record HasClosed (header : Header) (known before : ℕ) (held : Option (List
   pub bytes : left ≡ after (λ file. (raised (as_setting header) (counted file before) known).file) held
   pub count : records ≡ max before known
   pub device : made ≡ with_end calls (store_records (as_setting header) (nat_lt before records))
-
-pub record IsRun (script : Script) (header : Header) (held : Option (List ℕ)) (calls : Option (List DiskCall)) (faults : ℕ)
-    (left : Option (List ℕ)) (made : Option (List DiskCall)) (failed records : ℕ) (end : RunEnd) : Type 0 where
-  pub legal : end.fault ≡ None → IsLegal script end.order
-  pub bytes : end.fault ≡ None → IfSome held (λ file. left ≡ Some (serial_from script header file end.order).bytes)
-  pub count : end.fault ≡ None → IfSome held (λ file. records ≡ (serial_from script header file end.order).records)
-  pub answers : end.fault ≡ None → IfSome held (λ file. end.answers ≡ (serial_from script header file end.order).answers)
-  pub pending : end.fault ≡ None → IfSome held (λ file. end.pending ≡ (serial_from script header file end.order).pending)
-  pub device : end.fault ≡ None → IfSome held (λ file. made ≡ with_end calls (run_calls script header file end.order))
-  pub sound : end.fault ≡ None → is_sound (record header { records = records }) ≡ true
-  pub begun : HasBegun script end.order
-  pub cause : end.fault ≡ Some fault.Disk → Rose faults failed
-  pub later : faults ≤ failed

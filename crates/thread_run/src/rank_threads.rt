@@ -1,24 +1,18 @@
 // A run of all ranks, each on a thread of its own.
 ghost use Rattle.std.specs.Prelude.{◌≡◌, ◌≤◌, ◌<◌, ◌∷◌, [], ℕ, List, length, map, slice_get, vec_capacity, None, Some, true, All, IfOk, IfSome};
 ghost use Rattle.std.specs.List.{range_with_len};
-ghost use Rattle.nc_base.specs.declared.step.StepErr.TheVariants as fault;
-ghost use Rattle.nc_outside.specs.Cause.{Rose};
-ghost use Rattle.nc_outside.specs.Told.{with_end};
-ghost use Rattle.serial_spec.specs.DeviceCalls.{run_calls};
 ghost use Rattle.serial_spec.specs.HeaderGrammar.{header_len, is_sound};
-ghost use Rattle.serial_spec.specs.History.{IsLegal};
 ghost use Rattle.serial_spec.specs.Lawful.{is_lawful};
 ghost use Rattle.serial_spec.specs.Layout.{end_of};
-ghost use Rattle.serial_spec.specs.SerialEnd.{serial_from};
 ghost use Rattle.nc_base.specs.declared.header.Header.{Header};
 ghost use Rattle.nc_base.specs.declared.script.Script.{Script};
 ghost use Rattle.nc_base.specs.declared.step.OwnerItem.{OwnerItem};
 ghost use Rattle.nc_base.specs.declared.step.RankItem.{RankItem};
 ghost use Rattle.rank_core.specs.Indexed.{IsIndexOf};
 ghost use Rattle.ruled_line.specs.Ends.{End, Line};
-ghost use Rattle.turn_run.specs.Begun.{HasBegun};
+ghost use Rattle.turn_run.specs.Run.{IsRun};
 ghost use Rattle.thread_run.specs.Resident.{AreOf, AreResidents, IsToldToGo};
-ghost use Rattle.thread_run.specs.Threads.{HasRooms, IsRun};
+ghost use Rattle.thread_run.specs.Threads.{HasRooms};
 ghost use Rattle.thread_run.specs.declared.resident.Resident.{Resident};
 
 use crate::rank_ends::end_run;
@@ -54,16 +48,7 @@ pub fn run_ranks<R: Threads + Wait + Sync, D: Disk, G: Gate>(
     requires records { records.old ≡ header.now.records }
     requires from { D.from disk.old ≡ 0 }
     requires long { end_of header.now (header_len header.now) header.now.records ≤ D.len disk.old }
-    ensures legal { result.fault ≡ None → IsLegal script.now result.order }
-    ensures bytes { result.fault ≡ None → IfSome (D.held disk.old) (λ file. D.held disk.new ≡ Some (serial_from script.now header.now file result.order).bytes) }
-    ensures records { result.fault ≡ None → IfSome (D.held disk.old) (λ file. records.new ≡ (serial_from script.now header.now file result.order).records) }
-    ensures answers { result.fault ≡ None → IfSome (D.held disk.old) (λ file. result.answers ≡ (serial_from script.now header.now file result.order).answers) }
-    ensures pending { result.fault ≡ None → IfSome (D.held disk.old) (λ file. result.pending ≡ (serial_from script.now header.now file result.order).pending) }
-    ensures calls { result.fault ≡ None → IfSome (D.held disk.old) (λ file. D.calls disk.new ≡ with_end (D.calls disk.old) (run_calls script.now header.now file result.order)) }
-    ensures sound { result.fault ≡ None → is_sound (record header.now { records = records.new }) ≡ true }
-    ensures begun { HasBegun script.now result.order }
-    ensures fault { result.fault ≡ Some fault.Disk → Rose (D.faults disk.old) (D.faults disk.new) }
-    ensures later { D.faults disk.old ≤ D.faults disk.new }
+    ensures run { IsRun script.now header.now (D.held disk.old) (D.calls disk.old) (D.faults disk.old) (D.held disk.new) (D.calls disk.new) (D.faults disk.new) records.new result }
 {
     if !script.hints.threads {
         return run_in_turn(rt, alloc, disk, header, records, script, gate);

@@ -1,4 +1,5 @@
 pub mod Begun
+pub mod Run
 pub mod Counts
 pub mod Seated
 pub mod Stages

@@ -2,15 +2,13 @@
 ghost use Rattle.std.specs.Prelude.{◌≡◌, ◌≤◌, ◌<◌, ◌++◌, ◌∷◌, [], ℕ, List, map, replicate, drop, fold, length, nat_lt, None, Some, true, slice_get, IfOk, IfSome, OnOk, IsTrue, ◌↔◌, ◌⊎◌, Err};
 ghost use Rattle.nc_base.specs.declared.step.StepErr.{StepErr as Fault};
 ghost use Rattle.nc_base.specs.declared.step.StepErr.TheVariants as fault;
-ghost use Rattle.nc_outside.specs.Cause.{Rose};
 ghost use Rattle.nc_outside.specs.Told.{with_end};
-ghost use Rattle.serial_spec.specs.DeviceCalls.{run_calls, store_records};
 ghost use Rattle.serial_spec.specs.HeaderGrammar.{header_len, is_sound};
 ghost use Rattle.serial_spec.specs.History.{IsLegal};
 ghost use Rattle.serial_spec.specs.Lawful.{is_lawful};
 ghost use Rattle.serial_spec.specs.Layout.{end_of};
 ghost use Rattle.serial_spec.specs.RankMachine as machine;
-ghost use Rattle.serial_spec.specs.SerialEnd.{serial_from, setting_of, state_after};
+ghost use Rattle.serial_spec.specs.SerialEnd.{setting_of, state_after};
 ghost use Rattle.serial_spec.specs.Torn.{StoodAt};
 ghost use Rattle.collective_round.specs.Rounds.{counted, HasStepCause};
 ghost use Rattle.rank_core.specs.Indexed.{IsIndexOf};
@@ -18,6 +16,7 @@ ghost use Rattle.run_laws.specs.Ways.{meetings};
 ghost use Rattle.turn_run.specs.Begun.{HasBegun};
 ghost use Rattle.turn_run.specs.Counts.{IsCount};
 ghost use Rattle.turn_run.specs.Cuts.{EndsAt, HasStopped, IsNext};
+ghost use Rattle.turn_run.specs.Run.{IsRun};
 ghost use Rattle.turn_run.specs.Seated.{calls_of, AreFree, AreSeats, HaveArrived, HaveMet};
 ghost use Rattle.run_laws.specs.Arrivals.{calls_over, step_to, all_calls_over, ended_from};
 ghost use Rattle.turn_run.specs.Stages.{arrived_all, stage, HasLed};
@@ -50,18 +49,9 @@ pub fn run_in_turn<R: Wait, D: Disk, G: Gate>(
     requires records { records.old ≡ header.now.records }
     requires from { D.from disk.old ≡ 0 }
     requires long { end_of header.now (header_len header.now) header.now.records ≤ D.len disk.old }
-    ensures legal { result.fault ≡ None → IsLegal script.now result.order }
-    ensures bytes { result.fault ≡ None → IfSome (D.held disk.old) (λ file. D.held disk.new ≡ Some (serial_from script.now header.now file result.order).bytes) }
-    ensures records { result.fault ≡ None → IfSome (D.held disk.old) (λ file. records.new ≡ (serial_from script.now header.now file result.order).records) }
-    ensures answers { result.fault ≡ None → IfSome (D.held disk.old) (λ file. result.answers ≡ (serial_from script.now header.now file result.order).answers) }
-    ensures pending { result.fault ≡ None → IfSome (D.held disk.old) (λ file. result.pending ≡ (serial_from script.now header.now file result.order).pending) }
-    ensures calls { result.fault ≡ None → IfSome (D.held disk.old) (λ file. D.calls disk.new ≡ with_end (D.calls disk.old) (run_calls script.now header.now file result.order)) }
-    ensures sound { result.fault ≡ None → is_sound (record header.now { records = records.new }) ≡ true }
-    ensures begun { HasBegun script.now result.order }
+    ensures run { IsRun script.now header.now (D.held disk.old) (D.calls disk.old) (D.faults disk.old) (D.held disk.new) (D.calls disk.new) (D.faults disk.new) records.new result }
     ensures cut { (e : Fault) → result.fault ≡ Some e → IfSome (D.held disk.old) (λ file. (left : List ℕ) × (D.held disk.new ≡ Some left)
         × StoodAt script.now (setting_of script.now header.now) e (state_after script.now header.now file result.order) result.order left records.new) }
-    ensures fault { result.fault ≡ Some fault.Disk → Rose (D.faults disk.old) (D.faults disk.new) }
-    ensures later { D.faults disk.old ≤ D.faults disk.new }
 {
     let mut order = MarkList::new(alloc);
     let names = match Names::new(alloc, header) {

@@ -29,7 +29,7 @@ pub returns-in-None-clause-well : goal.returns-in-None-clause-well
 returns-in-None-clause-well g c = λ ended.
     let script : Script = c.in-Ok.begun.script in
     let end : RunEnd = c.run_ranks-end.result in
-    let run = c.run_ranks-end.ensures in
+    let run = c.run_ranks-end.ensures.run in
     let text : List ℕ = summary_text c.args.seed c.args.size script (record c.in-Ok.begun.header { records = c.run_ranks-end.new.records }) end.order end.answers in
     record {
       text = text;
@@ -43,7 +43,7 @@ pub returns-in-None-clause-cut : goal.returns-in-None-clause-cut
 returns-in-None-clause-cut g c = λ ended.
     let script : Script = c.in-Ok.begun.script in
     let end : RunEnd = c.run_ranks-end.result in
-    let run = c.run_ranks-end.ensures in
+    let run = c.run_ranks-end.ensures.run in
     let text : List ℕ = summary_text c.args.seed c.args.size script (record c.in-Ok.begun.header { records = c.run_ranks-end.new.records }) end.order end.answers in
     let given = c.sum_up.ensures.front ended in
     record {
@@ -58,12 +58,12 @@ returns-in-None-clause-cut g c = λ ended.
 pub returns-in-Some-Disk-clause-disk : goal.returns-in-Some-Disk-clause-disk
 returns-in-Some-Disk-clause-disk g c = λ _.
     let failed : c.run_ranks-end.result.fault ≡ Some fault.Disk = search rules in
-    rose_later _ (g.D.Disk.faults c.begin_made.new.disk) _ c.in-Ok.ensures.later (c.run_ranks-end.ensures.fault failed)
+    rose_later _ (g.D.Disk.faults c.begin_made.new.disk) _ c.in-Ok.ensures.later (c.run_ranks-end.ensures.run.fault failed)
 
 pub returns-in-Some-Disk-clause-complete : goal.returns-in-Some-Disk-clause-complete
 returns-in-Some-Disk-clause-complete g c = λ sink disk.
     let failed : c.run_ranks-end.result.fault ≡ Some fault.Disk = search rules in
-    absurd (disk (rose_later _ (g.D.Disk.faults c.begin_made.new.disk) _ c.in-Ok.ensures.later (c.run_ranks-end.ensures.fault failed)))
+    absurd (disk (rose_later _ (g.D.Disk.faults c.begin_made.new.disk) _ c.in-Ok.ensures.later (c.run_ranks-end.ensures.run.fault failed)))
 
 -- ---- the steps so far
 
@@ -72,12 +72,12 @@ returns-in-Err-clause-steps g c = made_begins_none c.args.seed c.args.size c.tel
 
 pub returns-in-None-clause-steps : goal.returns-in-None-clause-steps
 returns-in-None-clause-steps g c =
-    made_begins c.args.seed c.args.size c.in-Ok.begun.script _ c.run_ranks-end.result.order c.in-Ok.ensures.script c.sum_up.ensures.order c.run_ranks-end.ensures.begun
+    made_begins c.args.seed c.args.size c.in-Ok.begun.script _ c.run_ranks-end.result.order c.in-Ok.ensures.script c.sum_up.ensures.order c.run_ranks-end.ensures.run.begun
 
 pub returns-in-Some-Disk-clause-steps : goal.returns-in-Some-Disk-clause-steps
 returns-in-Some-Disk-clause-steps g c =
-    made_begins c.args.seed c.args.size c.in-Ok.begun.script _ c.run_ranks-end.result.order c.in-Ok.ensures.script c.tell-in-Some-Disk.ensures.order c.run_ranks-end.ensures.begun
+    made_begins c.args.seed c.args.size c.in-Ok.begun.script _ c.run_ranks-end.result.order c.in-Ok.ensures.script c.tell-in-Some-Disk.ensures.order c.run_ranks-end.ensures.run.begun
 
 pub returns-clause-steps : goal.returns-clause-steps
 returns-clause-steps g c =
-    made_begins c.args.seed c.args.size c.in-Ok.begun.script _ c.run_ranks-end.result.order c.in-Ok.ensures.script c.tell-in-Some-Memory.ensures.order c.run_ranks-end.ensures.begun
+    made_begins c.args.seed c.args.size c.in-Ok.begun.script _ c.run_ranks-end.result.order c.in-Ok.ensures.script c.tell-in-Some-Memory.ensures.order c.run_ranks-end.ensures.run.begun

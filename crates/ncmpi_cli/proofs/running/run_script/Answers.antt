@@ -33,7 +33,7 @@ pub returns-in-None-clause-ok : goal.returns-in-None-clause-ok
 returns-in-None-clause-ok g c = λ ended.
     let script : Script = c.in-Ok.begun.script in
     let end : RunEnd = c.run_ranks-end.result in
-    let run = c.run_ranks-end.ensures in
+    let run = c.run_ranks-end.ensures.run in
     let text : List ℕ = run_text script (record c.in-Ok.begun.header { records = c.run_ranks-end.new.records }) end.order end.answers end.pending in
     record {
       text = text;
@@ -51,7 +51,7 @@ pub returns-in-None-clause-front : goal.returns-in-None-clause-front
 returns-in-None-clause-front g c = λ ended.
     let script : Script = c.in-Ok.begun.script in
     let end : RunEnd = c.run_ranks-end.result in
-    let run = c.run_ranks-end.ensures in
+    let run = c.run_ranks-end.ensures.run in
     let text : List ℕ = run_text script (record c.in-Ok.begun.header { records = c.run_ranks-end.new.records }) end.order end.answers end.pending in
     let given = c.finish.ensures.front ended in
     record {
@@ -66,7 +66,7 @@ returns-in-None-clause-front g c = λ ended.
 pub returns-in-Some-Disk-clause-disk : goal.returns-in-Some-Disk-clause-disk
 returns-in-Some-Disk-clause-disk g c = λ _.
     let failed : c.run_ranks-end.result.fault ≡ Some fault.Disk = search rules in
-    rose_later _ (g.D.Disk.faults c.begin.new.disk) _ c.in-Ok.ensures.later (c.run_ranks-end.ensures.fault failed)
+    rose_later _ (g.D.Disk.faults c.begin.new.disk) _ c.in-Ok.ensures.later (c.run_ranks-end.ensures.run.fault failed)
 
 pub returns-in-Some-Disk-clause-faulty : goal.returns-in-Some-Disk-clause-faulty
 returns-in-Some-Disk-clause-faulty g c = λ asks source disk.
@@ -75,7 +75,7 @@ returns-in-Some-Disk-clause-faulty g c = λ asks source disk.
 pub returns-in-Some-Disk-clause-complete : goal.returns-in-Some-Disk-clause-complete
 returns-in-Some-Disk-clause-complete g c = λ asks source sink disk.
     let failed : c.run_ranks-end.result.fault ≡ Some fault.Disk = search rules in
-    absurd (disk (rose_later _ (g.D.Disk.faults c.begin.new.disk) _ c.in-Ok.ensures.later (c.run_ranks-end.ensures.fault failed)))
+    absurd (disk (rose_later _ (g.D.Disk.faults c.begin.new.disk) _ c.in-Ok.ensures.later (c.run_ranks-end.ensures.run.fault failed)))
 
 -- ---- the steps so far
 
@@ -84,15 +84,15 @@ returns-in-Err-clause-steps g c = begins_none (g.S.Source.left c.args.script.now
 
 pub returns-in-None-clause-steps : goal.returns-in-None-clause-steps
 returns-in-None-clause-steps g c =
-    begins (g.S.Source.left c.args.script.now) c.in-Ok.begun.script _ c.run_ranks-end.result.order c.in-Ok.ensures.asks c.finish.ensures.order c.run_ranks-end.ensures.begun
+    begins (g.S.Source.left c.args.script.now) c.in-Ok.begun.script _ c.run_ranks-end.result.order c.in-Ok.ensures.asks c.finish.ensures.order c.run_ranks-end.ensures.run.begun
 
 pub returns-in-Some-Disk-clause-steps : goal.returns-in-Some-Disk-clause-steps
 returns-in-Some-Disk-clause-steps g c =
-    begins (g.S.Source.left c.args.script.now) c.in-Ok.begun.script _ c.run_ranks-end.result.order c.in-Ok.ensures.asks c.tell-in-Some-Disk.ensures.order c.run_ranks-end.ensures.begun
+    begins (g.S.Source.left c.args.script.now) c.in-Ok.begun.script _ c.run_ranks-end.result.order c.in-Ok.ensures.asks c.tell-in-Some-Disk.ensures.order c.run_ranks-end.ensures.run.begun
 
 pub returns-clause-steps : goal.returns-clause-steps
 returns-clause-steps g c =
-    begins (g.S.Source.left c.args.script.now) c.in-Ok.begun.script _ c.run_ranks-end.result.order c.in-Ok.ensures.asks c.tell-in-Some-Memory.ensures.order c.run_ranks-end.ensures.begun
+    begins (g.S.Source.left c.args.script.now) c.in-Ok.begun.script _ c.run_ranks-end.result.order c.in-Ok.ensures.asks c.tell-in-Some-Memory.ensures.order c.run_ranks-end.ensures.run.begun
 
 -- ---- where no rank began
 

@@ -6,7 +6,10 @@ use Rattle.nc_base.specs.declared.step.Mark.{Mark}
 use Rattle.nc_base.specs.declared.step.DiskCall.{DiskCall}
 use Rattle.nc_outside.specs.Told.{with_end}
 use Rattle.serial_spec.specs.DeviceCalls.{run_calls}
+use Rattle.serial_spec.specs.History.{IsLegal}
 use Rattle.serial_spec.specs.SerialEnd.{serial_from, End}
+use Rattle.collective_round.specs.Rounds.{counted}
+use Rattle.run_laws.specs.Arrivals.{ended_from}
 use Rattle.turn_run.specs.Begun.{HasBegun}
 use Rattle.turn_run.specs.Seated.{AreSeats}
 use Rattle.turn_run.specs.Steps.{first_seat}
@@ -14,20 +17,26 @@ use Rattle.serial_spec.specs.RankMachine as machine
 use Rattle.turn_run.specs.declared.seats.Seat.{Seat}
 use Rattle.turn_run.proofs.TurnRuns.{calls_from_first, first_count, first_free, first_seats, if_told, none_begun, serial_from_first}
 use Rattle.std.proofs.Common.{refl, inl}
+use Rattle.nc_base.specs.declared.step.StepErr.{StepErr}
 use Rattle.nc_base.specs.declared.step.StepErr.TheVariants as fault
 use Rattle.serial_spec.specs.SerialEnd.{setting_of}
 use Rattle.turn_run.specs.Stages.{arrived_all}
-use Rattle.turn_run.proofs.CutEnds.{same_cause}
+use Rattle.turn_run.proofs.CutEnds.{fault_run, same_cause, unbegun_run}
 use Rattle.turn_run.proofs.CutRuns.{ends_as, ends_stood, stood_first}
 use Rattle.turn_run.proofs.in_turn.run_in_turn.Goals as goal
 
-pub returns-in-Err-clause-begun : goal.returns-in-Err-clause-begun
-returns-in-Err-clause-begun g c =
-    subst (λ (ms : List Mark). HasBegun c.args.script.now ms) (sym (c.stopped.ensures.order ∙ c.new-order.ensures)) (none_begun c.args.script.now)
+pub returns-in-Err-clause-run : goal.returns-in-Err-clause-run
+returns-in-Err-clause-run g c =
+    let disk = c.args.disk.now in
+    unbegun_run c.args.script.now c.args.header.now (g.D.Disk.held disk) (g.D.Disk.calls disk) (g.D.Disk.faults disk) (g.D.Disk.held disk) (g.D.Disk.calls disk) c.args.records.now c.stopped.result
+    c.stopped.ensures.fault (subst (λ (ms : List Mark). HasBegun c.args.script.now ms) (sym (c.stopped.ensures.order ∙ c.new-order.ensures)) (none_begun c.args.script.now))
 
-pub returns-in-Err-seats_of-clause-begun : goal.returns-in-Err-seats_of-clause-begun
-returns-in-Err-seats_of-clause-begun g c =
-    subst (λ (ms : List Mark). HasBegun c.args.script.now ms) (sym (c.stopped-in-Err-seats_of.ensures.order ∙ c.new-order.ensures)) (none_begun c.args.script.now)
+pub returns-in-Err-seats_of-clause-run : goal.returns-in-Err-seats_of-clause-run
+returns-in-Err-seats_of-clause-run g c =
+    let disk = c.args.disk.now in
+    let end = c.stopped-in-Err-seats_of in
+    unbegun_run c.args.script.now c.args.header.now (g.D.Disk.held disk) (g.D.Disk.calls disk) (g.D.Disk.faults disk) (g.D.Disk.held disk) (g.D.Disk.calls disk) c.args.records.now end.result
+    end.ensures.fault (subst (λ (ms : List Mark). HasBegun c.args.script.now ms) (sym (end.ensures.order ∙ c.new-order.ensures)) (none_begun c.args.script.now))
 
 pub make_calls-requires-clause-seats : goal.make_calls-requires-clause-seats
 make_calls-requires-clause-seats g c κs within =
@@ -43,35 +52,44 @@ pub make_calls-requires-clause-records : goal.make_calls-requires-clause-records
 make_calls-requires-clause-records g c κs within =
     first_count c.args.header.now (g.D.Disk.len c.args.disk.now) c.args.records.now c.requires.sound c.requires.records c.requires.long
 
-pub returns-in-Ok-make_calls-clause-bytes : goal.returns-in-Ok-make_calls-clause-bytes
-returns-in-Ok-make_calls-clause-bytes g c = λ none.
-    if_told (g.D.Disk.held c.args.disk.now) c.in-Ok-make_calls.ensures.bytes (λ file k. k ∙ ap (λ (e : End). Some e.bytes)
-    (serial_from_first c.args.script.now c.args.header.now file c.args.records.now c.deref_mut.result.now c.make_calls.new.order c.requires.lawful c.requires.records
-    (c.deref_mut.ensures.value ∙ c.in-Ok-seats_of.ensures) ∙ ap (λ (ms : List Mark). serial_from c.args.script.now c.args.header.now file ms) (sym c.ended.ensures.order)))
+pub returns-in-Ok-make_calls-clause-run : goal.returns-in-Ok-make_calls-clause-run
+returns-in-Ok-make_calls-clause-run g c =
+    let script = c.args.script.now in
+    let header = c.args.header.now in
+    let held = g.D.Disk.held c.args.disk.now in
+    let done = g.D.Disk.calls c.args.disk.now in
+    let count = c.args.records.now in
+    let seats = c.deref_mut.result.now in
+    let order = c.make_calls.new.order in
+    let first = c.deref_mut.ensures.value ∙ c.in-Ok-seats_of.ensures in
+    let now = with_items_is c.in-Ok-seats_of.seats c.make_calls.new.seats (search rules) in
+    let e = c.ended.ensures in
+    let m = c.in-Ok-make_calls.ensures in
+    let serial : (file : List ℕ) → ended_from (setting_of script header) (counted file count, arrived_all header script.calls seats) order ≡ serial_from script header file c.ended.result.order = λ file.
+    serial_from_first script header file count seats order c.requires.lawful c.requires.records first ∙ ap (λ (ms : List Mark). serial_from script header file ms) (sym e.order) in
+    record {
+      legal = λ none. subst (λ (ms : List Mark). IsLegal script ms) (sym e.order) m.legal;
+      bytes = λ none. if_told held m.bytes (λ file k. k ∙ ap (λ (x : End). Some x.bytes) (serial file));
+      records = λ none. if_told held m.records (λ file k. k ∙ ap (λ (x : End). x.records) (serial file));
+      answers = λ none. if_told held m.answers (λ file k. e.answers none ∙ ap (λ (ss : List Seat). map (λ seat. seat.answers) ss) now ∙ k ∙ ap (λ (x : End). x.answers) (serial file));
+      pending = λ none. if_told held m.pending (λ file k. e.pending none ∙ ap (λ (ss : List Seat). map (λ seat. machine.pending seat.rank.state) ss) now ∙ k ∙ ap (λ (x : End). x.pending) (serial file));
+      calls = λ none. if_told held m.calls (λ file k. k ∙ ap (λ (cs : List DiskCall). with_end done cs)
+          (calls_from_first script header file count seats order c.requires.lawful c.requires.records first ∙ ap (λ (ms : List Mark). run_calls script header file ms) (sym e.order)));
+      sound = λ none. m.count.sound;
+      begun = subst (λ (ms : List Mark). HasBegun script ms) (sym e.order) m.begun;
+      fault = λ disk. absurd (e.memory disk);
+      later = m.cause.later;
+    }
 
-pub returns-in-Ok-make_calls-clause-records : goal.returns-in-Ok-make_calls-clause-records
-returns-in-Ok-make_calls-clause-records g c = λ none.
-    if_told (g.D.Disk.held c.args.disk.now) c.in-Ok-make_calls.ensures.records (λ file k. k ∙ ap (λ (e : End). e.records)
-    (serial_from_first c.args.script.now c.args.header.now file c.args.records.now c.deref_mut.result.now c.make_calls.new.order c.requires.lawful c.requires.records
-    (c.deref_mut.ensures.value ∙ c.in-Ok-seats_of.ensures) ∙ ap (λ (ms : List Mark). serial_from c.args.script.now c.args.header.now file ms) (sym c.ended.ensures.order)))
-
-pub returns-in-Ok-make_calls-clause-answers : goal.returns-in-Ok-make_calls-clause-answers
-returns-in-Ok-make_calls-clause-answers g c = λ none.
-    if_told (g.D.Disk.held c.args.disk.now) c.in-Ok-make_calls.ensures.answers (λ file k. c.ended.ensures.answers none ∙ ap (λ (ss : List Seat). map (λ seat. seat.answers) ss) (with_items_is c.in-Ok-seats_of.seats c.make_calls.new.seats (search rules)) ∙ k ∙ ap (λ (e : End). e.answers)
-    (serial_from_first c.args.script.now c.args.header.now file c.args.records.now c.deref_mut.result.now c.make_calls.new.order c.requires.lawful c.requires.records
-    (c.deref_mut.ensures.value ∙ c.in-Ok-seats_of.ensures) ∙ ap (λ (ms : List Mark). serial_from c.args.script.now c.args.header.now file ms) (sym c.ended.ensures.order)))
-
-pub returns-in-Ok-make_calls-clause-pending : goal.returns-in-Ok-make_calls-clause-pending
-returns-in-Ok-make_calls-clause-pending g c = λ none.
-    if_told (g.D.Disk.held c.args.disk.now) c.in-Ok-make_calls.ensures.pending (λ file k. c.ended.ensures.pending none ∙ ap (λ (ss : List Seat). map (λ seat. machine.pending seat.rank.state) ss) (with_items_is c.in-Ok-seats_of.seats c.make_calls.new.seats (search rules)) ∙ k ∙ ap (λ (e : End). e.pending)
-    (serial_from_first c.args.script.now c.args.header.now file c.args.records.now c.deref_mut.result.now c.make_calls.new.order c.requires.lawful c.requires.records
-    (c.deref_mut.ensures.value ∙ c.in-Ok-seats_of.ensures) ∙ ap (λ (ms : List Mark). serial_from c.args.script.now c.args.header.now file ms) (sym c.ended.ensures.order)))
-
-pub returns-in-Ok-make_calls-clause-calls : goal.returns-in-Ok-make_calls-clause-calls
-returns-in-Ok-make_calls-clause-calls g c = λ none.
-    if_told (g.D.Disk.held c.args.disk.now) c.in-Ok-make_calls.ensures.calls (λ file k. k ∙ ap (λ (cs : List DiskCall). with_end (g.D.Disk.calls c.args.disk.now) cs)
-    (calls_from_first c.args.script.now c.args.header.now file c.args.records.now c.deref_mut.result.now c.make_calls.new.order c.requires.lawful c.requires.records
-    (c.deref_mut.ensures.value ∙ c.in-Ok-seats_of.ensures) ∙ ap (λ (ms : List Mark). run_calls c.args.script.now c.args.header.now file ms) (sym c.ended.ensures.order)))
+pub returns-clause-run : goal.returns-clause-run
+returns-clause-run g c =
+    let script = c.args.script.now in
+    let before = c.args.disk.now in
+    let after = c.make_calls.new.disk in
+    let cause = c.in-Err-make_calls.ensures.cause in
+    fault_run script c.args.header.now (g.D.Disk.held before) (g.D.Disk.calls before) (g.D.Disk.faults before) (g.D.Disk.held after) (g.D.Disk.calls after) (g.D.Disk.faults after) c.make_calls.new.records
+    c.cut_off.result c.cut_off.ensures.some (subst (λ (ms : List Mark). HasBegun script ms) (sym c.cut_off.ensures.order) c.make_calls.ensures.begun)
+    (λ disk. cause.failed (ap (λ (x : StepErr). Err x) (c.cut_off.ensures.disk disk).0)) cause.later
 
 pub returns-in-Err-clause-cut : goal.returns-in-Err-clause-cut
 returns-in-Err-clause-cut g c e is =

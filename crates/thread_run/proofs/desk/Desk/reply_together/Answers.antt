@@ -8,9 +8,10 @@ use Rattle.serial_spec.specs.Desk.{offers_held}
 use Rattle.serial_spec.specs.RankSide.{wanted}
 use Rattle.collective_round.specs.Rounds.{setting}
 use Rattle.turn_run.specs.Counts.{IsRise}
+use Rattle.join_laws.proofs.StepLaws.{offers_long}
 use Rattle.thread_run.specs.Owned.{standing}
 use Rattle.turn_run.specs.Steps.{IsJob}
-use Rattle.thread_run.proofs.HeldLaws.{held_job, held_long, held_low, held_once, held_rise, steady_freed}
+use Rattle.thread_run.proofs.HeldLaws.{held_job, held_low, held_once, held_rise, steady_freed}
 use Rattle.thread_run.proofs.TogetherSteps.{together}
 use Rattle.thread_run.proofs.desk.Desk.reply_together.Goals as goal
 
@@ -24,7 +25,7 @@ pub reply_all-requires : goal.reply_all-requires
 reply_all-requires g c =
     sym (length-map c.in_ok-pair.table (λ (blobs : List (List ℕ)). map (λ blob. length blob) blobs)) ∙ ap (λ (xs : List (List ℕ)). length xs) c.in_ok-pair.ensures.fits
     ∙ length-map c.in_ok-job.job.batches (λ (b : Batch). map (wanted c.args.header.now) b.gets) ∙ ap (λ (bs : List Batch). length bs) c.in_ok-job.ensures.batches
-    ∙ length-map (offers_held c.args.self.now.seats.items) (λ (o : Offer). o.batch) ∙ held_long c.args.self.now.seats.items c.requires.all ∙ sym c.requires.steady.one_each
+    ∙ length-map (offers_held c.args.self.now.seats.items) (λ (o : Offer). o.batch) ∙ offers_long c.args.self.now.seats.items c.requires.all ∙ sym c.requires.steady.one_each
 
 pub returns-clause-done : goal.returns-clause-done
 returns-clause-done g c =

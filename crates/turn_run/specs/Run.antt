@@ -1,0 +1,31 @@
+-- What a run of all ranks tells, in turn or on threads. (own)
+--     IsRun script header held done faults left made failed count end
+--         The run found the bytes `held` and the device calls `done`, where the disk tells them, and `faults` faults. It left the bytes `left`, the
+--         device calls `made`, `failed` faults and the record count `count`. Without a fault its order is one of the script's histories, and all the
+--         rest is that of the serial run along it. With one, the order begins as the ranks' calls do.
+use Rattle.std.specs.Prelude.{◌≡◌, ℕ, ◌≤◌, List, true, IfSome, None, Option, Some}
+use Rattle.nc_base.specs.declared.header.Header.{Header}
+use Rattle.nc_base.specs.declared.run.RunEnd.{RunEnd}
+use Rattle.nc_base.specs.declared.script.Script.{Script}
+use Rattle.nc_base.specs.declared.step.DiskCall.{DiskCall}
+use Rattle.nc_base.specs.declared.step.StepErr.TheVariants.{Disk}
+use Rattle.nc_outside.specs.Cause.{Rose}
+use Rattle.nc_outside.specs.Told.{with_end}
+use Rattle.serial_spec.specs.DeviceCalls.{run_calls}
+use Rattle.serial_spec.specs.HeaderGrammar.{is_sound}
+use Rattle.serial_spec.specs.History.{IsLegal}
+use Rattle.serial_spec.specs.SerialEnd.{serial_from}
+use Rattle.turn_run.specs.Begun.{HasBegun}
+
+pub record IsRun (script : Script) (header : Header) (held : Option (List ℕ)) (done : Option (List DiskCall)) (faults : ℕ)
+    (left : Option (List ℕ)) (made : Option (List DiskCall)) (failed count : ℕ) (end : RunEnd) : Type 0 where
+  pub legal : end.fault ≡ None → IsLegal script end.order
+  pub bytes : end.fault ≡ None → IfSome held (λ file. left ≡ Some (serial_from script header file end.order).bytes)
+  pub records : end.fault ≡ None → IfSome held (λ file. count ≡ (serial_from script header file end.order).records)
+  pub answers : end.fault ≡ None → IfSome held (λ file. end.answers ≡ (serial_from script header file end.order).answers)
+  pub pending : end.fault ≡ None → IfSome held (λ file. end.pending ≡ (serial_from script header file end.order).pending)
+  pub calls : end.fault ≡ None → IfSome held (λ file. made ≡ with_end done (run_calls script header file end.order))
+  pub sound : end.fault ≡ None → is_sound (record header { records = count }) ≡ true
+  pub begun : HasBegun script end.order
+  pub fault : end.fault ≡ Some Disk → Rose faults failed
+  pub later : faults ≤ failed
