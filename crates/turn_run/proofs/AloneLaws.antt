@@ -31,12 +31,12 @@ use Rattle.run_laws.specs.Ways.{IsOnWay}
 use Rattle.run_laws.proofs.CallLaws.{hears_keeps, solo_keeps}
 use Rattle.turn_run.specs.Counts.{IsAsked}
 use Rattle.turn_run.specs.Seated.{asking, between, calls_of, going_of, AsksAlone, HasHeard, IsPlaced, IsPlacedWith, IsSeat}
-use Rattle.run_laws.specs.Arrivals.{offer_at, solo_to, step_calls, step_to, Arrived, Stand}
-use Rattle.turn_run.specs.Stages.{arrived, stage, stand_of, HasGone, IsGrownBy, IsLed, Leads, Stage}
+use Rattle.run_laws.specs.Arrivals.{solo_to, step_calls, step_to, Arrived}
+use Rattle.turn_run.specs.Stages.{arrived, stage, HasGone, IsGrownBy, Leads}
 use Rattle.turn_run.specs.declared.seats.Seat.{Seat}
 use Rattle.turn_run.proofs.ListLaws.{get_set, set_own, set_set}
 use Rattle.turn_run.proofs.SeatLaws.{advance_ended}
-use Rattle.turn_run.proofs.StageLaws.{ended_by_none, led_none, led_then}
+use Rattle.turn_run.proofs.StageLaws.{led_none, led_then}
 
 -- ---- a seat, by the offer that it holds
 
@@ -78,7 +78,7 @@ calls_at : (hints : Hints) (s : Setting) (r n : ℕ) (c : Counted) (ranks : List
 calls_at hints s r n c ranks t o e =
     ap (λ (m : Option Arrived). calls_some hints s r c (offer_some m)) e
 
-step_at : (s : Setting) (r n : ℕ) (c : Counted) (ranks : List Arrived) (t : Going) (o : Offer) → slice_get ranks r ≡ Some (t, Some o)
+pub step_at : (s : Setting) (r n : ℕ) (c : Counted) (ranks : List Arrived) (t : Going) (o : Offer) → slice_get ranks r ≡ Some (t, Some o)
     → step_to s (c, ranks) (Solo r n) ≡ ((solo s r o c).0, set ranks r (advance s.header (hears s.header t (solo s r o c).1)))
 step_at s r n c ranks t o e = ap (λ (m : Option Arrived). elim m [ None ↦ (c, ranks) | Some a ↦ solo_to s r c ranks a ]) e
 

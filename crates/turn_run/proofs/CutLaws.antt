@@ -1,21 +1,21 @@
 -- A run that was cut off, step by step.
-use Rattle.std.proofs.Common.{◌≡◌, ℕ, ◌+◌, ◌<◌, refl, sym, ◌∙◌, ap, subst, inl, inr, ◌⊎◌, List, [], ◌∷◌, ◌++◌, length, set, Bool, true, false, Option, Some, None, Result, Ok, Err, append_assoc, arith}
+use Rattle.std.proofs.Common.{◌≡◌, ℕ, ◌<◌, refl, sym, ◌∙◌, ap, subst, inl, List, [], ◌∷◌, ◌++◌, set, Bool, true, Option, Some, None, Result, Err, append_assoc, arith}
 use Rattle.std.proofs.lemmas.Grind.{fold-append}
 use Rattle.std.proofs.lemmas.List.{append-nil}
 use Rattle.std.proofs.lemmas.Bool.Decides.{nat_tests}
-use Rattle.std.specs.Prelude.{slice_get, fold, filter, ◌==◌, ◌&&◌, IfSome}
+use Rattle.std.specs.Prelude.{slice_get, fold, ◌==◌, ◌&&◌, IfSome}
 use Rattle.std.specs.Int.{byte_len}
 use Rattle.nc_base.specs.declared.script.Hints.{Hints}
 use Rattle.nc_base.specs.declared.script.Script.{Script}
 use Rattle.nc_base.specs.declared.step.Mark.{Mark}
-use Rattle.nc_base.specs.declared.step.Mark.TheVariants.{Meet, Solo}
+use Rattle.nc_base.specs.declared.step.Mark.TheVariants.{Solo}
 use Rattle.nc_base.specs.declared.step.Offer.{Offer}
 use Rattle.nc_base.specs.declared.step.StepErr.{StepErr}
 use Rattle.nc_base.specs.declared.step.StepErr.TheVariants.{Memory}
 use Rattle.nc_outside.specs.Told.{after, BothTold}
 use Rattle.serial_spec.specs.FileStep.{Setting, Counted, puts_of, solo}
 use Rattle.serial_spec.specs.HeaderGrammar.{count_width}
-use Rattle.serial_spec.specs.SerialEnd.{Going, advance, hears}
+use Rattle.serial_spec.specs.SerialEnd.{Going}
 use Rattle.serial_spec.specs.SharedByte.{covered}
 use Rattle.serial_spec.specs.Torn.{IsTorn, IsLeft}
 use Rattle.collective_round.specs.Rounds.{counted}
@@ -26,8 +26,8 @@ use Rattle.serial_spec.specs.Lawful.{is_lawful}
 use Rattle.run_laws.specs.Standing.{is_solo_of}
 use Rattle.join_laws.proofs.Completing.{completed_by}
 use Rattle.turn_run.specs.Seated.{AreSeats}
-use Rattle.run_laws.specs.Arrivals.{Arrived, Stand, offer_at, step_to, solo_to}
-use Rattle.turn_run.specs.Stages.{Stage, Leads, IsLed, HasGone, IsGrownBy, stage, stand_of}
+use Rattle.run_laws.specs.Arrivals.{Arrived, Stand, step_to, solo_to}
+use Rattle.turn_run.specs.Stages.{Stage, Leads, IsLed, HasGone, IsGrownBy, stage}
 use Rattle.turn_run.specs.Cuts.{StopsAt, HasStopped, MayFollow, IsNext, bytes_at}
 use Rattle.turn_run.specs.declared.seats.Seat.{Seat}
 use Rattle.turn_run.proofs.ListLaws.{get_set}

@@ -1,8 +1,7 @@
 -- A meeting that was cut off.
 use Rattle.std.proofs.Common.{◌≡◌, ℕ, ◌+◌, ◌<◌, ◌≤◌, refl, sym, ◌∙◌, ap, subst, inl, inr, ◌⊎◌, List, [], ◌∷◌, ◌++◌, length, max, Bool, true, false, cond, Option, Some, None, arith}
 use Rattle.std.proofs.lemmas.List.{append-nil}
-use Rattle.std.proofs.lemmas.Bool.Decides.{nat_tests}
-use Rattle.std.specs.Prelude.{fold, flat_map, nat_lt, ◌==◌, IfSome, if◌then◌else◌}
+use Rattle.std.specs.Prelude.{flat_map, nat_lt, ◌==◌, IfSome, if◌then◌else◌}
 use Rattle.std.specs.List.{enumerate_from, list_any}
 use Rattle.std.specs.Int.{byte_len}
 use borrow.Author.Tests.{ltb-true, ltb-false}
@@ -35,7 +34,7 @@ use Rattle.turn_run.specs.Seated.{AreSeats, HaveArrived, HaveMet}
 use Rattle.turn_run.proofs.MeetDone.{begun_after}
 use Rattle.turn_run.specs.Cuts.{StopsAt, HasStopped, IsNext, bytes_at}
 use Rattle.turn_run.specs.Cuts.StopsAt.{in_step, between}
-use Rattle.run_laws.specs.Arrivals.{Stand, step_to}
+use Rattle.run_laws.specs.Arrivals.{step_to}
 use Rattle.turn_run.specs.Stages.{arrived_all}
 use Rattle.turn_run.specs.Steps.{batches_of, held_offers, known_of, met}
 use Rattle.turn_run.specs.declared.seats.Seat.{Seat}
@@ -118,7 +117,7 @@ raised_kept s c n x h = by_test (nat_lt c.records n) h
     by_test true (inl l) = at-written_before c.file (count s.header.version n) 4 x l
     by_test true (inr l) = counted_past s.header.version n c.file x l
 
-met_torn : (s : Setting) (batches : List Batch) (r known : ℕ) (old : List ℕ)
+pub met_torn : (s : Setting) (batches : List Batch) (r known : ℕ) (old : List ℕ)
     → IsTorn (covered s.header (puts_in batches)) (byte_len (count_width s.header.version)) old (met s batches known (counted old r)).file (met s batches known (counted old r)).file
 met_torn s batches r known old =
     torn_by (covered s.header (puts_in batches)) (field_of s) old (met s batches known (counted old r)).file (met s batches known (counted old r)).file
@@ -222,7 +221,7 @@ bytes_meet s calls seats batches k l hold e =
     sym (ap (λ (os : List Offer). covered s.header (flat_map puts_of (enumerate_from 0 os))) (offers_are s.header calls seats l hold)
     ∙ ap (λ (ps : Puts). covered s.header ps) (puts_same 0 (held_offers seats)) ∙ ap (λ (bs : List Batch). covered s.header (puts_in bs)) (sym e))
 
-met_count : (s : Setting) (batches : List Batch) (known : ℕ) (file : List ℕ) (r : ℕ) → (met s batches known (counted file r)).records ≡ max r (max (needed_now s (puts_in batches)) known)
+pub met_count : (s : Setting) (batches : List Batch) (known : ℕ) (file : List ℕ) (r : ℕ) → (met s batches known (counted file r)).records ≡ max r (max (needed_now s (puts_in batches)) known)
 met_count s batches known file r = raised_records s (laid s (puts_in batches) file r) (max (needed_now s (puts_in batches)) known)
 
 pub stopped_meet : (F : Mark → Type 0) (s : Setting) (fault : StepErr) (k : ℕ) (before now : List Mark) (held left : Option (List ℕ)) (calls : List (List Call)) (seats : List Seat)

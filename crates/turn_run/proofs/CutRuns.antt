@@ -1,12 +1,11 @@
 -- A run in turn that was cut off, from its first stage on.
-use Rattle.std.proofs.Common.{◌≡◌, ℕ, refl, sym, ◌∙◌, ap, subst, inl, inr, ◌⊎◌, List, [], ◌∷◌, ◌++◌, length, map, max, Bool, true, false, cond, Option, Some, None, Result, Ok, Err, arith}
+use Rattle.std.proofs.Common.{◌≡◌, ℕ, refl, sym, ◌∙◌, ap, subst, inl, inr, ◌⊎◌, List, [], ◌++◌, length, map, Bool, true, false, cond, Option, Some, None, arith}
 use Rattle.std.specs.Prelude.{slice_get, fold, nat_lt, IfSome}
 use Rattle.std.proofs.Common.{replicate}
+use Rattle.std.proofs.lemmas.List.{length-map, length-replicate}
 use Rattle.std.specs.Int.{byte_len}
 use Rattle.nc_base.specs.declared.answer.Answer.{Answer}
 use Rattle.nc_base.specs.declared.header.Header.{Header}
-use Rattle.nc_base.specs.declared.request.Call.{Call}
-use Rattle.nc_base.specs.declared.script.Hints.{Hints}
 use Rattle.nc_base.specs.declared.script.Script.{Script}
 use Rattle.nc_base.specs.declared.step.DiskCall.{DiskCall}
 use Rattle.nc_base.specs.declared.step.Mark.{Mark}
@@ -22,27 +21,29 @@ use Rattle.serial_spec.specs.Lawful.{is_lawful}
 use Rattle.serial_spec.specs.Layout.{greatest}
 use Rattle.serial_spec.specs.Records.{with_records}
 use Rattle.serial_spec.specs.RankMachine as machine
-use Rattle.serial_spec.specs.SerialEnd.{Going, End, advance, after_mark, closed, first_state, setting_of, state_after}
+use Rattle.serial_spec.specs.SerialEnd.{Going, advance, after_mark, closed, first_going, first_state, setting_of, state_after}
 use Rattle.serial_spec.specs.SharedByte.{covered}
-use Rattle.serial_spec.specs.Torn.{IsTorn, IsLeft, StoodAt, bytes_of_mark}
+use Rattle.serial_spec.specs.Torn.{IsTorn, IsLeft, StoodAt, IsCutRun, HasAnswers, HasAnswersOfEach, bytes_of_mark}
 use Rattle.serial_spec.specs.Torn.StoodAt.{in_step as stood_step, in_close as stood_close, between as stood_between}
 use Rattle.collective_round.specs.Rounds.{as_setting, counted}
 use Rattle.collective_round.proofs.TornLaws.{raised_grows, torn_by}
+use Rattle.run_laws.proofs.LawfulLaws.{ranks_lawful}
 use Rattle.run_laws.specs.Standing.{close_by}
 use Rattle.join_laws.proofs.Completing.{completed}
 use Rattle.turn_run.specs.Begun.{HasBegun}
 use Rattle.turn_run.specs.Cuts.{StopsAt, HasStopped, EndsAt, IsNext, bytes_at, closed_at}
 use Rattle.turn_run.specs.Cuts.StopsAt.{in_step, between}
 use Rattle.turn_run.specs.Cuts.EndsAt.{before_close, in_close}
-use Rattle.run_laws.specs.Arrivals.{Arrived, Stand, offer_at, step_to}
-use Rattle.turn_run.specs.Stages.{Stage, HasLed, IsLed, Leads, arrived_all, stage}
+use Rattle.run_laws.specs.Arrivals.{Arrived, Stand, step_to}
+use Rattle.turn_run.specs.Stages.{HasLed, IsLed, Leads, arrived_all, stage}
+use Rattle.turn_run.specs.Said.{all_between, HaveAnswers}
 use Rattle.turn_run.specs.Steps.{first_seat, most_known}
 use Rattle.turn_run.specs.declared.seats.Seat.{Seat}
 use Rattle.turn_run.proofs.CutMeet.{raised_kept}
-use Rattle.turn_run.proofs.ListLaws.{get_map, get_map_none, map_map}
+use Rattle.turn_run.proofs.ListLaws.{get_map, get_map_none, get_mapped, map_map}
 use Rattle.turn_run.proofs.StageLaws.{gone_up, mark_up, marks_up}
 use Rattle.turn_run.proofs.TurnEnds.{AreOver, map_ended}
-use Rattle.turn_run.proofs.TurnRuns.{first_stage, none_begun}
+use Rattle.turn_run.proofs.TurnRuns.{first_goings, first_stage, none_begun}
 
 abbrev Ends : Script → Setting → StepErr → Option (List ℕ) → ℕ → List Arrived → List Mark → Option (List ℕ) → ℕ → Type 0
 Ends script s e held records ranks order left count =
@@ -191,6 +192,95 @@ stood_first script header e order (Some file) left records count lawful memory n
   subst (λ (ms : List Mark). StoodAt script (setting_of script header) e (state_after script header file ms) ms file count) (sym none)
       (let b = none_begun script in let c = completed script [] lawful b.known_ranks b.each_rank in stood_between c.0 c.1 memory refl (k ∙ first)),
 )
+
+-- the answers that are left
+pub cut_answers : (script : Script) (header : Header) (e x : StepErr) (records : ℕ) (first last : List Seat) (before order : List Mark) (file : List ℕ) (answers : List (List Answer))
+    → is_lawful script ≡ true → records ≡ header.records → first ≡ replicate script.ranks (first_seat header records) → before ≡ [] → (e ≡ x) ⊎ (e ≡ fault.Memory)
+    → HaveAnswers (setting_of script header) x before order (Some file) records (all_between script.calls first) last → (answers ≡ map (λ seat. seat.answers) last) ⊎ (answers ≡ [])
+    → (r : ℕ) (g : Going) (own : List Answer) → slice_get (state_after script header file order).1 r ≡ Some g → slice_get answers r ≡ Some own → HasAnswers header e g own
+cut_answers script header e x records first last before order file answers lawful count all none which h are r g own at is = by_answers are
+  where
+    s : Setting
+    s = setting_of script header
+
+    all_marks : h.more ≡ order
+    all_marks = sym (h.grown ∙ ap (λ (ms : List Mark). ms ++ h.more) none)
+
+    goings : all_between script.calls first ≡ map (first_going header) script.calls
+    goings =
+        ap (λ (ss : List Seat). all_between script.calls ss) all
+        ∙ ap (λ (n : ℕ). all_between script.calls (replicate n (first_seat header records))) (sym (ranks_lawful script lawful).one_each) ∙ first_goings header records script.calls count
+
+    state : fold (after_mark s) (counted file records, all_between script.calls first) h.more ≡ state_after script header file order
+    state =
+        ap (λ (ms : List Mark). fold (after_mark s) (counted file records, all_between script.calls first) ms) all_marks
+        ∙ (λ i. fold (after_mark s) (counted file (count i), goings i) order)
+
+    by_cause : (e ≡ x) ⊎ (e ≡ fault.Memory) → (seat : Seat) → HasAnswers header x g seat.answers → HasAnswers header e g seat.answers
+    by_cause (inl q) seat k = subst (λ (y : StepErr). HasAnswers header y g seat.answers) (sym q) k
+    by_cause (inr q) seat k = subst (λ (y : StepErr). HasAnswers header y g seat.answers) (sym q) (k.0, tt)
+
+    by_answers : (answers ≡ map (λ seat. seat.answers) last) ⊎ (answers ≡ []) → HasAnswers header e g own
+    by_answers (inl q) =
+        let seat = get_mapped (λ (seat : Seat). seat.answers) last r own (ap (λ (table : List (List Answer)). slice_get table r) (sym q) ∙ is) in
+        subst (λ (xs : List Answer). HasAnswers header e g xs) seat.1.1
+        (by_cause which seat.0 (h.said r g seat.0 (ap (λ (st : Counted × List Going). slice_get st.1 r) state ∙ at) seat.1.0))
+    by_answers (inr q) = no_row (ap (λ (table : List (List Answer)). slice_get table r) (sym q) ∙ is)
+      where
+        no_row : None ≡ Some own → HasAnswers header e g own
+        no_row k = absurd cc
+
+-- as many rows as ranks
+pub cut_rows : (script : Script) (e : StepErr) (last : List Seat) (answers : List (List Answer)) → length last ≡ length script.calls
+    → (e ≡ fault.Disk → answers ≡ map (λ seat. seat.answers) last) → (answers ≡ map (λ seat. seat.answers) last) ⊎ (answers ≡ []) → HasAnswersOfEach e script answers
+cut_rows script fault.Disk last answers long disk are = let k = ap (λ (table : List (List Answer)). length table) (disk refl) in let l = length-map last (λ (seat : Seat). seat.answers) in omega arith
+cut_rows script fault.Memory last answers long disk (inl q) = let k = ap (λ (table : List (List Answer)). length table) q in let l = length-map last (λ (seat : Seat). seat.answers) in omega arith
+cut_rows script fault.Memory last answers long disk (inr q) = let k = ap (λ (table : List (List Answer)). length table) q in omega arith
+
+-- of a run that stood there, with these answers
+pub cut_run : (script : Script) (header : Header) (e : StepErr) (order : List Mark) (held left : Option (List ℕ)) (count : ℕ) (answers : List (List Answer)) → HasAnswersOfEach e script answers
+    → ((file : List ℕ) → held ≡ Some file → (r : ℕ) (g : Going) (own : List Answer) → slice_get (state_after script header file order).1 r ≡ Some g → slice_get answers r ≡ Some own → HasAnswers header e g own)
+    → IfSome held (λ file. (bytes : List ℕ) × (left ≡ Some bytes) × StoodAt script (setting_of script header) e (state_after script header file order) order bytes count)
+    → IfSome held (λ file. (bytes : List ℕ) × (left ≡ Some bytes) × IsCutRun script header file e order bytes count answers)
+cut_run script header e order held left count answers rows some h = by_held held some h
+  where
+    by_held : (m : Option (List ℕ))
+        → ((file : List ℕ) → m ≡ Some file → (r : ℕ) (g : Going) (own : List Answer) → slice_get (state_after script header file order).1 r ≡ Some g → slice_get answers r ≡ Some own → HasAnswers header e g own)
+        → IfSome m (λ file. (bytes : List ℕ) × (left ≡ Some bytes) × StoodAt script (setting_of script header) e (state_after script header file order) order bytes count)
+        → IfSome m (λ file. (bytes : List ℕ) × (left ≡ Some bytes) × IsCutRun script header file e order bytes count answers)
+    by_held None f k = tt
+    by_held (Some file) f k = (k.0, k.1, record { stood = k.2; each_rank = rows; some_answers = f file refl })
+
+pub answers_as : (s : Setting) (fault : StepErr) (before order same : List Mark) (held now : Option (List ℕ)) (records : ℕ) (goings : List Going) (seats : List Seat) → held ≡ now → same ≡ order
+    → HaveAnswers s fault before order held records goings seats → HaveAnswers s fault before same now records goings seats
+answers_as s fault before order same held now records goings seats e f h =
+    subst (λ (ms : List Mark). HaveAnswers s fault before ms now records goings seats) (sym f) (subst (λ (m : Option (List ℕ)). HaveAnswers s fault before order m records goings seats) e h)
+
+pub first_long : (script : Script) → length script.calls ≡ script.ranks → (header : Header) (records : ℕ) (seats last : List Seat) → seats ≡ replicate script.ranks (first_seat header records) → length last ≡ length seats
+    → length last ≡ length script.calls
+first_long script one header records seats last e l = l ∙ ap (λ (ss : List Seat). length ss) e ∙ length-replicate script.ranks (first_seat header records) ∙ sym one
+
+pub rows_as : (answers table same : List (List Answer)) → table ≡ same → (answers ≡ table) ⊎ (answers ≡ []) → (answers ≡ same) ⊎ (answers ≡ [])
+rows_as answers table same e (inl q) = inl (q ∙ e)
+rows_as answers table same e (inr q) = inr q
+
+pub ended_memory : (e : StepErr) (m : Option StepErr) → m ≡ Some e → (m ≡ Some fault.Disk → ⊥) → e ≡ fault.Memory
+ended_memory fault.Memory m h f = refl
+ended_memory fault.Disk m h f = absurd (f h)
+
+pub no_answers : (script : Script) (header : Header) (e : StepErr) (order : List Mark) (file : List ℕ) (answers : List (List Answer)) → answers ≡ []
+    → (r : ℕ) (g : Going) (own : List Answer) → slice_get (state_after script header file order).1 r ≡ Some g → slice_get answers r ≡ Some own → HasAnswers header e g own
+no_answers script header e order file answers none r g own at is = absurd (no_row (ap (λ (table : List (List Answer)). slice_get table r) (sym none) ∙ is))
+  where
+    no_row : ◌≡◌ {A = Option (List Answer)} None (Some own) → ⊥
+    no_row k = cc
+
+pub no_rows : (script : Script) (e : StepErr) (answers : List (List Answer)) → e ≡ fault.Memory → answers ≡ [] → HasAnswersOfEach e script answers
+no_rows script fault.Memory answers memory none = let k = ap (λ (table : List (List Answer)). length table) none in omega arith
+no_rows script fault.Disk answers memory none = absurd (not_memory memory)
+  where
+    not_memory : fault.Disk ≡ fault.Memory → ⊥
+    not_memory k = cc
 
 -- want of memory may follow another fault
 pub ends_as : (script : Script) (s : Setting) (x e : StepErr) (held : Option (List ℕ)) (records : ℕ) (ranks : List Arrived) (order same : List Mark) (left : Option (List ℕ)) (count : ℕ)

@@ -24,3 +24,5 @@ pub mod CutLaws
 pub mod CutMeet
 pub mod CutEnds
 pub mod CutRuns
+pub mod SaidLaws
+pub mod SaidMeet

@@ -71,7 +71,7 @@ to_hear script header len order seats mid batches table all met come freed e f r
 
 -- ---- one rank after the meeting
 
-heard_before : (m a b : Seat) (reply : Reply) → m.rank ≡ a.rank → m.answers ≡ a.answers → HasHeard m b reply → HasHeard a b reply
+pub heard_before : (m a b : Seat) (reply : Reply) → m.rank ≡ a.rank → m.answers ≡ a.answers → HasHeard m b reply → HasHeard a b reply
 heard_before m a b reply e f h = record {
   answer = h.answer;
   heard = h.heard ∙ ap (λ (k : Ranked). hear k.header k.state reply) e;

@@ -23,8 +23,7 @@ use Rattle.serial_spec.specs.SharedByte.{bytes_of, holdings, Holding, IsOwnOnce,
 use Rattle.run_laws.specs.Ways.{IsOnWay}
 use Rattle.run_laws.proofs.LawfulLaws.{ranks_lawful}
 use Rattle.run_laws.proofs.TogetherLaws.{together_kind}
-use Rattle.rank_core.specs.Offered.{IsSoundOffer}
-use Rattle.collective_round.specs.Rounds.{gets_in, posts_in, puts_in, puts_of_batch, AreGets, ArePuts, IsGet, IsPut}
+use Rattle.collective_round.specs.Rounds.{gets_in, posts_in, puts_of_batch, AreGets, ArePuts, IsGet, IsPut}
 use Rattle.turn_run.specs.Counts.{raises, IsAsked, IsCount, IsFit, IsRise}
 use Rattle.turn_run.specs.Seated.{asking, calls_of, going_of, AreSeats, HaveArrived, HaveMet, IsMet, IsPlaced, IsPlacedWith}
 use Rattle.turn_run.specs.Steps.{batches_of, held_offers, known_of, IsJob, IsOneRise}

@@ -1,8 +1,7 @@
 -- How the rank of a seat goes on.
-use Rattle.std.proofs.Common.{◌≡◌, ℕ, zero, suc, ◌+◌, ◌*◌, ◌^◌, ◌<◌, ◌≤◌, refl, sym, ◌∙◌, ap, subst, List, [], ◌∷◌, ◌++◌, length, map, set, drop, get_or, Bool, true, false, Option, Some, None, length-append, append_assoc, arith}
+use Rattle.std.proofs.Common.{◌≡◌, ℕ, suc, ◌+◌, ◌^◌, ◌<◌, ◌≤◌, refl, sym, ◌∙◌, ap, subst, List, [], ◌∷◌, ◌++◌, length, drop, get_or, true, false, Option, Some, None, length-append, append_assoc, arith}
 use Rattle.std.proofs.lemmas.List.{append-nil}
-use Rattle.std.specs.Prelude.{slice_get, IfSome, is_some, filter}
-use Rattle.std.specs.List.{list_all}
+use Rattle.std.specs.Prelude.{slice_get, filter}
 use Rattle.nc_base.specs.declared.header.Header.{Header}
 use Rattle.nc_base.specs.declared.request.Call.{Call}
 use Rattle.nc_base.specs.declared.answer.Answer.{Answer}
@@ -16,7 +15,7 @@ use Rattle.nc_base.specs.declared.step.Reply.{Reply}
 use Rattle.nc_base.specs.declared.step.Want.{Want}
 use Rattle.nc_base.specs.declared.step.Want.TheVariants as want
 use Rattle.serial_spec.specs.History.{concerns, marks}
-use Rattle.serial_spec.specs.Lawful.{most_calls, most_parts}
+use Rattle.serial_spec.specs.Lawful.{most_parts}
 use Rattle.serial_spec.specs.RankMachine as machine
 use Rattle.serial_spec.specs.RankMachine.{step, hear}
 use Rattle.serial_spec.specs.SerialEnd.{Going, go, advance, hears}
@@ -28,8 +27,7 @@ use Rattle.run_laws.proofs.CallLaws.{meets_keeps, says_at, solo_keeps}
 use Rattle.run_laws.proofs.StandingLaws.{comes_on, comes_to_meeting, comes_to_solo}
 use Rattle.run_laws.proofs.WayLaws.{way_answers, way_meets, way_solo}
 use Rattle.turn_run.specs.Counts.{raises, IsAsked}
-use Rattle.turn_run.specs.Seated.{asking, between, going_of, AsksAlone, HasHeard, IsPlaced, IsPlacedWith, IsSeat}
-use Rattle.turn_run.specs.Stages.{arrived}
+use Rattle.turn_run.specs.Seated.{asking, between, AsksAlone, HasHeard, IsPlaced, IsPlacedWith}
 use Rattle.turn_run.specs.declared.seats.Seat.{Seat}
 use Rattle.turn_run.proofs.ListLaws.{drop_get, get_read}
 use Rattle.turn_run.proofs.QuietLaws.{meets_quiet}

@@ -1,9 +1,8 @@
 -- Stages: what ranks that have gone up to their next offers have of the serial run, and steps one after another.
-use Rattle.std.proofs.Common.{◌≡◌, ℕ, zero, suc, ◌+◌, ◌<◌, ◌≤◌, refl, sym, ◌∙◌, ap, subst, List, [], ◌∷◌, ◌++◌, length, map, set, drop, replicate, true, Option, Some, None, append_assoc, arith}
+use Rattle.std.proofs.Common.{◌≡◌, ℕ, refl, sym, ◌∙◌, ap, subst, List, [], ◌∷◌, ◌++◌, length, map, set, replicate, Option, Some, None, append_assoc}
 use Rattle.std.proofs.lemmas.List.{append-nil}
 use Rattle.std.proofs.lemmas.Grind.{fold-append}
 use Rattle.std.specs.Prelude.{slice_get, zip, nat_lt, fold, IfSome}
-use Rattle.std.specs.List.{list_all}
 use Rattle.nc_base.specs.declared.header.Header.{Header}
 use Rattle.nc_base.specs.declared.request.Call.{Call}
 use Rattle.nc_base.specs.declared.script.Hints.{Hints}
@@ -12,20 +11,16 @@ use Rattle.nc_base.specs.declared.step.Mark.{Mark}
 use Rattle.nc_base.specs.declared.step.Mark.TheVariants.{Meet, Solo}
 use Rattle.nc_base.specs.declared.step.DiskCall.{DiskCall}
 use Rattle.nc_base.specs.declared.step.Offer.{Offer}
-use Rattle.nc_base.specs.declared.step.Reply.{Reply}
 use Rattle.nc_outside.specs.Told.{with_end}
-use Rattle.serial_spec.specs.FileStep.{Setting, Counted, meeting, solo}
-use Rattle.serial_spec.specs.DeviceCalls.{mark_calls, store_records, calls_from, run_calls, meeting_calls, solo_calls}
-use Rattle.serial_spec.specs.RankMachine.{pending}
-use Rattle.serial_spec.specs.SerialEnd.{Going, End, setting_of, first_going, first_state, state_after, after_mark, after_solo, solo_of, hears, advance, offers_of, closed, serial_from}
-use Rattle.collective_round.specs.Rounds.{counted}
-use Rattle.run_laws.specs.Standing.{calls_so_far, close_by, is_solo_of}
+use Rattle.serial_spec.specs.FileStep.{Setting, Counted, meeting}
+use Rattle.serial_spec.specs.DeviceCalls.{mark_calls, store_records, run_calls, solo_calls}
+use Rattle.serial_spec.specs.SerialEnd.{Going, setting_of, first_going, first_state, state_after, after_mark, solo_of, hears, advance, offers_of, closed, serial_from}
+use Rattle.run_laws.specs.Standing.{calls_so_far, close_by}
 use Rattle.run_laws.proofs.OrderLaws.{calls_close}
-use Rattle.run_laws.specs.Arrivals.{calls_over, heard, offer_at, solo_to, step_calls, step_to, Arrived, Stand, all_calls_over, ended_from}
-use Rattle.turn_run.specs.Stages.{arrived, arrived_all, stage, stand_of, HasGone, HasLed, IsLed, Leads, Stage}
+use Rattle.run_laws.specs.Arrivals.{calls_over, solo_to, step_calls, step_to, Arrived, Stand, all_calls_over, ended_from}
+use Rattle.turn_run.specs.Stages.{arrived, arrived_all, stand_of, HasLed, IsLed, Leads, Stage}
 use Rattle.turn_run.specs.Steps.{first_seat}
-use Rattle.turn_run.specs.declared.seats.Seat.{Seat}
-use Rattle.turn_run.proofs.ListLaws.{get_map, get_map_none, map_map, map_set, set_own, set_set}
+use Rattle.turn_run.proofs.ListLaws.{get_map, get_map_none, map_map, map_set}
 
 -- ---- the serial run's ranks, gone up to their next offers
 

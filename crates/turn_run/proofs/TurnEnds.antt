@@ -21,13 +21,13 @@ use Rattle.run_laws.specs.Ways.{meetings, IsOnWay}
 use Rattle.run_laws.proofs.LawfulLaws.{ranks_lawful}
 use Rattle.run_laws.proofs.TogetherLaws.{order_legal, together_all, together_number}
 use Rattle.run_laws.proofs.WayLaws.{meetings_met}
-use Rattle.turn_run.specs.Seated.{asking, between, calls_of, going_of, AreFree, AreSeats, HasArrived, HaveArrived, HaveMet, IsMet, IsPlaced, IsPlacedWith, IsSeat}
+use Rattle.turn_run.specs.Said.{all_between}
+use Rattle.turn_run.specs.Seated.{asking, between, calls_of, going_of, AreFree, AreSeats, HasArrived, HaveArrived, HaveMet, IsMet, IsPlaced, IsPlacedWith}
 use Rattle.run_laws.specs.Arrivals.{Arrived}
 use Rattle.turn_run.specs.Stages.{arrived, arrived_all}
 use Rattle.turn_run.specs.declared.seats.Seat.{Seat}
 use Rattle.turn_run.proofs.ListLaws.{get_there}
 use Rattle.turn_run.proofs.SeatLaws.{advance_ended}
-use Rattle.turn_run.proofs.TurnSteps.{calls_there}
 
 -- ---- a rank that has arrived
 
@@ -132,12 +132,6 @@ met_number before now later n k e f h =
     omega arith
 
 -- ---- the ends
-
--- where each stands between two calls
-abbrev pub all_between : List (List Call) → List Seat → List Going
-all_between [] seats = []
-all_between (own ∷ calls) [] = []
-all_between (own ∷ calls) (seat ∷ seats) = between own seat ∷ all_between calls seats
 
 pub long_between : (calls : List (List Call)) (seats : List Seat) → length calls ≡ length seats → length (all_between calls seats) ≡ length seats
 long_between [] [] e = refl

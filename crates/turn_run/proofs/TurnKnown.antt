@@ -1,8 +1,7 @@
 -- The greatest count that ranks know.
-use Rattle.std.proofs.Common.{◌≡◌, ℕ, zero, suc, ◌+◌, ◌<◌, ◌≤◌, refl, sym, ◌∙◌, ap, subst, inl, inr, List, [], ◌∷◌, length, map, take, max, Option, Some, None, Result, Ok, Err, arith}
+use Rattle.std.proofs.Common.{◌≡◌, ℕ, zero, suc, ◌+◌, ◌<◌, refl, sym, ◌∙◌, ap, subst, inl, inr, List, [], ◌∷◌, length, take, max, Some, Result, Ok, Err, arith}
 use Rattle.std.specs.Prelude.{slice_get, slice_index_or, OnOk}
 use Rattle.nc_base.specs.declared.header.Header.{Header}
-use Rattle.serial_spec.specs.Layout.{greatest}
 use Rattle.turn_run.specs.Counts.{IsCount, IsRise}
 use Rattle.turn_run.specs.Steps.{most_known}
 use Rattle.turn_run.specs.declared.seats.Seat.{Seat}

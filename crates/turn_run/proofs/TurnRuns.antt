@@ -2,8 +2,7 @@
 use Rattle.std.proofs.Common.{◌≡◌, ℕ, zero, suc, ◌+◌, ◌<◌, ◌≤◌, refl, sym, ◌∙◌, ap, subst, List, [], ◌∷◌, ◌++◌, length, map, replicate, max, Bool, true, false, cond, Option, Some, None, arith}
 use Rattle.std.proofs.lemmas.List.{length-replicate}
 use Rattle.std.proofs.lemmas.Bool.Decides.{nat_tests}
-use Rattle.std.specs.Prelude.{slice_get, nat_lt, fold, IfSome, filter}
-use Rattle.std.specs.List.{list_all}
+use Rattle.std.specs.Prelude.{slice_get, nat_lt, fold, IfSome}
 use Rattle.nc_base.specs.declared.answer.Answer.{Answer}
 use Rattle.nc_base.specs.declared.header.Header.{Header}
 use Rattle.nc_base.specs.declared.request.Call.{Call}
@@ -15,12 +14,12 @@ use Rattle.nc_outside.specs.Told.{after, with_end}
 use Rattle.serial_spec.specs.DeviceCalls.{run_calls, store_records}
 use Rattle.serial_spec.specs.FileStep.{Setting, Counted, raised}
 use Rattle.serial_spec.specs.HeaderGrammar.{header_len, is_sound}
-use Rattle.serial_spec.specs.History.{concerns, marks}
+use Rattle.serial_spec.specs.History.{marks}
 use Rattle.serial_spec.specs.Lawful.{is_lawful}
 use Rattle.serial_spec.specs.Layout.{end_of, greatest}
 use Rattle.serial_spec.specs.RankMachine as machine
 use Rattle.serial_spec.specs.Records.{with_records}
-use Rattle.serial_spec.specs.SerialEnd.{Going, End, advance, first_going, first_state, serial_from, setting_of}
+use Rattle.serial_spec.specs.SerialEnd.{End, advance, first_going, first_state, serial_from, setting_of}
 use Rattle.collective_round.specs.Rounds.{as_setting, counted}
 use Rattle.run_laws.specs.Standing.{close_by}
 use Rattle.run_laws.specs.Ways.{IsOnWay}
@@ -28,9 +27,10 @@ use Rattle.run_laws.proofs.LawfulLaws.{ranks_lawful}
 use Rattle.run_laws.proofs.WayLaws.{way_begins}
 use Rattle.turn_run.specs.Begun.{HasBegun}
 use Rattle.turn_run.specs.Counts.{IsCount}
+use Rattle.turn_run.specs.Said.{all_between}
 use Rattle.turn_run.specs.Seated.{between, calls_of, AreFree, AreSeats, HaveArrived, IsSeat}
 use Rattle.run_laws.specs.Arrivals.{calls_over, step_to, Arrived, Stand, all_calls_over, ended_from}
-use Rattle.turn_run.specs.Stages.{arrived_all, stage, stand_of, HasLed, IsLed, Leads, Stage}
+use Rattle.turn_run.specs.Stages.{arrived_all, stage, HasLed, IsLed, Leads}
 use Rattle.turn_run.specs.Steps.{first_seat, most_known}
 use Rattle.turn_run.specs.declared.seats.Seat.{Seat}
 use Rattle.turn_run.proofs.ListLaws.{get_long, get_replicate}
@@ -84,6 +84,14 @@ first_free header ranks records seats s r seat f =
     let same : seat ≡ first_seat header records =
     get_replicate ranks r (first_seat header records) seat (ap (λ (ss : List Seat). slice_get ss r) (sym s) ∙ f) in
     ap (λ (x : Seat). x.held) same
+
+pub first_goings : (header : Header) (records : ℕ) (calls : List (List Call)) → records ≡ header.records
+    → all_between calls (replicate (length calls) (first_seat header records)) ≡ map (first_going header) calls
+first_goings header records [] e = refl
+first_goings header records (own ∷ calls) e =
+    let first : between own (first_seat header records) ≡ first_going header own = ap (λ (n : ℕ). between own (first_seat header n)) e in
+    let others = first_goings header records calls e in
+    λ i. first i ∷ others i
 
 pub first_stage : (script : Script) (header : Header) (file : List ℕ) (records : ℕ) (seats : List Seat) → is_lawful script ≡ true → records ≡ header.records
     → seats ≡ replicate script.ranks (first_seat header records)

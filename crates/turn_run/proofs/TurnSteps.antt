@@ -26,14 +26,13 @@ use Rattle.run_laws.proofs.LawfulLaws.{ranks_lawful}
 use Rattle.run_laws.proofs.WayLaws.{way_others}
 use Rattle.turn_run.specs.Begun.{HasBegun}
 use Rattle.turn_run.specs.Counts.{IsCount}
-use Rattle.turn_run.specs.Seated.{calls_of, going_of, AreSeats, AsksAlone, HasArrived, IsPlaced, IsPlacedWith, IsSeat}
+use Rattle.turn_run.specs.Seated.{calls_of, going_of, AreSeats, IsPlaced, IsPlacedWith, IsSeat}
 use Rattle.run_laws.specs.Arrivals.{Arrived}
 use Rattle.turn_run.specs.Stages.{arrived, arrived_all, stage, HasGone, HasLed, IsGrownBy, Leads}
 use Rattle.turn_run.specs.declared.seats.Seat.{Seat}
 use Rattle.turn_run.proofs.CountLaws.{count_longer}
 use Rattle.turn_run.proofs.ListLaws.{get_long, get_set, get_set_other, get_there}
 use Rattle.turn_run.proofs.SeatLaws.{placed_rest, HasRest}
-use Rattle.turn_run.proofs.StageLaws.{has_led_then}
 
 -- ---- solo steps that are added to an order
 

@@ -5,3 +5,4 @@ pub mod Seated
 pub mod Stages
 pub mod Steps
 pub mod Cuts
+pub mod Said

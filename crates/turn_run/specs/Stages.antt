@@ -4,20 +4,16 @@
 --     Leads hints s marks a b   where the bytes are told, the steps of these marks lead from one stage to the other
 --     IsGrownBy r before now    an order to which solo steps of rank r were added
 --     HasGone, HasLed           the steps that were added, of one rank and of all
-use Rattle.std.specs.Prelude.{◌≡◌, ℕ, List, [], ◌∷◌, ◌++◌, map, fold, zip, set, true, Option, Some, None, IfSome, slice_get}
+use Rattle.std.specs.Prelude.{◌≡◌, ℕ, List, [], ◌∷◌, ◌++◌, fold, set, true, Option, Some, None, IfSome, slice_get}
 use Rattle.std.specs.List.{list_all}
 use Rattle.nc_base.specs.declared.header.Header.{Header}
 use Rattle.nc_base.specs.declared.request.Call.{Call}
 use Rattle.nc_base.specs.declared.script.Hints.{Hints}
 use Rattle.nc_base.specs.declared.step.DiskCall.{DiskCall}
 use Rattle.nc_base.specs.declared.step.Mark.{Mark}
-use Rattle.nc_base.specs.declared.step.Mark.TheVariants.{Meet, Solo}
-use Rattle.nc_base.specs.declared.step.Offer.{Offer}
-use Rattle.nc_base.specs.declared.step.Reply.{Reply}
 use Rattle.nc_outside.specs.Told.{with_end}
-use Rattle.serial_spec.specs.DeviceCalls.{meeting_calls, solo_calls}
-use Rattle.serial_spec.specs.FileStep.{Setting, Counted, meeting}
-use Rattle.serial_spec.specs.SerialEnd.{Going, advance, hears, offers_of, solo_of}
+use Rattle.serial_spec.specs.FileStep.{Setting}
+use Rattle.serial_spec.specs.SerialEnd.{advance}
 use Rattle.collective_round.specs.Rounds.{counted}
 use Rattle.run_laws.specs.Arrivals.{Arrived, Stand, calls_over, step_to}
 use Rattle.run_laws.specs.Standing.{is_solo_of}

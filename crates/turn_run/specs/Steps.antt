@@ -6,12 +6,11 @@
 --     IsOneRise ..              it is not both the puts and what the ranks know that raise the count
 --     needed_after ..           the count that puts need, 0 where a pair was told
 --     most_known seats          the greatest count that a rank knows
-use Rattle.std.specs.Prelude.{◌≡◌, ℕ, max, List, [], ◌++◌, ◌⊎◌, map, flat_map, fold, length, nat_lt, None}
+use Rattle.std.specs.Prelude.{◌≡◌, ℕ, max, List, [], ◌++◌, ◌⊎◌, map, flat_map, length, nat_lt, None}
 use Rattle.std.specs.Option.{option_to_list}
 use Rattle.nc_base.specs.declared.plan.Batch.{Batch}
 use Rattle.nc_base.specs.declared.script.Hints.{Hints}
 use Rattle.nc_base.specs.declared.step.DiskCall.{DiskCall}
-use Rattle.nc_base.specs.declared.step.Mark.{Mark}
 use Rattle.nc_base.specs.declared.step.Offer.{Offer}
 use Rattle.serial_spec.specs.Desk.{needed_now}
 use Rattle.serial_spec.specs.DeviceCalls.{collective_windows, get_bytes, loads, put_calls, store_records}
@@ -25,9 +24,7 @@ use Rattle.nc_base.specs.declared.header.Header.{Header}
 use Rattle.nc_base.specs.declared.plan.Post.{Post}
 use Rattle.serial_spec.specs.RankMachine.{new_rank}
 use Rattle.serial_spec.specs.Records.{needed}
-use Rattle.serial_spec.specs.SerialEnd.{End}
 use Rattle.serial_spec.specs.SharedByte.{holdings, IsOwnOnce}
-use Rattle.run_laws.specs.Standing.{close_by}
 use Rattle.turn_run.specs.declared.seats.Seat.{Seat}
 
 abbrev pub held_offers : List Seat → List Offer

@@ -8,8 +8,8 @@ ghost use Rattle.serial_spec.specs.History.{IsLegal};
 ghost use Rattle.serial_spec.specs.Lawful.{is_lawful};
 ghost use Rattle.serial_spec.specs.Layout.{end_of};
 ghost use Rattle.serial_spec.specs.RankMachine as machine;
-ghost use Rattle.serial_spec.specs.SerialEnd.{setting_of, state_after};
-ghost use Rattle.serial_spec.specs.Torn.{StoodAt};
+ghost use Rattle.serial_spec.specs.SerialEnd.{setting_of};
+ghost use Rattle.serial_spec.specs.Torn.{IsCutRun};
 ghost use Rattle.collective_round.specs.Rounds.{counted, HasStepCause};
 ghost use Rattle.rank_core.specs.Indexed.{IsIndexOf};
 ghost use Rattle.run_laws.specs.Ways.{meetings};
@@ -17,6 +17,7 @@ ghost use Rattle.turn_run.specs.Begun.{HasBegun};
 ghost use Rattle.turn_run.specs.Counts.{IsCount};
 ghost use Rattle.turn_run.specs.Cuts.{EndsAt, HasStopped, IsNext};
 ghost use Rattle.turn_run.specs.Run.{IsRun};
+ghost use Rattle.turn_run.specs.Said.{all_between, HaveAnswers};
 ghost use Rattle.turn_run.specs.Seated.{calls_of, AreFree, AreSeats, HaveArrived, HaveMet};
 ghost use Rattle.run_laws.specs.Arrivals.{calls_over, step_to, all_calls_over, ended_from};
 ghost use Rattle.turn_run.specs.Stages.{arrived_all, stage, HasLed};
@@ -51,7 +52,7 @@ pub fn run_in_turn<R: Wait, D: Disk, G: Gate>(
     requires long { end_of header.now (header_len header.now) header.now.records ≤ D.len disk.old }
     ensures run { IsRun script.now header.now (D.held disk.old) (D.calls disk.old) (D.faults disk.old) (D.held disk.new) (D.calls disk.new) (D.faults disk.new) records.new result }
     ensures cut { (e : Fault) → result.fault ≡ Some e → IfSome (D.held disk.old) (λ file. (left : List ℕ) × (D.held disk.new ≡ Some left)
-        × StoodAt script.now (setting_of script.now header.now) e (state_after script.now header.now file result.order) result.order left records.new) }
+        × IsCutRun script.now header.now file e result.order left records.new result.answers) }
 {
     let mut order = MarkList::new(alloc);
     let names = match Names::new(alloc, header) {
@@ -119,6 +120,8 @@ fn make_calls<R: Wait, D: Disk, G: Gate>(
         (fold (step_to (setting_of script.now header.now)) (counted file records.old, arrived_all header.now script.now.calls seats.old) order.new) order.new left records.new)) }
     ensures cut { (e : Fault) → result ≡ Err e → IfSome (D.held disk.old) (λ file. (left : List ℕ) × (D.held disk.new ≡ Some left) × EndsAt script.now (setting_of script.now header.now) e
         (fold (step_to (setting_of script.now header.now)) (counted file records.old, arrived_all header.now script.now.calls seats.old) order.new) order.new left records.new) }
+    ensures answered { (e : Fault) → result ≡ Err e → HaveAnswers (setting_of script.now header.now) e order.old order.new
+        (D.held disk.old) records.old (all_between script.now.calls seats.old) seats.new }
     ensures begun { HasBegun script.now order.new }
     ensures cause { HasStepCause (D.faults disk.old) (D.faults disk.new) result }
 {
@@ -154,6 +157,8 @@ fn hold_meetings<R: Wait, D: Disk, G: Gate>(
         (stage (D.held disk.new) (D.calls disk.new) records.new (arrived_all header.now script.now.calls seats.new))) }
     ensures cut { (e : Fault) → result ≡ Err e → HasStopped (IsNext script.now order.new) (setting_of script.now header.now) e order.old order.new
         (D.held disk.old) records.old (arrived_all header.now script.now.calls seats.old) (D.held disk.new) records.new }
+    ensures answered { (e : Fault) → result ≡ Err e → HaveAnswers (setting_of script.now header.now) e order.old order.new
+        (D.held disk.old) records.old (all_between script.now.calls seats.old) seats.new }
     ensures records { OnOk result (IsCount header.now (D.len disk.new) records.new) }
     ensures begun { HasBegun script.now order.new }
     ensures from { D.from disk.new ≡ 0 }
@@ -196,6 +201,8 @@ fn arrive_all<R: Wait, D: Disk, G: Gate>(
         (stage (D.held disk.new) (D.calls disk.new) records (arrived_all header.now script.now.calls seats.new))) }
     ensures cut { (e : Fault) → result ≡ Err e → (records : ℕ) → HasStopped (IsNext script.now order.new) (setting_of script.now header.now) e order.old order.new
         (D.held disk.old) records (arrived_all header.now script.now.calls seats.old) (D.held disk.new) records }
+    ensures answered { (e : Fault) → result ≡ Err e → (records : ℕ) → HaveAnswers (setting_of script.now header.now) e order.old order.new
+        (D.held disk.old) records (all_between script.now.calls seats.old) seats.new }
     ensures begun { HasBegun script.now order.new }
     ensures from { D.from disk.new ≡ 0 }
     ensures longer { D.len disk.old ≤ D.len disk.new }
@@ -220,6 +227,7 @@ fn ended(alloc: Global, order: MarkList, seats: Vec<Seat>) -> RunEnd
     ensures answers { result.fault ≡ None → result.answers ≡ map (λ seat. seat.answers) seats.entry.items }
     ensures pending { result.fault ≡ None → result.pending ≡ map (λ seat. machine.pending seat.rank.state) seats.entry.items }
     ensures memory { result.fault ≡ Some fault.Disk → ⊥ }
+    ensures none { (e : Fault) → result.fault ≡ Some e → result.answers ≡ [] }
 {
     let pending = match pending_of(alloc, &seats) {
         Ok(pending) => pending,

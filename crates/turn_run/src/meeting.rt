@@ -10,7 +10,7 @@ ghost use Rattle.serial_spec.specs.FileStep.{get_post, known_by, told};
 ghost use Rattle.serial_spec.specs.HeaderGrammar.{count_width, is_sound};
 ghost use Rattle.serial_spec.specs.Lawful.{are_lawful_hints, is_lawful};
 ghost use Rattle.serial_spec.specs.RankSide.{wanted};
-ghost use Rattle.serial_spec.specs.SerialEnd.{setting_of};
+ghost use Rattle.serial_spec.specs.SerialEnd.{advance, after_mark, setting_of, Going};
 ghost use Rattle.serial_spec.specs.SharedByte.{covered, holdings, IsOwnOnce};
 ghost use Rattle.serial_spec.specs.Torn.{IsTorn};
 ghost use Rattle.collective_round.specs.Rounds.{counted, gets_in, puts_in, setting, AreFew, AreGets, ArePuts, HasStepCause};
@@ -18,6 +18,7 @@ ghost use Rattle.run_laws.specs.Ways.{meetings};
 ghost use Rattle.turn_run.specs.Begun.{HasBegun};
 ghost use Rattle.turn_run.specs.Counts.{IsCount, IsRise};
 ghost use Rattle.turn_run.specs.Cuts.{HasStopped, IsNext};
+ghost use Rattle.turn_run.specs.Said.{all_between, AllSay, HasReached, HaveHeardInPart, KeepAnswers};
 ghost use Rattle.turn_run.specs.Seated.{AreFree, AreFreed, IsFreed, AreHeard, AreSeats, AreToHear, HaveArrived, HaveMet};
 ghost use Rattle.turn_run.specs.Stages.{arrived_all, stage, HasLed};
 ghost use Rattle.turn_run.specs.Steps.{batches_of, held_offers, known_of, met, met_calls, IsJob, IsOneRise};
@@ -62,6 +63,10 @@ pub(crate) fn meet<R: Wait, D: Disk, G: Gate>(
         (stage (D.held disk.new) (D.calls disk.new) records.new (arrived_all header.now script.now.calls seats.new))) }
     ensures cut { (e : Fault) → result ≡ Err e → HasStopped (IsNext script.now order.new) (setting_of script.now header.now) e order.old order.new
         (D.held disk.old) records.old (arrived_all header.now script.now.calls seats.old) (D.held disk.new) records.new }
+    ensures answered { (e : Fault) → result ≡ Err e → HasReached (AllSay e seats.new) (setting_of script.now header.now) order.old order.new
+        (D.held disk.old) records.old (arrived_all header.now script.now.calls seats.old) }
+    ensures between { OnOk result ((goings : List Going) → map (advance header.now) goings ≡ arrived_all header.now script.now.calls seats.old
+        → IfSome (D.held disk.old) (λ file. (after_mark (setting_of script.now header.now) (counted file records.old, goings) (mark.Meet (meetings order.old))).1 ≡ all_between script.now.calls seats.new)) }
     ensures records { OnOk result (IsCount header.now (D.len disk.new) records.new) }
     ensures begun { HasBegun script.now order.new }
     ensures from { D.from disk.new ≡ 0 }
@@ -90,6 +95,7 @@ fn take_job(alloc: Global, seats: &mut [Seat]) -> Result<(Job, u64), Memory>
     ensures batches { IfOk result (λ taken. taken.0.batches ≡ batches_of (held_offers seats.old)) }
     ensures known { IfOk result (λ taken. taken.1 ≡ known_of (held_offers seats.old)) }
     ensures freed { OnOk result (AreFreed seats.old seats.new) }
+    ensures kept { KeepAnswers seats.old seats.new }
 {
     let mut batches = Vec::new(alloc);
     let mut known: u64 = 0;
@@ -107,6 +113,7 @@ fn take_job(alloc: Global, seats: &mut [Seat]) -> Result<(Job, u64), Memory>
 /// Takes the offer of a rank into the batches: the count to which it raises that of the file.
 fn take_offer(seat: &mut Seat, batches: &mut Vec<Batch>) -> Result<u64, Memory>
     ensures freed { OnOk result (IsFreed seat.old seat.new) }
+    ensures kept { seat.new.answers ≡ seat.old.answers }
     ensures batches { OnOk result (batches.new.items ≡ batches.old.items ++ batches_of (option_to_list seat.old.held)) }
     ensures known { IfOk result (λ known. known ≡ known_of (option_to_list seat.old.held)) }
 {
@@ -187,7 +194,8 @@ fn hear_all(
 ) -> Result<(), Memory>
     requires long { length table ≡ length seats.old }
     requires fit { AreToHear seats.old table }
-    ensures { OnOk result (AreHeard pair records table seats.old seats.new) }
+    ensures all { OnOk result (AreHeard pair records table seats.old seats.new) }
+    ensures part { OnErr result (HaveHeardInPart pair records table seats.old seats.new) }
 {
     let mut table = table.into_vec();
     for (number, seat) in seats.iter_mut().enumerate() {

@@ -20,6 +20,7 @@ ghost use Rattle.turn_run.specs.Seated.{asking, between, calls_of, going_of, Ask
 ghost use Rattle.run_laws.specs.Arrivals.{Arrived};
 ghost use Rattle.turn_run.specs.Stages.{arrived, HasGone, IsGrownBy};
 ghost use Rattle.turn_run.specs.Cuts.{HasStopped, MayFollow};
+ghost use Rattle.turn_run.specs.Said.{HasReached, SaysAt};
 
 use crate::solo::solo_reply;
 use nc_base::{
@@ -80,6 +81,8 @@ impl<'a> Seat<'a> {
             (arrived header.now (calls_of script.now number) self.old) (arrived header.now (calls_of script.now number) self.new)) }
         ensures cut { (e : Fault) → result ≡ Err e → (records : ℕ) (ranks : List Arrived) → slice_get ranks number ≡ Some (arrived header.now (calls_of script.now number) self.old)
             → HasStopped (MayFollow script.now number order.new) (setting_of script.now header.now) e order.old order.new (D.held disk.old) records ranks (D.held disk.new) records }
+        ensures answered { (e : Fault) → result ≡ Err e → (records : ℕ) (ranks : List Arrived) → slice_get ranks number ≡ Some (arrived header.now (calls_of script.now number) self.old)
+            → HasReached (SaysAt number e self.new.answers) (setting_of script.now header.now) order.old order.new (D.held disk.old) records ranks }
         ensures grown { IsGrownBy number order.old order.new }
         ensures begun { OnErr result ((rest : List Mark) × (filter (concerns number) order.new ++ rest ≡ marks script.now.calls number)) }
         ensures from { D.from disk.new ≡ 0 }
@@ -176,6 +179,8 @@ impl<'a> Seat<'a> {
             (asking (calls_of script.now number) self.old, Some offer) (arrived header.now (calls_of script.now number) self.new)) }
         ensures cut { (e : Fault) → result ≡ Err e → (records : ℕ) (ranks : List Arrived) → slice_get ranks number ≡ Some (asking (calls_of script.now number) self.old, Some offer)
             → HasStopped (MayFollow script.now number order.new) (setting_of script.now header.now) e order.old order.new (D.held disk.old) records ranks (D.held disk.new) records }
+        ensures answered { (e : Fault) → result ≡ Err e → (records : ℕ) (ranks : List Arrived) → slice_get ranks number ≡ Some (asking (calls_of script.now number) self.old, Some offer)
+            → HasReached (SaysAt number e self.new.answers) (setting_of script.now header.now) order.old order.new (D.held disk.old) records ranks }
         ensures grown { IsGrownBy number order.old order.new }
         ensures begun { OnErr result ((rest : List Mark) × (filter (concerns number) order.new ++ rest ≡ marks script.now.calls number)) }
         ensures from { D.from disk.new ≡ 0 }

@@ -1,5 +1,5 @@
 -- The greatest count that a rank knows is one that the header can have.
-use Rattle.std.proofs.Common.{◌≡◌, ℕ, sym, subst}
+use Rattle.std.proofs.Common.{ℕ, sym, subst}
 use Rattle.std.proofs.lemmas.Result.{on_err_weaker}
 use Rattle.turn_run.specs.Counts.{IsRise}
 use Rattle.turn_run.proofs.CountLaws.{count_begins, rise_small}

@@ -1,7 +1,6 @@
 -- One rank more has arrived.
-use Rattle.std.proofs.Common.{◌≡◌, ◌<◌, ◌≤◌, ◌+◌, ℕ, refl, sym, ◌∙◌, ap, subst, length, set, Some, None, get_or, arith}
-use Rattle.std.specs.Prelude.{slice_get, slice_index_or, slice_set}
-use Rattle.run_laws.specs.Ways.{meetings}
+use Rattle.std.proofs.Common.{◌≡◌, ◌<◌, ◌≤◌, ◌+◌, ℕ, refl, sym, ◌∙◌, Some, None, arith}
+use Rattle.std.specs.Prelude.{slice_get, slice_index_or}
 use Rattle.turn_run.specs.declared.seats.Seat.{Seat}
 use Rattle.turn_run.specs.Seated.{calls_of, HasArrived}
 use Rattle.turn_run.proofs.ListLaws.{get_long}
@@ -14,6 +13,8 @@ use Rattle.turn_run.specs.Cuts.{IsNext, MayFollow}
 use Rattle.turn_run.specs.Stages.{arrived_all, stage}
 use Rattle.turn_run.proofs.CutLaws.{stopped_then, stopped_as, follows_next, same_err}
 use Rattle.turn_run.proofs.TurnSteps.{calls_there, get_arrived}
+use Rattle.turn_run.proofs.MeetLists.{left_more}
+use Rattle.turn_run.proofs.SaidLaws.{answers_cut, grown_beside}
 use Rattle.turn_run.proofs.in_turn.arrive_all.Goals as goal
 
 pub loop-number-init : goal.loop-number-init
@@ -25,6 +26,8 @@ loop-number-init g c = record {
   met = refl;
   arrived = λ r seat l e. absurd (omega arith);
   free = λ r seat l e. c.requires.free r seat e;
+  same = λ r l. refl;
+  others = λ r l. refl;
   led = λ records. has_led_none _ _ _ _;
 }
 
@@ -68,6 +71,8 @@ loop-number-preserved g c =
           (λ q x other f k. before.arrived q x (below_other q n other k) f) r s e l;
       free = λ r s l e. set_each (λ (q : ℕ) (x : Seat). n + 1 ≤ q → x.held ≡ None) seats n was seat there (λ k. absurd (omega arith))
           (λ q x other f k. before.free q x (omega arith) f) r s e l;
+      same = left_more c.args.seats.now seats n seat before.same;
+      others = λ r l. grown_beside n r c.loop-number.order c.arrive.new.order (λ e. absurd (omega arith)) done.grown ∙ before.others r (omega arith);
       led = λ records. has_led_then _ _ _ c.loop-number.order _ _ _ _ (before.led records)
           (gone_led c.args.script.now c.args.header.now seats n was seat c.loop-number.order c.arrive.new.order _ _ _ _ c.requires.lawful (omega arith) there done.gone records);
     }
@@ -99,3 +104,21 @@ returns-in_err-arrive-clause-cut g c e is records =
     (follows_next script header _ c.loop-number.order c.arrive.new.order seats n c.requires.lawful c.loop-number.invariant.seats (omega arith) c.arrive.ensures.grown)
     (c.in_err-arrive.ensures.cut e (same_err c.from_residual.result e _ p.0 is p.1 p.2) records (arrived_all header script.calls seats)
     (get_arrived header script.calls seats n (calls_of script n) was (calls_there script n (omega arith)) there)))
+
+pub returns-in_err-arrive-clause-answered : goal.returns-in_err-arrive-clause-answered
+returns-in_err-arrive-clause-answered g c e is records =
+    let script = c.args.script.now in
+    let header = c.args.header.now in
+    let s = setting_of script header in
+    let n = c.loop-number.number in
+    let seats = c.loop-number.seats in
+    let before = c.loop-number.invariant in
+    let was = slice_index_or seats n c.index-seats-number.result in
+    let there : slice_get seats n ≡ Some was = get_at seats n c.index-seats-number.result (omega arith) in
+    let long = (ranks_lawful script c.requires.lawful).one_each in
+    let p = err_from_is_err_and c.from_residual.result c.from_residual.ensures.1 in
+    answers_cut script e n c.args.order.now c.loop-number.order c.arrive.new.order c.args.seats.now seats was c.arrive.new.self s (g.D.Disk.held c.args.disk.now) (g.D.Disk.held c.loop-number.disk)
+    (g.D.Disk.calls c.args.disk.now) (g.D.Disk.calls c.loop-number.disk) records (long ∙ sym before.seats.all) c.requires.free there (before.led records) c.arrive.ensures.grown before.others before.arrived
+    before.same
+    (c.in_err-arrive.ensures.answered e (same_err c.from_residual.result e _ p.0 is p.1 p.2) records (arrived_all header script.calls seats)
+    (get_arrived header script.calls seats n (calls_of script n) was (calls_there script n (omega arith)) there))

@@ -1,6 +1,7 @@
 -- The ranks so far have arrived, and the others hold no offer.
 use Rattle.std.proofs.Common.{◌≡◌, ℕ, ◌<◌, ◌≤◌, None, Some}
-use Rattle.std.specs.Prelude.{slice_get}
+use Rattle.std.specs.Prelude.{slice_get, filter}
+use Rattle.serial_spec.specs.History.{concerns}
 use Rattle.serial_spec.specs.SerialEnd.{setting_of}
 use Rattle.run_laws.specs.Ways.{meetings}
 use Rattle.turn_run.specs.Seated.{calls_of, AreSeats, HasArrived}
@@ -17,6 +18,8 @@ invariant-loop-number g l = record {
   met : meetings l.order ≡ meetings l.fn.order;
   arrived : (r : ℕ) (seat : Seat) → r < l.number → slice_get l.seats r ≡ Some seat → HasArrived (calls_of l.script r) seat;
   free : (r : ℕ) (seat : Seat) → l.number ≤ r → slice_get l.seats r ≡ Some seat → seat.held ≡ None;
+  same : (r : ℕ) → l.number ≤ r → slice_get l.seats r ≡ slice_get l.fn.seats r;
+  others : (r : ℕ) → l.number ≤ r → filter (concerns r) l.order ≡ filter (concerns r) l.fn.order;
   led : (records : ℕ) → HasLed l.script.hints (setting_of l.script l.header) l.fn.order l.order
       (stage (g.D.Disk.held l.fn.disk) (g.D.Disk.calls l.fn.disk) records (arrived_all l.header l.script.calls l.fn.seats))
       (stage (g.D.Disk.held l.disk) (g.D.Disk.calls l.disk) records (arrived_all l.header l.script.calls l.seats));

@@ -1,5 +1,5 @@
 -- One meeting more is held, and all have arrived again.
-use Rattle.std.proofs.Common.{◌≡◌, ◌+◌, ◌<◌, ℕ, suc, refl, sym, ◌∙◌, true≢false, arith}
+use Rattle.std.proofs.Common.{◌<◌, sym, ◌∙◌, true≢false, arith}
 use Rattle.std.proofs.lemmas.Result.{err_from_is_err_and}
 use Rattle.serial_spec.specs.Lawful.{most_calls}
 use Rattle.run_laws.specs.Ways.{meetings}
@@ -12,6 +12,9 @@ use Rattle.serial_spec.specs.SerialEnd.{setting_of}
 use Rattle.turn_run.specs.Cuts.{IsNext}
 use Rattle.turn_run.specs.Stages.{arrived_all, stage}
 use Rattle.turn_run.proofs.CutLaws.{stopped_then, same_err}
+use Rattle.turn_run.specs.Said.{all_between, AllSay}
+use Rattle.turn_run.proofs.SaidLaws.{between_up, have_reached, reached_then}
+use Rattle.turn_run.proofs.SaidMeet.{answers_after}
 use Rattle.turn_run.proofs.in_turn.hold_meetings.Goals as goal
 
 pub overflow_add-meetings : goal.overflow_add-meetings
@@ -92,3 +95,37 @@ returns-in_err-arrive_all-2-clause-cut g c e is =
     (stage (g.D.Disk.held c.args.disk.now) (g.D.Disk.calls c.args.disk.now) c.args.records.now (arrived_all header script.calls c.args.seats.now))
     (stage (g.D.Disk.held c.meet.new.disk) (g.D.Disk.calls c.meet.new.disk) c.meet.new.records (arrived_all header script.calls c.meet.new.seats)) (g.D.Disk.held c.arrive_all-in-meetings.new.disk) c.meet.new.records
     led.led led.grown (c.in_err-arrive_all-2.ensures.cut e (same_err c.from_residual-in_err-arrive_all-2.result e _ p.0 is p.1 p.2) c.meet.new.records)
+
+pub returns-in_err-arrive_all-clause-answered : goal.returns-in_err-arrive_all-clause-answered
+returns-in_err-arrive_all-clause-answered g c e is =
+    let p = err_from_is_err_and c.from_residual.result c.from_residual.ensures.1 in
+    c.in_err-arrive_all.ensures.answered e (same_err c.from_residual.result e _ p.0 is p.1 p.2) c.args.records.now
+
+pub returns-in_err-meet-clause-answered : goal.returns-in_err-meet-clause-answered
+returns-in_err-meet-clause-answered g c e is =
+    let script = c.args.script.now in
+    let header = c.args.header.now in
+    let s = setting_of script header in
+    let led = c.meetings.invariant.led in
+    let first = c.args.seats.now in
+    let p = err_from_is_err_and c.from_residual-in_err-meet.result c.from_residual-in_err-meet.ensures.1 in
+    have_reached s e c.args.order.now c.meet.new.order (g.D.Disk.held c.args.disk.now) c.args.records.now (all_between script.calls first) (arrived_all header script.calls first) c.meet.new.seats
+    (between_up header script.calls first c.requires.free)
+    (reached_then (AllSay e c.meet.new.seats) script.hints s c.args.order.now c.meetings.order c.meet.new.order led.more
+    (stage (g.D.Disk.held c.args.disk.now) (g.D.Disk.calls c.args.disk.now) c.args.records.now (arrived_all header script.calls first))
+    (stage (g.D.Disk.held c.meetings.disk) (g.D.Disk.calls c.meetings.disk) c.meetings.records (arrived_all header script.calls c.meetings.seats))
+    led.led led.grown (c.in_err-meet.ensures.answered e (same_err c.from_residual-in_err-meet.result e _ p.0 is p.1 p.2)))
+
+pub returns-in_err-arrive_all-2-clause-answered : goal.returns-in_err-arrive_all-2-clause-answered
+returns-in_err-arrive_all-2-clause-answered g c e is =
+    let script = c.args.script.now in
+    let header = c.args.header.now in
+    let s = setting_of script header in
+    let first = c.args.seats.now in
+    let p = err_from_is_err_and c.from_residual-in_err-arrive_all-2.result c.from_residual-in_err-arrive_all-2.ensures.1 in
+    let a = stage (g.D.Disk.held c.args.disk.now) (g.D.Disk.calls c.args.disk.now) c.args.records.now (arrived_all header script.calls first) in
+    let b = stage (g.D.Disk.held c.meetings.disk) (g.D.Disk.calls c.meetings.disk) c.meetings.records (arrived_all header script.calls c.meetings.seats) in
+    let d = stage (g.D.Disk.held c.meet.new.disk) (g.D.Disk.calls c.meet.new.disk) c.meet.new.records (arrived_all header script.calls c.meet.new.seats) in
+    answers_after script.hints s e c.args.order.now c.meetings.order c.meet.new.order c.arrive_all-in-meetings.new.order (meetings c.meetings.order) a b d (all_between script.calls first)
+    (all_between script.calls c.meet.new.seats) c.arrive_all-in-meetings.new.seats c.meetings.invariant.led c.in_ok-meet.ensures.led c.in_ok-meet.ensures.order (between_up header script.calls first c.requires.free)
+    c.in_ok-meet.ensures.between (c.in_err-arrive_all-2.ensures.answered e (same_err c.from_residual-in_err-arrive_all-2.result e _ p.0 is p.1 p.2) c.meet.new.records)

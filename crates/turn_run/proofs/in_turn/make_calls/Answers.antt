@@ -12,6 +12,11 @@ use Rattle.turn_run.proofs.CutLaws.{same_err}
 use Rattle.turn_run.proofs.CutRuns.{ends_before, ends_closing, raised_torn}
 use Rattle.turn_run.proofs.MeetFile.{raised_records}
 use Rattle.turn_run.proofs.TurnEnds.{are_over}
+use Rattle.turn_run.specs.Said.{all_between, AllSay}
+use Rattle.turn_run.specs.Stages.{stage}
+use Rattle.turn_run.proofs.SaidLaws.{between_up, have_reached, reached_here, reached_then}
+use Rattle.turn_run.proofs.SaidMeet.{all_say_here, keep_own}
+use Rattle.std.proofs.Common.{refl}
 use Rattle.turn_run.proofs.in_turn.make_calls.Goals as goal
 
 pub returns-clause-legal : goal.returns-clause-legal
@@ -99,3 +104,26 @@ returns-clause-raised g c = λ e.
     (ended_legal script header _ c.hold_meetings.new.order c.hold_meetings.new.seats c.requires.lawful h.seats h.free h.arrived) h.led
     (raised_torn header (g.D.Disk.held c.hold_meetings.new.disk) (g.D.Disk.held c.close.new.disk) c.hold_meetings.new.records (most_known c.hold_meetings.new.seats) k.bytes)
     (inr (k.records ∙ sym (raised_records (as_setting header) (counted [] c.hold_meetings.new.records) (most_known c.hold_meetings.new.seats))))
+
+pub returns-in_err-hold_meetings-clause-answered : goal.returns-in_err-hold_meetings-clause-answered
+returns-in_err-hold_meetings-clause-answered g c e is =
+    let p = err_from_is_err_and c.from_residual.result c.from_residual.ensures.1 in
+    c.in_err-hold_meetings.ensures.answered e (same_err c.from_residual.result e _ p.0 is p.1 p.2)
+
+pub returns-in_err-close-clause-answered : goal.returns-in_err-close-clause-answered
+returns-in_err-close-clause-answered g c e is =
+    let script = c.args.script.now in
+    let header = c.args.header.now in
+    let s = setting_of script header in
+    let first = c.args.seats.now in
+    let last = c.hold_meetings.new.seats in
+    let order = c.hold_meetings.new.order in
+    let h = c.in_ok-hold_meetings.ensures in
+    have_reached s e c.args.order.now order (g.D.Disk.held c.args.disk.now) c.args.records.now (all_between script.calls first) (arrived_all header script.calls first) last
+    (between_up header script.calls first c.requires.free)
+    (reached_then (AllSay e last) script.hints s c.args.order.now order order h.led.more
+    (stage (g.D.Disk.held c.args.disk.now) (g.D.Disk.calls c.args.disk.now) c.args.records.now (arrived_all header script.calls first))
+    (stage (g.D.Disk.held c.hold_meetings.new.disk) (g.D.Disk.calls c.hold_meetings.new.disk) c.hold_meetings.new.records (arrived_all header script.calls last))
+    h.led.led h.led.grown
+    (reached_here (AllSay e last) s order order (g.D.Disk.held c.hold_meetings.new.disk) c.hold_meetings.new.records (arrived_all header script.calls last) refl
+    (λ n. all_say_here script header e last last n ((ranks_lawful script c.requires.lawful).one_each ∙ sym h.seats.all) refl h.arrived (keep_own last))))

@@ -1,6 +1,6 @@
 -- The run of a script, from its first stage to its end.
-use Rattle.std.proofs.Common.{◌≡◌, ℕ, sym, ◌∙◌, ap, subst, List, [], replicate, Some}
-use Rattle.std.proofs.Common.{rules, map, Err}
+use Rattle.std.proofs.Common.{sym, ◌∙◌, ap, subst, List, Some}
+use Rattle.std.proofs.Common.{rules, map}
 use Rattle.std.proofs.lemmas.List.{with_items_is}
 use Rattle.nc_base.specs.declared.step.Mark.{Mark}
 use Rattle.nc_base.specs.declared.step.DiskCall.{DiskCall}
@@ -12,7 +12,6 @@ use Rattle.collective_round.specs.Rounds.{counted}
 use Rattle.run_laws.specs.Arrivals.{ended_from}
 use Rattle.turn_run.specs.Begun.{HasBegun}
 use Rattle.turn_run.specs.Seated.{AreSeats}
-use Rattle.turn_run.specs.Steps.{first_seat}
 use Rattle.serial_spec.specs.RankMachine as machine
 use Rattle.turn_run.specs.declared.seats.Seat.{Seat}
 use Rattle.turn_run.proofs.TurnRuns.{calls_from_first, first_count, first_free, first_seats, if_told, none_begun, serial_from_first}
@@ -22,7 +21,10 @@ use Rattle.nc_base.specs.declared.step.StepErr.TheVariants as fault
 use Rattle.serial_spec.specs.SerialEnd.{setting_of}
 use Rattle.turn_run.specs.Stages.{arrived_all}
 use Rattle.turn_run.proofs.CutEnds.{fault_run, same_cause, unbegun_run}
-use Rattle.turn_run.proofs.CutRuns.{ends_as, ends_stood, stood_first}
+use Rattle.turn_run.proofs.CutRuns.{ends_as, ends_stood, stood_first, answers_as, cut_answers, cut_rows, cut_run, ended_memory, first_long, no_answers, no_rows, rows_as}
+use Rattle.nc_base.specs.declared.step.StepErr.{StepErr}
+use Rattle.run_laws.proofs.LawfulLaws.{ranks_lawful}
+use Rattle.turn_run.specs.Said.{all_between}
 use Rattle.turn_run.proofs.in_turn.run_in_turn.Goals as goal
 
 pub returns-in-Err-clause-run : goal.returns-in-Err-clause-run
@@ -93,30 +95,56 @@ returns-clause-run g c =
 
 pub returns-in-Err-clause-cut : goal.returns-in-Err-clause-cut
 returns-in-Err-clause-cut g c e is =
-    stood_first c.args.script.now c.args.header.now e c.stopped.result.order (g.D.Disk.held c.args.disk.now) (g.D.Disk.held c.args.disk.now) c.args.records.now c.args.records.now c.requires.lawful
-    (sym (same_cause fault.Memory e (sym c.stopped.ensures.fault ∙ is))) (c.stopped.ensures.order ∙ c.new-order.ensures) refl refl c.requires.records
+    let memory = sym (same_cause fault.Memory e (sym c.stopped.ensures.fault ∙ is)) in
+    cut_run c.args.script.now c.args.header.now e c.stopped.result.order (g.D.Disk.held c.args.disk.now) (g.D.Disk.held c.args.disk.now) c.args.records.now c.stopped.result.answers
+    (no_rows c.args.script.now e c.stopped.result.answers memory c.stopped.ensures.answers)
+    (λ file there. no_answers c.args.script.now c.args.header.now e c.stopped.result.order file c.stopped.result.answers c.stopped.ensures.answers)
+    (stood_first c.args.script.now c.args.header.now e c.stopped.result.order (g.D.Disk.held c.args.disk.now) (g.D.Disk.held c.args.disk.now) c.args.records.now c.args.records.now c.requires.lawful
+    memory (c.stopped.ensures.order ∙ c.new-order.ensures) refl refl c.requires.records)
 
 pub returns-in-Err-seats_of-clause-cut : goal.returns-in-Err-seats_of-clause-cut
 returns-in-Err-seats_of-clause-cut g c e is =
-    stood_first c.args.script.now c.args.header.now e c.stopped-in-Err-seats_of.result.order (g.D.Disk.held c.args.disk.now) (g.D.Disk.held c.args.disk.now) c.args.records.now c.args.records.now c.requires.lawful
-    (sym (same_cause fault.Memory e (sym c.stopped-in-Err-seats_of.ensures.fault ∙ is))) (c.stopped-in-Err-seats_of.ensures.order ∙ c.new-order.ensures) refl refl c.requires.records
+    let end = c.stopped-in-Err-seats_of in
+    let memory = sym (same_cause fault.Memory e (sym end.ensures.fault ∙ is)) in
+    cut_run c.args.script.now c.args.header.now e end.result.order (g.D.Disk.held c.args.disk.now) (g.D.Disk.held c.args.disk.now) c.args.records.now end.result.answers
+    (no_rows c.args.script.now e end.result.answers memory end.ensures.answers)
+    (λ file there. no_answers c.args.script.now c.args.header.now e end.result.order file end.result.answers end.ensures.answers)
+    (stood_first c.args.script.now c.args.header.now e end.result.order (g.D.Disk.held c.args.disk.now) (g.D.Disk.held c.args.disk.now) c.args.records.now c.args.records.now c.requires.lawful
+    memory (end.ensures.order ∙ c.new-order.ensures) refl refl c.requires.records)
 
 pub returns-in-Ok-make_calls-clause-cut : goal.returns-in-Ok-make_calls-clause-cut
 returns-in-Ok-make_calls-clause-cut g c e is =
     let script = c.args.script.now in
     let header = c.args.header.now in
     let first = c.deref_mut.ensures.value ∙ c.in-Ok-seats_of.ensures in
-    ends_stood script header e c.args.records.now c.deref_mut.result.now c.ended.result.order (g.D.Disk.held c.args.disk.now) (g.D.Disk.held c.make_calls.new.disk) c.make_calls.new.records
+    let none = c.ended.ensures.none e is in
+    let memory = ended_memory e c.ended.result.fault is c.ended.ensures.memory in
+    cut_run script header e c.ended.result.order (g.D.Disk.held c.args.disk.now) (g.D.Disk.held c.make_calls.new.disk) c.make_calls.new.records c.ended.result.answers
+    (no_rows script e c.ended.result.answers memory none)
+    (λ file there. no_answers script header e c.ended.result.order file c.ended.result.answers none)
+    (ends_stood script header e c.args.records.now c.deref_mut.result.now c.ended.result.order (g.D.Disk.held c.args.disk.now) (g.D.Disk.held c.make_calls.new.disk) c.make_calls.new.records
     c.requires.lawful c.requires.records first (subst (λ (ms : List Mark). HasBegun script ms) (sym c.ended.ensures.order) c.make_calls.ensures.begun)
     (ends_as script (setting_of script header) e e (g.D.Disk.held c.args.disk.now) c.args.records.now (arrived_all header script.calls c.deref_mut.result.now) c.make_calls.new.order c.ended.result.order
-    (g.D.Disk.held c.make_calls.new.disk) c.make_calls.new.records (inl refl) c.ended.ensures.order (c.in-Ok-make_calls.ensures.raised e))
+    (g.D.Disk.held c.make_calls.new.disk) c.make_calls.new.records (inl refl) c.ended.ensures.order (c.in-Ok-make_calls.ensures.raised e)))
 
 pub returns-clause-cut : goal.returns-clause-cut
 returns-clause-cut g c e is =
     let script = c.args.script.now in
     let header = c.args.header.now in
     let first = c.deref_mut.ensures.value ∙ c.in-Ok-seats_of.ensures in
-    ends_stood script header e c.args.records.now c.deref_mut.result.now c.cut_off.result.order (g.D.Disk.held c.args.disk.now) (g.D.Disk.held c.make_calls.new.disk) c.make_calls.new.records
+    let cause = c.in-Err-make_calls.cause in
+    let order = c.cut_off.result.order in
+    let answers = c.cut_off.result.answers in
+    let last = c.make_calls.new.seats in
+    let table = ap (λ (ss : List Seat). map (λ (seat : Seat). seat.answers) ss) (with_items_is c.in-Ok-seats_of.seats last (search rules)) in
+    let are = rows_as answers _ _ table c.cut_off.ensures.answers in
+    let which = c.cut_off.ensures.fault e is in
+    cut_run script header e order (g.D.Disk.held c.args.disk.now) (g.D.Disk.held c.make_calls.new.disk) c.make_calls.new.records answers
+    (cut_rows script e last answers (first_long script (ranks_lawful script c.requires.lawful).one_each header c.args.records.now c.deref_mut.result.now last first c.make_calls.auto.seats) (λ d. (c.cut_off.ensures.disk (is ∙ ap (λ (x : StepErr). Some x) d)).1 ∙ table) are)
+    (λ file there. cut_answers script header e cause c.args.records.now c.deref_mut.result.now last c.new-order.result order file answers c.requires.lawful c.requires.records first c.new-order.ensures which
+    (answers_as (setting_of script header) cause c.new-order.result c.make_calls.new.order order (g.D.Disk.held c.args.disk.now) (Some file) c.args.records.now (all_between script.calls c.deref_mut.result.now) last
+    there c.cut_off.ensures.order (c.in-Err-make_calls.ensures.answered cause refl)) are)
+    (ends_stood script header e c.args.records.now c.deref_mut.result.now order (g.D.Disk.held c.args.disk.now) (g.D.Disk.held c.make_calls.new.disk) c.make_calls.new.records
     c.requires.lawful c.requires.records first (subst (λ (ms : List Mark). HasBegun script ms) (sym c.cut_off.ensures.order) c.make_calls.ensures.begun)
-    (ends_as script (setting_of script header) c.in-Err-make_calls.cause e (g.D.Disk.held c.args.disk.now) c.args.records.now (arrived_all header script.calls c.deref_mut.result.now) c.make_calls.new.order
-    c.cut_off.result.order (g.D.Disk.held c.make_calls.new.disk) c.make_calls.new.records (c.cut_off.ensures.fault e is) c.cut_off.ensures.order (c.in-Err-make_calls.ensures.cut c.in-Err-make_calls.cause refl))
+    (ends_as script (setting_of script header) cause e (g.D.Disk.held c.args.disk.now) c.args.records.now (arrived_all header script.calls c.deref_mut.result.now) c.make_calls.new.order
+    order (g.D.Disk.held c.make_calls.new.disk) c.make_calls.new.records which c.cut_off.ensures.order (c.in-Err-make_calls.ensures.cut cause refl)))

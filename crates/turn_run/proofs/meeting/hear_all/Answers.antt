@@ -7,6 +7,8 @@ use Rattle.turn_run.specs.Seated.{reply_of, IsAnswered}
 use Rattle.turn_run.proofs.ListLaws.{get_long}
 use Rattle.turn_run.proofs.MeetHear.{answered_by}
 use Rattle.turn_run.proofs.MeetLists.{each_more, left_more, read_at}
+use Rattle.turn_run.proofs.SaidMeet.{heard_part}
+use Rattle.turn_run.proofs.HintLaws.{on_err}
 use Rattle.turn_run.proofs.meeting.hear_all.Goals as goal
 
 pub hear-requires-clause-waits : goal.hear-requires-clause-waits
@@ -61,8 +63,8 @@ loop-number-preserved c =
       left = left_more old now i c.hear.new.self c.loop-number.invariant.left;
     }
 
-pub returns : goal.returns
-returns c = record {
+pub returns-clause-all : goal.returns-clause-all
+returns-clause-all c = record {
   long = c.loop-number.auto.seats;
   each = λ r a b blobs g h t.
       let l = get_long c.loop-number.seats r b h in
@@ -70,3 +72,17 @@ returns c = record {
       let past = c.loop-number-test.false in
       c.loop-number.invariant.heard r a b blobs (omega arith) g h t;
 }
+
+pub returns-in_err-hear-clause-part : goal.returns-in_err-hear-clause-part
+returns-in_err-hear-clause-part c =
+    let old = c.args.seats.now in
+    let now = c.loop-number.seats in
+    let i = c.loop-number.number in
+    let test = c.loop-number-test.true in
+    let long = c.loop-number.auto.seats in
+    let rows = c.loop-number.invariant.long in
+    let all = c.requires.long in
+    let seat = get_or now i c.index-seats-number.result in
+    let own = read_at now i c.index-seats-number.result (omega arith) in
+    on_err c.from_residual.result (heard_part c.args.pair c.args.records c.args.table old now i seat c.hear.new.self own
+    (λ r a b blobs l g h t. (c.loop-number.invariant.heard r a b blobs l g h t).heard) c.loop-number.invariant.left c.in_err-hear.ensures.kept)

@@ -6,17 +6,17 @@ use Rattle.turn_run.proofs.HintLaws.{lawful_hints}
 use Rattle.turn_run.proofs.MeetDone.{are_done, begun_after, begun_before, begun_still, free_after, order_at, seats_after, table_long, to_hear}
 use Rattle.turn_run.proofs.MeetOffers.{meets_job, meets_once, meets_rise}
 use Rattle.turn_run.proofs.MeetStep.{meeting_led}
-use Rattle.std.proofs.Common.{ℕ, subst, refl, inr, List, ◌++◌, ◌∷◌, []}
+use Rattle.std.proofs.Common.{refl, inr}
 use Rattle.std.proofs.lemmas.Result.{err_from_is_err_and}
-use Rattle.nc_base.specs.declared.step.Mark.{Mark}
-use Rattle.nc_base.specs.declared.step.Mark.TheVariants.{Meet}
 use Rattle.serial_spec.specs.SerialEnd.{setting_of}
 use Rattle.run_laws.specs.Ways.{meetings}
-use Rattle.join_laws.proofs.Completing.{completed_by}
 use Rattle.turn_run.specs.Cuts.{IsNext}
 use Rattle.turn_run.specs.Stages.{arrived_all}
 use Rattle.turn_run.proofs.CutLaws.{stopped_between, memory_of}
 use Rattle.turn_run.proofs.CutMeet.{stopped_meet, stopped_deaf, met_done, next_meets}
+use Rattle.turn_run.specs.Said.{AllSay}
+use Rattle.turn_run.proofs.SaidLaws.{reached_here}
+use Rattle.turn_run.proofs.SaidMeet.{all_say_here, meeting_between, part_of_freed, reached_deaf}
 use Rattle.turn_run.proofs.meeting.meet.Goals as goal
 
 pub returns-in_err-job-clause-begun : goal.returns-in_err-job-clause-begun
@@ -58,13 +58,13 @@ returns-in_err-hear_all-clause-begun g c =
 pub returns-clause-seats : goal.returns-clause-seats
 returns-clause-seats g c =
     seats_after c.args.script.now c.args.header.now _ _ c.args.order.now c.push.new.self c.args.seats.now c.take_job.new.seats c.hear_all.new.seats c.in_ok-pair.pair
-    c.meet_on_file.new.records c.in_ok-pair.table c.requires.seats c.requires.met c.requires.arrived c.in_ok-job.ensures.freed c.in_ok-hear_all.ensures
+    c.meet_on_file.new.records c.in_ok-pair.table c.requires.seats c.requires.met c.requires.arrived c.in_ok-job.ensures.freed c.in_ok-hear_all.ensures.all
     (table_long c.args.header.now c.args.seats.now c.in_ok-job.job.batches c.in_ok-pair.table c.requires.met c.in_ok-job.ensures.batches c.in_ok-pair.ensures.fits)
     c.in_ok-pair.ensures.longer c.in_ok-pair.ensures.count (order_at c.args.order.now c.push.new.self c.args.number c.requires.number c.in_ok-push.ensures.ok)
 
 pub returns-clause-free : goal.returns-clause-free
 returns-clause-free g c =
-    free_after c.args.seats.now c.take_job.new.seats c.hear_all.new.seats c.in_ok-pair.pair c.meet_on_file.new.records c.in_ok-pair.table c.in_ok-job.ensures.freed c.in_ok-hear_all.ensures
+    free_after c.args.seats.now c.take_job.new.seats c.hear_all.new.seats c.in_ok-pair.pair c.meet_on_file.new.records c.in_ok-pair.table c.in_ok-job.ensures.freed c.in_ok-hear_all.ensures.all
     (table_long c.args.header.now c.args.seats.now c.in_ok-job.job.batches c.in_ok-pair.table c.requires.met c.in_ok-job.ensures.batches c.in_ok-pair.ensures.fits)
 
 pub returns-clause-led : goal.returns-clause-led
@@ -73,9 +73,9 @@ returns-clause-led g c =
     let long = (ranks_lawful c.args.script.now c.requires.lawful).one_each ∙ sym c.requires.seats.all in
     let wide = table_long c.args.header.now c.args.seats.now c.in_ok-job.job.batches c.in_ok-pair.table c.requires.met c.in_ok-job.ensures.batches c.in_ok-pair.ensures.fits in
     meeting_led c.args.script.now.hints s c.args.order.now c.push.new.self c.args.script.now.calls c.args.seats.now c.hear_all.new.seats c.in_ok-job.job.batches c.in_ok-job.known
-    c.args.records.now c.meet_on_file.new.records c.args.number _ _ _ _ c.in_ok-pair.pair c.in_ok-pair.table long (c.in_ok-hear_all.ensures.long ∙ c.in_ok-job.ensures.freed.long) wide c.requires.met
+    c.args.records.now c.meet_on_file.new.records c.args.number _ _ _ _ c.in_ok-pair.pair c.in_ok-pair.table long (c.in_ok-hear_all.ensures.all.long ∙ c.in_ok-job.ensures.freed.long) wide c.requires.met
     (are_done c.args.script.now c.args.header.now _ c.args.order.now c.args.seats.now c.take_job.new.seats c.hear_all.new.seats c.in_ok-pair.pair c.meet_on_file.new.records c.in_ok-pair.table
-    c.requires.seats c.requires.met c.requires.arrived c.in_ok-job.ensures.freed c.in_ok-hear_all.ensures)
+    c.requires.seats c.requires.met c.requires.arrived c.in_ok-job.ensures.freed c.in_ok-hear_all.ensures.all)
     c.in_ok-job.ensures.batches c.in_ok-job.ensures.known c.in_ok-pair.ensures.told c.in_ok-pair.ensures.records c.in_ok-pair.ensures.bytes c.in_ok-pair.ensures.got
     (c.in_ok-pair.ensures.calls (meets_once c.args.script.now c.args.header.now _ c.args.order.now c.args.seats.now c.in_ok-job.known c.in_ok-job.job.batches c.requires.seats c.requires.met c.requires.arrived c.in_ok-job.ensures.known c.in_ok-job.ensures.batches))
     c.in_ok-push.ensures.ok
@@ -125,3 +125,57 @@ returns-in_err-hear_all-clause-cut g c e is =
     script.calls c.args.seats.now c.in_ok-job.job.batches c.in_ok-job.known c.args.records.now c.meet_on_file.new.records
     (memory_of c.from_residual-in_err-hear_all.result e p.0 is p.1 p.2) c.in_ok-push.ensures.ok long c.requires.met c.in_ok-job.ensures.batches c.in_ok-job.ensures.known
     c.in_ok-pair.ensures.bytes c.in_ok-pair.ensures.records
+
+pub returns-in_err-job-clause-answered : goal.returns-in_err-job-clause-answered
+returns-in_err-job-clause-answered g c e is =
+    let script = c.args.script.now in
+    let header = c.args.header.now in
+    let long = (ranks_lawful script c.requires.lawful).one_each ∙ sym c.requires.seats.all in
+    reached_here (AllSay e c.take_job.new.seats) (setting_of script header) c.args.order.now c.args.order.now (g.D.Disk.held c.args.disk.now) c.args.records.now
+    (arrived_all header script.calls c.args.seats.now) refl
+    (λ n. all_say_here script header e c.args.seats.now c.take_job.new.seats n long c.take_job.auto.seats c.requires.arrived c.take_job.ensures.kept)
+
+pub returns-in_err-pair-clause-answered : goal.returns-in_err-pair-clause-answered
+returns-in_err-pair-clause-answered g c e is =
+    let script = c.args.script.now in
+    let header = c.args.header.now in
+    let long = (ranks_lawful script c.requires.lawful).one_each ∙ sym c.requires.seats.all in
+    reached_here (AllSay e c.take_job.new.seats) (setting_of script header) c.args.order.now c.args.order.now (g.D.Disk.held c.args.disk.now) c.args.records.now
+    (arrived_all header script.calls c.args.seats.now) refl
+    (λ n. all_say_here script header e c.args.seats.now c.take_job.new.seats n long c.in_ok-job.ensures.freed.long c.requires.arrived c.take_job.ensures.kept)
+
+pub returns-in_err-push-clause-answered : goal.returns-in_err-push-clause-answered
+returns-in_err-push-clause-answered g c e is =
+    let script = c.args.script.now in
+    let header = c.args.header.now in
+    let long = (ranks_lawful script c.requires.lawful).one_each ∙ sym c.requires.seats.all in
+    reached_here (AllSay e c.take_job.new.seats) (setting_of script header) c.args.order.now c.push.new.self (g.D.Disk.held c.args.disk.now) c.args.records.now
+    (arrived_all header script.calls c.args.seats.now) c.in_err-push.ensures.err
+    (λ n. all_say_here script header e c.args.seats.now c.take_job.new.seats n long c.in_ok-job.ensures.freed.long c.requires.arrived c.take_job.ensures.kept)
+
+pub returns-in_err-hear_all-clause-answered : goal.returns-in_err-hear_all-clause-answered
+returns-in_err-hear_all-clause-answered g c e is =
+    let script = c.args.script.now in
+    let header = c.args.header.now in
+    let s = setting_of script header in
+    let p = err_from_is_err_and c.from_residual-in_err-hear_all.result c.from_residual-in_err-hear_all.ensures.1 in
+    let long = (ranks_lawful script c.requires.lawful).one_each ∙ sym c.requires.seats.all in
+    let wide = table_long header c.args.seats.now c.in_ok-job.job.batches c.in_ok-pair.table c.requires.met c.in_ok-job.ensures.batches c.in_ok-pair.ensures.fits in
+    let mid = c.in_ok-job.ensures.freed in
+    reached_deaf script header _ e c.args.order.now c.push.new.self c.args.seats.now c.hear_all.new.seats c.in_ok-job.job.batches c.in_ok-job.known c.args.records.now
+    c.meet_on_file.new.records c.args.number s (g.D.Disk.held c.args.disk.now) (g.D.Disk.held c.meet_on_file.new.disk) c.in_ok-pair.pair c.in_ok-pair.table refl
+    (memory_of c.from_residual-in_err-hear_all.result e p.0 is p.1 p.2) c.in_ok-push.ensures.ok long (c.hear_all.auto.seats ∙ mid.long) wide c.requires.seats c.requires.met c.requires.arrived
+    c.in_ok-job.ensures.batches c.in_ok-job.ensures.known c.in_ok-pair.ensures.told c.in_ok-pair.ensures.records c.in_ok-pair.ensures.bytes c.in_ok-pair.ensures.got
+    (part_of_freed c.in_ok-pair.pair c.meet_on_file.new.records c.in_ok-pair.table c.args.seats.now c.take_job.new.seats c.hear_all.new.seats mid.long mid c.in_err-hear_all.ensures.part)
+
+pub returns-clause-between : goal.returns-clause-between
+returns-clause-between g c =
+    let s = setting c.args.header.now c.args.script.now.hints in
+    let long = (ranks_lawful c.args.script.now c.requires.lawful).one_each ∙ sym c.requires.seats.all in
+    let wide = table_long c.args.header.now c.args.seats.now c.in_ok-job.job.batches c.in_ok-pair.table c.requires.met c.in_ok-job.ensures.batches c.in_ok-pair.ensures.fits in
+    meeting_between s c.args.script.now.calls c.args.seats.now c.hear_all.new.seats c.in_ok-job.job.batches c.in_ok-job.known c.args.records.now c.meet_on_file.new.records
+    (meetings c.args.order.now) (g.D.Disk.held c.args.disk.now) (g.D.Disk.held c.meet_on_file.new.disk) c.in_ok-pair.pair c.in_ok-pair.table long
+    (c.in_ok-hear_all.ensures.all.long ∙ c.in_ok-job.ensures.freed.long) wide c.requires.met
+    (are_done c.args.script.now c.args.header.now _ c.args.order.now c.args.seats.now c.take_job.new.seats c.hear_all.new.seats c.in_ok-pair.pair c.meet_on_file.new.records c.in_ok-pair.table
+    c.requires.seats c.requires.met c.requires.arrived c.in_ok-job.ensures.freed c.in_ok-hear_all.ensures.all)
+    c.in_ok-job.ensures.batches c.in_ok-job.ensures.known c.in_ok-pair.ensures.told c.in_ok-pair.ensures.records c.in_ok-pair.ensures.bytes c.in_ok-pair.ensures.got

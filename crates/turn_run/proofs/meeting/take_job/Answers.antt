@@ -4,6 +4,7 @@ use Rattle.turn_run.specs.Seated.{IsFreed}
 use Rattle.turn_run.proofs.ListLaws.{get_long}
 use Rattle.turn_run.proofs.MeetJob.{batches_next, known_next}
 use Rattle.turn_run.proofs.MeetLists.{each_more, left_more, read_at}
+use Rattle.turn_run.proofs.SaidMeet.{keep_freed, keep_part}
 use Rattle.turn_run.proofs.meeting.take_job.Goals as goal
 
 pub loop-seat-preserved : goal.loop-seat-preserved
@@ -30,3 +31,21 @@ returns-clause-freed c = record {
   long = c.loop-seat.auto.seats;
   each = λ r a b g h. let l = get_long c.loop-seat.seats r b h in let past = c.loop-seat-test.false in c.loop-seat.invariant.freed r a b (omega arith) g h;
 }
+
+pub returns-clause-kept : goal.returns-clause-kept
+returns-clause-kept c = keep_freed c.args.seats.now c.loop-seat.seats (record {
+  long = c.loop-seat.auto.seats;
+  each = λ r a b g h. let l = get_long c.loop-seat.seats r b h in let past = c.loop-seat-test.false in c.loop-seat.invariant.freed r a b (omega arith) g h;
+})
+
+pub returns-in_err-take_offer-clause-kept : goal.returns-in_err-take_offer-clause-kept
+returns-in_err-take_offer-clause-kept c =
+    let old = c.args.seats.now in
+    let now = c.loop-seat.seats in
+    let i = c.loop-seat.seat-index in
+    let seat = get_or now i c.seat-item.result in
+    let long = c.loop-seat.auto.seats in
+    let test = c.loop-seat-test.true in
+    let within : i < length now = omega arith in
+    let own = read_at now i c.seat-item.result within in
+    keep_part old now i seat c.take_offer.new.seat own (λ r a b l g h. (c.loop-seat.invariant.freed r a b l g h).answers) c.loop-seat.invariant.left c.take_offer.ensures.kept

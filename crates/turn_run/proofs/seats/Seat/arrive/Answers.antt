@@ -1,11 +1,11 @@
 -- The rank goes on from one solo offer to the next.
-use Rattle.std.proofs.Common.{◌≡◌, ℕ, ◌<◌, ◌≤◌, refl, sym, ◌∙◌, ap, subst, length, drop, List, [], None, Some, arith}
+use Rattle.std.proofs.Common.{◌≡◌, ℕ, refl, sym, ◌∙◌, ap, subst, length, drop, List, [], None, Some, arith}
 use Rattle.nc_base.specs.declared.request.Call.{Call}
 use Rattle.serial_spec.specs.SerialEnd.{setting_of}
 use Rattle.run_laws.specs.Ways.{IsOnWay}
 use Rattle.run_laws.proofs.LawfulLaws.{ranks_lawful}
 use Rattle.turn_run.specs.Counts.{IsCount}
-use Rattle.turn_run.specs.Seated.{asking, between, calls_of}
+use Rattle.turn_run.specs.Seated.{between, calls_of}
 use Rattle.run_laws.specs.Arrivals.{Arrived}
 use Rattle.turn_run.specs.Stages.{arrived, HasGone}
 use Rattle.nc_base.specs.declared.answer.Answer.{Answer}
@@ -17,6 +17,8 @@ use Rattle.turn_run.proofs.AloneLaws.{alone_asks, gone_grown, gone_then, grown_t
 use Rattle.std.proofs.lemmas.Result.{err_from_is_err_and}
 use Rattle.turn_run.specs.Cuts.{MayFollow}
 use Rattle.turn_run.proofs.CutLaws.{gone_stopped, stopped_between, memory_of, same_err}
+use Rattle.turn_run.specs.Said.{SaysAt}
+use Rattle.turn_run.proofs.SaidLaws.{gone_reached, part_arrived, reached_here, said_part, says_here}
 use Rattle.turn_run.proofs.seats.Seat.arrive.Goals as goal
 
 pub own_calls-calls-requires : goal.own_calls-calls-requires
@@ -154,4 +156,61 @@ returns-in_err-go_on-2-clause-cut g c e is records ranks at =
     (taken_asks header all c.alone.self c.take_alone.new.self c.in-Some.offer taken.0 c.take_alone.ensures.rank c.take_alone.ensures.answers) c.in_ok-do_alone.ensures.gone)
     (λ n others there. stopped_between (MayFollow script r c.do_alone.new.order) s e c.do_alone.new.order c.do_alone.new.order (g.D.Disk.held c.do_alone.new.disk) (g.D.Disk.held c.do_alone.new.disk)
     n n others (memory_of c.from_residual-in_err-go_on-2.result e p.0 is p.1 p.2) refl refl refl))
+    records ranks at
+
+pub returns-in_err-go_on-clause-answered : goal.returns-in_err-go_on-clause-answered
+returns-in_err-go_on-clause-answered g c e is records ranks at =
+    let script = c.args.script.now in
+    let header = c.args.header.now in
+    let r = c.args.number in
+    let all = calls_of script r in
+    let answers = c.go_on.new.self.answers in
+    let p = err_from_is_err_and c.from_residual.result c.from_residual.ensures.1 in
+    let memory = memory_of c.from_residual.result e p.0 is p.1 p.2 in
+    let from = arrived header all c.args.self.now in
+    reached_here (SaysAt r e answers) (setting_of script header) c.args.order.now c.args.order.now (g.D.Disk.held c.args.disk.now) records ranks refl
+    (λ n. says_here r e answers from n ranks at
+    (said_part e from answers memory (part_arrived header c.own_calls-calls.result.now all c.args.self.now answers c.own_calls-calls.ensures c.requires.free c.in_err-go_on.ensures.some)))
+
+pub returns-in_err-do_alone-clause-answered : goal.returns-in_err-do_alone-clause-answered
+returns-in_err-do_alone-clause-answered g c e is records ranks at =
+    let script = c.args.script.now in
+    let header = c.args.header.now in
+    let r = c.args.number in
+    let s = setting_of script header in
+    let all = calls_of script r in
+    let taken = c.in-Some.ensures.taken in
+    let p = err_from_is_err_and c.from_residual-in_err-do_alone.result c.from_residual-in_err-do_alone.ensures.1 in
+    gone_reached (SaysAt r e c.do_alone.new.self.answers) script.hints s r c.args.order.now c.alone.order c.do_alone.new.order
+    (g.D.Disk.held c.args.disk.now) (g.D.Disk.held c.alone.disk) (g.D.Disk.calls c.args.disk.now) (g.D.Disk.calls c.alone.disk)
+    (arrived header all c.args.self.now) (arrived header all c.alone.self) c.alone.invariant.gone
+    (λ n others there. c.in_err-do_alone.ensures.answered e (same_err c.from_residual-in_err-do_alone.result e _ p.0 is p.1 p.2) n others
+    (there ∙ ap (λ (a : Arrived). Some a) (sym (taken_asks header all c.alone.self c.take_alone.new.self c.in-Some.offer taken.0 c.take_alone.ensures.rank c.take_alone.ensures.answers))))
+    records ranks at
+
+pub returns-in_err-go_on-2-clause-answered : goal.returns-in_err-go_on-2-clause-answered
+returns-in_err-go_on-2-clause-answered g c e is records ranks at =
+    let script = c.args.script.now in
+    let header = c.args.header.now in
+    let r = c.args.number in
+    let s = setting_of script header in
+    let all = calls_of script r in
+    let taken = c.in-Some.ensures.taken in
+    let mid = c.do_alone.new.self in
+    let answers = c.go_on-in-Some.new.self.answers in
+    let from = arrived header all mid in
+    let p = err_from_is_err_and c.from_residual-in_err-go_on-2.result c.from_residual-in_err-go_on-2.ensures.1 in
+    let memory = memory_of c.from_residual-in_err-go_on-2.result e p.0 is p.1 p.2 in
+    gone_reached (SaysAt r e answers) script.hints s r c.args.order.now c.alone.order c.do_alone.new.order
+    (g.D.Disk.held c.args.disk.now) (g.D.Disk.held c.alone.disk) (g.D.Disk.calls c.args.disk.now) (g.D.Disk.calls c.alone.disk)
+    (arrived header all c.args.self.now) (arrived header all c.alone.self) c.alone.invariant.gone
+    (gone_reached (SaysAt r e answers) script.hints s r c.alone.order c.do_alone.new.order c.do_alone.new.order
+    (g.D.Disk.held c.alone.disk) (g.D.Disk.held c.do_alone.new.disk) (g.D.Disk.calls c.alone.disk) (g.D.Disk.calls c.do_alone.new.disk)
+    (arrived header all c.alone.self) from
+    (subst (λ (a : Arrived). HasGone script.hints s r c.alone.order c.do_alone.new.order (g.D.Disk.held c.alone.disk) (g.D.Disk.calls c.alone.disk)
+    (g.D.Disk.held c.do_alone.new.disk) (g.D.Disk.calls c.do_alone.new.disk) a from)
+    (taken_asks header all c.alone.self c.take_alone.new.self c.in-Some.offer taken.0 c.take_alone.ensures.rank c.take_alone.ensures.answers) c.in_ok-do_alone.ensures.gone)
+    (λ n others there. reached_here (SaysAt r e answers) s c.do_alone.new.order c.do_alone.new.order (g.D.Disk.held c.do_alone.new.disk) n others refl
+    (λ m. says_here r e answers from m others there
+    (said_part e from answers memory (part_arrived header c.own_calls-calls.result.now all mid answers c.own_calls-calls.ensures c.do_alone.ensures.free c.in_err-go_on-2.ensures.some)))))
     records ranks at

@@ -19,6 +19,8 @@ use Rattle.nc_base.specs.declared.step.Reply.{Reply}
 use Rattle.serial_spec.specs.FileStep.{puts_of, told}
 use Rattle.collective_round.proofs.TornLaws.{done_torn}
 use Rattle.turn_run.proofs.CutLaws.{stopped_solo, stopped_unheard, memory_of, own_is}
+use Rattle.turn_run.specs.Said.{SaysAt}
+use Rattle.turn_run.proofs.SaidLaws.{reached_here, reached_unheard, said_here, says_here}
 use Rattle.turn_run.proofs.seats.Seat.do_alone.Goals as goal
 use Rattle.std.proofs.Common.{None, ℕ}
 
@@ -125,3 +127,28 @@ returns-in_err-hear-clause-cut g c e is records ranks at =
     (memory_of c.from_residual-in_err-hear.result e p.0 is p.1 p.2)
     (order_is _ _ c.args.self.now.answers c.args.order.now c.push.new.self c.in_ok-push.ensures.ok c.len.ensures)
     c.in_ok-reply.ensures.bytes records ranks at
+
+pub returns-in_err-reply-clause-answered : goal.returns-in_err-reply-clause-answered
+returns-in_err-reply-clause-answered g c e is records ranks at =
+    let script = c.args.script.now in
+    let answers = c.args.self.now.answers in
+    reached_here (SaysAt c.args.number e answers) (setting_of script c.args.header.now) c.args.order.now c.args.order.now (g.D.Disk.held c.args.disk.now) records ranks refl
+    (λ n. says_here c.args.number e answers (asking (calls_of script c.args.number) c.args.self.now, Some c.args.offer) n ranks at (said_here e _ answers refl))
+
+pub returns-in_err-push-clause-answered : goal.returns-in_err-push-clause-answered
+returns-in_err-push-clause-answered g c e is records ranks at =
+    let script = c.args.script.now in
+    let answers = c.args.self.now.answers in
+    reached_here (SaysAt c.args.number e answers) (setting_of script c.args.header.now) c.args.order.now c.push.new.self (g.D.Disk.held c.args.disk.now) records ranks c.in_err-push.ensures.err
+    (λ n. says_here c.args.number e answers (asking (calls_of script c.args.number) c.args.self.now, Some c.args.offer) n ranks at (said_here e _ answers refl))
+
+pub returns-in_err-hear-clause-answered : goal.returns-in_err-hear-clause-answered
+returns-in_err-hear-clause-answered g c e is records ranks at =
+    let script = c.args.script.now in
+    let own = calls_of script c.args.number in
+    let p = err_from_is_err_and c.from_residual-in_err-hear.result c.from_residual-in_err-hear.ensures.1 in
+    reached_unheard (setting_of script c.args.header.now) e c.args.number (length c.args.self.now.answers) c.args.order.now c.push.new.self
+    (g.D.Disk.held c.args.disk.now) (asking own c.args.self.now) c.args.offer c.hear.new.self.answers
+    (memory_of c.from_residual-in_err-hear.result e p.0 is p.1 p.2)
+    (order_is _ _ c.args.self.now.answers c.args.order.now c.push.new.self c.in_ok-push.ensures.ok c.len.ensures)
+    c.in_err-hear.ensures.kept records ranks at

@@ -1,10 +1,8 @@
 -- One call more, or an offer.
-use Rattle.std.proofs.Common.{◌≡◌, refl, sym, ◌∙◌, ap, subst, ◌+◌, ◌^◌, ◌<◌, ◌≤◌, length, List, Some, None, inl, inr, [], ◌∷◌, length-append, arith}
+use Rattle.std.proofs.Common.{◌≡◌, refl, ◌∙◌, ap, length, List, Some, inl, inr, [], ◌∷◌, length-append, arith}
 use Rattle.nc_base.specs.declared.answer.Answer.{Answer}
 use Rattle.std.specs.Prelude.{slice_get, ◌⊎◌}
-use Rattle.nc_base.specs.declared.step.Mark.{Mark}
 use Rattle.nc_base.specs.declared.step.Want.TheVariants as want
-use Rattle.serial_spec.specs.RankMachine as machine
 use Rattle.serial_spec.specs.SerialEnd.{advance}
 use Rattle.run_laws.proofs.TogetherLaws.{call_fresh, call_lawful, call_posts}
 use Rattle.run_laws.proofs.CallLaws.{meets_keeps, solo_keeps, alone_keeps}

@@ -1,0 +1,347 @@
+-- The answers of ranks that a fault cut off.
+use Rattle.std.proofs.Common.{◌≡◌, ℕ, zero, suc, ◌<◌, ◌≤◌, ◌≢◌, refl, sym, ◌∙◌, ap, subst, List, [], ◌∷◌, ◌++◌, length, map, set, Bool, true, false, cond, Option, Some, None, length-append, append_assoc, arith}
+use Rattle.std.proofs.lemmas.Bool.{eqb-true}
+use Rattle.std.proofs.lemmas.Bool.Decides.{nat_tests}
+use Rattle.std.proofs.lemmas.Grind.{fold-append}
+use Rattle.std.proofs.lemmas.List.{append-nil, append_cancel_left}
+use Rattle.std.proofs.lemmas.List.Elements.{filter-append}
+use Rattle.std.proofs.lemmas.Option.{same_Some}
+use Rattle.std.specs.Prelude.{slice_get, fold, filter, nat_lt, ◌==◌, IfSome}
+use Rattle.std.specs.List.{list_all}
+use Rattle.list_laws.proofs.Truth.{and_first, and_second}
+use Rattle.nc_base.specs.declared.answer.Answer.{Answer}
+use Rattle.nc_base.specs.declared.header.Header.{Header}
+use Rattle.nc_base.specs.declared.request.Call.{Call}
+use Rattle.nc_base.specs.declared.script.Hints.{Hints}
+use Rattle.nc_base.specs.declared.script.Script.{Script}
+use Rattle.nc_base.specs.declared.step.DiskCall.{DiskCall}
+use Rattle.nc_base.specs.declared.step.Mark.{Mark}
+use Rattle.nc_base.specs.declared.step.Mark.TheVariants.{Meet, Solo}
+use Rattle.nc_base.specs.declared.step.Offer.{Offer}
+use Rattle.nc_base.specs.declared.step.Reply.{Reply}
+use Rattle.nc_base.specs.declared.step.StepErr.{StepErr}
+use Rattle.nc_base.specs.declared.step.StepErr.TheVariants.{Disk, Memory}
+use Rattle.serial_spec.specs.FileStep.{Setting, Counted, solo}
+use Rattle.serial_spec.specs.History.{concerns}
+use Rattle.serial_spec.specs.RankMachine.{hear}
+use Rattle.serial_spec.specs.SerialEnd.{Going, advance, after_mark, hears, solo_of}
+use Rattle.serial_spec.specs.Torn.{Begins, HasAnswers}
+use Rattle.collective_round.specs.Rounds.{counted}
+use Rattle.run_laws.specs.Arrivals.{Arrived, Stand, solo_to, step_to}
+use Rattle.run_laws.specs.Standing.{is_solo_of}
+use Rattle.turn_run.specs.Said.{HasSaid, SaysAt, AllSay, HasReached, AreAnswers, HaveAnswers, all_between}
+use Rattle.turn_run.specs.Seated.{between, calls_of, AreFree, HasArrived}
+use Rattle.turn_run.specs.Stages.{Stage, Leads, IsLed, HasGone, HasLed, IsGrownBy, arrived, arrived_all, stage}
+use Rattle.turn_run.specs.declared.seats.Seat.{Seat}
+use Rattle.turn_run.proofs.AloneLaws.{arrived_free, arrived_held, step_at}
+use Rattle.turn_run.proofs.ListLaws.{get_long, get_map, get_set, get_set_other}
+use Rattle.turn_run.proofs.MeetSolo.{told_at}
+use Rattle.turn_run.proofs.SeatLaws.{advance_ended, answers_begin}
+use Rattle.turn_run.proofs.StageLaws.{gone_up, marks_up}
+use Rattle.turn_run.proofs.TurnSteps.{calls_there, get_arrived, own_or_other}
+
+-- ---- one rank
+
+pub said_here : (fault : StepErr) (a : Arrived) (answers : List Answer) → answers ≡ a.0.answers → HasSaid fault a answers
+said_here fault a answers e = record {
+  begins = ([], append-nil answers ∙ e);
+  all = λ d. let l = ap (λ (xs : List Answer). length xs) e in omega arith;
+}
+
+pub said_part : (fault : StepErr) (a : Arrived) (answers : List Answer) → fault ≡ Memory → Begins answers a.0.answers → HasSaid fault a answers
+said_part fault a answers memory b = record { begins = b; all = λ d. absurd (not_both (sym d ∙ memory)) }
+  where
+    not_both : Disk ≡ Memory → ⊥
+    not_both e = cc
+
+-- where it heard its last reply
+pub begins_up : (header : Header) (g : Going) → Begins g.answers (advance header g).0.answers
+begins_up header g = answers_begin header g.rank g.answers g.calls
+
+pub begins_heard : (header : Header) (t : Going) (reply : Reply) → Begins t.answers (advance header (hears header t reply)).0.answers
+begins_heard header t reply =
+    let x = (hear header t.rank reply).1 in
+    let b = begins_up header (hears header t reply) in
+    (x ∷ b.0, sym (append_assoc t.answers (x ∷ []) b.0) ∙ b.1)
+
+pub said_up : (header : Header) (fault : StepErr) (g : Going) (answers : List Answer) → HasSaid fault (advance header g) answers → HasAnswers header fault g answers
+said_up header Disk g answers h = (
+  h.begins,
+  (let b = begins_up header g in
+      let l = h.all refl in
+      let k = length-append g.answers b.0 in
+      let m = ap (λ (xs : List Answer). length xs) b.1 in omega arith),
+)
+said_up header Memory g answers h = (h.begins, tt)
+
+pub said_between : (header : Header) (fault : StepErr) (g : Going) (answers : List Answer) → answers ≡ g.answers → HasAnswers header fault g answers
+said_between header Disk g answers e = (
+  subst (λ (xs : List Answer). Begins xs (advance header g).0.answers) (sym e) (begins_up header g),
+  (let l = ap (λ (xs : List Answer). length xs) e in omega arith),
+)
+said_between header Memory g answers e = (subst (λ (xs : List Answer). Begins xs (advance header g).0.answers) (sym e) (begins_up header g), tt)
+
+pub arrived_said : (header : Header) (own : List Call) (seat : Seat) → HasArrived own seat → (arrived header own seat).0.answers ≡ seat.answers
+arrived_said header own seat h = by_held seat.held refl
+  where
+    by_held : (m : Option Offer) → seat.held ≡ m → (arrived header own seat).0.answers ≡ seat.answers
+    by_held None e = ap (λ (a : Arrived). a.0.answers) (arrived_free header own seat e ∙ advance_ended header own seat.rank.state seat.answers (h.ended e))
+    by_held (Some o) e = ap (λ (a : Arrived). a.0.answers) (arrived_held header own seat o e)
+
+pub says_here : (r : ℕ) (fault : StepErr) (answers : List Answer) (from : Arrived) (c : Counted) (ranks : List Arrived) → slice_get ranks r ≡ Some from → HasSaid fault from answers
+    → SaysAt r fault answers (c, ranks)
+says_here r fault answers from c ranks e h a g = subst (λ (x : Arrived). HasSaid fault x answers) (same_Some from a (sym e ∙ g)) h
+
+-- the answers of a rank that went on through its calls, and was cut off
+pub part_arrived : (header : Header) (own all : List Call) (old : Seat) (answers : List Answer) → own ≡ all → old.held ≡ None
+    → (rest : List Answer) × (answers ++ rest ≡ (advance header (between own old)).0.answers) → Begins answers (arrived header all old).0.answers
+part_arrived header own all old answers e free (rest, h) = (
+  rest,
+  h ∙ ap (λ (cs : List Call). (advance header (between cs old)).0.answers) e ∙ sym (ap (λ (a : Arrived). a.0.answers) (arrived_free header all old free)),
+)
+
+-- ---- steps before
+
+pub reached_here : (P : Stand → Type 0) (s : Setting) (before now : List Mark) (held : Option (List ℕ)) (records : ℕ) (ranks : List Arrived) → now ≡ before → ((c : Counted) → P (c, ranks))
+    → HasReached P s before now held records ranks
+reached_here P s before now held records ranks e h = record { more = []; grown = e ∙ sym (append-nil before); ends = by_held held }
+  where
+    by_held : (m : Option (List ℕ)) → IfSome m (λ file. P (counted file records, ranks))
+    by_held None = tt
+    by_held (Some file) = h (counted file records)
+
+pub reached_then : (P : Stand → Type 0) (hints : Hints) (s : Setting) (before mid now more : List Mark) (a b : Stage)
+    → Leads hints s more a b → mid ≡ before ++ more → HasReached P s mid now b.held b.records b.ranks → HasReached P s before now a.held a.records a.ranks
+reached_then P hints s before mid now more a b led grown h = record {
+  more = more ++ h.more;
+  grown = h.grown ∙ ap (λ (ms : List Mark). ms ++ h.more) grown ∙ append_assoc before more h.more;
+  ends = by_held a.held led;
+}
+  where
+    Ends : Option (List ℕ) → ℕ → List Arrived → List Mark → Type 0
+    Ends held records ranks ms = IfSome held (λ file. P (fold (step_to s) (counted file records, ranks) ms))
+
+    at : (file : List ℕ) → b.held ≡ Some file → P (fold (step_to s) (counted file b.records, b.ranks) h.more)
+    at file e = subst (λ (m : Option (List ℕ)). Ends m b.records b.ranks h.more) e h.ends
+
+    by_held : (m : Option (List ℕ)) → IfSome m (λ file. IsLed hints s more file a b) → Ends m a.records a.ranks (more ++ h.more)
+    by_held None l = tt
+    by_held (Some file) l =
+        subst P (ap (λ (stand : Stand). fold (step_to s) stand h.more) (sym l.state) ∙ sym (fold-append (step_to s) (counted file a.records, a.ranks) more h.more)) (at l.left l.told)
+
+pub gone_reached : (P : Stand → Type 0) (hints : Hints) (s : Setting) (r : ℕ) (before mid now : List Mark) (held left : Option (List ℕ)) (calls made : Option (List DiskCall)) (from to : Arrived)
+    → HasGone hints s r before mid held calls left made from to
+    → ((records : ℕ) (ranks : List Arrived) → slice_get ranks r ≡ Some to → HasReached P s mid now left records ranks)
+    → (records : ℕ) (ranks : List Arrived) → slice_get ranks r ≡ Some from → HasReached P s before now held records ranks
+gone_reached P hints s r before mid now held left calls made from to g next records ranks e =
+    reached_then P hints s before mid now g.more (stage held calls records ranks) (stage left made records (set ranks r to)) (g.led records ranks e) g.grown
+    (next records (set ranks r to) (get_set ranks r from to e))
+
+-- a solo step was done, and its reply was not heard
+pub reached_unheard : (s : Setting) (fault : StepErr) (r n : ℕ) (before now : List Mark) (held : Option (List ℕ)) (t : Going) (o : Offer) (answers : List Answer) → fault ≡ Memory
+    → now ≡ before ++ Solo r n ∷ [] → answers ≡ t.answers
+    → (records : ℕ) (ranks : List Arrived) → slice_get ranks r ≡ Some (t, Some o) → HasReached (SaysAt r fault answers) s before now held records ranks
+reached_unheard s fault r n before now held t o answers memory grown e records ranks there = record { more = Solo r n ∷ []; grown = grown; ends = by_held held }
+  where
+    at : (c : Counted) → SaysAt r fault answers (step_to s (c, ranks) (Solo r n))
+    at c =
+        let reply = (solo s r o c).1 in
+        let up = advance s.header (hears s.header t reply) in
+        subst (λ (stand : Stand). SaysAt r fault answers stand) (sym (step_at s r n c ranks t o there))
+        (says_here r fault answers up (solo s r o c).0 (set ranks r up) (get_set ranks r (t, Some o) up there)
+        (said_part fault up answers memory (subst (λ (xs : List Answer). Begins xs up.0.answers) (sym e) (begins_heard s.header t reply))))
+
+    by_held : (m : Option (List ℕ)) → IfSome m (λ file. SaysAt r fault answers (step_to s (counted file records, ranks) (Solo r n)))
+    by_held None = tt
+    by_held (Some file) = at (counted file records)
+
+-- ---- the ranks that no mark concerns
+
+abbrev solo_some : Setting → ℕ → Counted → List Arrived → Option Arrived → Stand
+solo_some s q c ranks None = (c, ranks)
+solo_some s q c ranks (Some a) = solo_to s q c ranks a
+
+solo_beside : (s : Setting) (q r : ℕ) (c : Counted) (ranks : List Arrived) (m : Option Arrived) → q ≢ r → slice_get (solo_some s q c ranks m).1 r ≡ slice_get ranks r
+solo_beside s q r c ranks None n = refl
+solo_beside s q r c ranks (Some a) n = get_set_other ranks q r (advance s.header (solo_of s q c a).1) (λ e. n (sym e))
+
+not_equal : (q r : ℕ) → (q == r) ≡ false → q ≢ r
+not_equal q r h e = grind (arith, nat_tests)
+
+pub marks_beside : (s : Setting) (r : ℕ) (more : List Mark) (stand : Stand) → filter (concerns r) more ≡ [] → slice_get (fold (step_to s) stand more).1 r ≡ slice_get stand.1 r
+marks_beside s r [] stand e = refl
+marks_beside s r (Meet k ∷ more) stand e = absurd cc
+marks_beside s r (Solo q n ∷ more) stand e = by_test (q == r) refl e (λ next h. marks_beside s r more next h)
+  where
+    by_test : (t : Bool) → (q == r) ≡ t → cond t (Solo q n ∷ filter (concerns r) more) (filter (concerns r) more) ≡ []
+        → ((next : Stand) → filter (concerns r) more ≡ [] → slice_get (fold (step_to s) next more).1 r ≡ slice_get next.1 r)
+        → slice_get (fold (step_to s) (step_to s stand (Solo q n)) more).1 r ≡ slice_get stand.1 r
+    by_test true t h again = absurd cc
+    by_test false t h again = again (step_to s stand (Solo q n)) h ∙ solo_beside s q r stand.0 stand.1 (slice_get stand.1 q) (not_equal q r t)
+
+abbrev going_some : Setting → ℕ → Counted → List Going → Option Going → Counted × List Going
+going_some s q c goings None = (c, goings)
+going_some s q c goings (Some g) = let done = solo_of s q c (advance s.header g) in (done.0, set goings q done.1)
+
+going_beside : (s : Setting) (q r : ℕ) (c : Counted) (goings : List Going) (m : Option Going) → q ≢ r → slice_get (going_some s q c goings m).1 r ≡ slice_get goings r
+going_beside s q r c goings None n = refl
+going_beside s q r c goings (Some g) n = get_set_other goings q r (solo_of s q c (advance s.header g)).1 (λ e. n (sym e))
+
+pub goings_beside : (s : Setting) (r : ℕ) (more : List Mark) (state : Counted × List Going) → filter (concerns r) more ≡ []
+    → slice_get (fold (after_mark s) state more).1 r ≡ slice_get state.1 r
+goings_beside s r [] state e = refl
+goings_beside s r (Meet k ∷ more) state e = absurd cc
+goings_beside s r (Solo q n ∷ more) state e = by_test (q == r) refl e (λ next h. goings_beside s r more next h)
+  where
+    by_test : (t : Bool) → (q == r) ≡ t → cond t (Solo q n ∷ filter (concerns r) more) (filter (concerns r) more) ≡ []
+        → ((next : Counted × List Going) → filter (concerns r) more ≡ [] → slice_get (fold (after_mark s) next more).1 r ≡ slice_get next.1 r)
+        → slice_get (fold (after_mark s) (after_mark s state (Solo q n)) more).1 r ≡ slice_get state.1 r
+    by_test true t h again = absurd cc
+    by_test false t h again = again (after_mark s state (Solo q n)) h ∙ going_beside s q r state.0 state.1 (slice_get state.1 q) (not_equal q r t)
+
+-- marks that another rank adds
+solos_beside : (q r : ℕ) (more : List Mark) → q ≢ r → list_all (is_solo_of q) more ≡ true → filter (concerns r) more ≡ []
+solos_beside q r [] n h = refl
+solos_beside q r (Meet k ∷ more) n h = cc
+solos_beside q r (Solo p m ∷ more) n h =
+    let same = eqb-true p q (and_first (p == q) _ h) in
+    by_test (p == r) refl (λ z. n (sym same ∙ eqb-true p r z)) ∙ solos_beside q r more n (and_second (p == q) _ h)
+  where
+    by_test : (t : Bool) → (p == r) ≡ t → ((p == r) ≡ true → ⊥) → cond t (Solo p m ∷ filter (concerns r) more) (filter (concerns r) more) ≡ filter (concerns r) more
+    by_test true e f = absurd (f e)
+    by_test false e f = refl
+
+none_added : (r : ℕ) (before now more : List Mark) → now ≡ before ++ more → filter (concerns r) now ≡ filter (concerns r) before → filter (concerns r) more ≡ []
+none_added r before now more e f =
+    append_cancel_left (filter (concerns r) before) (filter (concerns r) more) []
+    (sym (filter-append (concerns r) before more) ∙ sym (ap (λ (ms : List Mark). filter (concerns r) ms) e) ∙ f ∙ sym (append-nil (filter (concerns r) before)))
+
+pub grown_beside : (q r : ℕ) (before now : List Mark) → q ≢ r → IsGrownBy q before now → filter (concerns r) now ≡ filter (concerns r) before
+grown_beside q r before now n g =
+    ap (λ (ms : List Mark). filter (concerns r) ms) g.grown ∙ filter-append (concerns r) before g.more
+    ∙ ap (λ (ms : List Mark). filter (concerns r) before ++ ms) (solos_beside q r g.more n g.own) ∙ append-nil (filter (concerns r) before)
+
+-- ---- the ranks of the serial run
+
+pub up_after : (s : Setting) (c : Counted) (goings : List Going) (ranks : List Arrived) (order : List Mark) → map (advance s.header) goings ≡ ranks
+    → gone_up s (fold (after_mark s) (c, goings) order) ≡ fold (step_to s) (c, ranks) order
+up_after s c goings ranks order e = marks_up s (c, goings) order ∙ ap (λ (rs : List Arrived). fold (step_to s) (c, rs) order) e
+
+pub answers_up : (header : Header) (fault : StepErr) (goings : List Going) (seats : List Seat) (stand : Stand) → map (advance header) goings ≡ stand.1 → AllSay fault seats stand
+    → AreAnswers header fault goings seats
+answers_up header fault goings seats stand e h r g seat f k =
+    said_up header fault g seat.answers (h r seat k (advance header g) (ap (λ (rs : List Arrived). slice_get rs r) (sym e) ∙ get_map (advance header) goings r g f))
+
+pub have_reached : (s : Setting) (fault : StepErr) (before now : List Mark) (held : Option (List ℕ)) (records : ℕ) (goings : List Going) (ranks : List Arrived) (seats : List Seat)
+    → map (advance s.header) goings ≡ ranks → HasReached (AllSay fault seats) s before now held records ranks → HaveAnswers s fault before now held records goings seats
+have_reached s fault before now held records goings ranks seats e h = record { more = h.more; grown = h.grown; said = by_held held h.ends }
+  where
+    by_held : (m : Option (List ℕ)) → IfSome m (λ file. AllSay fault seats (fold (step_to s) (counted file records, ranks) h.more))
+        → IfSome m (λ file. AreAnswers s.header fault (fold (after_mark s) (counted file records, goings) h.more).1 seats)
+    by_held None k = tt
+    by_held (Some file) k =
+        answers_up s.header fault (fold (after_mark s) (counted file records, goings) h.more).1 seats (fold (step_to s) (counted file records, ranks) h.more)
+        (ap (λ (stand : Stand). stand.1) (up_after s (counted file records) goings ranks h.more e)) k
+
+-- those that hold no offer wait where they heard their last reply
+pub between_up : (header : Header) (calls : List (List Call)) (seats : List Seat) → AreFree seats → map (advance header) (all_between calls seats) ≡ arrived_all header calls seats
+between_up header [] seats f = refl
+between_up header (own ∷ calls) [] f = refl
+between_up header (own ∷ calls) (seat ∷ seats) f =
+    let first : advance header (between own seat) ≡ arrived header own seat = sym (arrived_free header own seat (f 0 seat refl)) in
+    let others = between_up header calls seats (λ r s e. f (suc r) s e) in
+    λ i. first i ∷ others i
+
+get_between : (calls : List (List Call)) (seats : List Seat) (r : ℕ) (own : List Call) (seat : Seat) → slice_get calls r ≡ Some own → slice_get seats r ≡ Some seat
+    → slice_get (all_between calls seats) r ≡ Some (between own seat)
+get_between [] seats r own seat e f = absurd cc
+get_between (c ∷ calls) [] r own seat e f = absurd cc
+get_between (c ∷ calls) (s ∷ seats) zero own seat e f =
+    let a : c ≡ own = same_Some c own e in
+    let b : s ≡ seat = same_Some s seat f in
+    λ i. Some (between (a i) (b i))
+get_between (c ∷ calls) (s ∷ seats) (suc r) own seat e f = get_between calls seats r own seat e f
+
+-- ---- ranks that go on one after another
+
+-- one was cut off: those before it have arrived, and those after it wait where they were
+pub answers_cut : (script : Script) (fault : StepErr) (n : ℕ) (before mid now : List Mark) (first seats : List Seat) (was new : Seat) (s : Setting)
+    (held left : Option (List ℕ)) (calls made : Option (List DiskCall)) (records : ℕ) → length script.calls ≡ length seats → AreFree first → slice_get seats n ≡ Some was
+    → HasLed script.hints s before mid (stage held calls records (arrived_all s.header script.calls first)) (stage left made records (arrived_all s.header script.calls seats))
+    → IsGrownBy n mid now → ((r : ℕ) → n ≤ r → filter (concerns r) mid ≡ filter (concerns r) before)
+    → ((r : ℕ) (seat : Seat) → r < n → slice_get seats r ≡ Some seat → HasArrived (calls_of script r) seat)
+    → ((r : ℕ) → n ≤ r → slice_get seats r ≡ slice_get first r)
+    → HasReached (SaysAt n fault new.answers) s mid now left records (arrived_all s.header script.calls seats)
+    → HaveAnswers s fault before now held records (all_between script.calls first) (set seats n new)
+answers_cut script fault n before mid now first seats was new s held left calls made records long free there led grown others come same reached = record {
+  more = led.more ++ reached.more;
+  grown = reached.grown ∙ ap (λ (ms : List Mark). ms ++ reached.more) led.grown ∙ append_assoc before led.more reached.more;
+  said = by_held held led.led;
+}
+  where
+    more : List Mark
+    more = led.more ++ reached.more
+
+    goings : List Going
+    goings = all_between script.calls first
+
+    ends_at : (file : List ℕ) → left ≡ Some file → SaysAt n fault new.answers (fold (step_to s) (counted file records, arrived_all s.header script.calls seats) reached.more)
+    ends_at file e = told_at (λ (f : List ℕ). SaysAt n fault new.answers (fold (step_to s) (counted f records, arrived_all s.header script.calls seats) reached.more)) left file e reached.ends
+
+    own_none : (r : ℕ) → n ≢ r → filter (concerns r) reached.more ≡ []
+    own_none r ne = none_added r mid now reached.more reached.grown (grown_beside n r mid now ne grown)
+
+    all_none : (r : ℕ) → n ≢ r → n ≤ r → filter (concerns r) more ≡ []
+    all_none r ne l =
+        filter-append (concerns r) led.more reached.more
+        ∙ ap (λ (ms : List Mark). ms ++ filter (concerns r) reached.more) (none_added r before mid led.more led.grown (others r l)) ∙ own_none r ne
+
+    by_held : (m : Option (List ℕ)) → IfSome m (λ file. IsLed script.hints s led.more file (stage m calls records (arrived_all s.header script.calls first)) (stage left made records (arrived_all s.header script.calls seats)))
+        → IfSome m (λ file. AreAnswers s.header fault (fold (after_mark s) (counted file records, goings) more).1 (set seats n new))
+    by_held None l = tt
+    by_held (Some file) l = λ r g seat f k. own_or_other (HasAnswers s.header fault g seat.answers) n r (λ e. at_own r g seat f k e) (λ ne. at_other r g seat f k ne)
+      where
+        up : map (advance s.header) (fold (after_mark s) (counted file records, goings) more).1
+            ≡ (fold (step_to s) (counted l.left records, arrived_all s.header script.calls seats) reached.more).1
+        up =
+            ap (λ (stand : Stand). stand.1) (up_after s (counted file records) goings (arrived_all s.header script.calls first) more (between_up s.header script.calls first free)
+            ∙ fold-append (step_to s) (counted file records, arrived_all s.header script.calls first) led.more reached.more
+            ∙ ap (λ (stand : Stand). fold (step_to s) stand reached.more) l.state)
+
+        gets : (r : ℕ) (g : Going) → slice_get (fold (after_mark s) (counted file records, goings) more).1 r ≡ Some g
+            → slice_get (fold (step_to s) (counted l.left records, arrived_all s.header script.calls seats) reached.more).1 r ≡ Some (advance s.header g)
+        gets r g f = ap (λ (rs : List Arrived). slice_get rs r) (sym up) ∙ get_map (advance s.header) (fold (after_mark s) (counted file records, goings) more).1 r g f
+
+        at_own : (r : ℕ) (g : Going) (seat : Seat) → slice_get (fold (after_mark s) (counted file records, goings) more).1 r ≡ Some g → slice_get (set seats n new) r ≡ Some seat → n ≡ r
+            → HasAnswers s.header fault g seat.answers
+        at_own r g seat f k e =
+            let same_seat : new ≡ seat = same_Some new seat (sym (get_set seats n was new there) ∙ ap (λ (q : ℕ). slice_get (set seats n new) q) e ∙ k) in
+            subst (λ (x : Seat). HasAnswers s.header fault g x.answers) same_seat
+            (said_up s.header fault g new.answers (ends_at l.left l.told (advance s.header g)
+            (ap (λ (q : ℕ). slice_get (fold (step_to s) (counted l.left records, arrived_all s.header script.calls seats) reached.more).1 q) e ∙ gets r g f)))
+
+        at_other : (r : ℕ) (g : Going) (seat : Seat) → slice_get (fold (after_mark s) (counted file records, goings) more).1 r ≡ Some g → slice_get (set seats n new) r ≡ Some seat → n ≢ r
+            → HasAnswers s.header fault g seat.answers
+        at_other r g seat f k ne = by_order (nat_lt r n) refl
+          where
+            here : slice_get seats r ≡ Some seat
+            here = sym (get_set_other seats n r new (λ e. ne (sym e))) ∙ k
+
+            its_calls : slice_get script.calls r ≡ Some (calls_of script r)
+            its_calls = calls_there script r (let w = get_long seats r seat here in omega arith)
+
+            by_order : (t : Bool) → nat_lt r n ≡ t → HasAnswers s.header fault g seat.answers
+            by_order true t =
+                let below : r < n = grind (arith, nat_tests) in
+                let is : advance s.header g ≡ arrived s.header (calls_of script r) seat =
+                same_Some _ _ (sym (gets r g f)
+                ∙ marks_beside s r reached.more (counted l.left records, arrived_all s.header script.calls seats) (own_none r ne)
+                ∙ get_arrived s.header script.calls seats r (calls_of script r) seat its_calls here) in
+                said_up s.header fault g seat.answers (said_here fault (advance s.header g) seat.answers
+                (sym (ap (λ (a : Arrived). a.0.answers) is ∙ arrived_said s.header (calls_of script r) seat (come r seat below here))))
+            by_order false t =
+                let past : n ≤ r = grind (arith, nat_tests) in
+                let is : g ≡ between (calls_of script r) seat =
+                same_Some _ _ (sym f ∙ goings_beside s r more (counted file records, goings) (all_none r ne past)
+                ∙ get_between script.calls first r (calls_of script r) seat its_calls (sym (same r past) ∙ here)) in
+                said_between s.header fault g seat.answers (sym (ap (λ (x : Going). x.answers) is))

@@ -1,0 +1,60 @@
+-- The answers that a run which was cut off has of its ranks. (own)
+--     HasSaid fault a answers   they begin those of a rank at its next offer; after a fault of the disk none is missing
+--     SaysAt, AllSay            the same of one rank of a stand, and of all
+--     HasReached P ..           the steps that were added lead to a stand of which P holds
+--     all_between               where each rank stands between two calls
+--     KeepAnswers, HaveHeardInPart     where a meeting was cut off
+--     AreAnswers, HaveAnswers   the same by the ranks of the serial run, which wait where they heard their last reply
+use Rattle.std.specs.Prelude.{◌≡◌, ℕ, ◌≤◌, ◌⊎◌, List, [], ◌∷◌, ◌++◌, length, fold, Option, Some, IfSome, slice_get}
+use Rattle.nc_base.specs.declared.answer.Answer.{Answer}
+use Rattle.nc_base.specs.declared.answer.Pair.{Pair}
+use Rattle.nc_base.specs.declared.header.Header.{Header}
+use Rattle.nc_base.specs.declared.request.Call.{Call}
+use Rattle.nc_base.specs.declared.step.Mark.{Mark}
+use Rattle.nc_base.specs.declared.step.StepErr.{StepErr}
+use Rattle.nc_base.specs.declared.step.StepErr.TheVariants.{Disk}
+use Rattle.serial_spec.specs.FileStep.{Setting}
+use Rattle.serial_spec.specs.SerialEnd.{Going, after_mark}
+use Rattle.serial_spec.specs.Torn.{Begins, HasAnswers}
+use Rattle.collective_round.specs.Rounds.{counted}
+use Rattle.run_laws.specs.Arrivals.{Arrived, Stand, step_to}
+use Rattle.turn_run.specs.Seated.{between, reply_of, HasHeard}
+use Rattle.turn_run.specs.declared.seats.Seat.{Seat}
+
+pub record HasSaid (fault : StepErr) (a : Arrived) (answers : List Answer) : Type 0 where
+  pub begins : Begins answers a.0.answers
+  pub all : fault ≡ Disk → length a.0.answers ≤ length answers
+
+abbrev pub SaysAt : ℕ → StepErr → List Answer → Stand → Type 0
+SaysAt r fault answers stand = (a : Arrived) → slice_get stand.1 r ≡ Some a → HasSaid fault a answers
+
+abbrev pub AllSay : StepErr → List Seat → Stand → Type 0
+AllSay fault seats stand = (r : ℕ) (seat : Seat) → slice_get seats r ≡ Some seat → SaysAt r fault seat.answers stand
+
+-- from bytes, if they are told, a count and ranks at their next offers
+pub record HasReached (P : Stand → Type 0) (s : Setting) (before now : List Mark) (held : Option (List ℕ)) (records : ℕ) (ranks : List Arrived) : Type 0 where
+  pub more : List Mark
+  pub grown : now ≡ before ++ more
+  pub ends : IfSome held (λ file. P (fold (step_to s) (counted file records, ranks) more))
+
+abbrev pub all_between : List (List Call) → List Seat → List Going
+all_between [] seats = []
+all_between (own ∷ calls) [] = []
+all_between (own ∷ calls) (seat ∷ seats) = between own seat ∷ all_between calls seats
+
+abbrev pub AreAnswers : Header → StepErr → List Going → List Seat → Type 0
+AreAnswers header fault goings seats = (r : ℕ) (g : Going) (seat : Seat) → slice_get goings r ≡ Some g → slice_get seats r ≡ Some seat → HasAnswers header fault g seat.answers
+
+-- from bytes, if they are told, a count and ranks between two calls
+pub record HaveAnswers (s : Setting) (fault : StepErr) (before now : List Mark) (held : Option (List ℕ)) (records : ℕ) (goings : List Going) (seats : List Seat) : Type 0 where
+  pub more : List Mark
+  pub grown : now ≡ before ++ more
+  pub said : IfSome held (λ file. AreAnswers s.header fault (fold (after_mark s) (counted file records, goings) more).1 seats)
+
+abbrev pub KeepAnswers : List Seat → List Seat → Type 0
+KeepAnswers before now = (r : ℕ) (a b : Seat) → slice_get before r ≡ Some a → slice_get now r ≡ Some b → b.answers ≡ a.answers
+
+-- a meeting's reply was heard by some of its ranks
+abbrev pub HaveHeardInPart : Option Pair → ℕ → List (List (List ℕ)) → List Seat → List Seat → Type 0
+HaveHeardInPart pair records table before now = (r : ℕ) (a b : Seat) (blobs : List (List ℕ)) → slice_get before r ≡ Some a → slice_get now r ≡ Some b → slice_get table r ≡ Some blobs
+    → (b.answers ≡ a.answers) ⊎ HasHeard a b (reply_of pair records blobs)
