@@ -166,7 +166,7 @@ offer_at ((g, Some o') ∷ ps) zero p o f e h =
     ap (λ (z : Going × Option Offer). z.1) same ∙ h
 offer_at ((g, Some o') ∷ ps) (suc q) p o f e h = offer_at ps q p o (λ r z d. f (suc r) z d) e h
 
-mapped_at : {X Y : Type 0} (f : X → Y) (xs : List X) (q : ℕ) (x : X) → slice_get xs q ≡ Some x → slice_get (map f xs) q ≡ Some (f x)
+pub mapped_at : {X Y : Type 0} (f : X → Y) (xs : List X) (q : ℕ) (x : X) → slice_get xs q ≡ Some x → slice_get (map f xs) q ≡ Some (f x)
 mapped_at {X} {Y} f xs q x e = slice_get-map f xs q ∙ ap (λ (m : Option X). elim m as (λ z. Option Y) [ None ↦ None | Some z ↦ Some (f z) ]) e
 
 -- what stands in a mapped list

@@ -7,3 +7,6 @@ pub mod CountLaws
 pub mod ToldLaws
 pub mod FilledLaws
 pub mod FillCalls
+pub mod StrangerLaws
+pub mod PastLaws
+pub mod FieldLaws

@@ -250,7 +250,7 @@ known_mark : (ranks : ℕ) (before later : List Mark) (m : Mark) → list_all (i
 known_mark ranks [] later m h = and_first (is_of_rank_below ranks m) _ h
 known_mark ranks (x ∷ before) later m h = known_mark ranks before later m (and_second (is_of_rank_below ranks x) _ h)
 
-offered_alone : (s : Setting) (r : ℕ) (c : Counted) (goings : List Going) (k : ℕ) (ks : List MeetKind) (rest : List Mark) (st : Stepped s r c goings k ks rest)
+pub offered_alone : (s : Setting) (r : ℕ) (c : Counted) (goings : List Going) (k : ℕ) (ks : List MeetKind) (rest : List Mark) (st : Stepped s r c goings k ks rest)
     → puts_asked r (rank_offer s goings r) ≡ puts_of (r, st.at.asks.offer)
 offered_alone s r c goings k ks rest st = ap (λ (m : Option Offer). puts_asked r m)
     (ap (λ (m : Option Going). elim m as (λ z. Option Offer) [ None ↦ None | Some g ↦ (advance s.header g).1 ]) st.was ∙ st.at.asks.is_offer)
