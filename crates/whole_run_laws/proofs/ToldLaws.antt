@@ -39,8 +39,8 @@ use Rattle.serial_spec.specs.Lists.{In}
 use Rattle.serial_spec.specs.RankMachine.{Asks, Empty, hear_open, Look, look, Open, post_after, posts, Rank, Refused, step, values_of_post}
 use Rattle.serial_spec.specs.Records.{with_records}
 use Rattle.serial_spec.specs.SerialEnd.{advance, after_mark, after_meeting, after_solo, first_state, go, Going, hears, offers_of, rank_offer, serial_from, setting_of, state_after}
-use Rattle.serial_spec.specs.SharedByte.{holdings, IsSharedPair, Puts, shared_pair}
-use Rattle.serial_spec.proofs.PairLaws.{pair_found}
+use Rattle.serial_spec.specs.SharedByte.{holdings, IsSharedPair, IsUnshared, Puts, shared_pair}
+use Rattle.serial_spec.proofs.PairLaws.{pair_found, pair_none}
 use Rattle.run_laws.proofs.OrderLaws.{state_more, states_more}
 use Rattle.whole_run_laws.specs.Completed.{puts_asked, puts_at, puts_met}
 use Rattle.whole_run_laws.specs.Told.{answers_after, answers_of, IsLastTold}
@@ -66,6 +66,9 @@ told_shared Serial pair p e = cc
 
 pub pair_is_least : (s : Setting) (puts : Puts) (p : Pair) → told s puts ≡ Some p → IsSharedPair (holdings s.header puts) p
 pair_is_least s puts p e = pair_found (holdings s.header puts) p (told_shared s.overlap (shared_pair s.header puts) p e).0
+
+pub none_shared : (s : Setting) (puts : Puts) → s.overlap ≡ Refuse → told s puts ≡ None → (x : ℕ) → IsUnshared (holdings s.header puts) x
+none_shared s puts e f = pair_none (holdings s.header puts) (sym (ap (λ (rule : OverlapRule). told_under rule (shared_pair s.header puts)) e) ∙ f)
 
 pub only_refused : (s : Setting) (puts : Puts) (p : Pair) → told s puts ≡ Some p → s.overlap ≡ Refuse
 only_refused s puts p e = (told_shared s.overlap (shared_pair s.header puts) p e).1

@@ -1,4 +1,5 @@
--- The answers of a rank, and the pair that its last one tells. (own)
+-- What a step of a run tells its ranks, and what they answer. (own)
+--     told_at script header file before m          what the step of mark m tells after these marks: a pair, or none
 --     answers_after script header file order r     what rank r has answered when these marks are done
 --     IsLastTold answers pair                      there is a last answer, and it has the pair, or none
 use Rattle.std.specs.Prelude.{◌≡◌, ℕ, List, [], ◌∷◌, ◌++◌, Option, Some, None, slice_get}
@@ -7,7 +8,12 @@ use Rattle.nc_base.specs.declared.answer.Pair.{Pair}
 use Rattle.nc_base.specs.declared.header.Header.{Header}
 use Rattle.nc_base.specs.declared.script.Script.{Script}
 use Rattle.nc_base.specs.declared.step.Mark.{Mark}
-use Rattle.serial_spec.specs.SerialEnd.{Going, state_after}
+use Rattle.serial_spec.specs.FileStep.{told}
+use Rattle.serial_spec.specs.SerialEnd.{Going, setting_of, state_after}
+use Rattle.whole_run_laws.specs.Completed.{puts_at}
+
+abbrev pub told_at : Script → Header → List ℕ → List Mark → Mark → Option Pair
+told_at script header file before m = told (setting_of script header) (puts_at (setting_of script header) (state_after script header file before) m)
 
 abbrev pub answers_of : Option Going → List Answer
 answers_of None = []
