@@ -10,3 +10,4 @@ pub mod FillCalls
 pub mod StrangerLaws
 pub mod PastLaws
 pub mod FieldLaws
+pub mod AnswerLaws

@@ -249,7 +249,7 @@ pub along_at : (script : Script) (header : Header) (file : List ℕ) (before lat
 along_at script header file before later lawful legal =
     marks_along (setting_of script header) script.ranks before later (first_state header file script.calls) legal.known_ranks (first_along script header (before ++ later) lawful legal)
 
-known_mark : (ranks : ℕ) (before later : List Mark) (m : Mark) → list_all (is_of_rank_below ranks) (before ++ m ∷ later) ≡ true → is_of_rank_below ranks m ≡ true
+pub known_mark : (ranks : ℕ) (before later : List Mark) (m : Mark) → list_all (is_of_rank_below ranks) (before ++ m ∷ later) ≡ true → is_of_rank_below ranks m ≡ true
 known_mark ranks [] later m h = and_first (is_of_rank_below ranks m) _ h
 known_mark ranks (x ∷ before) later m h = known_mark ranks before later m (and_second (is_of_rank_below ranks x) _ h)
 

@@ -4,6 +4,7 @@ ghost use Rattle.std.specs.Prelude.{◌≡◌, ℕ, ◌<◌, List, [], ◌∷◌
 ghost use Rattle.nc_base.specs.declared.answer.Answer.{Answer};
 ghost use Rattle.nc_base.specs.declared.answer.Pair.{Pair};
 ghost use Rattle.nc_base.specs.declared.header.Header.{Header};
+ghost use Rattle.nc_base.specs.declared.request.Call.{Call};
 ghost use Rattle.nc_base.specs.declared.script.OverlapRule.TheVariants.{Refuse};
 ghost use Rattle.nc_base.specs.declared.script.Script.{Script};
 ghost use Rattle.nc_base.specs.declared.step.Mark.{Mark};
@@ -17,7 +18,7 @@ ghost use Rattle.serial_spec.specs.Lists.{In};
 ghost use Rattle.serial_spec.specs.SerialEnd.{serial_from, state_after};
 ghost use Rattle.serial_spec.specs.SharedByte.{IsSharedPair, IsUnshared, Puts, holdings};
 ghost use Rattle.whole_run_laws.specs.Completed.{puts_met};
-ghost use Rattle.whole_run_laws.specs.Told.{answers_after, IsLastTold, told_at};
+ghost use Rattle.whole_run_laws.specs.Told.{answers_after, IsLastTold, IsToldAt, meeting_call, told_at};
 
 /// In one step every rank is told the same: the least byte that two of its puts' requests hold, with the two least of them, if
 /// the rule is to refuse such puts, and else no pair.
@@ -48,4 +49,16 @@ pub fn overlap_law()
     ensures answers_stay { (script : Script) (header : Header) (file : List ℕ) (before later : List Mark) (r : ℕ) (answers : List Answer)
         → is_lawful script ≡ true → IsLegal script (before ++ later) → slice_get (serial_from script header file (before ++ later)).answers r ≡ Some answers
         → (rest : List Answer) × (answers_after script header file before r ++ rest ≡ answers) }
+{}
+
+/// At the end each rank's answer to its call of a meeting, and to the call of its own step, has what that step tells.
+pub fn answer_law()
+    ensures all_told { (script : Script) (header : Header) (file : List ℕ) (before later : List Mark) (k r : ℕ) (own : List Call) (answers : List Answer)
+        → is_lawful script ≡ true → IsLegal script (before ++ Meet k ∷ later) → slice_get script.calls r ≡ Some own
+        → slice_get (serial_from script header file (before ++ Meet k ∷ later)).answers r ≡ Some answers
+        → IsToldAt answers (meeting_call k own) (told_at script header file before (Meet k)) }
+    ensures one_told { (script : Script) (header : Header) (file : List ℕ) (before later : List Mark) (r c : ℕ) (answers : List Answer)
+        → is_lawful script ≡ true → IsLegal script (before ++ Solo r c ∷ later)
+        → slice_get (serial_from script header file (before ++ Solo r c ∷ later)).answers r ≡ Some answers
+        → IsToldAt answers c (told_at script header file before (Solo r c)) }
 {}
