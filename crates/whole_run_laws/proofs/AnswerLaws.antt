@@ -32,9 +32,9 @@ use Rattle.run_laws.proofs.CallLaws.{Says, step_says}
 use Rattle.run_laws.proofs.LawfulLaws.{ranks_lawful}
 use Rattle.run_laws.proofs.OrderLaws.{state_more}
 use Rattle.join_laws.proofs.RankLaws.{hear_length}
-use Rattle.whole_run_laws.specs.Told.{answers_after, answers_of, IsLastTold, IsToldAt, meeting_call, told_at}
+use Rattle.whole_run_laws.specs.Told.{IsToldAt, meeting_call, told_at}
 use Rattle.whole_run_laws.proofs.Courses.{AreAlong, AreOn, first_on, goes_number, heard_by, hears_then, mapped_from, meets, meets_number, met_on, set_cases, solo_on, steps}
-use Rattle.whole_run_laws.proofs.ToldLaws.{along_at, answers_stay, known_mark, meeting_told, solo_told}
+use Rattle.whole_run_laws.proofs.ToldLaws.{along_at, answers_after, answers_of, answers_stay, IsLastTold, known_mark, meeting_told, solo_told}
 
 -- ---- the number of a meeting's call
 

@@ -43,8 +43,18 @@ use Rattle.serial_spec.specs.SharedByte.{holdings, IsSharedPair, IsUnshared, Put
 use Rattle.serial_spec.proofs.PairLaws.{pair_found, pair_none}
 use Rattle.run_laws.proofs.OrderLaws.{state_more, states_more}
 use Rattle.whole_run_laws.specs.Completed.{puts_asked, puts_at, puts_met}
-use Rattle.whole_run_laws.specs.Told.{answers_after, answers_of, IsLastTold}
 use Rattle.whole_run_laws.proofs.Courses.{AreAlong, AreOn, first_along, hears_then, mapped_from, mark_along, marks_along, meets, offer_met, offers_met_long, Stepped, steps}
+
+-- what rank r has answered when these marks are done
+abbrev pub answers_of : Option Going → List Answer
+answers_of None = []
+answers_of (Some g) = g.answers
+
+abbrev pub answers_after : Script → Header → List ℕ → List Mark → ℕ → List Answer
+answers_after script header file order r = answers_of (slice_get (state_after script header file order).1 r)
+
+abbrev pub IsLastTold : List Answer → Option Pair → Type 0
+IsLastTold answers pair = (earlier : List Answer) × (last : Answer) × (answers ≡ earlier ++ last ∷ []) × (last.pair ≡ pair)
 
 -- ---- one step
 

@@ -1,7 +1,5 @@
 -- What a step of a run tells its ranks, and what they answer. (own)
 --     told_at script header file before m          what the step of mark m tells after these marks: a pair, or none
---     answers_after script header file order r     what rank r has answered when these marks are done
---     IsLastTold answers pair                      there is a last answer, and it has the pair, or none
 --     meeting_call k calls                         the number of the rank's call that makes its meeting k
 --     IsToldAt answers n pair                      call n has an answer, and it has the pair, or none
 use Rattle.std.specs.Prelude.{◌≡◌, ℕ, zero, suc, ◌+◌, true, false, List, [], ◌∷◌, ◌++◌, Option, Some, None, slice_get}
@@ -18,16 +16,6 @@ use Rattle.whole_run_laws.specs.Completed.{puts_at}
 
 abbrev pub told_at : Script → Header → List ℕ → List Mark → Mark → Option Pair
 told_at script header file before m = told (setting_of script header) (puts_at (setting_of script header) (state_after script header file before) m)
-
-abbrev pub answers_of : Option Going → List Answer
-answers_of None = []
-answers_of (Some g) = g.answers
-
-abbrev pub answers_after : Script → Header → List ℕ → List Mark → ℕ → List Answer
-answers_after script header file order r = answers_of (slice_get (state_after script header file order).1 r)
-
-abbrev pub IsLastTold : List Answer → Option Pair → Type 0
-IsLastTold answers pair = (earlier : List Answer) × (last : Answer) × (answers ≡ earlier ++ last ∷ []) × (last.pair ≡ pair)
 
 -- its collective call number k, counted from 0
 abbrev pub meeting_call : ℕ → List Call → ℕ

@@ -10,7 +10,7 @@ ghost use Rattle.serial_spec.specs.History.{IsLegal};
 ghost use Rattle.serial_spec.specs.Lawful.{is_lawful};
 ghost use Rattle.serial_spec.specs.Said.{said_at, byte_or};
 ghost use Rattle.serial_spec.specs.SharedByte.{said_by_puts};
-ghost use Rattle.serial_spec.specs.SerialEnd.{serial_from};
+ghost use Rattle.serial_spec.specs.SerialEnd.{serial, serial_from, start};
 ghost use Rattle.whole_run_laws.specs.Completed.{completed_puts, is_held, IsBesideCount};
 
 /// A byte at the end of a run is that of the last completed put that holds it; one that none holds is as it was, or zero
@@ -23,6 +23,8 @@ pub fn bytes_law()
         → is_held header (completed_puts script header file order) x ≡ false → at (serial_from script header file order).bytes x ≡ at file x }
     ensures zero_where_it_grew { (script : Script) (header : Header) (file : List ℕ) (order : List Mark) (x : ℕ) → IsBesideCount header x
         → is_held header (completed_puts script header file order) x ≡ false → length file ≤ x → at (serial_from script header file order).bytes x ≡ 0 }
+    ensures of_an_opened_dataset { (script : Script) (header : Header) (file : List ℕ) (order : List Mark) (x : ℕ) → script.fresh ≡ false → IsBesideCount header x
+        → is_held header (completed_puts script header (start script header file) order) x ≡ false → at (serial script header file order).bytes x ≡ at file x }
     ensures no_shorter { (script : Script) (header : Header) (file : List ℕ) (order : List Mark) → length file ≤ length (serial_from script header file order).bytes }
 {}
 

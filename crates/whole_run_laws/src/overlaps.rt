@@ -1,6 +1,6 @@
 //! What comes of puts that share a byte.
 
-ghost use Rattle.std.specs.Prelude.{◌≡◌, ℕ, ◌<◌, List, [], ◌∷◌, ◌++◌, length, true, None, Some, slice_get};
+ghost use Rattle.std.specs.Prelude.{◌≡◌, ℕ, List, [], ◌∷◌, ◌++◌, length, true, None, Some, slice_get};
 ghost use Rattle.nc_base.specs.declared.answer.Answer.{Answer};
 ghost use Rattle.nc_base.specs.declared.answer.Pair.{Pair};
 ghost use Rattle.nc_base.specs.declared.header.Header.{Header};
@@ -18,7 +18,7 @@ ghost use Rattle.serial_spec.specs.Lists.{In};
 ghost use Rattle.serial_spec.specs.SerialEnd.{serial_from, state_after};
 ghost use Rattle.serial_spec.specs.SharedByte.{IsSharedPair, IsUnshared, Puts, holdings};
 ghost use Rattle.whole_run_laws.specs.Completed.{puts_met};
-ghost use Rattle.whole_run_laws.specs.Told.{answers_after, IsLastTold, IsToldAt, meeting_call, told_at};
+ghost use Rattle.whole_run_laws.specs.Told.{IsToldAt, meeting_call, told_at};
 
 /// In one step every rank is told the same: the least byte that two of its puts' requests hold, with the two least of them, if
 /// the rule is to refuse such puts, and else no pair.
@@ -31,28 +31,12 @@ pub fn telling_law()
     ensures refused { (s : Setting) (puts : Puts) (p : Pair) → told s puts ≡ Some p → s.overlap ≡ Refuse }
 {}
 
-/// A step whose ranks are told a pair leaves file and record count as they were; and in every step each rank that takes part has
-/// an answer with what the step tells, which stays to the end.
+/// A step whose ranks are told a pair leaves file and record count as they were; and at the end the answer of each rank to the call
+/// by which it took part in a step has what that step tells.
 pub fn overlap_law()
     ensures nothing_changes { (script : Script) (header : Header) (file : List ℕ) (before later : List Mark) (m : Mark) (p : Pair)
-        → is_lawful script ≡ true → IsLegal script (before ++ m ∷ later)
-        → told_at script header file before m ≡ Some p
+        → is_lawful script ≡ true → IsLegal script (before ++ m ∷ later) → told_at script header file before m ≡ Some p
         → (state_after script header file (before ++ m ∷ [])).0 ≡ (state_after script header file before).0 }
-    ensures all_told { (script : Script) (header : Header) (file : List ℕ) (before later : List Mark) (k r : ℕ)
-        → is_lawful script ≡ true → IsLegal script (before ++ Meet k ∷ later) → r < script.ranks
-        → IsLastTold (answers_after script header file (before ++ Meet k ∷ []) r)
-        (told_at script header file before (Meet k)) }
-    ensures one_told { (script : Script) (header : Header) (file : List ℕ) (before later : List Mark) (r c : ℕ)
-        → is_lawful script ≡ true → IsLegal script (before ++ Solo r c ∷ later)
-        → IsLastTold (answers_after script header file (before ++ Solo r c ∷ []) r)
-        (told_at script header file before (Solo r c)) }
-    ensures answers_stay { (script : Script) (header : Header) (file : List ℕ) (before later : List Mark) (r : ℕ) (answers : List Answer)
-        → is_lawful script ≡ true → IsLegal script (before ++ later) → slice_get (serial_from script header file (before ++ later)).answers r ≡ Some answers
-        → (rest : List Answer) × (answers_after script header file before r ++ rest ≡ answers) }
-{}
-
-/// At the end each rank's answer to its call of a meeting, and to the call of its own step, has what that step tells.
-pub fn answer_law()
     ensures all_told { (script : Script) (header : Header) (file : List ℕ) (before later : List Mark) (k r : ℕ) (own : List Call) (answers : List Answer)
         → is_lawful script ≡ true → IsLegal script (before ++ Meet k ∷ later) → slice_get script.calls r ≡ Some own
         → slice_get (serial_from script header file (before ++ Meet k ∷ later)).answers r ≡ Some answers

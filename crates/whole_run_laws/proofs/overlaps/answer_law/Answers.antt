@@ -1,8 +1,0 @@
-use Rattle.whole_run_laws.proofs.AnswerLaws.{meeting_answer, solo_answer}
-use Rattle.whole_run_laws.proofs.overlaps.answer_law.Goals as goal
-
-pub returns-clause-all_told : goal.returns-clause-all_told
-returns-clause-all_told c = meeting_answer
-
-pub returns-clause-one_told : goal.returns-clause-one_told
-returns-clause-one_told c = solo_answer
