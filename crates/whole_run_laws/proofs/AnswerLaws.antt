@@ -1,5 +1,5 @@
 -- The answer to the call of a meeting, or of a rank's own step, stands at the number of that call.
-use Rattle.std.proofs.Common.{◌≡◌, ℕ, zero, suc, ◌+◌, ◌<◌, ◌≤◌, refl, sym, ◌∙◌, ap, subst, inl, inr, ◌⊎◌, List, [], ◌∷◌, ◌++◌, length, map, set, drop, Bool, true, false, Option, Some, None, arith, append_assoc}
+use Rattle.std.proofs.Common.{◌≡◌, ℕ, zero, suc, ◌+◌, ◌<◌, refl, sym, ◌∙◌, ap, subst, inl, inr, ◌⊎◌, List, [], ◌∷◌, ◌++◌, length, map, set, drop, Bool, true, false, Option, Some, None, arith, append_assoc}
 use Rattle.std.proofs.lemmas.List.{length-append}
 use Rattle.std.proofs.lemmas.Option.{same_Some, slice_get_within}
 use Rattle.std.specs.Prelude.{fold, slice_get, ◌==◌}
@@ -18,7 +18,6 @@ use Rattle.nc_base.specs.declared.step.MeetKind.{MeetKind}
 use Rattle.nc_base.specs.declared.step.Offer.{Offer}
 use Rattle.nc_base.specs.declared.step.OfferKind.{OfferKind}
 use Rattle.nc_base.specs.declared.step.OfferKind.TheVariants as offer
-use Rattle.nc_base.specs.declared.step.Reply.{Reply}
 use Rattle.nc_base.specs.declared.step.Want.{Want}
 use Rattle.nc_base.specs.declared.step.Want.TheVariants as want
 use Rattle.serial_spec.specs.FileStep.{Counted, Setting, solo}
@@ -33,8 +32,8 @@ use Rattle.run_laws.proofs.LawfulLaws.{ranks_lawful}
 use Rattle.run_laws.proofs.OrderLaws.{state_more}
 use Rattle.join_laws.proofs.RankLaws.{hear_length}
 use Rattle.whole_run_laws.specs.Told.{IsToldAt, meeting_call, told_at}
-use Rattle.whole_run_laws.proofs.Courses.{AreAlong, AreOn, first_on, goes_number, heard_by, hears_then, mapped_from, meets, meets_number, met_on, set_cases, solo_on, steps}
-use Rattle.whole_run_laws.proofs.ToldLaws.{along_at, answers_after, answers_of, answers_stay, IsLastTold, known_mark, meeting_told, solo_told}
+use Rattle.whole_run_laws.proofs.Courses.{AreOn, first_on, goes_number, heard_by, hears_then, mapped_from, meets, meets_number, met_on, set_cases, solo_on, steps}
+use Rattle.whole_run_laws.proofs.ToldLaws.{answers_after, answers_of, answers_stay, IsLastTold, known_mark, meeting_told, solo_told}
 
 -- ---- the number of a meeting's call
 

@@ -204,7 +204,7 @@ solo_puts_short hints s r o c call l e h =
     let none : sieving_windows hints.rd_buffer (get_bytes s (gets_of o)) ≡ [] = ap (λ (gets : List Post). sieving_windows hints.rd_buffer (get_bytes s gets)) e in
     solo_parts hints.wr_buffer (put_calls s (sieving_windows hints.wr_buffer) (puts_of (r, o)) (length c.file)) (flat_map loads (sieving_windows hints.rd_buffer (get_bytes s (gets_of o)))) call
     (λ k. put_short s (sieving_windows hints.wr_buffer) (puts_of (r, o)) (length c.file) hints.wr_buffer call
-        (λ w g. sieving_short hints.wr_buffer (in_order (covered s.header (puts_of (r, o)))) w l g) k)
+    (λ w g. sieving_short hints.wr_buffer (in_order (covered s.header (puts_of (r, o)))) w l g) k)
     (λ k. get_short (sieving_windows hints.rd_buffer (get_bytes s (gets_of o))) hints.wr_buffer call (λ w g. nothing_in _ hints.wr_buffer w none g) k)
     h
 

@@ -1,13 +1,13 @@
 -- No completed put holds a byte of the header, so its bytes stay but for the record count.
-use Rattle.std.proofs.Common.{◌≡◌, ℕ, suc, ◌+◌, ◌<◌, ◌≤◌, refl, sym, ◌∙◌, ap, subst, inl, inr, ◌⊎◌, List, [], ◌∷◌, ◌++◌, length, map, set, Bool, true, false, not, ◌||◌, Option, Some, None, arith}
+use Rattle.std.proofs.Common.{◌≡◌, ℕ, ◌<◌, ◌≤◌, refl, sym, ◌∙◌, ap, subst, inl, inr, ◌⊎◌, List, [], ◌∷◌, map, Bool, true, false, not, ◌||◌, Option, Some, None, arith}
 use Rattle.std.proofs.lemmas.Grind.{flat_map-append}
 use Rattle.std.proofs.lemmas.Option.{same_Some, slice_get_within}
-use Rattle.std.specs.Prelude.{flat_map, fold, slice_get, ◌==◌}
-use Rattle.std.specs.List.{enumerate_from, list_all, list_any, range_with_len}
+use Rattle.std.specs.Prelude.{slice_get, ◌==◌}
+use Rattle.std.specs.List.{enumerate_from, list_all, range_with_len}
 use borrow.Author.Tests.{ltb-true}
 use Rattle.list_laws.proofs.Each.{fails_each}
 use Rattle.list_laws.proofs.Places.{entry_below}
-use Rattle.list_laws.proofs.Truth.{and_first, and_second, no_false, or_first_false}
+use Rattle.list_laws.proofs.Truth.{and_first, and_second, or_first_false}
 use Rattle.overlay_laws.proofs.HullLaws.{any_in, flat_in, in_either, range_low}
 use Rattle.overlay_laws.proofs.Members.{each_in, map_in, numbered_in}
 use Rattle.nc_base.specs.declared.answer.Code.{Code}
@@ -35,7 +35,7 @@ use Rattle.serial_spec.specs.Place.{IsElementBelow, place}
 use Rattle.serial_spec.specs.Records.{records_of}
 use Rattle.serial_spec.specs.RegionCheck.{check_some, is_ok_code}
 use Rattle.serial_spec.specs.Request.{elements, places}
-use Rattle.serial_spec.specs.SerialEnd.{advance, after_mark, after_meeting, after_solo, first_going, first_state, Going, hears, offers_of, rank_offer, serial_from, setting_of}
+use Rattle.serial_spec.specs.SerialEnd.{advance, after_mark, first_going, first_state, Going, hears, offers_of, rank_offer, serial_from, setting_of}
 use Rattle.serial_spec.specs.SharedByte.{bytes_of, bytes_of_some, covered, Puts}
 use Rattle.serial_spec.proofs.AcceptLaws.{accepted_elements}
 use Rattle.serial_spec.proofs.ApartLaws.{elements_past_header}
@@ -120,12 +120,12 @@ pub mark_past : (s : Setting) (ranks : ℕ) (m : Mark) (rest : List Mark) (c : C
     → AreAlong ranks (m ∷ rest) goings → AllFit s.header ranks goings → AllPast s.header (puts_at s (c, goings) m)
 mark_past s ranks (Meet j) rest c goings sound known a fit =
     met_past s.header (offers_of (map (advance s.header) goings)) (λ q o e.
-        let long = offers_met_long s.header ranks a.met j a.kinds_left rest goings a.on in
-        let below = slice_get_within (offers_of (map (advance s.header) goings)) q o e in
-        let g = entry_below goings q (omega arith) in
-        let at = meets s.header ranks a.met j q a.kinds_left rest goings g.0 a.on g.1 in
-        let same : at.asks.offer ≡ o = same_Some at.asks.offer o (sym (offer_met s.header ranks a.met j q a.kinds_left rest goings g.0 a.on g.1) ∙ e) in
-        offer_past s.header ranks g.0 o sound (fit q g.0 g.1) (at.asks.is_offer ∙ ap (λ (z : Offer). Some z) same))
+    let long = offers_met_long s.header ranks a.met j a.kinds_left rest goings a.on in
+    let below = slice_get_within (offers_of (map (advance s.header) goings)) q o e in
+    let g = entry_below goings q (omega arith) in
+    let at = meets s.header ranks a.met j q a.kinds_left rest goings g.0 a.on g.1 in
+    let same : at.asks.offer ≡ o = same_Some at.asks.offer o (sym (offer_met s.header ranks a.met j q a.kinds_left rest goings g.0 a.on g.1) ∙ e) in
+    offer_past s.header ranks g.0 o sound (fit q g.0 g.1) (at.asks.is_offer ∙ ap (λ (z : Offer). Some z) same))
 mark_past s ranks (Solo r n) rest c goings sound known a fit =
     let st = steps s c ranks a.met r n a.kinds_left rest goings (ltb-true r ranks known) a.on in
     let asked : puts_asked r (Some st.at.asks.offer) ≡ puts_asked r (rank_offer s goings r) = sym (ap (λ (m : Option Offer). puts_asked r m)
@@ -167,7 +167,7 @@ order_past s ranks (k ∷ order) state sound known a fit x m =
     elim (in_either (covered s.header now) (covered s.header later) x both) [
       | inl h ↦ done_past s (puts_at s state k) (mark_past s ranks k order state.0 state.1 sound here a fit) x h
       | inr h ↦ order_past s ranks order (after_mark s state k) sound (and_second (is_of_rank_below ranks k) _ known) (mark_along s ranks k order state here a)
-      (mark_fit s ranks k order state.0 state.1 sound here a fit) x h
+          (mark_fit s ranks k order state.0 state.1 sound here a fit) x h
     ]
 
 pub first_fits : (script : Script) (header : Header) → is_lawful script ≡ true → AllFit header script.ranks (map (first_going header) script.calls)

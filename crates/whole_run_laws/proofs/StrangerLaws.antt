@@ -25,7 +25,7 @@ use Rattle.serial_spec.specs.Desk.{at_item, at_offer, Desk, differs, event, Even
 use Rattle.serial_spec.specs.Desk as desk
 use Rattle.serial_spec.specs.FileStep.{Counted, needs, puts_of, Setting, told}
 use Rattle.serial_spec.specs.History.{Arrival, is_from, is_offer, kind_of_meeting, meeting_kind, offer_of, option_then}
-use Rattle.serial_spec.specs.Joined.{opening_desk, run_of}
+use Rattle.serial_spec.specs.Joined.{run_of}
 use Rattle.serial_spec.specs.SerialEnd.{setting_of}
 use Rattle.serial_spec.specs.SharedByte.{Puts}
 use Rattle.join_laws.proofs.JoinLaws.{served_on, stranger_on}
@@ -154,11 +154,11 @@ module _ (ranks : ℕ) (before : List Arrival) (d : Desk) (kept : Kept ranks bef
           let mine = kept.count q x e in
           let none : one_if x.held ≡ 0 = ap one_if f in
           any_none (has_fewer before q) 0 ranks (λ k l.
-              let z : 0 + k ≡ k = omega arith in
-              let long = kept.long in
-              let p = entry_below d.seats k (omega arith) in
-              let its = kept.count k p.0 p.1 in
-              ap (has_fewer before q) z ∙ no_less (length (meeting_offers k before)) (length (meeting_offers q before)) (omega arith))
+          let z : 0 + k ≡ k = omega arith in
+          let long = kept.long in
+          let p = entry_below d.seats k (omega arith) in
+          let its = kept.count k p.0 p.1 in
+          ap (has_fewer before q) z ∙ no_less (length (meeting_offers k before)) (length (meeting_offers q before)) (omega arith))
           ∙ sym (ap (λ (m : Option Offer). is_some m) f)
       by (Some o) f =
           let mine = kept.count q x e in

@@ -2,7 +2,7 @@
 --     told_at script header file before m          what the step of mark m tells after these marks: a pair, or none
 --     meeting_call k calls                         the number of the rank's call that makes its meeting k
 --     IsToldAt answers n pair                      call n has an answer, and it has the pair, or none
-use Rattle.std.specs.Prelude.{◌≡◌, ℕ, zero, suc, ◌+◌, true, false, List, [], ◌∷◌, ◌++◌, Option, Some, None, slice_get}
+use Rattle.std.specs.Prelude.{◌≡◌, ℕ, zero, suc, ◌+◌, true, false, List, [], ◌∷◌, Option, Some, slice_get}
 use Rattle.nc_base.specs.declared.answer.Answer.{Answer}
 use Rattle.nc_base.specs.declared.answer.Pair.{Pair}
 use Rattle.nc_base.specs.declared.header.Header.{Header}
@@ -11,7 +11,7 @@ use Rattle.nc_base.specs.declared.script.Script.{Script}
 use Rattle.serial_spec.specs.History.{is_collective}
 use Rattle.nc_base.specs.declared.step.Mark.{Mark}
 use Rattle.serial_spec.specs.FileStep.{told}
-use Rattle.serial_spec.specs.SerialEnd.{Going, setting_of, state_after}
+use Rattle.serial_spec.specs.SerialEnd.{setting_of, state_after}
 use Rattle.whole_run_laws.specs.Completed.{puts_at}
 
 abbrev pub told_at : Script → Header → List ℕ → List Mark → Mark → Option Pair
