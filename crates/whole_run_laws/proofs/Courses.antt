@@ -88,6 +88,30 @@ to_meeting q k n j ks ks' ms rest (g, Some o) w f e = by w.kinded
     }
     by (at_solo a b d) = not_solo j q (length g.answers) _ (filter (concerns q) rest) (sym d ∙ e)
 
+-- the next meeting has the number of those before it
+to_number : (q k n j : ℕ) (ks : List MeetKind) (ms rest : List Mark) (p : Going × Option Offer) → Went q k n ks ms p → ms ≡ Meet j ∷ filter (concerns q) rest → k ≡ j
+to_number q k n j ks ms rest (g, None) w e = not_nothing (Meet j) (filter (concerns q) rest) (sym w.marks_none ∙ e)
+to_number q k n j ks ms rest (g, Some o) w e = by w.kinded
+  where
+    heads : (xs ys : List Mark) → Meet k ∷ xs ≡ Meet j ∷ ys → k ≡ j
+    heads xs ys f = cc
+
+    by : Kinded q k ks ms g w.open_with.independent o → k ≡ j
+    by (at_meeting kind a b d) = heads _ (filter (concerns q) rest) (sym d ∙ e)
+    by (at_solo a b d) = not_solo j q (length g.answers) _ (filter (concerns q) rest) (sym d ∙ e)
+
+-- its own step is that of its next call
+to_call : (q k n c : ℕ) (ks : List MeetKind) (ms rest : List Mark) (p : Going × Option Offer) → Went q k n ks ms p → ms ≡ Solo q c ∷ filter (concerns q) rest → length p.0.answers ≡ c
+to_call q k n c ks ms rest (g, None) w e = not_nothing (Solo q c) (filter (concerns q) rest) (sym w.marks_none ∙ e)
+to_call q k n c ks ms rest (g, Some o) w e = by w.kinded
+  where
+    heads : (xs ys : List Mark) → Solo q (length g.answers) ∷ xs ≡ Solo q c ∷ ys → length g.answers ≡ c
+    heads xs ys f = cc
+
+    by : Kinded q k ks ms g w.open_with.independent o → length g.answers ≡ c
+    by (at_solo a b d) = heads _ (filter (concerns q) rest) (sym d ∙ e)
+    by (at_meeting kind a b d) = not_solo k q c (filter (concerns q) rest) _ (sym e ∙ d)
+
 to_solo : (q k n c : ℕ) (ks ks' : List MeetKind) (ms rest : List Mark) (p : Going × Option Offer) → Went q k n ks ms p → ks ≡ ks'
     → ms ≡ Solo q c ∷ filter (concerns q) rest → AtSolo q k n ks' rest p
 to_solo q k n c ks ks' ms rest (g, None) w f e = not_nothing (Solo q c) (filter (concerns q) rest) (sym w.marks_none ∙ e)
@@ -144,6 +168,18 @@ goes_alone header ranks k r c ks rest goings g on e =
     (go_went header r k g.rank g.answers g.calls) own.kinds
     (own.marks ∙ ap (λ (b : Bool). cond b (Solo r c ∷ filter (concerns r) rest) (filter (concerns r) rest)) (equal_itself r))
 
+pub meets_number : (header : Header) (ranks k j q : ℕ) (ks : List MeetKind) (rest : List Mark) (goings : List Going) (g : Going) → AreOn ranks k ks (Meet j ∷ rest) goings
+    → slice_get goings q ≡ Some g → k ≡ j
+meets_number header ranks k j q ks rest goings g on e =
+    to_number q k g.rank.known j (kinds g.calls) (marks_from q (length g.answers) k g.rank.independent g.calls) rest (advance header g) (go_went header q k g.rank g.answers g.calls)
+    (on.each q g e).marks
+
+pub goes_number : (header : Header) (ranks k r c : ℕ) (ks : List MeetKind) (rest : List Mark) (goings : List Going) (g : Going) → AreOn ranks k ks (Solo r c ∷ rest) goings
+    → slice_get goings r ≡ Some g → length (advance header g).0.answers ≡ c
+goes_number header ranks k r c ks rest goings g on e =
+    to_call r k g.rank.known c (kinds g.calls) (marks_from r (length g.answers) k g.rank.independent g.calls) rest (advance header g) (go_went header r k g.rank g.answers g.calls)
+    ((on.each r g e).marks ∙ ap (λ (b : Bool). cond b (Solo r c ∷ filter (concerns r) rest) (filter (concerns r) rest)) (equal_itself r))
+
 -- ---- the offers of a meeting
 
 abbrev pub AllAsk : List (Going × Option Offer) → Type 0
@@ -166,7 +202,7 @@ offer_at ((g, Some o') ∷ ps) zero p o f e h =
     ap (λ (z : Going × Option Offer). z.1) same ∙ h
 offer_at ((g, Some o') ∷ ps) (suc q) p o f e h = offer_at ps q p o (λ r z d. f (suc r) z d) e h
 
-mapped_at : {X Y : Type 0} (f : X → Y) (xs : List X) (q : ℕ) (x : X) → slice_get xs q ≡ Some x → slice_get (map f xs) q ≡ Some (f x)
+pub mapped_at : {X Y : Type 0} (f : X → Y) (xs : List X) (q : ℕ) (x : X) → slice_get xs q ≡ Some x → slice_get (map f xs) q ≡ Some (f x)
 mapped_at {X} {Y} f xs q x e = slice_get-map f xs q ∙ ap (λ (m : Option X). elim m as (λ z. Option Y) [ None ↦ None | Some z ↦ Some (f z) ]) e
 
 -- what stands in a mapped list
@@ -231,7 +267,7 @@ heard_by s c ranks k j q ks rest goings g on e =
     let h = hears_then s c ranks k j q ks rest goings b.0 on b.1 in
     subst (λ (z : Going). Heard s c goings q z) (same_Some h.0 g (sym h.1.0 ∙ e)) h.1.1
 
-met_on : (s : Setting) (c : Counted) (ranks k j : ℕ) (ks : List MeetKind) (rest : List Mark) (goings : List Going) → AreOn ranks k ks (Meet j ∷ rest) goings
+pub met_on : (s : Setting) (c : Counted) (ranks k j : ℕ) (ks : List MeetKind) (rest : List Mark) (goings : List Going) → AreOn ranks k ks (Meet j ∷ rest) goings
     → AreOn ranks (suc k) (drop 1 ks) rest (after_meeting s (c, goings)).1
 met_on s c ranks k j ks rest goings on = record {
   long = met_long s c ranks k j ks rest goings on ∙ on.long;
@@ -278,7 +314,7 @@ steps s c ranks k r n ks rest goings l on =
           ∙ ap (λ (z : Counted × Going). (z.0, set goings r z.1)) (solo_of_is s r c (advance s.header b.0) at.asks.offer at.asks.is_offer);
     }
 
-solo_on : (s : Setting) (c : Counted) (ranks k r n : ℕ) (ks : List MeetKind) (rest : List Mark) (goings : List Going) → r < ranks → AreOn ranks k ks (Solo r n ∷ rest) goings
+pub solo_on : (s : Setting) (c : Counted) (ranks k r n : ℕ) (ks : List MeetKind) (rest : List Mark) (goings : List Going) → r < ranks → AreOn ranks k ks (Solo r n ∷ rest) goings
     → AreOn ranks k ks rest (after_solo s r c goings).1
 solo_on s c ranks k r n ks rest goings l on =
     let st = steps s c ranks k r n ks rest goings l on in
@@ -317,17 +353,13 @@ marks_along s ranks (m ∷ order) rest state known a =
     marks_along s ranks order rest (after_mark s state m) (and_second (is_of_rank_below ranks m) _ known)
     (mark_along s ranks m (order ++ rest) state (and_first (is_of_rank_below ranks m) _ known) a)
 
-pub first_along : (script : Script) (header : Header) (order : List Mark) → is_lawful script ≡ true → IsLegal script order
-    → AreAlong script.ranks order (map (first_going header) script.calls)
-first_along script header order lawful legal = record {
-  met = 0;
-  kinds_left = kinds_of script;
-  on = record {
-    long = length-map script.calls (first_going header) ∙ (ranks_lawful script lawful).one_each;
-    each = λ q g e.
-        let own = mapped_from (first_going header) script.calls q g e in
-        subst (λ (z : Going). OnCourse q 0 (kinds_of script) order z) (sym own.1.1) (begins q own.0 own.1.0);
-  };
+pub first_on : (script : Script) (header : Header) (order : List Mark) → is_lawful script ≡ true → IsLegal script order
+    → AreOn script.ranks 0 (kinds_of script) order (map (first_going header) script.calls)
+first_on script header order lawful legal = record {
+  long = length-map script.calls (first_going header) ∙ (ranks_lawful script lawful).one_each;
+  each = λ q g e.
+      let own = mapped_from (first_going header) script.calls q g e in
+      subst (λ (z : Going). OnCourse q 0 (kinds_of script) order z) (sym own.1.1) (begins q own.0 own.1.0);
 }
   where
     begins : (q : ℕ) (own : List Call) → slice_get script.calls q ≡ Some own → OnCourse q 0 (kinds_of script) order (first_going header own)
@@ -338,3 +370,7 @@ first_along script header order lawful legal = record {
           marks = sym (ap (λ (m : Option (List Call)). elim m as (λ z. List Mark) [ None ↦ [] | Some calls ↦ marks_from q 0 0 false calls ]) e) ∙ sym (legal.each_rank q (omega arith));
           kinds = (own_lawful script q own lawful e).agreed;
         }
+
+pub first_along : (script : Script) (header : Header) (order : List Mark) → is_lawful script ≡ true → IsLegal script order
+    → AreAlong script.ranks order (map (first_going header) script.calls)
+first_along script header order lawful legal = record { met = 0; kinds_left = kinds_of script; on = first_on script header order lawful legal }

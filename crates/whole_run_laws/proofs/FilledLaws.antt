@@ -102,7 +102,7 @@ module _ (e : Cell) (i : ℕ) (inside : i < length e.1) where
 
 -- ---- reading
 
-read_all : (file value : List ℕ) (p n : ℕ) → n ≡ length value → ((i : ℕ) → i < length value → at file (p + i) ≡ get_or value i 0) → read file p n ≡ value
+pub read_all : (file value : List ℕ) (p n : ℕ) → n ≡ length value → ((i : ℕ) → i < length value → at file (p + i) ≡ get_or value i 0) → read file p n ≡ value
 read_all file [] p zero e f = refl
 read_all file [] p (suc n) e f = absurd (omega arith)
 read_all file (v ∷ value) p zero e f = absurd (omega arith)
@@ -225,7 +225,7 @@ filled_reads header file k v index sound e fixed h =
 past_count : (header : Header) (x : ℕ) → header_len header ≤ x → IsBesideCount header x
 past_count header x h = let whole = canon_len header in inr (omega arith)
 
-read_kept : (new old : List ℕ) (p n : ℕ) → ((i : ℕ) → i < n → at new (p + i) ≡ at old (p + i)) → read new p n ≡ read old p n
+pub read_kept : (new old : List ℕ) (p n : ℕ) → ((i : ℕ) → i < n → at new (p + i) ≡ at old (p + i)) → read new p n ≡ read old p n
 read_kept new old p zero f = refl
 read_kept new old p (suc n) f =
     let here : p ≡ p + 0 = omega arith in

@@ -10,6 +10,7 @@ use Rattle.overlay_laws.specs.Hulls.{IsAscending}
 use Rattle.overlay_laws.proofs.HullLaws.{filter_ascends, filter_in, first_least, flat_in, in_either, in_order_ascends, last_below}
 use Rattle.overlay_laws.proofs.Members.{map_in}
 use Rattle.nc_base.specs.declared.header.Header.{Header}
+use Rattle.nc_base.specs.declared.plan.Post.{Post}
 use Rattle.nc_base.specs.declared.script.Hints.{Hints}
 use Rattle.nc_base.specs.declared.script.Script.{Script}
 use Rattle.nc_base.specs.declared.step.DiskCall.{DiskCall}
@@ -189,6 +190,33 @@ solo_short hints s r o c call l m h =
     by (inr k) = no_more (transferred call) hints.rd_buffer _
         (get_short (sieving_windows hints.rd_buffer (get_bytes s (gets_of o))) hints.rd_buffer call
         (λ w g. sieving_short hints.rd_buffer (get_bytes s (gets_of o)) w m g) k) (omega arith)
+
+-- a step without gets, and one without puts
+solo_parts : (n : ℕ) (a b : List DiskCall) (call : DiskCall) → (In a call → transferred call ≤ n) → (In b call → transferred call ≤ n) → In (a ++ b) call → transferred call ≤ n
+solo_parts n a b call f g h = elim (in_either a b call h) [ inl k ↦ f k | inr k ↦ g k ]
+
+nothing_in : (ws : List (List ℕ)) (n : ℕ) (w : List ℕ) → ws ≡ [] → In ws w → hull_len w ≤ n
+nothing_in ws n w e h = absurd (subst (λ (vs : List (List ℕ)). In vs w) e h)
+
+pub solo_puts_short : (hints : Hints) (s : Setting) (r : ℕ) (o : Offer) (c : Counted) (call : DiskCall) → 1 ≤ hints.wr_buffer → o.batch.gets ≡ []
+    → In (solo_calls hints s r o c) call → transferred call ≤ hints.wr_buffer
+solo_puts_short hints s r o c call l e h =
+    let none : sieving_windows hints.rd_buffer (get_bytes s (gets_of o)) ≡ [] = ap (λ (gets : List Post). sieving_windows hints.rd_buffer (get_bytes s gets)) e in
+    solo_parts hints.wr_buffer (put_calls s (sieving_windows hints.wr_buffer) (puts_of (r, o)) (length c.file)) (flat_map loads (sieving_windows hints.rd_buffer (get_bytes s (gets_of o)))) call
+    (λ k. put_short s (sieving_windows hints.wr_buffer) (puts_of (r, o)) (length c.file) hints.wr_buffer call
+    (λ w g. sieving_short hints.wr_buffer (in_order (covered s.header (puts_of (r, o)))) w l g) k)
+    (λ k. get_short (sieving_windows hints.rd_buffer (get_bytes s (gets_of o))) hints.wr_buffer call (λ w g. nothing_in _ hints.wr_buffer w none g) k)
+    h
+
+pub solo_gets_short : (hints : Hints) (s : Setting) (r : ℕ) (o : Offer) (c : Counted) (call : DiskCall) → 1 ≤ hints.rd_buffer → o.batch.puts ≡ []
+    → In (solo_calls hints s r o c) call → transferred call ≤ hints.rd_buffer
+solo_gets_short hints s r o c call l e h =
+    let none : sieving_windows hints.wr_buffer (in_order (covered s.header (puts_of (r, o)))) ≡ [] =
+    ap (λ (puts : List Post). sieving_windows hints.wr_buffer (in_order (covered s.header (map (λ (post : Post). let z : ℕ × Post = (r, post) in z) puts)))) e in
+    solo_parts hints.rd_buffer (put_calls s (sieving_windows hints.wr_buffer) (puts_of (r, o)) (length c.file)) (flat_map loads (sieving_windows hints.rd_buffer (get_bytes s (gets_of o)))) call
+    (λ k. put_short s (sieving_windows hints.wr_buffer) (puts_of (r, o)) (length c.file) hints.rd_buffer call (λ w g. nothing_in _ hints.rd_buffer w none g) k)
+    (λ k. get_short (sieving_windows hints.rd_buffer (get_bytes s (gets_of o))) hints.rd_buffer call (λ w g. sieving_short hints.rd_buffer (get_bytes s (gets_of o)) w l g) k)
+    h
 
 -- ---- the calls of a run
 

@@ -11,13 +11,14 @@ use Rattle.nc_base.specs.declared.step.Mark.{Mark}
 use Rattle.nc_base.specs.declared.step.Mark.TheVariants.{Meet, Solo}
 use Rattle.nc_base.specs.declared.step.Offer.{Offer}
 use Rattle.serial_spec.specs.File.{at, longer, written}
-use Rattle.serial_spec.specs.HeaderGrammar.{count}
+use Rattle.serial_spec.specs.Fill.{filled}
+use Rattle.serial_spec.specs.HeaderGrammar.{canon, count}
 use Rattle.serial_spec.specs.Layout.{greatest}
 use Rattle.serial_spec.specs.Records.{needed_by, with_records}
 use Rattle.serial_spec.specs.Said.{Cell, said_at, byte_or, write_cells}
 use Rattle.serial_spec.specs.SharedByte.{Puts, bytes_of, said_by_puts}
 use Rattle.serial_spec.specs.FileStep.{Setting, Counted, after_puts, end_for, known_by, meeting, needs, put_post, raised, told}
-use Rattle.serial_spec.specs.SerialEnd.{Going, advance, after_mark, closed, first_state, offers_of, serial_from, setting_of, solo_of}
+use Rattle.serial_spec.specs.SerialEnd.{Going, advance, after_mark, closed, first_state, offers_of, serial, serial_from, start, setting_of, solo_of}
 use Rattle.serial_spec.proofs.KeepLaws.{count_long, puts_keep, raised_keeps}
 use Rattle.serial_spec.proofs.FileLaws.{at-longer}
 use Rattle.serial_spec.proofs.SaidLaws.{byte_or_later, puts_are_cells, puts_said, said_append}
@@ -114,6 +115,19 @@ end_kept script header file order x h k =
 pub end_grown : (script : Script) (header : Header) (file : List ℕ) (order : List Mark) (x : ℕ) → IsBesideCount header x
     → is_held header (completed_puts script header file order) x ≡ false → length file ≤ x → at (serial_from script header file order).bytes x ≡ 0
 end_grown script header file order x h k l = end_kept script header file order x h k ∙ get_or_past file x 0 l
+
+pub opened_kept : (script : Script) (header : Header) (file : List ℕ) (order : List Mark) (x : ℕ) → script.fresh ≡ false → IsBesideCount header x
+    → is_held header (completed_puts script header (start script header file) order) x ≡ false → at (serial script header file order).bytes x ≡ at file x
+opened_kept script header file order x opened h k =
+    end_kept script header (start script header file) order x h k
+    ∙ ap (λ (b : Bool). at (elim b as (λ z. List ℕ) [
+      | false ↦ longer file (end_for (setting_of script header) header.records)
+      | true ↦ elim (script.filled) as (λ z. List ℕ) [
+        | false ↦ longer (canon header) (end_for (setting_of script header) 0)
+        | true ↦ filled header (longer (canon header) (end_for (setting_of script header) 0))
+      ]
+    ]) x) opened
+    ∙ at-longer file (end_for (setting_of script header) header.records) x
 
 -- ---- lengths
 

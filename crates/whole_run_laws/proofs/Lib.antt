@@ -7,3 +7,7 @@ pub mod CountLaws
 pub mod ToldLaws
 pub mod FilledLaws
 pub mod FillCalls
+pub mod StrangerLaws
+pub mod PastLaws
+pub mod FieldLaws
+pub mod AnswerLaws

@@ -39,12 +39,22 @@ use Rattle.serial_spec.specs.Lists.{In}
 use Rattle.serial_spec.specs.RankMachine.{Asks, Empty, hear_open, Look, look, Open, post_after, posts, Rank, Refused, step, values_of_post}
 use Rattle.serial_spec.specs.Records.{with_records}
 use Rattle.serial_spec.specs.SerialEnd.{advance, after_mark, after_meeting, after_solo, first_state, go, Going, hears, offers_of, rank_offer, serial_from, setting_of, state_after}
-use Rattle.serial_spec.specs.SharedByte.{holdings, IsSharedPair, Puts, shared_pair}
-use Rattle.serial_spec.proofs.PairLaws.{pair_found}
+use Rattle.serial_spec.specs.SharedByte.{holdings, IsSharedPair, IsUnshared, Puts, shared_pair}
+use Rattle.serial_spec.proofs.PairLaws.{pair_found, pair_none}
 use Rattle.run_laws.proofs.OrderLaws.{state_more, states_more}
 use Rattle.whole_run_laws.specs.Completed.{puts_asked, puts_at, puts_met}
-use Rattle.whole_run_laws.specs.Told.{answers_after, answers_of, IsLastTold}
 use Rattle.whole_run_laws.proofs.Courses.{AreAlong, AreOn, first_along, hears_then, mapped_from, mark_along, marks_along, meets, offer_met, offers_met_long, Stepped, steps}
+
+-- what rank r has answered when these marks are done
+abbrev pub answers_of : Option Going → List Answer
+answers_of None = []
+answers_of (Some g) = g.answers
+
+abbrev pub answers_after : Script → Header → List ℕ → List Mark → ℕ → List Answer
+answers_after script header file order r = answers_of (slice_get (state_after script header file order).1 r)
+
+abbrev pub IsLastTold : List Answer → Option Pair → Type 0
+IsLastTold answers pair = (earlier : List Answer) × (last : Answer) × (answers ≡ earlier ++ last ∷ []) × (last.pair ≡ pair)
 
 -- ---- one step
 
@@ -66,6 +76,9 @@ told_shared Serial pair p e = cc
 
 pub pair_is_least : (s : Setting) (puts : Puts) (p : Pair) → told s puts ≡ Some p → IsSharedPair (holdings s.header puts) p
 pair_is_least s puts p e = pair_found (holdings s.header puts) p (told_shared s.overlap (shared_pair s.header puts) p e).0
+
+pub none_shared : (s : Setting) (puts : Puts) → s.overlap ≡ Refuse → told s puts ≡ None → (x : ℕ) → IsUnshared (holdings s.header puts) x
+none_shared s puts e f = pair_none (holdings s.header puts) (sym (ap (λ (rule : OverlapRule). told_under rule (shared_pair s.header puts)) e) ∙ f)
 
 pub only_refused : (s : Setting) (puts : Puts) (p : Pair) → told s puts ≡ Some p → s.overlap ≡ Refuse
 only_refused s puts p e = (told_shared s.overlap (shared_pair s.header puts) p e).1
@@ -246,11 +259,11 @@ pub along_at : (script : Script) (header : Header) (file : List ℕ) (before lat
 along_at script header file before later lawful legal =
     marks_along (setting_of script header) script.ranks before later (first_state header file script.calls) legal.known_ranks (first_along script header (before ++ later) lawful legal)
 
-known_mark : (ranks : ℕ) (before later : List Mark) (m : Mark) → list_all (is_of_rank_below ranks) (before ++ m ∷ later) ≡ true → is_of_rank_below ranks m ≡ true
+pub known_mark : (ranks : ℕ) (before later : List Mark) (m : Mark) → list_all (is_of_rank_below ranks) (before ++ m ∷ later) ≡ true → is_of_rank_below ranks m ≡ true
 known_mark ranks [] later m h = and_first (is_of_rank_below ranks m) _ h
 known_mark ranks (x ∷ before) later m h = known_mark ranks before later m (and_second (is_of_rank_below ranks x) _ h)
 
-offered_alone : (s : Setting) (r : ℕ) (c : Counted) (goings : List Going) (k : ℕ) (ks : List MeetKind) (rest : List Mark) (st : Stepped s r c goings k ks rest)
+pub offered_alone : (s : Setting) (r : ℕ) (c : Counted) (goings : List Going) (k : ℕ) (ks : List MeetKind) (rest : List Mark) (st : Stepped s r c goings k ks rest)
     → puts_asked r (rank_offer s goings r) ≡ puts_of (r, st.at.asks.offer)
 offered_alone s r c goings k ks rest st = ap (λ (m : Option Offer). puts_asked r m)
     (ap (λ (m : Option Going). elim m as (λ z. Option Offer) [ None ↦ None | Some g ↦ (advance s.header g).1 ]) st.was ∙ st.at.asks.is_offer)

@@ -20,9 +20,10 @@ ghost use Rattle.serial_spec.specs.Layout.{inner_lengths, is_record};
 ghost use Rattle.serial_spec.specs.Place.{IsIndex, place};
 ghost use Rattle.serial_spec.specs.RankMachine.{code_of_look, find_var, look_record, posts_of};
 ghost use Rattle.serial_spec.specs.Request.{coordinates};
-ghost use Rattle.serial_spec.specs.SerialEnd.{Going, serial, setting_of, state_after};
+ghost use Rattle.serial_spec.specs.SerialEnd.{Going, serial, state_after};
 ghost use Rattle.serial_spec.specs.SerialEnd as serial_end;
-ghost use Rattle.whole_run_laws.specs.Completed.{completed_puts, is_held, puts_at, puts_met};
+ghost use Rattle.whole_run_laws.specs.Completed.{completed_puts, is_held, puts_met};
+ghost use Rattle.whole_run_laws.specs.Told.{told_at};
 ghost use Rattle.whole_run_laws.specs.Filling.{AllFill, filling, Fills, share_boxes};
 
 /// The shares of all ranks, one after another, have just the indices of a record, in order; and a rank whose filling is not
@@ -50,7 +51,7 @@ pub fn fill_call_law()
         → is_sound header ≡ true → is_lawful script ≡ true → IsLegal script (before ++ Meet j ∷ later)
         → find_var header name ≡ Some k → slice_get header.vars k ≡ Some v
         → ((r : ℕ) (g : Going) → slice_get (state_after script header file before).1 r ≡ Some g → Fills header name number script.ranks r g)
-        → told (setting_of script header) (puts_at (setting_of script header) (state_after script header file before) (Meet j)) ≡ None
+        → told_at script header file before (Meet j) ≡ None
         → IsIndex (inner_lengths header v) index
         → read (state_after script header file (before ++ Meet j ∷ [])).0.file (place header v (number ∷ index)) (size_of v.kind) ≡ fill_bytes v }
 {}

@@ -6,4 +6,5 @@ pub mod counts;
 pub mod fills;
 pub mod orders;
 pub mod overlaps;
+pub mod strangers;
 pub mod transfers;

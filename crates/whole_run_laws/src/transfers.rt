@@ -1,6 +1,6 @@
 //! How much a run transfers at once.
 
-ghost use Rattle.std.specs.Prelude.{◌≡◌, ℕ, ◌≤◌, ◌⊎◌, List, max, true};
+ghost use Rattle.std.specs.Prelude.{◌≡◌, ℕ, ◌≤◌, ◌⊎◌, List, [], max, true};
 ghost use Rattle.nc_base.specs.declared.header.Header.{Header};
 ghost use Rattle.nc_base.specs.declared.script.Hints.{Hints};
 ghost use Rattle.nc_base.specs.declared.script.Script.{Script};
@@ -24,6 +24,10 @@ pub fn hull_law()
 pub fn transfer_law()
     ensures meeting { (hints : Hints) (s : Setting) (offers : List Offer) (c : Counted) (call : DiskCall) → 1 ≤ hints.cb_buffer
         → In (meeting_calls hints s offers c) call → (transferred call ≤ hints.cb_buffer) ⊎ (is_count_store s.header call ≡ true) }
+    ensures solo_puts { (hints : Hints) (s : Setting) (r : ℕ) (o : Offer) (c : Counted) (call : DiskCall) → 1 ≤ hints.wr_buffer → o.batch.gets ≡ []
+        → In (solo_calls hints s r o c) call → transferred call ≤ hints.wr_buffer }
+    ensures solo_gets { (hints : Hints) (s : Setting) (r : ℕ) (o : Offer) (c : Counted) (call : DiskCall) → 1 ≤ hints.rd_buffer → o.batch.puts ≡ []
+        → In (solo_calls hints s r o c) call → transferred call ≤ hints.rd_buffer }
     ensures solo { (hints : Hints) (s : Setting) (r : ℕ) (o : Offer) (c : Counted) (call : DiskCall) → 1 ≤ hints.wr_buffer → 1 ≤ hints.rd_buffer
         → In (solo_calls hints s r o c) call → transferred call ≤ max hints.wr_buffer hints.rd_buffer }
     ensures run { (script : Script) (header : Header) (file : List ℕ) (order : List Mark) (call : DiskCall) → is_lawful script ≡ true

@@ -1,5 +1,5 @@
 use Rattle.std.proofs.Common.{refl}
-use Rattle.whole_run_laws.proofs.ToldLaws.{replies_each, replies_told, pair_is_least, only_refused}
+use Rattle.whole_run_laws.proofs.ToldLaws.{replies_each, replies_told, pair_is_least, none_shared, only_refused}
 use Rattle.whole_run_laws.proofs.overlaps.telling_law.Goals as goal
 
 pub returns-clause-one_each : goal.returns-clause-one_each
@@ -13,6 +13,9 @@ returns-clause-own_pair c = λ s r o d. refl
 
 pub returns-clause-least : goal.returns-clause-least
 returns-clause-least c = pair_is_least
+
+pub returns-clause-no_shared_byte : goal.returns-clause-no_shared_byte
+returns-clause-no_shared_byte c = none_shared
 
 pub returns-clause-refused : goal.returns-clause-refused
 returns-clause-refused c = only_refused

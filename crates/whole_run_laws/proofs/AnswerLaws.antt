@@ -1,0 +1,300 @@
+-- The answer to the call of a meeting, or of a rank's own step, stands at the number of that call.
+use Rattle.std.proofs.Common.{◌≡◌, ℕ, zero, suc, ◌+◌, ◌<◌, refl, sym, ◌∙◌, ap, subst, inl, inr, ◌⊎◌, List, [], ◌∷◌, ◌++◌, length, map, set, drop, Bool, true, false, Option, Some, None, arith, append_assoc}
+use Rattle.std.proofs.lemmas.List.{length-append}
+use Rattle.std.proofs.lemmas.Option.{same_Some, slice_get_within}
+use Rattle.std.specs.Prelude.{fold, slice_get, ◌==◌}
+use Rattle.std.specs.List.{list_all}
+use borrow.Author.Tests.{ltb-true}
+use Rattle.list_laws.proofs.Places.{entry_below, entry_set}
+use Rattle.list_laws.proofs.Truth.{and_first, and_second}
+use Rattle.nc_base.specs.declared.answer.Answer.{Answer}
+use Rattle.nc_base.specs.declared.answer.Pair.{Pair}
+use Rattle.nc_base.specs.declared.header.Header.{Header}
+use Rattle.nc_base.specs.declared.request.Call.{Call}
+use Rattle.nc_base.specs.declared.script.Script.{Script}
+use Rattle.nc_base.specs.declared.step.Mark.{Mark}
+use Rattle.nc_base.specs.declared.step.Mark.TheVariants.{Meet, Solo}
+use Rattle.nc_base.specs.declared.step.MeetKind.{MeetKind}
+use Rattle.nc_base.specs.declared.step.Offer.{Offer}
+use Rattle.nc_base.specs.declared.step.OfferKind.{OfferKind}
+use Rattle.nc_base.specs.declared.step.OfferKind.TheVariants as offer
+use Rattle.nc_base.specs.declared.step.Want.{Want}
+use Rattle.nc_base.specs.declared.step.Want.TheVariants as want
+use Rattle.serial_spec.specs.FileStep.{Counted, Setting, solo}
+use Rattle.serial_spec.specs.History.{is_collective, is_of_rank_below, IsLegal, kind_of_meeting}
+use Rattle.serial_spec.specs.Lawful.{is_lawful}
+use Rattle.serial_spec.specs.RankMachine.{Rank, step}
+use Rattle.serial_spec.specs.SerialEnd.{advance, after_mark, after_meeting, after_solo, first_going, first_state, go, Going, hears, serial_from, setting_of, state_after}
+use Rattle.serial_spec.proofs.ElementLaws.{get_left, get_right}
+use Rattle.run_laws.specs.Ways.{kinds_of}
+use Rattle.run_laws.proofs.CallLaws.{Says, step_says}
+use Rattle.run_laws.proofs.LawfulLaws.{ranks_lawful}
+use Rattle.run_laws.proofs.OrderLaws.{state_more}
+use Rattle.join_laws.proofs.RankLaws.{hear_length}
+use Rattle.whole_run_laws.specs.Told.{IsToldAt, meeting_call, told_at}
+use Rattle.whole_run_laws.proofs.Courses.{AreOn, first_on, goes_number, heard_by, hears_then, mapped_from, meets, meets_number, met_on, set_cases, solo_on, steps}
+use Rattle.whole_run_laws.proofs.ToldLaws.{answers_after, answers_of, answers_stay, IsLastTold, known_mark, meeting_told, solo_told}
+
+-- ---- the number of a meeting's call
+
+call_alone : (c : Call) (calls : List Call) (k : ℕ) → is_collective c ≡ false → meeting_call k (c ∷ calls) ≡ meeting_call k calls + 1
+call_alone c calls k e = ap (λ (t : Bool). elim t as (λ z. ℕ) [ true ↦ elim k as (λ z. ℕ) [ zero ↦ 0 | suc j ↦ meeting_call j calls + 1 ] | false ↦ meeting_call k calls + 1 ]) e
+
+call_first : (c : Call) (calls : List Call) → is_collective c ≡ true → meeting_call 0 (c ∷ calls) ≡ 0
+call_first c calls e = ap (λ (t : Bool). elim t as (λ z. ℕ) [ true ↦ 0 | false ↦ meeting_call 0 calls + 1 ]) e
+
+call_later : (c : Call) (calls : List Call) (k : ℕ) → is_collective c ≡ true → meeting_call (suc k) (c ∷ calls) ≡ meeting_call k calls + 1
+call_later c calls k e = ap (λ (t : Bool). elim t as (λ z. ℕ) [ true ↦ meeting_call k calls + 1 | false ↦ meeting_call (suc k) calls + 1 ]) e
+
+-- how the numbers of the calls go on with the answers
+abbrev PlacesBy : ℕ → List Call → Going → Option MeetKind → Type 0
+PlacesBy n calls g None = (j : ℕ) → n + meeting_call j calls ≡ suc (length g.answers) + meeting_call j g.calls
+PlacesBy n calls g (Some kind) =
+    (n + meeting_call 0 calls ≡ length g.answers) × ((j : ℕ) → n + meeting_call (suc j) calls ≡ suc (length g.answers) + meeting_call j g.calls)
+
+abbrev Places : ℕ → List Call → Going × Option Offer → Type 0
+Places n calls (g, None) = Unit {0}
+Places n calls (g, Some o) = PlacesBy n calls g (kind_of_meeting o.kind)
+
+places_on : (n m : ℕ) (c : Call) (calls : List Call) (p : Going × Option Offer) → m ≡ n + 1 → is_collective c ≡ false → Places m calls p → Places n (c ∷ calls) p
+places_on n m c calls (g, None) e f w = tt
+places_on n m c calls (g, Some o) e f w = by (kind_of_meeting o.kind) w
+  where
+    by : (k : Option MeetKind) → PlacesBy m calls g k → PlacesBy n (c ∷ calls) g k
+    by None v = λ j. let a = v j in let b = call_alone c calls j f in omega arith
+    by (Some kind) v = (
+      (let a = v.0 in let b = call_alone c calls 0 f in omega arith),
+      λ j. let a = v.1 j in let b = call_alone c calls (suc j) f in omega arith,
+    )
+
+longer : (answers : List Answer) (a : Answer) → length (answers ++ a ∷ []) ≡ length answers + 1
+longer answers a = length-append answers (a ∷ [])
+
+go_places : (header : Header) (calls : List Call) (r : Rank) (answers : List Answer) → Places (length answers) calls (go header r answers calls)
+go_places header [] r answers = tt
+go_places header (c ∷ calls) r answers = by (step header r c) (step_says header r c) (λ r' a'. go_places header calls r' a')
+  where
+    at_meeting_call : (o : Offer) (g : Going) (kind : MeetKind) → o.kind ≡ offer.Meet kind → is_collective c ≡ true → g.answers ≡ answers → g.calls ≡ calls
+        → PlacesBy (length answers) (c ∷ calls) g (kind_of_meeting o.kind)
+    at_meeting_call o g kind e f a b =
+        let n = ap (λ (xs : List Answer). length xs) a in
+        subst (λ (k : OfferKind). PlacesBy (length answers) (c ∷ calls) g (kind_of_meeting k)) (sym e) (
+          (let x = call_first c calls f in omega arith),
+          λ j. let x = call_later c calls j f in let y = ap (λ (cs : List Call). meeting_call j cs) b in omega arith,
+        )
+
+    at_own_call : (o : Offer) (g : Going) → o.kind ≡ offer.Solo → is_collective c ≡ false → g.answers ≡ answers → g.calls ≡ calls
+        → PlacesBy (length answers) (c ∷ calls) g (kind_of_meeting o.kind)
+    at_own_call o g e f a b =
+        let n = ap (λ (xs : List Answer). length xs) a in
+        subst (λ (k : OfferKind). PlacesBy (length answers) (c ∷ calls) g (kind_of_meeting k)) (sym e)
+        (λ j. let x = call_alone c calls j f in let y = ap (λ (cs : List Call). meeting_call j cs) b in omega arith)
+
+    by : (p : Rank × Want) → Says r c p → ((r' : Rank) (a' : List Answer) → Places (length a') calls (go header r' a' calls))
+        → Places (length answers) (c ∷ calls)
+        (elim p.1 as (λ (x : Want). Going × Option Offer) [
+          | want.Answered a ↦ go header p.0 (answers ++ a ∷ []) calls
+          | want.Meet o ↦ (record { rank = p.0; answers = answers; calls = calls }, Some o)
+          | want.Solo o ↦ (record { rank = p.0; answers = answers; calls = calls }, Some o)
+        ])
+    by (r', want.Answered a) says again =
+        places_on (length answers) (length (answers ++ a ∷ [])) c calls (go header r' (answers ++ a ∷ []) calls) (longer answers a) says.alone (again r' (answers ++ a ∷ []))
+    by (r', want.Meet o) says again = at_meeting_call o (record { rank = r'; answers = answers; calls = calls }) says.of_kind says.meets says.together refl refl
+    by (r', want.Solo o) says again = at_own_call o (record { rank = r'; answers = answers; calls = calls }) says.is_solo says.alone refl refl
+
+-- where the rank stands at its offer
+places_at : (n : ℕ) (calls : List Call) (p : Going × Option Offer) (o : Offer) (k : OfferKind) → Places n calls p → p.1 ≡ Some o → o.kind ≡ k → PlacesBy n calls p.0 (kind_of_meeting k)
+places_at n calls (g, None) o k w e f = absurd (none e)
+  where
+    none : None ≡ Some o → ⊥
+    none z = cc
+places_at n calls (g, Some o') o k w e f =
+    subst (λ (x : OfferKind). PlacesBy n calls g (kind_of_meeting x)) (ap (λ (z : Offer). z.kind) (same_Some o' o e) ∙ f) w
+
+-- ---- all ranks
+
+record Placed (calls : List (List Call)) (k : ℕ) (goings : List Going) : Type 0 where
+  each : (r : ℕ) (g : Going) (own : List Call) → slice_get goings r ≡ Some g → slice_get calls r ≡ Some own
+      → (j : ℕ) → meeting_call (k + j) own ≡ length g.answers + meeting_call j g.calls
+
+record AlongPlaced (calls : List (List Call)) (ranks : ℕ) (rest : List Mark) (goings : List Going) : Type 0 where
+  met : ℕ
+  kinds_left : List MeetKind
+  on : AreOn ranks met kinds_left rest goings
+  placed : Placed calls met goings
+
+heard_more : (a b d x y n : ℕ) → x ≡ a + b → a + b ≡ suc d + y → n ≡ suc d → x ≡ n + y
+heard_more a b d x y n e f g = omega arith
+
+met_placed : (s : Setting) (calls : List (List Call)) (ranks j : ℕ) (rest : List Mark) (c : Counted) (goings : List Going) → AlongPlaced calls ranks (Meet j ∷ rest) goings
+    → AlongPlaced calls ranks rest (after_meeting s (c, goings)).1
+met_placed s calls ranks j rest c goings a = record {
+  met = suc a.met;
+  kinds_left = drop 1 a.kinds_left;
+  on = met_on s c ranks a.met j a.kinds_left rest goings a.on;
+  placed = record {
+    each = λ r g own e f i.
+        let h = heard_by s c ranks a.met j r a.kinds_left rest goings g a.on e in
+        let at = meets s.header ranks a.met j r a.kinds_left rest goings h.before a.on h.was in
+        let b = h.before in
+        let p = advance s.header b in
+        let places = places_at (length b.answers) b.calls p at.asks.offer (offer.Meet at.kind) (go_places s.header b.calls b.rank b.answers) at.asks.is_offer at.of_kind in
+        let next : suc a.met + i ≡ a.met + suc i = omega arith in
+        ap (λ (k : ℕ). meeting_call k own) next
+        ∙ heard_more (length b.answers) (meeting_call (suc i) b.calls) (length p.0.answers) (meeting_call (a.met + suc i) own) (meeting_call i p.0.calls) (length (hears s.header p.0 h.reply).answers)
+        (a.placed.each r b own h.was f (suc i)) (places.1 i) (hear_length s.header p.0 h.reply)
+        ∙ ap (λ (z : Going). length z.answers + meeting_call i z.calls) (sym h.is);
+  };
+}
+
+solo_placed : (s : Setting) (calls : List (List Call)) (ranks r n : ℕ) (rest : List Mark) (c : Counted) (goings : List Going) → r < ranks → AlongPlaced calls ranks (Solo r n ∷ rest) goings
+    → AlongPlaced calls ranks rest (after_solo s r c goings).1
+solo_placed s calls ranks r n rest c goings l a =
+    let st = steps s c ranks a.met r n a.kinds_left rest goings l a.on in
+    let b = st.before in
+    let p = advance s.header b in
+    let y = (solo s r st.at.asks.offer c).1 in
+    let next = hears s.header p.0 y in
+    let places = places_at (length b.answers) b.calls p st.at.asks.offer offer.Solo (go_places s.header b.calls b.rank b.answers) st.at.asks.is_offer st.at.of_kind in
+    record {
+      met = a.met;
+      kinds_left = a.kinds_left;
+      on = solo_on s c ranks a.met r n a.kinds_left rest goings l a.on;
+      placed = subst (λ (z : Counted × List Going). Placed calls a.met z.1) (sym st.state) (record {
+        each = λ q g own e f i. by b next st.was
+            (λ own f i. heard_more (length b.answers) (meeting_call i b.calls) (length p.0.answers) (meeting_call (a.met + i) own) (meeting_call i p.0.calls) (length next.answers)
+            (a.placed.each r b own st.was f i) (places i) (hear_length s.header p.0 y)) q g own f i (set_cases goings r q next g e);
+      });
+    }
+  where
+    by : (b next : Going) → slice_get goings r ≡ Some b
+        → ((own : List Call) → slice_get calls r ≡ Some own → (i : ℕ) → meeting_call (a.met + i) own ≡ length next.answers + meeting_call i next.calls)
+        → (q : ℕ) (g : Going) (own : List Call) → slice_get calls q ≡ Some own → (i : ℕ) → ((q ≡ r) × (g ≡ next)) ⊎ (((r == q) ≡ false) × (slice_get goings q ≡ Some g))
+        → meeting_call (a.met + i) own ≡ length g.answers + meeting_call i g.calls
+    by b next was mine q g own f i (inl (z, w)) =
+        mine own (ap (λ (k : ℕ). slice_get calls k) (sym z) ∙ f) i ∙ ap (λ (v : Going). length v.answers + meeting_call i v.calls) (sym w)
+    by b next was mine q g own f i (inr (x, e)) = a.placed.each q g own e f i
+
+mark_placed : (s : Setting) (calls : List (List Call)) (ranks : ℕ) (m : Mark) (rest : List Mark) (state : Counted × List Going) → is_of_rank_below ranks m ≡ true
+    → AlongPlaced calls ranks (m ∷ rest) state.1 → AlongPlaced calls ranks rest (after_mark s state m).1
+mark_placed s calls ranks (Meet j) rest (c, goings) known a = met_placed s calls ranks j rest c goings a
+mark_placed s calls ranks (Solo r n) rest (c, goings) known a = solo_placed s calls ranks r n rest c goings (ltb-true r ranks known) a
+
+marks_placed : (s : Setting) (calls : List (List Call)) (ranks : ℕ) (order rest : List Mark) (state : Counted × List Going) → list_all (is_of_rank_below ranks) (order ++ rest) ≡ true
+    → AlongPlaced calls ranks (order ++ rest) state.1 → AlongPlaced calls ranks rest (fold (after_mark s) state order).1
+marks_placed s calls ranks [] rest state known a = a
+marks_placed s calls ranks (m ∷ order) rest state known a =
+    marks_placed s calls ranks order rest (after_mark s state m) (and_second (is_of_rank_below ranks m) _ known)
+    (mark_placed s calls ranks m (order ++ rest) state (and_first (is_of_rank_below ranks m) _ known) a)
+
+first_placed : (script : Script) (header : Header) (order : List Mark) → is_lawful script ≡ true → IsLegal script order
+    → AlongPlaced script.calls script.ranks order (map (first_going header) script.calls)
+first_placed script header order lawful legal = record {
+  met = 0;
+  kinds_left = kinds_of script;
+  on = first_on script header order lawful legal;
+  placed = record {
+    each = λ r g own e f j.
+        let from = mapped_from (first_going header) script.calls r g e in
+        let same : from.0 ≡ own = same_Some from.0 own (sym from.1.0 ∙ f) in
+        begins own j ∙ ap (λ (z : Going). length z.answers + meeting_call j z.calls) (sym (from.1.1 ∙ ap (first_going header) same));
+  };
+}
+  where
+    begins : (own : List Call) (j : ℕ) → meeting_call (0 + j) own ≡ 0 + meeting_call j own
+    begins own j =
+        let z : 0 + j ≡ j = omega arith in
+        ap (λ (k : ℕ). meeting_call k own) z ∙ zero_more (meeting_call j own)
+      where
+        zero_more : (n : ℕ) → n ≡ 0 + n
+        zero_more n = omega arith
+
+placed_at : (script : Script) (header : Header) (file : List ℕ) (before later : List Mark) → is_lawful script ≡ true → IsLegal script (before ++ later)
+    → AlongPlaced script.calls script.ranks later (state_after script header file before).1
+placed_at script header file before later lawful legal =
+    marks_placed (setting_of script header) script.calls script.ranks before later (first_state header file script.calls) legal.known_ranks
+    (first_placed script header (before ++ later) lawful legal)
+
+-- ---- the answer
+
+answers_long : (goings : List Going) (r n : ℕ) (g : Going) → slice_get goings r ≡ Some g → length g.answers ≡ n → length (answers_of (slice_get goings r)) ≡ n
+answers_long goings r n g e f = ap (λ (m : Option Going). length (answers_of m)) e ∙ f
+
+met_long_is : (s : Setting) (calls : List (List Call)) (ranks k r : ℕ) (rest : List Mark) (c : Counted) (goings : List Going) (own : List Call) → length calls ≡ ranks
+    → AlongPlaced calls ranks (Meet k ∷ rest) goings → slice_get calls r ≡ Some own → length (answers_of (slice_get (after_meeting s (c, goings)).1 r)) ≡ suc (meeting_call k own)
+met_long_is s calls ranks k r rest c goings own many a f =
+    let below = slice_get_within calls r own f in
+    let long = a.on.long in
+    let b = entry_below goings r (omega arith) in
+    let g = hears_then s c ranks a.met k r a.kinds_left rest goings b.0 a.on b.1 in
+    let h = g.1.1 in
+    let at = meets s.header ranks a.met k r a.kinds_left rest goings h.before a.on h.was in
+    let p = advance s.header h.before in
+    let places = places_at (length h.before.answers) h.before.calls p at.asks.offer (offer.Meet at.kind) (go_places s.header h.before.calls h.before.rank h.before.answers) at.asks.is_offer at.of_kind in
+    let number = meets_number s.header ranks a.met k r a.kinds_left rest goings h.before a.on h.was in
+    let none : a.met + 0 ≡ k = omega arith in
+    let call : length p.0.answers ≡ meeting_call k own =
+    sym places.0 ∙ sym (a.placed.each r h.before own h.was f 0) ∙ ap (λ (j : ℕ). meeting_call j own) none in
+    answers_long (after_meeting s (c, goings)).1 r (suc (meeting_call k own)) g.0 g.1.0
+    (ap (λ (z : Going). length z.answers) h.is ∙ hear_length s.header p.0 h.reply ∙ ap (λ (n : ℕ). suc n) call)
+
+solo_long_is : (s : Setting) (calls : List (List Call)) (ranks r n : ℕ) (rest : List Mark) (c : Counted) (goings : List Going) → r < ranks → AlongPlaced calls ranks (Solo r n ∷ rest) goings
+    → length (answers_of (slice_get (after_solo s r c goings).1 r)) ≡ suc n
+solo_long_is s calls ranks r n rest c goings l a =
+    let st = steps s c ranks a.met r n a.kinds_left rest goings l a.on in
+    let p = advance s.header st.before in
+    let y = (solo s r st.at.asks.offer c).1 in
+    let next = hears s.header p.0 y in
+    let call = goes_number s.header ranks a.met r n a.kinds_left rest goings st.before a.on st.was in
+    ap (λ (z : Counted × List Going). length (answers_of (slice_get z.1 r))) st.state
+    ∙ answers_long (set goings r next) r (suc n) next (entry_set goings r st.before next st.was) (hear_length s.header p.0 y ∙ ap (λ (k : ℕ). suc k) call)
+
+-- the last of these answers stands at its number in all that follow
+told_end : (xs answers : List Answer) (n : ℕ) (pair : Option Pair) → IsLastTold xs pair → length xs ≡ suc n → ((rest : List Answer) × (xs ++ rest ≡ answers)) → IsToldAt answers n pair
+told_end xs answers n pair (earlier, last, e, t) long (rest, f) =
+    let both : length xs ≡ length earlier + 1 = ap (λ (z : List Answer). length z) e ∙ length-append earlier (last ∷ []) in
+    let whole : length (earlier ++ last ∷ []) ≡ length earlier + 1 = length-append earlier (last ∷ []) in
+    let place : n ≡ length earlier + 0 = omega arith in
+    let there : slice_get answers n ≡ Some last =
+    ap (λ (z : List Answer). slice_get z n) (sym f ∙ ap (λ (z : List Answer). z ++ rest) e)
+    ∙ get_left (earlier ++ last ∷ []) rest n (omega arith) ∙ get_right earlier (last ∷ []) 0 n place in
+    (last, there, t)
+
+joined : (before later : List Mark) (m : Mark) → before ++ m ∷ later ≡ (before ++ m ∷ []) ++ later
+joined before later m = sym (append_assoc before (m ∷ []) later)
+
+stays : (script : Script) (header : Header) (file : List ℕ) (before later : List Mark) (m : Mark) (r : ℕ) (answers : List Answer) → is_lawful script ≡ true
+    → IsLegal script (before ++ m ∷ later) → slice_get (serial_from script header file (before ++ m ∷ later)).answers r ≡ Some answers
+    → (rest : List Answer) × (answers_after script header file (before ++ m ∷ []) r ++ rest ≡ answers)
+stays script header file before later m r answers lawful legal e =
+    answers_stay script header file (before ++ m ∷ []) later r answers lawful (subst (IsLegal script) (joined before later m) legal)
+    (ap (λ (order : List Mark). slice_get (serial_from script header file order).answers r) (sym (joined before later m)) ∙ e)
+
+pub meeting_answer : (script : Script) (header : Header) (file : List ℕ) (before later : List Mark) (k r : ℕ) (own : List Call) (answers : List Answer)
+    → is_lawful script ≡ true → IsLegal script (before ++ Meet k ∷ later) → slice_get script.calls r ≡ Some own
+    → slice_get (serial_from script header file (before ++ Meet k ∷ later)).answers r ≡ Some answers
+    → IsToldAt answers (meeting_call k own) (told_at script header file before (Meet k))
+meeting_answer script header file before later k r own answers lawful legal f e =
+    let s = setting_of script header in
+    let state = state_after script header file before in
+    let many = (ranks_lawful script lawful).one_each in
+    let below = slice_get_within script.calls r own f in
+    let long : length (answers_after script header file (before ++ Meet k ∷ []) r) ≡ suc (meeting_call k own) =
+    ap (λ (z : Counted × List Going). length (answers_of (slice_get z.1 r))) (state_more script header file before (Meet k))
+    ∙ met_long_is s script.calls script.ranks k r later state.0 state.1 own many (placed_at script header file before (Meet k ∷ later) lawful legal) f in
+    told_end (answers_after script header file (before ++ Meet k ∷ []) r) answers (meeting_call k own) (told_at script header file before (Meet k))
+    (meeting_told script header file before later k r lawful legal (omega arith)) long (stays script header file before later (Meet k) r answers lawful legal e)
+
+pub solo_answer : (script : Script) (header : Header) (file : List ℕ) (before later : List Mark) (r c : ℕ) (answers : List Answer)
+    → is_lawful script ≡ true → IsLegal script (before ++ Solo r c ∷ later)
+    → slice_get (serial_from script header file (before ++ Solo r c ∷ later)).answers r ≡ Some answers
+    → IsToldAt answers c (told_at script header file before (Solo r c))
+solo_answer script header file before later r c answers lawful legal e =
+    let s = setting_of script header in
+    let state = state_after script header file before in
+    let low = ltb-true r script.ranks (known_mark script.ranks before later (Solo r c) legal.known_ranks) in
+    let long : length (answers_after script header file (before ++ Solo r c ∷ []) r) ≡ suc c =
+    ap (λ (z : Counted × List Going). length (answers_of (slice_get z.1 r))) (state_more script header file before (Solo r c))
+    ∙ solo_long_is s script.calls script.ranks r c later state.0 state.1 low (placed_at script header file before (Solo r c ∷ later) lawful legal) in
+    told_end (answers_after script header file (before ++ Solo r c ∷ []) r) answers c (told_at script header file before (Solo r c))
+    (solo_told script header file before later r c lawful legal) long (stays script header file before later (Solo r c) r answers lawful legal e)

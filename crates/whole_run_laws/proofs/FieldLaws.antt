@@ -1,0 +1,117 @@
+-- The header's field has the record count wherever that grew, and is as it was where it didn't.
+use Rattle.std.proofs.Common.{◌≡◌, ℕ, ◌+◌, ◌-◌, ◌<◌, ◌≤◌, refl, sym, ◌∙◌, ap, subst, List, [], ◌∷◌, length, map, max, get_or, Bool, true, false, cond, Option, arith}
+use Rattle.std.specs.Prelude.{fold, nat_lt}
+use Rattle.std.specs.List.{list_all}
+use Rattle.std.specs.Int.{byte_len}
+use borrow.Author.Tests.{ltb-true}
+use Rattle.list_laws.proofs.Truth.{and_first, and_second}
+use Rattle.overlay_laws.proofs.HullLaws.{any_in}
+use Rattle.nc_base.specs.declared.answer.Pair.{Pair}
+use Rattle.nc_base.specs.declared.header.Header.{Header}
+use Rattle.nc_base.specs.declared.script.Script.{Script}
+use Rattle.nc_base.specs.declared.step.Mark.{Mark}
+use Rattle.nc_base.specs.declared.step.Mark.TheVariants.{Meet, Solo}
+use Rattle.serial_spec.specs.File.{read, written}
+use Rattle.serial_spec.specs.FileStep.{after_puts, Counted, known_by, needs, puts_of, raised, Setting, told}
+use Rattle.serial_spec.specs.HeaderGrammar.{count, count_width, is_sound}
+use Rattle.serial_spec.specs.History.{is_of_rank_below, IsLegal}
+use Rattle.serial_spec.specs.Lawful.{is_lawful}
+use Rattle.serial_spec.specs.Layout.{greatest}
+use Rattle.serial_spec.specs.Records.{with_records}
+use Rattle.serial_spec.specs.SerialEnd.{advance, after_mark, first_state, Going, offers_of, serial_from, setting_of}
+use Rattle.serial_spec.specs.SharedByte.{covered, Puts}
+use Rattle.serial_spec.proofs.KeepLaws.{after_keeps, count_long}
+use Rattle.serial_spec.proofs.SaidLaws.{at-written_inside}
+use Rattle.var_layout.proofs.WrittenLengths.{canon_len}
+use Rattle.whole_run_laws.specs.Completed.{is_held, puts_at, puts_met}
+use Rattle.whole_run_laws.proofs.Courses.{AreAlong, first_along, mark_along, steps}
+use Rattle.whole_run_laws.proofs.FilledLaws.{read_all, read_kept}
+use Rattle.whole_run_laws.proofs.PastLaws.{AllFit, AllPast, first_fits, mark_fit, mark_past}
+use Rattle.whole_run_laws.proofs.ToldLaws.{offered_alone}
+
+-- the field of a file that was opened with the header's count
+record FieldIs (header : Header) (file : List ℕ) (c : Counted) : Type 0 where
+  least : header.records ≤ c.records
+  same : c.records ≡ header.records → read c.file 4 (byte_len (count_width header.version)) ≡ read file 4 (byte_len (count_width header.version))
+  tells : header.records < c.records → read c.file 4 (byte_len (count_width header.version)) ≡ count header.version c.records
+
+read_written : (file b : List ℕ) (x n : ℕ) → n ≡ length b → read (written file x b) x n ≡ b
+read_written file b x n e = read_all (written file x b) b x n e (λ i l.
+    let back : x + i - x ≡ i = omega arith in
+    at-written_inside file b x (x + i) (omega arith) (omega arith) ∙ ap (λ (k : ℕ). get_or b k 0) back)
+
+puts_beside : (s : Setting) (puts : Puts) (pair : Option Pair) (file : List ℕ) → AllPast s.header puts
+    → read (after_puts s puts pair file) 4 (byte_len (count_width s.header.version)) ≡ read file 4 (byte_len (count_width s.header.version))
+puts_beside s puts pair file past =
+    read_kept (after_puts s puts pair file) file 4 (byte_len (count_width s.header.version)) (λ i l. after_keeps s puts pair file (4 + i) (by i l (is_held s.header puts (4 + i)) refl))
+  where
+    by : (i : ℕ) → i < byte_len (count_width s.header.version) → (t : Bool) → is_held s.header puts (4 + i) ≡ t → t ≡ false
+    by i l false e = refl
+    by i l true e =
+        let low = past (4 + i) (any_in (covered s.header puts) (4 + i) e) in
+        let whole = canon_len s.header in
+        absurd (omega arith)
+
+with_puts : (s : Setting) (puts : Puts) (pair : Option Pair) (file : List ℕ) (c : Counted) → AllPast s.header puts → FieldIs s.header file c
+    → FieldIs s.header file (record { file = after_puts s puts pair c.file; records = c.records })
+with_puts s puts pair file c past f = record {
+  least = f.least;
+  same = λ e. puts_beside s puts pair c.file past ∙ f.same e;
+  tells = λ l. puts_beside s puts pair c.file past ∙ f.tells l;
+}
+
+raised_field : (s : Setting) (file : List ℕ) (c : Counted) (n : ℕ) → FieldIs s.header file c → FieldIs s.header file (raised s c n)
+raised_field s file c n f = by (nat_lt c.records n) refl
+  where
+    by : (t : Bool) → nat_lt c.records n ≡ t → FieldIs s.header file (cond t (record { file = with_records s.header.version c.file n; records = n }) c)
+    by false e = f
+    by true e =
+        let l : c.records < n = ltb-true _ _ e in
+        let low = f.least in
+        record {
+          least = omega arith;
+          same = λ g. absurd (omega arith);
+          tells = λ g. read_written c.file (count s.header.version n) 4 (byte_len (count_width s.header.version)) (sym (count_long s.header.version n));
+        }
+
+mark_field : (s : Setting) (ranks : ℕ) (m : Mark) (rest : List Mark) (file : List ℕ) (c : Counted) (goings : List Going) → is_of_rank_below ranks m ≡ true
+    → AreAlong ranks (m ∷ rest) goings → AllPast s.header (puts_at s (c, goings) m) → FieldIs s.header file c → FieldIs s.header file (after_mark s (c, goings) m).0
+mark_field s ranks (Meet j) rest file c goings known a past f =
+    let offers = offers_of (map (advance s.header) goings) in
+    let puts = puts_met offers in
+    let pair = told s puts in
+    raised_field s file (record { file = after_puts s puts pair c.file; records = c.records }) (max (needs s puts pair) (greatest (map (λ o. known_by o.kind o.known) offers)))
+    (with_puts s puts pair file c past f)
+mark_field s ranks (Solo r n) rest file c goings known a past f =
+    let st = steps s c ranks a.met r n a.kinds_left rest goings (ltb-true r ranks known) a.on in
+    let o = st.at.asks.offer in
+    let own : AllPast s.header (puts_of (r, o)) = subst (λ (ps : Puts). AllPast s.header ps) (offered_alone s r c goings a.met a.kinds_left rest st) past in
+    subst (λ (z : Counted × List Going). FieldIs s.header file z.0) (sym st.state) (with_puts s (puts_of (r, o)) (told s (puts_of (r, o))) file c own f)
+
+order_field : (s : Setting) (ranks : ℕ) (order : List Mark) (file : List ℕ) (state : Counted × List Going) → is_sound s.header ≡ true → list_all (is_of_rank_below ranks) order ≡ true
+    → AreAlong ranks order state.1 → AllFit s.header ranks state.1 → FieldIs s.header file state.0 → FieldIs s.header file (fold (after_mark s) state order).0
+order_field s ranks [] file state sound known a fit f = f
+order_field s ranks (m ∷ order) file state sound known a fit f =
+    let here = and_first (is_of_rank_below ranks m) _ known in
+    order_field s ranks order file (after_mark s state m) sound (and_second (is_of_rank_below ranks m) _ known) (mark_along s ranks m order state here a)
+    (mark_fit s ranks m order state.0 state.1 sound here a fit)
+    (mark_field s ranks m order file state.0 state.1 here a (mark_past s ranks m order state.0 state.1 sound here a fit) f)
+
+end_field : (script : Script) (header : Header) (file : List ℕ) (order : List Mark) → is_sound header ≡ true → is_lawful script ≡ true → IsLegal script order
+    → FieldIs header file (record { file = (serial_from script header file order).bytes; records = (serial_from script header file order).records })
+end_field script header file order sound lawful legal =
+    let s = setting_of script header in
+    let last = fold (after_mark s) (first_state header file script.calls) order in
+    raised_field s file last.0 (greatest (map (λ g. g.rank.known) (map (λ g. (advance header g).0) last.1)))
+    (order_field s script.ranks order file (first_state header file script.calls) sound legal.known_ranks (first_along script header order lawful legal)
+    (first_fits script header lawful) (record { least = omega arith; same = λ e. refl; tells = λ l. absurd (omega arith) }))
+
+pub field_tells : (script : Script) (header : Header) (file : List ℕ) (order : List Mark) → is_sound header ≡ true → is_lawful script ≡ true → IsLegal script order
+    → header.records < (serial_from script header file order).records
+    → read (serial_from script header file order).bytes 4 (byte_len (count_width header.version)) ≡ count header.version (serial_from script header file order).records
+field_tells script header file order sound lawful legal = (end_field script header file order sound lawful legal).tells
+
+pub field_same : (script : Script) (header : Header) (file : List ℕ) (order : List Mark) → is_sound header ≡ true → is_lawful script ≡ true → IsLegal script order
+    → (serial_from script header file order).records ≡ header.records
+    → read (serial_from script header file order).bytes 4 (byte_len (count_width header.version)) ≡ read file 4 (byte_len (count_width header.version))
+field_same script header file order sound lawful legal = (end_field script header file order sound lawful legal).same

@@ -1,0 +1,194 @@
+-- No completed put holds a byte of the header, so its bytes stay but for the record count.
+use Rattle.std.proofs.Common.{◌≡◌, ℕ, ◌<◌, ◌≤◌, refl, sym, ◌∙◌, ap, subst, inl, inr, ◌⊎◌, List, [], ◌∷◌, map, Bool, true, false, not, ◌||◌, Option, Some, None, arith}
+use Rattle.std.proofs.lemmas.Grind.{flat_map-append}
+use Rattle.std.proofs.lemmas.Option.{same_Some, slice_get_within}
+use Rattle.std.specs.Prelude.{slice_get, ◌==◌}
+use Rattle.std.specs.List.{enumerate_from, list_all, range_with_len}
+use borrow.Author.Tests.{ltb-true}
+use Rattle.list_laws.proofs.Each.{fails_each}
+use Rattle.list_laws.proofs.Places.{entry_below}
+use Rattle.list_laws.proofs.Truth.{and_first, and_second, or_first_false}
+use Rattle.overlay_laws.proofs.HullLaws.{any_in, flat_in, in_either, range_low}
+use Rattle.overlay_laws.proofs.Members.{each_in, map_in, numbered_in}
+use Rattle.nc_base.specs.declared.answer.Code.{Code}
+use Rattle.nc_base.specs.declared.answer.Code.TheVariants as code
+use Rattle.nc_base.specs.declared.answer.Pair.{Pair}
+use Rattle.nc_base.specs.declared.header.Header.{Header}
+use Rattle.nc_base.specs.declared.header.Var.{Var}
+use Rattle.nc_base.specs.declared.plan.Post.{Post}
+use Rattle.nc_base.specs.declared.request.Call.{Call}
+use Rattle.nc_base.specs.declared.request.Direction.TheVariants as way
+use Rattle.nc_base.specs.declared.script.Script.{Script}
+use Rattle.nc_base.specs.declared.step.Mark.{Mark}
+use Rattle.nc_base.specs.declared.step.Mark.TheVariants.{Meet, Solo}
+use Rattle.nc_base.specs.declared.step.Offer.{Offer}
+use Rattle.nc_base.specs.declared.step.Reply.{Reply}
+use Rattle.serial_spec.specs.Desk.{refused, wrong_length}
+use Rattle.serial_spec.specs.ExternalForm.{size_of}
+use Rattle.serial_spec.specs.File.{at}
+use Rattle.serial_spec.specs.FileStep.{Counted, puts_of, Setting, solo, told}
+use Rattle.serial_spec.specs.HeaderGrammar.{header_len, is_sound}
+use Rattle.serial_spec.specs.History.{is_of_rank_below, IsLegal}
+use Rattle.serial_spec.specs.Lawful.{is_lawful}
+use Rattle.serial_spec.specs.Lists.{In}
+use Rattle.serial_spec.specs.Place.{IsElementBelow, place}
+use Rattle.serial_spec.specs.Records.{records_of}
+use Rattle.serial_spec.specs.RegionCheck.{check_some, is_ok_code}
+use Rattle.serial_spec.specs.Request.{elements, places}
+use Rattle.serial_spec.specs.SerialEnd.{advance, after_mark, first_going, first_state, Going, hears, offers_of, rank_offer, serial_from, setting_of}
+use Rattle.serial_spec.specs.SharedByte.{bytes_of, bytes_of_some, covered, Puts}
+use Rattle.serial_spec.proofs.AcceptLaws.{accepted_elements}
+use Rattle.serial_spec.proofs.ApartLaws.{elements_past_header}
+use Rattle.join_laws.proofs.GoodLaws.{Fit, good_first, heard_fits, most_posts_held, offer_fits}
+use Rattle.whole_run_laws.specs.Completed.{completed, completed_from, completed_puts, IsBesideCount, is_held, puts_asked, puts_at, puts_met, unless_told}
+use Rattle.whole_run_laws.proofs.Courses.{AreAlong, first_along, heard_by, mapped_from, mark_along, meets, offer_met, offers_met_long, set_cases, steps}
+use Rattle.whole_run_laws.proofs.KeptLaws.{end_kept}
+
+-- ---- an accepted put
+
+abbrev Past : Header → Post → Type 0
+Past header p = (x : ℕ) → In (bytes_of header p) x → header_len header ≤ x
+
+accepted : (c : Code) → not (is_ok_code c) ≡ false → c ≡ code.Ok
+accepted code.Ok e = refl
+accepted c e = absurd cc
+
+post_past : (header : Header) (known : ℕ) (p : Post) → is_sound header ≡ true → (refused header known way.Put p || wrong_length header p) ≡ false → Past header p
+post_past header known p sound e x m = by (slice_get header.vars p.var) refl (accepted _ (or_first_false (refused header known way.Put p) _ e)) m
+  where
+    by : (o : Option Var) → slice_get header.vars p.var ≡ o → check_some header (slice_get header.vars p.var) p.region known way.Put ≡ code.Ok
+        → In (bytes_of_some header (slice_get header.vars p.var) p) x → header_len header ≤ x
+    by None f ok k = absurd (subst (λ (o : Option Var). In (bytes_of_some header o p) x) f k)
+    by (Some v) f ok k =
+        let within = subst (λ (o : Option Var). In (bytes_of_some header o p) x) f k in
+        let fine = sym (ap (λ (o : Option Var). check_some header o p.region known way.Put) f) ∙ ok in
+        let y = flat_in (λ (y : ℕ). range_with_len y (size_of v.kind)) (places header v p.region) x within in
+        let i = map_in (λ (i : List ℕ). place header v i) (elements p.region) y.0 y.1 in
+        let is = each_in (IsElementBelow header v (records_of header v p.region)) (elements p.region) i.0 (accepted_elements header p.var v p.region known way.Put sound f fine) i.1 in
+        let low = elements_past_header header p.var v i.0 sound f is.0 in
+        let from = range_low y.0 (size_of v.kind) x y.2 in
+        at_least (header_len header) (place header v i.0) y.0 x low i.2 from
+      where
+        at_least : (a b c d : ℕ) → a ≤ b → b ≡ c → c ≤ d → a ≤ d
+        at_least a b c d h g l = omega arith
+
+-- ---- a rank whose puts are accepted
+
+pub record IsFit (header : Header) (ranks : ℕ) (g : Going) : Type 0 where
+  pub number : ℕ
+  pub low : number < ranks
+  pub fit : Fit header ranks number most_posts_held g.rank g.calls
+
+abbrev pub AllFit : Header → ℕ → List Going → Type 0
+AllFit header ranks goings = (q : ℕ) (g : Going) → slice_get goings q ≡ Some g → IsFit header ranks g
+
+offer_past : (header : Header) (ranks : ℕ) (g : Going) (o : Offer) → is_sound header ≡ true → IsFit header ranks g → (advance header g).1 ≡ Some o
+    → (p : Post) → In o.batch.puts p → Past header p
+offer_past header ranks g o sound f e p m =
+    let fits = (offer_fits header sound ranks f.number most_posts_held f.low g o f.fit e).batch in
+    post_past header o.known p sound
+    (each_in (λ (q : Post). (refused header o.known way.Put q || wrong_length header q) ≡ false) o.batch.puts p
+    (fails_each (λ (q : Post). refused header o.known way.Put q || wrong_length header q) o.batch.puts fits.puts) m)
+
+-- ---- a step
+
+abbrev pub AllPast : Header → Puts → Type 0
+AllPast header puts = (x : ℕ) → In (covered header puts) x → header_len header ≤ x
+
+own_past : (header : Header) (r : ℕ) (o : Offer) → ((p : Post) → In o.batch.puts p → Past header p) → AllPast header (puts_of (r, o))
+own_past header r o f x m =
+    let p = flat_in (λ (p : ℕ × Post). bytes_of header p.1) (puts_of (r, o)) x m in
+    let q = map_in (λ (post : Post). let z : ℕ × Post = (r, post) in z) o.batch.puts p.0 p.1 in
+    f q.0 q.1 x (subst (λ (z : ℕ × Post). In (bytes_of header z.1) x) (sym q.2) p.2)
+
+met_past : (header : Header) (offers : List Offer) → ((q : ℕ) (o : Offer) → slice_get offers q ≡ Some o → (p : Post) → In o.batch.puts p → Past header p)
+    → AllPast header (puts_met offers)
+met_past header offers f x m =
+    let p = flat_in (λ (p : ℕ × Post). bytes_of header p.1) (puts_met offers) x m in
+    let o = flat_in puts_of (enumerate_from 0 offers) p.0 p.1 in
+    let q = map_in (λ (post : Post). let z : ℕ × Post = (o.0.0, post) in z) o.0.1.batch.puts p.0 o.2 in
+    f o.0.0 o.0.1 (numbered_in offers o.0 o.1) q.0 q.1 x (subst (λ (z : ℕ × Post). In (bytes_of header z.1) x) (sym q.2) p.2)
+
+done_past : (s : Setting) (puts : Puts) → AllPast s.header puts → AllPast s.header (completed s puts)
+done_past s puts f = by (told s puts)
+  where
+    by : (pair : Option Pair) → AllPast s.header (unless_told puts pair)
+    by None = f
+    by (Some p) = λ x m. absurd m
+
+pub mark_past : (s : Setting) (ranks : ℕ) (m : Mark) (rest : List Mark) (c : Counted) (goings : List Going) → is_sound s.header ≡ true → is_of_rank_below ranks m ≡ true
+    → AreAlong ranks (m ∷ rest) goings → AllFit s.header ranks goings → AllPast s.header (puts_at s (c, goings) m)
+mark_past s ranks (Meet j) rest c goings sound known a fit =
+    met_past s.header (offers_of (map (advance s.header) goings)) (λ q o e.
+    let long = offers_met_long s.header ranks a.met j a.kinds_left rest goings a.on in
+    let below = slice_get_within (offers_of (map (advance s.header) goings)) q o e in
+    let g = entry_below goings q (omega arith) in
+    let at = meets s.header ranks a.met j q a.kinds_left rest goings g.0 a.on g.1 in
+    let same : at.asks.offer ≡ o = same_Some at.asks.offer o (sym (offer_met s.header ranks a.met j q a.kinds_left rest goings g.0 a.on g.1) ∙ e) in
+    offer_past s.header ranks g.0 o sound (fit q g.0 g.1) (at.asks.is_offer ∙ ap (λ (z : Offer). Some z) same))
+mark_past s ranks (Solo r n) rest c goings sound known a fit =
+    let st = steps s c ranks a.met r n a.kinds_left rest goings (ltb-true r ranks known) a.on in
+    let asked : puts_asked r (Some st.at.asks.offer) ≡ puts_asked r (rank_offer s goings r) = sym (ap (λ (m : Option Offer). puts_asked r m)
+    (ap (λ (m : Option Going). elim m as (λ z. Option Offer) [ None ↦ None | Some g ↦ (advance s.header g).1 ]) st.was ∙ st.at.asks.is_offer)) in
+    subst (AllPast s.header) asked (own_past s.header r st.at.asks.offer (offer_past s.header ranks st.before st.at.asks.offer sound (fit r st.before st.was) st.at.asks.is_offer))
+
+heard_fit : (header : Header) (ranks : ℕ) (g next : Going) (o : Offer) (y : Reply) → is_sound header ≡ true → IsFit header ranks g → (advance header g).1 ≡ Some o
+    → next ≡ hears header (advance header g).0 y → IsFit header ranks next
+heard_fit header ranks g next o y sound f e h =
+    subst (IsFit header ranks) (sym h) (record { number = f.number; low = f.low; fit = heard_fits header sound ranks f.number most_posts_held f.low g o y f.fit e })
+
+pub mark_fit : (s : Setting) (ranks : ℕ) (m : Mark) (rest : List Mark) (c : Counted) (goings : List Going) → is_sound s.header ≡ true → is_of_rank_below ranks m ≡ true
+    → AreAlong ranks (m ∷ rest) goings → AllFit s.header ranks goings → AllFit s.header ranks (after_mark s (c, goings) m).1
+mark_fit s ranks (Meet j) rest c goings sound known a fit = λ q g e.
+    let h = heard_by s c ranks a.met j q a.kinds_left rest goings g a.on e in
+    let at = meets s.header ranks a.met j q a.kinds_left rest goings h.before a.on h.was in
+    heard_fit s.header ranks h.before g at.asks.offer h.reply sound (fit q h.before h.was) at.asks.is_offer h.is
+mark_fit s ranks (Solo r n) rest c goings sound known a fit =
+    let st = steps s c ranks a.met r n a.kinds_left rest goings (ltb-true r ranks known) a.on in
+    let y = (solo s r st.at.asks.offer c).1 in
+    let next = hears s.header (advance s.header st.before).0 y in
+    let own = heard_fit s.header ranks st.before next st.at.asks.offer y sound (fit r st.before st.was) st.at.asks.is_offer refl in
+    subst (λ (z : Counted × List Going). AllFit s.header ranks z.1) (sym st.state) (λ q g e. by q g next own (set_cases goings r q next g e))
+  where
+    by : (q : ℕ) (g next : Going) → IsFit s.header ranks next → ((q ≡ r) × (g ≡ next)) ⊎ (((r == q) ≡ false) × (slice_get goings q ≡ Some g)) → IsFit s.header ranks g
+    by q g next own (inl (z, w)) = subst (IsFit s.header ranks) (sym w) own
+    by q g next own (inr (b, e)) = fit q g e
+
+-- ---- a run
+
+order_past : (s : Setting) (ranks : ℕ) (order : List Mark) (state : Counted × List Going) → is_sound s.header ≡ true → list_all (is_of_rank_below ranks) order ≡ true
+    → AreAlong ranks order state.1 → AllFit s.header ranks state.1 → AllPast s.header (completed_from s state order)
+order_past s ranks [] state sound known a fit x m = absurd m
+order_past s ranks (k ∷ order) state sound known a fit x m =
+    let here = and_first (is_of_rank_below ranks k) _ known in
+    let now = completed s (puts_at s state k) in
+    let later = completed_from s (after_mark s state k) order in
+    let both = subst (λ (xs : List ℕ). In xs x) (flat_map-append (λ (p : ℕ × Post). bytes_of s.header p.1) now later) m in
+    elim (in_either (covered s.header now) (covered s.header later) x both) [
+      | inl h ↦ done_past s (puts_at s state k) (mark_past s ranks k order state.0 state.1 sound here a fit) x h
+      | inr h ↦ order_past s ranks order (after_mark s state k) sound (and_second (is_of_rank_below ranks k) _ known) (mark_along s ranks k order state here a)
+          (mark_fit s ranks k order state.0 state.1 sound here a fit) x h
+    ]
+
+pub first_fits : (script : Script) (header : Header) → is_lawful script ≡ true → AllFit header script.ranks (map (first_going header) script.calls)
+first_fits script header lawful q g e = by (mapped_from (first_going header) script.calls q g e)
+  where
+    by : ((own : List Call) × ((slice_get script.calls q ≡ Some own) × (g ≡ first_going header own))) → IsFit header script.ranks g
+    by own =
+        let good = good_first script header q own.0 lawful own.1.0 in
+        subst (IsFit header script.ranks) (sym own.1.1) (record { number = good.number; low = good.low; fit = good.fit })
+
+pub all_past : (script : Script) (header : Header) (file : List ℕ) (order : List Mark) (x : ℕ) → is_sound header ≡ true → is_lawful script ≡ true → IsLegal script order
+    → is_held header (completed_puts script header file order) x ≡ true → header_len header ≤ x
+all_past script header file order x sound lawful legal held =
+    order_past (setting_of script header) script.ranks order (first_state header file script.calls) sound legal.known_ranks (first_along script header order lawful legal)
+    (first_fits script header lawful) x (any_in (covered header (completed_puts script header file order)) x held)
+
+pub header_stays : (script : Script) (header : Header) (file : List ℕ) (order : List Mark) (x : ℕ) → is_sound header ≡ true → is_lawful script ≡ true → IsLegal script order
+    → IsBesideCount header x → x < header_len header → at (serial_from script header file order).bytes x ≡ at file x
+header_stays script header file order x sound lawful legal beside below =
+    end_kept script header file order x beside (by (is_held header (completed_puts script header file order) x) refl)
+  where
+    by : (t : Bool) → is_held header (completed_puts script header file order) x ≡ t → t ≡ false
+    by false e = refl
+    by true e = let low = all_past script header file order x sound lawful legal e in absurd (omega arith)
