@@ -1,165 +1,215 @@
 // Calls on a variable `v` of four elements, and the codes that refuse them.
-ghost use Rattle.std.specs.Prelude.{◌≡◌, [], ◌∷◌, true, IfOk};
+ghost use Rattle.std.specs.Prelude.{◌≡◌, [], ◌∷◌, true};
 ghost use Rattle.serial_spec.specs.HeaderGrammar.{is_sound};
 ghost use Rattle.var_layout.specs.Unplaced.{is_unplaced};
 
 use nc_base::{
-    Align, AttrList, Blob, Call, Code, Dim, DimList, Form, Given, Header, IdList, Memory, Name,
-    NcType, NumberList, Part, PartList, Post, PostKind, SizeList, Values, Var, VarList, Want,
+    Align, AttrList, Call, Code, Dim, Form, Given, Header, Items, Name, NcType, NumberList, Part,
+    PartList, Post, PostKind, SizeList, Values, Var, Want,
 };
 use rank_core::{Names, Rank};
 use std::alloc::Global;
 use std::process::Abort;
-use std::test::Fail;
+use std::test::*;
 use var_layout::lay_out;
 
-fn variable(alloc: Global, kind: NcType) -> Result<Var, Memory>
-    ensures { IfOk result (λ v. v ≡ record { name = 118 ∷ []; dims = 0 ∷ []; attrs = []; kind = kind; begin = 0 }) }
+const NO_MEMORY: &str = "memory";
+
+/// The list of one item.
+fn one<T: Drop>(rt: &impl Abort, alloc: Global, item: T) -> Items<T>
+    ensures { result ≡ item ∷ [] }
 {
-    Ok(Var {
-        name: Name::from_vec(vec![in alloc; b'v']?),
-        dims: IdList::from_vec(vec![in alloc; 0]?),
+    let mut list = Items::new(alloc);
+    list.push(item).expect(rt, NO_MEMORY);
+    list
+}
+
+/// The list of two items.
+fn two<T: Drop>(rt: &impl Abort, alloc: Global, item: T, other: T) -> Items<T>
+    ensures { result ≡ item ∷ other ∷ [] }
+{
+    let mut list = one(rt, alloc, item);
+    list.push(other).expect(rt, NO_MEMORY);
+    list
+}
+
+fn variable(rt: &impl Abort, alloc: Global, kind: NcType) -> Var
+    ensures { result ≡ record { name = 118 ∷ []; dims = 0 ∷ []; attrs = []; kind = kind; begin = 0 } }
+{
+    Var {
+        name: one(rt, alloc, b'v'),
+        dims: one(rt, alloc, 0),
         attrs: AttrList::new(alloc),
         kind,
         begin: 0,
-    })
+    }
+}
+
+fn dimension(alloc: Global, len: u64) -> Dim
+    ensures { result ≡ record { name = []; len = len } }
+{
+    Dim {
+        name: Name::new(alloc),
+        len,
+    }
 }
 
 /// A dimension of this length, and two variables `v` over it.
-fn unplaced(alloc: Global, len: u64, kind: NcType) -> Result<Header, Memory>
-    ensures { IfOk result (λ header. is_unplaced header ≡ true) }
+fn unplaced(rt: &impl Abort, alloc: Global, len: u64, kind: NcType) -> Header
+    ensures { is_unplaced result ≡ true }
 {
-    let x = Dim {
-        name: Name::new(alloc),
-        len,
-    };
-    Ok(Header {
+    let x = dimension(alloc, len);
+    let first = variable(rt, alloc, kind);
+    let second = variable(rt, alloc, kind);
+    Header {
         version: 1,
         records: 0,
-        dims: DimList::from_vec(vec![in alloc; x]?),
+        dims: one(rt, alloc, x),
         attrs: AttrList::new(alloc),
-        vars: VarList::from_vec(vec![in alloc; variable(alloc, kind)?, variable(alloc, kind)?]?),
-    })
+        vars: two(rt, alloc, first, second),
+    }
 }
 
-fn header_of(rt: &impl Abort, alloc: Global, len: u64, kind: NcType) -> Result<Header, Memory>
-    ensures { IfOk result (λ header. is_sound header ≡ true) }
+fn header_of(rt: &impl Abort, alloc: Global, len: u64, kind: NcType) -> Header
+    ensures { is_sound result ≡ true }
 {
-    let mut header = unplaced(alloc, len, kind)?;
+    let mut header = unplaced(rt, alloc, len, kind);
     let answer = lay_out(&mut header, &Align { header: 4, var: 4 });
     assert!(rt; answer.is_ok());
-    Ok(header)
+    header
 }
 
-fn sizes(alloc: Global, size: u64) -> Result<SizeList, Memory> {
-    Ok(SizeList::from_vec(vec![in alloc; size]?))
+fn parts(rt: &impl Abort, alloc: Global, boxes: &[(u64, u64)]) -> PartList {
+    let mut parts = PartList::new(alloc);
+    for (start, count) in boxes {
+        let part = Part {
+            start: one(rt, alloc, *start),
+            count: one(rt, alloc, *count),
+        };
+        parts.push(part).expect(rt, NO_MEMORY);
+    }
+    parts
 }
 
 /// A call on boxes, each with its start and its count.
-fn boxes(alloc: Global, boxes: &[(u64, u64)]) -> Result<Given, Memory> {
-    let mut parts = PartList::new(alloc);
-    for (start, count) in boxes {
-        parts.push(Part {
-            start: sizes(alloc, *start)?,
-            count: sizes(alloc, *count)?,
-        })?;
-    }
-    Ok(Given {
+fn boxes(rt: &impl Abort, alloc: Global, boxes: &[(u64, u64)]) -> Given {
+    Given {
         form: Form::Varn,
         start: SizeList::new(alloc),
         count: SizeList::new(alloc),
         stride: SizeList::new(alloc),
         imap: SizeList::new(alloc),
-        parts,
-    })
+        parts: parts(rt, alloc, boxes),
+    }
 }
 
 /// A call on the first elements.
-fn first(alloc: Global, count: u64) -> Result<Given, Memory> {
-    Ok(Given {
+fn first(rt: &impl Abort, alloc: Global, count: u64) -> Given {
+    Given {
         form: Form::Vara,
-        start: sizes(alloc, 0)?,
-        count: sizes(alloc, count)?,
+        start: one(rt, alloc, 0),
+        count: one(rt, alloc, count),
         stride: SizeList::new(alloc),
         imap: SizeList::new(alloc),
         parts: PartList::new(alloc),
-    })
+    }
 }
 
-fn numbers(alloc: Global, numbers: &[i128]) -> Result<Values, Memory> {
-    Ok(Values::Numbers(NumberList::from_vec(Vec::from_slice(alloc, numbers)?)))
+fn numbers(rt: &impl Abort, alloc: Global, numbers: &[i128]) -> Values {
+    let numbers = Vec::from_slice(alloc, numbers).expect(rt, NO_MEMORY);
+    Values::Numbers(NumberList::from_vec(numbers))
 }
 
-fn named_v(alloc: Global) -> Result<Name, Memory> {
-    Ok(Name::from_vec(vec![in alloc; b'v']?))
+/// What a rank that begins wants for a put on `v` by all ranks.
+fn put(rt: &impl Abort, alloc: Global, header: &Header, given: Given, values: Values) -> Want
+    requires { is_sound header.now ≡ true }
+{
+    let names = Names::new(alloc, header).expect(rt, NO_MEMORY);
+    let mut rank = Rank::new(alloc, header, &names, 7);
+    let call = Call::Put {
+        all: true,
+        var: one(rt, alloc, b'v'),
+        given,
+        values,
+    };
+    rank.step(&call).expect(rt, NO_MEMORY)
+}
+
+/// The same for a put that is posted.
+fn iput(rt: &impl Abort, alloc: Global, header: &Header, given: Given, values: Values) -> Want
+    requires { is_sound header.now ≡ true }
+{
+    let names = Names::new(alloc, header).expect(rt, NO_MEMORY);
+    let mut rank = Rank::new(alloc, header, &names, 7);
+    let call = Call::Post {
+        id: 7,
+        kind: PostKind::Iput,
+        var: one(rt, alloc, b'v'),
+        given,
+        values,
+    };
+    rank.step(&call).expect(rt, NO_MEMORY)
+}
+
+/// The same for the second half of record 2.
+fn fill(rt: &impl Abort, alloc: Global, header: &Header) -> Want
+    requires { is_sound header.now ≡ true }
+{
+    let names = Names::new(alloc, header).expect(rt, NO_MEMORY);
+    let mut rank = Rank::new(alloc, header, &names, 7);
+    let call = Call::FillRec {
+        var: one(rt, alloc, b'v'),
+        number: 2,
+        share: 1,
+        of: 2,
+    };
+    rank.step(&call).expect(rt, NO_MEMORY)
+}
+
+fn code_of(want: &Want) -> Code {
+    match want {
+        Want::Answered(answer) => answer.code,
+        Want::Meet(_) | Want::Solo(_) => Code::EInvalRequest,
+    }
 }
 
 /// The code that a put on `v` is posted with, whose values are of this type: `Null` where it has no element.
-fn code_of_put(
-    rt: &impl Abort,
-    alloc: Global,
-    kind: NcType,
-    given: Given,
-    values: Values,
-) -> Result<Code, Memory> {
-    let header = header_of(rt, alloc, 4, kind)?;
-    let names = Names::new(alloc, &header)?;
-    let mut rank = Rank::new(alloc, &header, &names, 7);
-    let want = rank.step(&Call::Post {
-        id: 7,
-        kind: PostKind::Iput,
-        var: named_v(alloc)?,
-        given,
-        values,
-    })?;
-    match want {
-        Want::Answered(answer) => Ok(answer.code),
-        Want::Meet(_) | Want::Solo(_) => Ok(Code::EInvalRequest),
-    }
+fn code_of_put(rt: &impl Abort, alloc: Global, kind: NcType, given: Given, values: Values) -> Code {
+    let header = header_of(rt, alloc, 4, kind);
+    code_of(&iput(rt, alloc, &header, given, values))
 }
 
 /// The bytes of posts, one after another.
-fn bytes_of(alloc: Global, posts: &[Post]) -> Result<Vec<u8>, Memory> {
+fn bytes_of(rt: &impl Abort, alloc: Global, posts: &[Post]) -> Vec<u8> {
     let mut bytes = Vec::new(alloc);
     for post in posts {
-        bytes.extend_from_slice(post.bytes.as_slice())?;
+        bytes
+            .extend_from_slice(post.bytes.as_slice())
+            .expect(rt, NO_MEMORY);
     }
-    Ok(bytes)
+    bytes
 }
 
 /// The rank meets the others with puts of these bytes.
-fn assert_puts(
-    rt: &impl Abort,
-    alloc: Global,
-    want: &Want,
-    count: usize,
-    bytes: &[u8],
-) -> Result<(), Memory> {
+fn assert_puts(rt: &impl Abort, alloc: Global, want: &Want, count: usize, bytes: &[u8]) {
     match want {
         Want::Meet(offer) => {
-            assert_eq!(rt; offer.batch.puts.len(), count);
-            let all = bytes_of(alloc, offer.batch.puts.as_slice())?;
-            assert!(rt; all.as_slice() == bytes);
+            let puts = offer.batch.puts.as_slice();
+            assert!(rt; puts.len() == count);
+            assert!(rt; bytes_of(rt, alloc, puts).as_slice() == bytes);
         }
         Want::Answered(_) | Want::Solo(_) => assert!(rt; false),
     }
-    Ok(())
 }
 
 #[test]
-fn values_go_on_from_part_to_part(rt: HostRuntime) -> Result<(), Fail> {
+fn values_go_on_from_part_to_part(rt: HostRuntime) {
     let alloc = rt.alloc();
-    let header = header_of(&rt, alloc, 4, NcType::Int)?;
-    let names = Names::new(alloc, &header)?;
-    let mut rank = Rank::new(alloc, &header, &names, 7);
-    let want = rank.step(&Call::Put {
-        all: true,
-        var: named_v(alloc)?,
-        given: boxes(alloc, &[(3, 1), (4, 0), (0, 2)])?,
-        values: numbers(alloc, &[7, 8, 9])?,
-    })?;
-    assert_puts(&rt, alloc, &want, 2, &[0, 0, 0, 7, 0, 0, 0, 8, 0, 0, 0, 9])?;
-    Ok(())
+    let header = header_of(&rt, alloc, 4, NcType::Int);
+    let given = boxes(&rt, alloc, &[(3, 1), (4, 0), (0, 2)]);
+    let values = numbers(&rt, alloc, &[7, 8, 9]);
+    let want = put(&rt, alloc, &header, given, values);
+    assert_puts(&rt, alloc, &want, 2, &[0, 0, 0, 7, 0, 0, 0, 8, 0, 0, 0, 9]);
 }
 
 /// Of parts of a put of one number.
@@ -172,14 +222,13 @@ const PARTS: [([(u64, u64); 2], Code); 5] = [
 ];
 
 #[test]
-fn parts_and_their_codes(rt: HostRuntime) -> Result<(), Fail> {
+fn parts_and_their_codes(rt: HostRuntime) {
     let alloc = rt.alloc();
-    for (parts, code) in PARTS {
-        let (given, values) = (boxes(alloc, &parts)?, numbers(alloc, &[5])?);
-        let found = code_of_put(&rt, alloc, NcType::Int, given, values)?;
-        assert!(rt; found == code);
+    for (parts, code) in &PARTS {
+        let given = boxes(&rt, alloc, parts);
+        let values = numbers(&rt, alloc, &[5]);
+        assert!(rt; code_of_put(&rt, alloc, NcType::Int, given, values) == *code);
     }
-    Ok(())
 }
 
 /// Of puts of the number 40000.
@@ -193,31 +242,27 @@ const PUTS: [(NcType, u64, Code); 6] = [
 ];
 
 #[test]
-fn regions_and_their_codes(rt: HostRuntime) -> Result<(), Fail> {
+fn regions_and_their_codes(rt: HostRuntime) {
     let alloc = rt.alloc();
-    for (kind, count, code) in PUTS {
-        let (given, values) = (first(alloc, count)?, numbers(alloc, &[40000])?);
-        let found = code_of_put(&rt, alloc, kind, given, values)?;
-        assert!(rt; found == code);
+    for (kind, count, code) in &PUTS {
+        let given = first(&rt, alloc, *count);
+        let values = numbers(&rt, alloc, &[40000]);
+        assert!(rt; code_of_put(&rt, alloc, *kind, given, values) == *code);
     }
-    let text = Values::Text(Blob::from_vec(vec![in alloc; b'a']?));
-    let found = code_of_put(&rt, alloc, NcType::Short, first(alloc, 1)?, text)?;
-    assert!(rt; found == Code::EChar);
-    Ok(())
 }
 
 #[test]
-fn the_second_of_two_ranks_fills_one_element(rt: HostRuntime) -> Result<(), Fail> {
+fn a_text_is_no_number(rt: HostRuntime) {
     let alloc = rt.alloc();
-    let header = header_of(&rt, alloc, 0, NcType::Int)?;
-    let names = Names::new(alloc, &header)?;
-    let mut rank = Rank::new(alloc, &header, &names, 7);
-    let want = rank.step(&Call::FillRec {
-        var: named_v(alloc)?,
-        number: 2,
-        share: 1,
-        of: 2,
-    })?;
-    assert_puts(&rt, alloc, &want, 1, &[0x80, 0, 0, 1])?;
-    Ok(())
+    let text = Values::Text(one(&rt, alloc, b'a'));
+    let given = first(&rt, alloc, 1);
+    assert!(rt; code_of_put(&rt, alloc, NcType::Short, given, text) == Code::EChar);
+}
+
+#[test]
+fn the_second_of_two_ranks_fills_one_element(rt: HostRuntime) {
+    let alloc = rt.alloc();
+    let header = header_of(&rt, alloc, 0, NcType::Int);
+    let want = fill(&rt, alloc, &header);
+    assert_puts(&rt, alloc, &want, 1, &[0x80, 0, 0, 1]);
 }
