@@ -1,6 +1,5 @@
 -- The run of a script, from its first stage to its end.
-use Rattle.std.proofs.Common.{sym, ◌∙◌, ap, subst, List, Some}
-use Rattle.std.proofs.Common.{rules, map}
+use Rattle.std.proofs.Common.{sym, ◌∙◌, ap, subst, ℕ, List, Some, Err, rules, map, refl, inl}
 use Rattle.std.proofs.lemmas.List.{with_items_is}
 use Rattle.nc_base.specs.declared.step.Mark.{Mark}
 use Rattle.nc_base.specs.declared.step.DiskCall.{DiskCall}
@@ -15,14 +14,12 @@ use Rattle.turn_run.specs.Seated.{AreSeats}
 use Rattle.serial_spec.specs.RankMachine as machine
 use Rattle.turn_run.specs.declared.seats.Seat.{Seat}
 use Rattle.turn_run.proofs.TurnRuns.{calls_from_first, first_count, first_free, first_seats, if_told, none_begun, serial_from_first}
-use Rattle.std.proofs.Common.{refl, inl}
 use Rattle.nc_base.specs.declared.step.StepErr.{StepErr}
 use Rattle.nc_base.specs.declared.step.StepErr.TheVariants as fault
 use Rattle.serial_spec.specs.SerialEnd.{setting_of}
 use Rattle.turn_run.specs.Stages.{arrived_all}
 use Rattle.turn_run.proofs.CutEnds.{fault_run, same_cause, unbegun_run}
 use Rattle.turn_run.proofs.CutRuns.{ends_as, ends_stood, stood_first, answers_as, cut_answers, cut_rows, cut_run, ended_memory, first_long, no_answers, no_rows, rows_as}
-use Rattle.nc_base.specs.declared.step.StepErr.{StepErr}
 use Rattle.run_laws.proofs.LawfulLaws.{ranks_lawful}
 use Rattle.turn_run.specs.Said.{all_between}
 use Rattle.turn_run.proofs.in_turn.run_in_turn.Goals as goal
