@@ -135,7 +135,7 @@ pub record ServedOn (s : Setting) (d : Desk) (a : Arrival) (rest : List Arrival)
 pub served_on : (s : Setting) (d : Desk) (a : Arrival) (rest : List Arrival) → is_strange s d a ≡ false → ServedOn s d a rest
 served_on s d a rest e = record { desk = rw (e, served) refl; marks = rw (e, served) refl; stranger = rw (e, served) refl }
 
-given_on : (s : Setting) (d : Desk) (a : Arrival) (rest : List Arrival) (q : ℕ) → is_strange s d a ≡ false
+pub given_on : (s : Setting) (d : Desk) (a : Arrival) (rest : List Arrival) (q : ℕ) → is_strange s d a ≡ false
     → given_along s d (a ∷ rest) q ≡ (event s d a).given q ++ given_along s (event s d a).desk rest q
 given_on s d a rest q e = rw (e, given_along) refl
 

@@ -3,24 +3,29 @@
 --     NoneBroke ends           no rank ended for want of memory
 --     most_known_of ends       the greatest record count that a rank knew at its end
 --     HasClosed ..             the close
+--     EndedAt ..               how a run ended with a fault
+--     HasCut script header ..  what it leaves then
 --     IsRun script header ..   what a run of a script tells, by bytes, device calls and faults before and after it
-use Rattle.std.specs.Prelude.{◌≡◌, ℕ, ◌≤◌, List, [], map, max, length, nat_lt, true, All, IfSome, None, Option, Some, slice_get, vec_capacity}
+use Rattle.std.specs.Prelude.{◌≡◌, ℕ, ◌≤◌, ◌⊎◌, List, [], map, max, length, nat_lt, true, All, IfSome, None, Option, Some, slice_get, vec_capacity}
 use Rattle.std.specs.List.{range_with_len}
+use Rattle.std.specs.Int.{byte_len}
 use Rattle.nc_base.specs.declared.header.Header.{Header}
 use Rattle.nc_base.specs.declared.run.RankEnd.{RankEnd}
 use Rattle.nc_base.specs.declared.run.RankStop.TheVariants as stop
 use Rattle.nc_base.specs.declared.run.RunEnd.{RunEnd}
 use Rattle.nc_base.specs.declared.script.Script.{Script}
 use Rattle.nc_base.specs.declared.step.DiskCall.{DiskCall}
+use Rattle.nc_base.specs.declared.step.StepErr.{StepErr}
 use Rattle.nc_base.specs.declared.step.StepErr.TheVariants as fault
 use Rattle.nc_outside.specs.Cause.{Rose}
-use Rattle.nc_outside.specs.Told.{after, with_end}
+use Rattle.nc_outside.specs.Told.{after, with_end, BothTold}
 use Rattle.serial_spec.specs.DeviceCalls.{run_calls, store_records}
 use Rattle.serial_spec.specs.FileStep.{raised}
-use Rattle.serial_spec.specs.HeaderGrammar.{is_sound}
+use Rattle.serial_spec.specs.HeaderGrammar.{count_width, is_sound}
 use Rattle.serial_spec.specs.History.{IsLegal}
 use Rattle.serial_spec.specs.Layout.{greatest}
 use Rattle.serial_spec.specs.SerialEnd.{serial_from}
+use Rattle.serial_spec.specs.Torn.{IsCutRun, IsTorn}
 use Rattle.collective_round.specs.Rounds.{as_setting, counted}
 use Rattle.turn_run.specs.Begun.{HasBegun}
 use Rattle.thread_run.specs.declared.rank_threads.Rooms.{Rooms}
@@ -51,6 +56,18 @@ pub record HasClosed (header : Header) (known before : ℕ) (held : Option (List
   pub count : records ≡ max before known
   pub device : made ≡ with_end calls (store_records (as_setting header) (nat_lt before records))
 
+-- How a run ended with a fault: as the owner left it, or in the close, which may also have been done.
+pub data EndedAt (header : Header) (ends : List RankEnd) (before : Option StepErr) (cause : StepErr) (held : Option (List ℕ)) (count : ℕ) (left : Option (List ℕ)) (records : ℕ) : Type 0 where
+  as_left : (before ≡ Some cause) ⊎ (cause ≡ fault.Memory) → left ≡ held → records ≡ count → EndedAt header ends before cause held count left records
+  in_close : before ≡ None → NoneBroke ends
+      → BothTold (λ old now. IsTorn [] (byte_len (count_width header.version)) old (raised (as_setting header) (counted old count) (most_known_of ends)).file now) held left
+      → (records ≡ count) ⊎ (records ≡ max count (most_known_of ends)) → EndedAt header ends before cause held count left records
+
+-- where the bytes were told, what a run leaves that a fault cut off
+abbrev pub HasCut : Script → Header → Option (List ℕ) → Option (List ℕ) → ℕ → RunEnd → Type 0
+HasCut script header held left records end =
+    (e : StepErr) → end.fault ≡ Some e → IfSome held (λ file. (bytes : List ℕ) × (left ≡ Some bytes) × IsCutRun script header file e end.order bytes records end.answers)
+
 pub record IsRun (script : Script) (header : Header) (held : Option (List ℕ)) (calls : Option (List DiskCall)) (faults : ℕ)
     (left : Option (List ℕ)) (made : Option (List DiskCall)) (failed records : ℕ) (end : RunEnd) : Type 0 where
   pub legal : end.fault ≡ None → IsLegal script end.order
@@ -63,3 +80,4 @@ pub record IsRun (script : Script) (header : Header) (held : Option (List ℕ)) 
   pub begun : HasBegun script end.order
   pub cause : end.fault ≡ Some fault.Disk → Rose faults failed
   pub later : faults ≤ failed
+  pub cut : HasCut script header held left records end

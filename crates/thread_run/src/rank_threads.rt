@@ -1,6 +1,7 @@
 // A run of all ranks, each on a thread of its own.
 ghost use Rattle.std.specs.Prelude.{◌≡◌, ◌≤◌, ◌<◌, ◌∷◌, [], ℕ, List, length, map, slice_get, vec_capacity, None, Some, true, All, IfOk, IfSome};
 ghost use Rattle.std.specs.List.{range_with_len};
+ghost use Rattle.nc_base.specs.declared.step.StepErr.{StepErr as Fault};
 ghost use Rattle.nc_base.specs.declared.step.StepErr.TheVariants as fault;
 ghost use Rattle.nc_outside.specs.Cause.{Rose};
 ghost use Rattle.nc_outside.specs.Told.{with_end};
@@ -10,6 +11,7 @@ ghost use Rattle.serial_spec.specs.History.{IsLegal};
 ghost use Rattle.serial_spec.specs.Lawful.{is_lawful};
 ghost use Rattle.serial_spec.specs.Layout.{end_of};
 ghost use Rattle.serial_spec.specs.SerialEnd.{serial_from};
+ghost use Rattle.serial_spec.specs.Torn.{IsCutRun};
 ghost use Rattle.nc_base.specs.declared.header.Header.{Header};
 ghost use Rattle.nc_base.specs.declared.script.Script.{Script};
 ghost use Rattle.nc_base.specs.declared.step.OwnerItem.{OwnerItem};
@@ -62,6 +64,8 @@ pub fn run_ranks<R: Threads + Wait + Sync, D: Disk, G: Gate>(
     ensures calls { result.fault ≡ None → IfSome (D.held disk.old) (λ file. D.calls disk.new ≡ with_end (D.calls disk.old) (run_calls script.now header.now file result.order)) }
     ensures sound { result.fault ≡ None → is_sound (record header.now { records = records.new }) ≡ true }
     ensures begun { HasBegun script.now result.order }
+    ensures cut { (e : Fault) → result.fault ≡ Some e → IfSome (D.held disk.old) (λ file. (left : List ℕ) × (D.held disk.new ≡ Some left)
+        × IsCutRun script.now header.now file e result.order left records.new result.answers) }
     ensures fault { result.fault ≡ Some fault.Disk → Rose (D.faults disk.old) (D.faults disk.new) }
     ensures later { D.faults disk.old ≤ D.faults disk.new }
 {
