@@ -73,7 +73,7 @@ done_kept hints s b a seats e c alone = record {
       calls = λ once. sym (ap (with_end b.calls) (c file) ∙ ended_by_none b.calls);
     }
 
-single_set : (seats : List Seat) (r : ℕ) (x y : Seat) → slice_get seats r ≡ Some x → HoldSingle seats → ((o : Offer) → y.held ≡ Some o → IsSingleOffer o) → HoldSingle (set seats r y)
+pub single_set : (seats : List Seat) (r : ℕ) (x y : Seat) → slice_get seats r ≡ Some x → HoldSingle seats → ((o : Offer) → y.held ≡ Some o → IsSingleOffer o) → HoldSingle (set seats r y)
 single_set seats r x y e all own q z o f g = by (cases_eq q r)
   where
     by : (q ≡ r) ⊎ (q ≡ r → ⊥) → IsSingleOffer o
@@ -89,7 +89,7 @@ done_ended hints s b r x y memory e f =
 
 -- ---- an offer
 
-offer_event : (s : Setting) (d : Desk) (r c : ℕ) (o : Offer) (x : Seat) (k : OfferKind) → slice_get d.seats r ≡ Some x → o.kind ≡ k → event s d (r, item.Offer c o) ≡ at_offer s d r c o x k
+pub offer_event : (s : Setting) (d : Desk) (r c : ℕ) (o : Offer) (x : Seat) (k : OfferKind) → slice_get d.seats r ≡ Some x → o.kind ≡ k → event s d (r, item.Offer c o) ≡ at_offer s d r c o x k
 offer_event s d r c o x k e f = event_is s d r (item.Offer c o) x e ∙ ap (at_offer s d r c o x) f
 
 offer_calls : (hints : Hints) (s : Setting) (d : Desk) (r c : ℕ) (o : Offer) (x : Seat) (k : OfferKind) → slice_get d.seats r ≡ Some x → o.kind ≡ k

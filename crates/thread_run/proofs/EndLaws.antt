@@ -2,6 +2,7 @@
 use Rattle.std.proofs.Common.{◌≡◌, ℕ, zero, suc, ◌+◌, ◌<◌, ◌≤◌, refl, sym, ◌∙◌, ap, subst, inl, inr, List, [], ◌∷◌, ◌++◌, length, map, replicate, drop, Bool, true, false, ◌&&◌, Option, Some, None, append_assoc, arith}
 use Rattle.std.proofs.Math.Seq.{drop-append_seam}
 use Rattle.std.proofs.lemmas.List.{append-nil, length-append, length-map, length-replicate}
+use Rattle.std.proofs.lemmas.Option.{same_Some}
 use Rattle.std.specs.Prelude.{slice_get, nat_lt, filter, IfSome, IsTrue}
 use Rattle.std.specs.List.{list_all}
 use Rattle.nc_base.specs.declared.script.Hints.{Hints}
@@ -15,15 +16,17 @@ use Rattle.nc_base.specs.declared.step.StepErr.{StepErr}
 use Rattle.nc_outside.specs.Told.{with_end}
 use Rattle.overlay_laws.specs.Entries.{In}
 use Rattle.ruled_line.specs.Ends.{End, Receiver}
-use Rattle.serial_spec.specs.Desk.{Desk, Seat, free_seat, given_along, is_strange, offers_in, owed, own_items, served, stop_held, stops}
+use Rattle.serial_spec.specs.Desk.{Desk, Seat, free_seat, given_along, is_strange, offers_in, owed, own_items, served, stop_held, stops, IsGivenInPart}
 use Rattle.serial_spec.specs.FileStep.{Setting}
 use Rattle.serial_spec.specs.History.{Arrival, is_offer}
 use Rattle.serial_spec.specs.Joined.{HasEnd}
+use Rattle.serial_spec.specs.Torn.{IsCutService, OwnerStoodAt}
 use Rattle.collective_round.specs.Rounds.{counted}
 use Rattle.join_laws.specs.Alike.{AreAlike}
 use Rattle.join_laws.proofs.JoinLaws.{owed_stop}
 use Rattle.thread_run.specs.Halted.{of_fault, of_stranger, HasFinished, HasHalted, HasSeenAll, IsHaltAt, IsLeft, IsNoMore, IsStrangeAt}
 use Rattle.thread_run.specs.Owned.{desk_at, desk_calls, opening_standing, run, AreSingle, GoesSo, Grows, HasRun, HoldSingle, Standing}
+use Rattle.thread_run.specs.Refused.{HasCutService}
 use Rattle.thread_run.specs.Serving.{arrived, gained, more_on, opening, HasFailed, HasTaken, HavePut, IsCutOff, IsDone, IsDoneSo}
 use Rattle.thread_run.specs.Stopping.{stops_for, AllHaveEnded, HaveEnded, IsMore}
 use Rattle.thread_run.specs.declared.serving.Halt.{Halt}
@@ -31,6 +34,8 @@ use Rattle.thread_run.specs.declared.serving.Halt.TheVariants as halt
 use Rattle.thread_run.proofs.AlikeLaws.{alike_by, alike_long, alike_same, alike_two, lines_as, lines_twice}
 use Rattle.thread_run.proofs.DeskRuns.{calls_stop, goes_on, stops_at, GoesOn}
 use Rattle.turn_run.proofs.ListLaws.{get_replicate, get_there}
+use Rattle.thread_run.proofs.RefusedSteps.{stood_later}
+use Rattle.turn_run.proofs.MeetSolo.{told_at}
 use Rattle.join_laws.proofs.TieLaws.{one_if, owed_count}
 use Rattle.thread_run.proofs.StopLaws.{filter_joined, own_joined, stops_joined}
 
@@ -336,6 +341,79 @@ module _ (hints : Hints) (s : Setting) (old now : Receiver RankItem) (left : Lis
     stranger = number;
   }
 
+  -- the replies are all that the owner made, and the rest are stops
+  pub out_gives : (senders : ℕ) → before.seats ≡ replicate senders free_seat → length before.lines ≡ senders → senders ≡ old.senders → (file : List ℕ) → before.told ≡ Some file
+      → (q : ℕ) → q < length before.lines → (given : IsGivenInPart s (desk_at before file) o.first o.last q (gained before.lines lines q)) × (given.unheard ≡ [])
+  out_gives senders seats long same file e q l =
+      let stops = only_stops (slice_get o.middle.seats q) (filter is_offer (own_items q o.last)) in
+      let g = told_so (Some file) e in (
+        record {
+          replies = given_along s (desk_at before file) o.first q;
+          unheard = [];
+          stopped = stops.0;
+          begins = append-nil (given_along s (desk_at before file) o.first q);
+          whole = gains q l ∙ (λ i. g.given q l i ++ stops.1 i);
+          one_each = one_item_each senders seats long same q l;
+        },
+        refl,
+      )
+
+  pub out_stood : (e : StepErr) → h ≡ halt.Fault e → HoldSingle before.seats → AreSingle (arrived old now) → (file : List ℕ) → before.told ≡ Some file
+      → (bytes : List ℕ) × (held ≡ Some bytes) × OwnerStoodAt s e (served s (desk_at before file) o.first).desk o.last bytes n
+  out_stood e is free alone file there =
+      let fault = subst (λ (k : Halt). IsHaltAt s o.middle o.later n held made k) is o.halted in
+      let told = (told_so (Some file) there).told in
+      let at = told_at (λ (f : List ℕ). (bytes : List ℕ) × (held ≡ Some bytes) × OwnerStoodAt s e (desk_at o.middle f) o.later bytes n) o.middle.told
+      (served s (desk_at before file) o.first).desk.state.file told (fault (o.run.moved.single (free, single_first alone)) single_later) in (
+        at.0,
+        at.1,
+        subst (λ (d : Desk). OwnerStoodAt s e d o.last at.0 n) (sym (o.run.moved.alike file).desk)
+            (subst (λ (xs : List Arrival). OwnerStoodAt s e (desk_at o.middle (served s (desk_at before file) o.first).desk.state.file) xs at.0 n) (sym o.parts)
+            (stood_later s e (desk_at o.middle (served s (desk_at before file) o.first).desk.state.file) o.later o.more at.0 n at.2)),
+      )
+    where
+      single_later : AreSingle o.later
+      single_later a i = alone a (subst (λ (xs : List Arrival). In xs a) (sym arrivals_are) (behind o.first (subst (λ (xs : List Arrival). In xs a) (sym o.parts) (front o.later i))))
+        where
+          behind : (xs : List Arrival) → In o.last a → In (xs ++ o.last) a
+          behind [] k = k
+          behind (x ∷ xs) k = inr (behind xs k)
+
+          front : (xs : List Arrival) → In xs a → In (xs ++ o.more) a
+          front [] k = absurd k
+          front (x ∷ xs) (inl k) = inl k
+          front (x ∷ xs) (inr k) = inr (front xs k)
+
+  pub out_cut : (senders k : ℕ) (e : StepErr) → h ≡ halt.Fault e → ((file : List ℕ) → desk_at before file ≡ opening senders (counted file k)) → before.order ≡ [] → before.seats ≡ replicate senders free_seat
+      → HoldSingle before.seats → length before.lines ≡ senders → senders ≡ old.senders → (m : Option (List ℕ)) → before.told ≡ m
+      → IfSome m (λ file. HasCutService s e (opening senders (counted file k)) (arrived old now) marks held n (gained before.lines lines))
+  out_cut senders k e is opened none seats free long same None there = tt
+  out_cut senders k e is opened none seats free long same (Some file) there =
+      subst (λ (d : Desk). HasCutService s e d (arrived old now) marks held n (gained before.lines lines)) (opened file) (record {
+        first = o.first;
+        later = o.last;
+        all = arrivals_are;
+        left = bytes_or held;
+        told = λ alone. let at = out_stood e is free alone file there in at.1 ∙ ap (λ (xs : List ℕ). Some xs) (sym (ap bytes_or at.1));
+        service = record {
+          no_stranger = o.run.none_strange file;
+          in_order = o.order ∙ (o.run.moved.alike file).marks ∙ ap (λ (ms : List Mark). ms ++ (served s (desk_at before file) o.first).marks) none;
+          stood = λ alone.
+              let at = out_stood e is free (subst (λ (xs : List Arrival). AreSingle xs) (sym arrivals_are) alone) file there in
+              subst (λ (xs : List ℕ). OwnerStoodAt s e (served s (desk_at before file) o.first).desk o.last xs n) (sym (ap bytes_or at.1)) at.2;
+          gives = λ q l. (out_gives senders seats long same file there q (low q l)).0;
+          all_heard = λ disk q l. (out_gives senders seats long same file there q (low q l)).1;
+        };
+        all_heard = λ q l. (out_gives senders seats long same file there q (low q l)).1;
+      })
+    where
+      bytes_or : Option (List ℕ) → List ℕ
+      bytes_or None = []
+      bytes_or (Some xs) = xs
+
+      low : (q : ℕ) → q < length before.seats → q < length before.lines
+      low q l = let wide = ap (λ (ss : List Seat). length ss) seats ∙ length-replicate senders free_seat in omega arith
+
 -- ---- from the opening
 
 pub halted_lines : (hints : Hints) (s : Setting) (old now : Receiver RankItem) (flags : List Bool) (before : Standing) (n : ℕ) (held : Option (List ℕ)) (made : Option (List DiskCall)) (marks : List Mark) (lines : List (End OwnerItem))
@@ -402,3 +480,13 @@ module _ (hints : Hints) (s : Setting) (old now : Receiver RankItem) (left : Lis
       subst (λ (m : Option ℕ). HasFailed s (opening old.senders) k (arrived old now) old.senders (gained back0 lines) marks m) (sym g)
       (subst (λ (l : ℕ). HasFailed s (opening old.senders) k (arrived old now) l (gained back0 lines) marks (of_stranger h)) long
       (out_failed hints s old now left (opening_standing old.senders n0 held0 made0 order0 back0) n held made marks lines h o old.senders k opened none refl long refl (strangers_none h e (sym is ∙ f))))
+
+  fault_is : (g : Halt) (e : StepErr) → Some e ≡ of_fault g → g ≡ halt.Fault e
+  fault_is halt.Ended e f = absurd cc
+  fault_is (halt.Stranger number) e f = absurd cc
+  fault_is (halt.Fault d) e f = ap (λ (x : StepErr). halt.Fault x) (sym (same_Some e d f))
+
+  pub end_cut : (fault : Option StepErr) (e : StepErr) → fault ≡ of_fault h → fault ≡ Some e
+      → IfSome held0 (λ file. HasCutService s e (opening old.senders (counted file k)) (arrived old now) marks held n (gained back0 lines))
+  end_cut fault e f is =
+      out_cut hints s old now left (opening_standing old.senders n0 held0 made0 order0 back0) n held made marks lines h o old.senders k e (fault_is h e (sym is ∙ f)) opened none refl none_single long refl held0 refl

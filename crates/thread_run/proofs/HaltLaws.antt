@@ -23,6 +23,8 @@ use Rattle.thread_run.specs.Stopping.{held_stops, stops_for, AllHaveEnded, HaveE
 use Rattle.thread_run.specs.declared.desk.Desk.{Desk as Held}
 use Rattle.thread_run.specs.declared.serving.Halt.{Halt}
 use Rattle.thread_run.specs.declared.serving.Halt.TheVariants as halt
+use Rattle.thread_run.specs.Refused.{IsFaultAt}
+use Rattle.thread_run.proofs.RefusedSteps.{fault_none}
 use Rattle.thread_run.proofs.AlikeLaws.{lines_as, lines_none, lines_twice}
 use Rattle.turn_run.proofs.ListLaws.{get_replicate}
 use Rattle.thread_run.proofs.RunLaws.{run_more, run_none}
@@ -84,8 +86,8 @@ halt_strange hints s old mid now left end before x number item first last h t st
 
 pub halt_fault : (hints : Hints) (s : Setting) (old mid now : Receiver RankItem) (left end : List Bool) (before x : Standing) (a : Arrival) (e : StepErr) (n : ℕ) (held : Option (List ℕ)) (made : Option (List DiskCall))
     (marks : List Mark) (last : List (End OwnerItem)) → HasServed hints s old mid left before x → HasTakenOne mid now left end a → marks ≡ x.order → Grows x.lines (stops (desk_at x []) (a ∷ [])) last
-    → HasHalted hints s old now end before n held made marks last (halt.Fault e)
-halt_fault hints s old mid now left end before x a e n held made marks last h t m g = record {
+    → IsFaultAt s e x (a ∷ []) n held → HasHalted hints s old now end before n held made marks last (halt.Fault e)
+halt_fault hints s old mid now left end before x a e n held made marks last h t m g at = record {
   first = h.more;
   later = a ∷ [];
   middle = x;
@@ -94,7 +96,7 @@ halt_fault hints s old mid now left end before x a e n held made marks last h t 
   run = h.run;
   order = m;
   stopped = g;
-  halted = tt;
+  halted = at;
   seen = tt;
 }
 
@@ -106,8 +108,8 @@ none_held (suc n) zero = refl
 none_held (suc n) (suc q) = none_held n q
 
 pub halt_none : (hints : Hints) (s : Setting) (old : Receiver RankItem) (flags : List Bool) (e : StepErr) (senders n : ℕ) (held : Option (List ℕ)) (made : Option (List DiskCall)) (marks : List Mark) (lines : List (End OwnerItem))
-    → HaveEnded flags [] → HasHalted hints s old old flags (opening_standing senders n held made marks lines) n held made marks lines (halt.Fault e)
-halt_none hints s old flags e senders n held made marks lines h = record {
+    → HaveEnded flags [] → e ≡ fault.Memory → HasHalted hints s old old flags (opening_standing senders n held made marks lines) n held made marks lines (halt.Fault e)
+halt_none hints s old flags e senders n held made marks lines h memory = record {
   first = [];
   later = [];
   middle = opening_standing senders n held made marks lines;
@@ -116,7 +118,7 @@ halt_none hints s old flags e senders n held made marks lines h = record {
   run = run_none hints s (opening_standing senders n held made marks lines);
   order = refl;
   stopped = lines_as lines lines (λ q. []) (stops (desk_at (opening_standing senders n held made marks lines) []) []) (λ q l. append-nil (stop_held (slice_get (replicate senders free_seat) q)) ∙ none_held senders q) (lines_none lines lines refl);
-  halted = tt;
+  halted = fault_none s e (opening_standing senders n held made marks lines) n held memory refl refl;
   seen = tt;
 }
 

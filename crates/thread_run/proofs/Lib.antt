@@ -2,6 +2,7 @@ pub mod EndLaws
 pub mod HaltLaws
 pub mod StopLaws
 pub mod ArriveSteps
+pub mod RefusedSteps
 pub mod PutLaws
 pub mod AloneSteps
 pub mod HeldLaws
@@ -10,6 +11,8 @@ pub mod StrangeLaws
 pub mod AlikeLaws
 pub mod DeskRuns
 pub mod RunLaws
+pub mod CutJoin
+pub mod CutStood
 pub mod AttendLaws
 pub mod AttendWay
 mod ThreadCalls
@@ -20,6 +23,8 @@ mod ThreadRuns
 mod ThreadStarts
 mod ThreadJoins
 mod ThreadAll
+mod ThreadCut
+mod EndedLaws
 mod ThreadSettles
 mod ThreadLists
 mod ThreadTies

@@ -23,7 +23,7 @@ use Rattle.serial_spec.specs.Lawful.{is_lawful}
 use Rattle.serial_spec.specs.SerialEnd.{serial_from, setting_of}
 use Rattle.collective_round.specs.Rounds.{as_setting, counted}
 use Rattle.turn_run.specs.Begun.{HasBegun}
-use Rattle.turn_run.specs.Run.{IsRun}
+use Rattle.turn_run.specs.Run.{HasCut, IsRun}
 use Rattle.thread_run.specs.Owned.{AreSingle, desk_calls}
 use Rattle.thread_run.specs.Serving.{HasFailed, IsDone, IsDoneSo, opening}
 use Rattle.thread_run.specs.Threads.{HasClosed, NoneBroke, most_known_of}
@@ -98,8 +98,8 @@ module _ (script : Script) (header : Header) (arrivals : List Arrival) (given : 
   pub run_all : (held : Option (List ℕ)) (calls : Option (List DiskCall)) (faults : ℕ) (held' : Option (List ℕ)) (calls' : Option (List DiskCall)) (faults' count : ℕ) (before : ServeEnd)
       (left : Option (List ℕ)) (made : Option (List DiskCall)) (failed records : ℕ) (end : RunEnd)
       → Owner script header arrivals given held calls faults held' calls' faults' count before → Closing header ends before held' calls' faults' count left made failed records end
-      → IsRun script header held calls faults left made failed records end
-  run_all held calls faults held' calls' faults' count before left made failed records end o c = record {
+      → HasCut script header held left records end → IsRun script header held calls faults left made failed records end
+  run_all held calls faults held' calls' faults' count before left made failed records end o c cut_off = record {
     legal = λ none. subst (λ (ms : List Mark). IsLegal script ms) (sym c.order) (fin none).legal;
     bytes = λ none. if_both held (o.bytes (c.went none).0) (o.bytes (c.went none).0) (λ file so more.
         (c.closed none).bytes ∙ ap (λ (m : Option (List ℕ)). after (λ f. (raised (as_setting header) (counted f count) (most_known_of ends)).file) m) so.told
@@ -121,6 +121,7 @@ module _ (script : Script) (header : Header) (arrivals : List Arrival) (given : 
     begun = subst (λ (ms : List Mark). HasBegun script ms) (sym c.order) (order_begun held calls faults held' calls' faults' count before o);
     fault = λ disk. cause disk (some_fault before.fault);
     later = le_both faults faults' failed o.later c.later;
+    cut = cut_off;
   }
     where
       le_both : (a b d : ℕ) → a ≤ b → b ≤ d → a ≤ d

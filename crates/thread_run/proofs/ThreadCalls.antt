@@ -188,7 +188,7 @@ calls_along hints s Good lasting ks d goings ((r, i) ∷ rest) t =
 
 -- ---- offers that raise the count by their kind bring no puts
 
-single_go : (header : Header) (o : Offer) (calls : List Call) (r : Rank) (answers : List Answer) → (go header r answers calls).1 ≡ Some o → IsSingleOffer o
+pub single_go : (header : Header) (o : Offer) (calls : List Call) (r : Rank) (answers : List Answer) → (go header r answers calls).1 ≡ Some o → IsSingleOffer o
 single_go header o [] r answers e = absurd (never e)
   where
     never : None ≡ Some o → ⊥

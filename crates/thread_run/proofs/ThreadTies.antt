@@ -43,7 +43,7 @@ pub record Told (script : Script) (header : Header) (arrivals : List Arrival) (g
 calls_at : (script : Script) (r : ℕ) (own : List Call) → slice_get script.calls r ≡ Some own → calls_of script r ≡ own
 calls_at script r own e = ap (λ (m : Option (List Call)). elim m [ None ↦ [] | Some z ↦ z ]) e
 
-broke_or_not : (x : RankStop) → (x ≡ stop.Memory) ⊎ (x ≡ stop.Memory → ⊥)
+pub broke_or_not : (x : RankStop) → (x ≡ stop.Memory) ⊎ (x ≡ stop.Memory → ⊥)
 broke_or_not stop.Memory = inl refl
 broke_or_not stop.Done = inr (λ e. cc)
 broke_or_not stop.Stopped = inr (λ e. cc)

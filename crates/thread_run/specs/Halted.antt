@@ -16,6 +16,7 @@ use Rattle.serial_spec.specs.Desk.{is_strange, stops}
 use Rattle.serial_spec.specs.FileStep.{Setting}
 use Rattle.serial_spec.specs.History.{Arrival}
 use Rattle.thread_run.specs.Owned.{desk_at, Grows, HasRun, Standing}
+use Rattle.thread_run.specs.Refused.{IsFaultAt}
 use Rattle.thread_run.specs.Stopping.{stops_for, AllHaveEnded, HaveEnded, IsMore}
 use Rattle.thread_run.specs.declared.serving.Halt.{Halt}
 use Rattle.thread_run.specs.declared.serving.Halt.TheVariants as halt
@@ -50,7 +51,7 @@ HasSeenAll senders flags (halt.Fault e) = Unit {0}
 abbrev pub IsHaltAt : Setting → Standing → List Arrival → ℕ → Option (List ℕ) → Option (List DiskCall) → Halt → Type 0
 IsHaltAt s middle later n held made halt.Ended = (later ≡ []) × IsLeft middle n held made
 IsHaltAt s middle later n held made (halt.Stranger number) = IsStrangeAt s middle later number × IsLeft middle n held made
-IsHaltAt s middle later n held made (halt.Fault e) = Unit {0}
+IsHaltAt s middle later n held made (halt.Fault e) = IsFaultAt s e middle later n held
 
 pub record HasHalted (hints : Hints) (s : Setting) (old now : Receiver RankItem) (flags : List Bool) (before : Standing) (n : ℕ) (held : Option (List ℕ))
     (made : Option (List DiskCall)) (marks : List Mark) (lines : List (End OwnerItem)) (halt : Halt) : Type 0 where

@@ -1,6 +1,7 @@
 pub mod Attending
 pub mod Halted
 pub mod Owned
+pub mod Refused
 pub mod Serving
 pub mod Stopping
 pub mod Strange

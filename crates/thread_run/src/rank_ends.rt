@@ -1,11 +1,16 @@
 // The end of a run by the ends of its ranks.
-ghost use Rattle.std.specs.Prelude.{◌≡◌, ◌≤◌, map, None, Some, IfOk, OnOk, Err, true, false};
+ghost use Rattle.std.specs.Prelude.{◌≡◌, ◌≤◌, ◌⊎◌, [], map, None, Some, IfOk, OnOk, OnErr, Err, true, false};
+ghost use Rattle.std.specs.Int.{byte_len};
 ghost use Rattle.nc_base.specs.declared.step.StepErr.{StepErr as Fault};
 ghost use Rattle.nc_base.specs.declared.step.StepErr.TheVariants as fault;
 ghost use Rattle.nc_outside.specs.Cause.{Rose};
-ghost use Rattle.serial_spec.specs.HeaderGrammar.{is_sound};
+ghost use Rattle.nc_outside.specs.Told.{BothTold};
+ghost use Rattle.serial_spec.specs.FileStep.{raised};
+ghost use Rattle.serial_spec.specs.HeaderGrammar.{count_width, is_sound};
+ghost use Rattle.serial_spec.specs.Torn.{IsTorn};
+ghost use Rattle.collective_round.specs.Rounds.{as_setting, counted};
 ghost use Rattle.turn_run.specs.Counts.{IsCount};
-ghost use Rattle.thread_run.specs.Threads.{most_known_of, HasClosed, NoneBroke};
+ghost use Rattle.thread_run.specs.Threads.{most_known_of, EndedAt, HasClosed, NoneBroke};
 
 use collective_round::raise_records;
 use nc_base::{
@@ -37,6 +42,8 @@ pub(crate) fn end_run<D: Disk>(
     ensures first { (e : Fault) → served.fault ≡ Some e → result.fault ≡ Some fault.Disk → e ≡ fault.Disk }
     ensures broke { result.fault ≡ Some fault.Disk → NoneBroke ends.items }
     ensures kept { result.fault ≡ Some fault.Disk → result.answers ≡ map (λ end. end.answers) ends.items }
+    ensures at { (e : Fault) → result.fault ≡ Some e → EndedAt header.now ends.items served.fault e (D.held disk.old) records.old (D.held disk.new) records.new }
+    ensures rows { (e : Fault) → result.fault ≡ Some e → (result.answers ≡ map (λ end. end.answers) ends.items) ⊎ (result.answers ≡ []) }
     ensures cause { served.fault ≡ None → result.fault ≡ Some fault.Disk → Rose (D.faults disk.old) (D.faults disk.new) }
     ensures later { D.faults disk.old ≤ D.faults disk.new }
 {
@@ -69,6 +76,7 @@ fn close_after<D: Disk>(
     ensures sound { OnOk result (is_sound (record header.now { records = records.new }) ≡ true) }
     ensures first { (e : Fault) → before ≡ Some e → result ≡ Err fault.Disk → e ≡ fault.Disk }
     ensures broke { result ≡ Err fault.Disk → NoneBroke ends.now }
+    ensures at { (e : Fault) → result ≡ Err e → EndedAt header.now ends.now before e (D.held disk.old) records.old (D.held disk.new) records.new }
     ensures cause { before ≡ None → result ≡ Err fault.Disk → Rose (D.faults disk.old) (D.faults disk.new) }
     ensures later { D.faults disk.old ≤ D.faults disk.new }
 {
@@ -95,6 +103,9 @@ fn close_by<D: Disk>(
     requires from { D.from disk.old ≡ 0 }
     ensures closed { OnOk result (HasClosed header.now known records.old (D.held disk.old) (D.calls disk.old) records.new (D.held disk.new) (D.calls disk.new)) }
     ensures sound { OnOk result (is_sound (record header.now { records = records.new }) ≡ true) }
+    ensures refused { OnErr result (BothTold (λ old left. IsTorn [] (byte_len (count_width header.now.version)) old
+        (raised (as_setting header.now) (counted old records.old) known).file left) (D.held disk.old) (D.held disk.new)) }
+    ensures kept { OnErr result (records.new ≡ records.old) }
     ensures cause { result ≡ Err fault.Disk → Rose (D.faults disk.old) (D.faults disk.new) }
     ensures later { D.faults disk.old ≤ D.faults disk.new }
 {
@@ -148,6 +159,7 @@ fn ended(alloc: Global, order: MarkList, ends: Vec<RankEnd>) -> RunEnd
     ensures answers { result.fault ≡ None → result.answers ≡ map (λ end. end.answers) ends.items }
     ensures pending { result.fault ≡ None → result.pending ≡ map (λ end. end.pending) ends.items }
     ensures memory { result.fault ≡ Some fault.Disk → ⊥ }
+    ensures none { (e : Fault) → result.fault ≡ Some e → result.answers ≡ [] }
 {
     let pending = match pending_of(alloc, &ends) {
         Ok(pending) => pending,
@@ -168,6 +180,8 @@ fn ended(alloc: Global, order: MarkList, ends: Vec<RankEnd>) -> RunEnd
 fn cut_off(alloc: Global, order: MarkList, ends: Vec<RankEnd>, cause: StepErr) -> RunEnd
     ensures order { result.order ≡ order }
     ensures some { result.fault ≡ None → ⊥ }
+    ensures fault { (e : Fault) → result.fault ≡ Some e → (e ≡ cause) ⊎ (e ≡ fault.Memory) }
+    ensures rows { (result.answers ≡ map (λ end. end.answers) ends.items) ⊎ (result.answers ≡ []) }
     ensures disk { result.fault ≡ Some fault.Disk → (cause ≡ fault.Disk) × (result.answers ≡ map (λ end. end.answers) ends.items) }
 {
     match answers_of(alloc, ends) {

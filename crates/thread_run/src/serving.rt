@@ -13,6 +13,7 @@ ghost use Rattle.collective_round.specs.Rounds.{counted, setting};
 ghost use Rattle.turn_run.specs.Counts.{IsCount};
 ghost use Rattle.thread_run.specs.Halted.{of_fault, of_stranger, HasFinished, HasHalted, HasHaltCause, HasSeenAll};
 ghost use Rattle.thread_run.specs.Owned.{desk_calls, opening_standing, standing, AreSingle, IsSteady};
+ghost use Rattle.thread_run.specs.Refused.{HasCutService};
 ghost use Rattle.thread_run.specs.Serving.{arrived, gained, opening, HasFailed, HasTaken, HavePut, IsDone, IsDoneSo};
 ghost use Rattle.thread_run.specs.Stopping.{HaveEnded};
 
@@ -71,6 +72,8 @@ pub fn serve<R: Wait, D: Disk, G: Gate>(
     // With a fault.
     ensures failed { (e : Fault) → result.fault ≡ Some e → HasFailed (setting header.now hints.now) (opening inbox.old.senders) header.now.records
         (arrived inbox.old inbox.new) inbox.old.senders (gained back.old back.new) result.order result.stranger }
+    ensures cut { (e : Fault) → result.fault ≡ Some e → IfSome (D.held disk.old) (λ file. HasCutService (setting header.now hints.now) e (opening inbox.old.senders (counted file header.now.records))
+        (arrived inbox.old inbox.new) result.order (D.held disk.new) records.new (gained back.old back.new)) }
     ensures cause { result.fault ≡ Some fault.Disk → Rose (D.faults disk.old) (D.faults disk.new) }
 
     ensures count { IsCount header.now (D.len disk.new) records.new }

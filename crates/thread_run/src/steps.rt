@@ -8,7 +8,8 @@ ghost use Rattle.serial_spec.specs.Lawful.{are_lawful_hints};
 ghost use Rattle.collective_round.specs.Rounds.{setting, HasStepCause};
 ghost use Rattle.rank_items.specs.Own.{HasOwnPuts};
 ghost use Rattle.turn_run.specs.Counts.{IsCount, IsFit};
-ghost use Rattle.thread_run.specs.Owned.{desk_of, replies, standing, Grows, HasDone, IsAlone, IsSteady, IsTogether};
+ghost use Rattle.thread_run.specs.Owned.{desk_of, replies, standing, Grows, HasDone, HoldSingle, IsAlone, IsSingle, IsSteady, IsTogether};
+ghost use Rattle.thread_run.specs.Refused.{IsRefusedAlone, IsRefusedArrival, IsRefusedTogether};
 ghost use Rattle.turn_run.specs.Steps.{batches_of, known_of};
 ghost use Rattle.thread_run.specs.Stopping.{held_stops, stop_each, stops_for};
 
@@ -53,6 +54,8 @@ impl Desk {
         ensures steady { OnOk result (IsSteady header.now (D.len disk.new) (standing self.new records.new (D.held disk.new) (D.calls disk.new) order.new back.new)) }
         ensures order { OnErr result (order.new ≡ order.old) }
         ensures stopped { OnErr result (Grows back.old (stops (desk_of self.old [] 0) ((number, item) ∷ [])) back.new) }
+        ensures refused { OnErr result (HoldSingle self.old.seats.items → IsSingle item → IsRefusedArrival (setting header.now hints.now) (number, item)
+            (standing self.old records.old (D.held disk.old) (D.calls disk.old) order.old back.old) (D.held disk.new) records.new) }
         ensures count { IsCount header.now (D.len disk.new) records.new }
         ensures from { D.from disk.new ≡ 0 }
         ensures longer { D.len disk.old ≤ D.len disk.new }
@@ -108,6 +111,8 @@ impl Desk {
         ensures more { OnOk result (self.old.reached ≤ self.new.reached) }
         ensures order { OnErr result (order.new ≡ order.old) }
         ensures stopped { OnErr result (Grows back.old (λ q. held_stops self.old.seats.items q ++ stops_for ((number, item.Offer call offer.now) ∷ []) q) back.new) }
+        ensures refused { OnErr result ((records : ℕ) → IsRefusedAlone (setting header.now hints.now) number call offer.now
+            (standing self.old records (D.held disk.old) (D.calls disk.old) order.old back.old) (D.held disk.new) records) }
         ensures from { D.from disk.new ≡ 0 }
         ensures longer { D.len disk.old ≤ D.len disk.new }
         ensures cause { HasStepCause (D.faults disk.old) (D.faults disk.new) result }
@@ -152,6 +157,8 @@ impl Desk {
         ensures more { OnOk result (self.old.reached ≤ self.new.reached) }
         ensures order { OnErr result (order.new ≡ order.old) }
         ensures lines { OnErr result (back.new ≡ back.old) }
+        ensures refused { OnErr result ((records : ℕ) → IsRefusedAlone (setting header.now hints.now) number call offer.now
+            (standing self.old records (D.held disk.old) (D.calls disk.old) order.old back.old) (D.held disk.new) records) }
         ensures from { D.from disk.new ≡ 0 }
         ensures longer { D.len disk.old ≤ D.len disk.new }
         ensures cause { HasStepCause (D.faults disk.old) (D.faults disk.new) result }
@@ -187,6 +194,8 @@ impl Desk {
         ensures steady { OnOk result (IsSteady header.now (D.len disk.new) (standing self.new records.new (D.held disk.new) (D.calls disk.new) order.new back.new)) }
         ensures order { OnErr result (order.new ≡ order.old) }
         ensures stopped { OnErr result (Grows back.old stop_each back.new) }
+        ensures refused { OnErr result (HoldSingle self.old.seats.items → IsRefusedTogether (setting header.now hints.now)
+            (standing self.old records.old (D.held disk.old) (D.calls disk.old) order.old back.old) (D.held disk.new) records.new) }
         ensures count { IsCount header.now (D.len disk.new) records.new }
         ensures from { D.from disk.new ≡ 0 }
         ensures longer { D.len disk.old ≤ D.len disk.new }
@@ -236,6 +245,8 @@ impl Desk {
         ensures steady { OnOk result (IsSteady header.now (D.len disk.new) (standing self.new records.new (D.held disk.new) (D.calls disk.new) order.new back.new)) }
         ensures order { OnErr result (order.new ≡ order.old) }
         ensures lines { OnErr result (back.new ≡ back.old) }
+        ensures refused { OnErr result (HoldSingle self.old.seats.items → IsRefusedTogether (setting header.now hints.now)
+            (standing self.old records.old (D.held disk.old) (D.calls disk.old) order.old back.old) (D.held disk.new) records.new) }
         ensures count { IsCount header.now (D.len disk.new) records.new }
         ensures from { D.from disk.new ≡ 0 }
         ensures longer { D.len disk.old ≤ D.len disk.new }

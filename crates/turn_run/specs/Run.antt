@@ -2,12 +2,15 @@
 --     IsRun script header held done faults left made failed count end
 --         The run found the bytes `held` and the device calls `done`, where the disk tells them, and `faults` faults. It left the bytes `left`, the
 --         device calls `made`, `failed` faults and the record count `count`. Without a fault its order is one of the script's histories, and all the
---         rest is that of the serial run along it. With one, the order begins as the ranks' calls do.
+--         rest is that of the serial run along it. With one, the order begins as the ranks' calls do, and `cut` says what is left.
+--     HasCut script header held left count end
+--         what a run with a fault leaves, where the bytes were told
 use Rattle.std.specs.Prelude.{◌≡◌, ℕ, ◌≤◌, List, true, IfSome, None, Option, Some}
 use Rattle.nc_base.specs.declared.header.Header.{Header}
 use Rattle.nc_base.specs.declared.run.RunEnd.{RunEnd}
 use Rattle.nc_base.specs.declared.script.Script.{Script}
 use Rattle.nc_base.specs.declared.step.DiskCall.{DiskCall}
+use Rattle.nc_base.specs.declared.step.StepErr.{StepErr}
 use Rattle.nc_base.specs.declared.step.StepErr.TheVariants.{Disk}
 use Rattle.nc_outside.specs.Cause.{Rose}
 use Rattle.nc_outside.specs.Told.{with_end}
@@ -15,7 +18,12 @@ use Rattle.serial_spec.specs.DeviceCalls.{run_calls}
 use Rattle.serial_spec.specs.HeaderGrammar.{is_sound}
 use Rattle.serial_spec.specs.History.{IsLegal}
 use Rattle.serial_spec.specs.SerialEnd.{serial_from}
+use Rattle.serial_spec.specs.Torn.{IsCutRun}
 use Rattle.turn_run.specs.Begun.{HasBegun}
+
+abbrev pub HasCut : Script → Header → Option (List ℕ) → Option (List ℕ) → ℕ → RunEnd → Type 0
+HasCut script header held left count end =
+    (e : StepErr) → end.fault ≡ Some e → IfSome held (λ file. (bytes : List ℕ) × (left ≡ Some bytes) × IsCutRun script header file e end.order bytes count end.answers)
 
 pub record IsRun (script : Script) (header : Header) (held : Option (List ℕ)) (done : Option (List DiskCall)) (faults : ℕ)
     (left : Option (List ℕ)) (made : Option (List DiskCall)) (failed count : ℕ) (end : RunEnd) : Type 0 where
@@ -29,3 +37,4 @@ pub record IsRun (script : Script) (header : Header) (held : Option (List ℕ)) 
   pub begun : HasBegun script end.order
   pub fault : end.fault ≡ Some Disk → Rose faults failed
   pub later : faults ≤ failed
+  pub cut : HasCut script header held left count end

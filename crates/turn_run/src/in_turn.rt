@@ -9,7 +9,6 @@ ghost use Rattle.serial_spec.specs.Lawful.{is_lawful};
 ghost use Rattle.serial_spec.specs.Layout.{end_of};
 ghost use Rattle.serial_spec.specs.RankMachine as machine;
 ghost use Rattle.serial_spec.specs.SerialEnd.{setting_of};
-ghost use Rattle.serial_spec.specs.Torn.{IsCutRun};
 ghost use Rattle.collective_round.specs.Rounds.{counted, HasStepCause};
 ghost use Rattle.rank_core.specs.Indexed.{IsIndexOf};
 ghost use Rattle.run_laws.specs.Ways.{meetings};
@@ -51,8 +50,6 @@ pub fn run_in_turn<R: Wait, D: Disk, G: Gate>(
     requires from { D.from disk.old ≡ 0 }
     requires long { end_of header.now (header_len header.now) header.now.records ≤ D.len disk.old }
     ensures run { IsRun script.now header.now (D.held disk.old) (D.calls disk.old) (D.faults disk.old) (D.held disk.new) (D.calls disk.new) (D.faults disk.new) records.new result }
-    ensures cut { (e : Fault) → result.fault ≡ Some e → IfSome (D.held disk.old) (λ file. (left : List ℕ) × (D.held disk.new ≡ Some left)
-        × IsCutRun script.now header.now file e result.order left records.new result.answers) }
 {
     let mut order = MarkList::new(alloc);
     let names = match Names::new(alloc, header) {

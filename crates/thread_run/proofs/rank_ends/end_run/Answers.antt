@@ -4,6 +4,9 @@ use Rattle.nc_base.specs.declared.step.StepErr.{StepErr}
 use Rattle.nc_base.specs.declared.run.RankEnd.{RankEnd}
 use Rattle.serial_spec.specs.HeaderGrammar.{is_sound}
 use Rattle.thread_run.specs.Threads.{most_known_of, NoneBroke}
+use Rattle.std.proofs.Common.{inr, refl}
+use Rattle.thread_run.specs.Threads.{EndedAt}
+use Rattle.thread_run.proofs.EndedLaws.{ended_as, ended_closed}
 use Rattle.thread_run.proofs.rank_ends.end_run.Goals as goal
 
 pub close_after-requires-clause-known : goal.close_after-requires-clause-known
@@ -40,3 +43,21 @@ returns-in-Err-clause-kept g c = λ disk. (c.cut_off.ensures.disk disk).1
 
 pub returns-in-Err-clause-cause : goal.returns-in-Err-clause-cause
 returns-in-Err-clause-cause g c = λ none disk. c.in-Err.ensures.cause none (ap (λ (x : StepErr). Err x) (c.cut_off.ensures.disk disk).0)
+
+pub returns-in-Ok-clause-at : goal.returns-in-Ok-clause-at
+returns-in-Ok-clause-at g c = λ e is.
+    subst (λ (ends : List RankEnd). EndedAt c.args.header.now ends c.args.served.fault e (g.D.Disk.held c.args.disk.now) c.args.records.now (g.D.Disk.held c.close_after.new.disk) c.close_after.new.records) c.deref.ensures.value
+    (ended_closed c.args.header.now c.deref.result.now c.args.served.fault e (g.D.Disk.held c.args.disk.now) (g.D.Disk.held c.close_after.new.disk) (g.D.Disk.calls c.args.disk.now) (g.D.Disk.calls c.close_after.new.disk)
+    c.args.records.now c.close_after.new.records c.in-Ok.ensures.served.0 c.in-Ok.ensures.served.1 c.in-Ok.ensures.closed)
+
+pub returns-in-Ok-clause-rows : goal.returns-in-Ok-clause-rows
+returns-in-Ok-clause-rows g c = λ e is. inr (c.ended.ensures.none e is)
+
+pub returns-in-Err-clause-at : goal.returns-in-Err-clause-at
+returns-in-Err-clause-at g c = λ e is.
+    subst (λ (ends : List RankEnd). EndedAt c.args.header.now ends c.args.served.fault e (g.D.Disk.held c.args.disk.now) c.args.records.now (g.D.Disk.held c.close_after.new.disk) c.close_after.new.records) c.deref.ensures.value
+    (ended_as c.args.header.now c.deref.result.now c.args.served.fault c.in-Err.fault e (g.D.Disk.held c.args.disk.now) (g.D.Disk.held c.close_after.new.disk) c.args.records.now c.close_after.new.records
+    (c.cut_off.ensures.fault e is) (c.in-Err.ensures.at c.in-Err.fault refl))
+
+pub returns-in-Err-clause-rows : goal.returns-in-Err-clause-rows
+returns-in-Err-clause-rows g c = λ e is. c.cut_off.ensures.rows

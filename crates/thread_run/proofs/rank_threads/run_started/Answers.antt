@@ -1,5 +1,5 @@
 -- The threads, the owner and the close together.
-use Rattle.std.proofs.Common.{◌≡◌, ℕ, List, [], ◌∷◌, All, sym, ◌∙◌, ap, subst, length, rules}
+use Rattle.std.proofs.Common.{◌≡◌, ℕ, List, [], ◌∷◌, All, sym, ◌∙◌, ap, subst, length, rules, Some}
 use Rattle.std.proofs.lemmas.List.{with_items_is}
 use Rattle.nc_base.specs.declared.step.OwnerItem.{OwnerItem}
 use Rattle.ruled_line.specs.Ends.{End}
@@ -9,6 +9,8 @@ use Rattle.thread_run.specs.declared.resident.Resident.{Resident}
 use Rattle.thread_run.specs.declared.resident.Word.TheVariants.{Go}
 use Rattle.turn_run.proofs.HintLaws.{lawful_hints}
 use Rattle.thread_run.proofs.ThreadAll.{known_sound, owner_of, run_all}
+use Rattle.nc_base.specs.declared.step.StepErr.{StepErr}
+use Rattle.thread_run.proofs.ThreadCut.{run_cut}
 use Rattle.thread_run.proofs.ThreadSettles.{AreTold, residents_told, told_all}
 use Rattle.thread_run.proofs.rank_threads.run_started.Goals as goal
 
@@ -90,3 +92,12 @@ returns g c =
       cause = c.end_run.ensures.cause;
       later = c.end_run.ensures.later;
     })
+    (run_cut script header arrivals given ends c.requires.sound c.requires.lawful all (g.D.Disk.held c.args.disk.now) (g.D.Disk.held c.serve-served.new.disk) c.serve-served.new.records c.serve-served.result
+    (g.D.Disk.held c.end_run.new.disk) c.end_run.new.records c.end_run.result c.args.inbox.senders c.requires.senders c.serve-served.ensures.done c.serve-served.ensures.bytes c.serve-served.ensures.cut
+    (λ e is. record {
+      order = c.end_run.ensures.order;
+      at = c.end_run.ensures.at e is;
+      rows = c.end_run.ensures.rows e is;
+      whole = λ disk. c.end_run.ensures.broke (is ∙ ap (λ (x : StepErr). Some x) disk);
+      kept = λ disk. c.end_run.ensures.kept (is ∙ ap (λ (x : StepErr). Some x) disk);
+    }))

@@ -1,5 +1,5 @@
 -- A desk at which nothing arrived.
-use Rattle.std.proofs.Common.{sym, ◌∙◌, subst}
+use Rattle.std.proofs.Common.{refl, sym, ◌∙◌, subst}
 use Rattle.nc_base.specs.declared.step.StepErr.TheVariants as fault
 use Rattle.collective_round.specs.Rounds.{setting}
 use Rattle.thread_run.specs.Halted.{HasHalted}
@@ -10,7 +10,7 @@ use Rattle.thread_run.proofs.serving.open_desk.Goals as goal
 pub returns-in-Err-clause-halted : goal.returns-in-Err-clause-halted
 returns-in-Err-clause-halted g c =
     halt_none c.args.hints.now (setting c.args.header.now c.args.hints.now) c.args.inbox.now c.args.door.now.ended fault.Memory c.args.inbox.now.senders c.args.records.now (g.D.Disk.held c.args.disk.now) (g.D.Disk.calls c.args.disk.now) c.args.order.now c.args.back.now
-    c.requires.ended
+    c.requires.ended refl
 
 pub serve_all-requires-clause-steady : goal.serve_all-requires-clause-steady
 serve_all-requires-clause-steady g c κs within =

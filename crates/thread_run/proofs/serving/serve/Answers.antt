@@ -3,7 +3,7 @@ use Rattle.std.proofs.Common.{ℕ, ◌≤◌, sym, ◌∙◌, subst}
 use Rattle.collective_round.specs.Rounds.{setting}
 use Rattle.turn_run.specs.Counts.{IsCount}
 use Rattle.thread_run.specs.Owned.{opening_standing}
-use Rattle.thread_run.proofs.EndLaws.{end_bytes, end_calls, end_done, end_failed, end_put, end_taken, halted_lines, outcome, seen_all}
+use Rattle.thread_run.proofs.EndLaws.{end_bytes, end_calls, end_cut, end_done, end_failed, end_put, end_taken, halted_lines, outcome, seen_all}
 use Rattle.thread_run.proofs.serving.serve.Goals as goal
 
 pub open_desk-halt-requires-clause-count : goal.open_desk-halt-requires-clause-count
@@ -76,6 +76,15 @@ returns-clause-failed g c = λ e.
     (opening_standing c.args.inbox.now.senders c.args.records.now (g.D.Disk.held c.args.disk.now) (g.D.Disk.calls c.args.disk.now) c.new-order.result c.args.back.now)
     c.open_desk-halt.new.records (g.D.Disk.held c.open_desk-halt.new.disk) (g.D.Disk.calls c.open_desk-halt.new.disk) c.open_desk-halt.new.order c.open_desk-halt.new.back c.finish.new.back c.open_desk-halt.result c.open_desk-halt.ensures.halted c.finish.ensures)
     c.new-order.ensures c.args.header.now.records c.requires.records c.requires.lines c.fault_of.result c.stranger_of.result e c.fault_of.ensures c.stranger_of.ensures
+
+pub returns-clause-cut : goal.returns-clause-cut
+returns-clause-cut g c = λ e.
+    end_cut c.args.hints.now (setting c.args.header.now c.args.hints.now) c.args.inbox.now c.finish.new.inbox c.finish.new.door.ended c.args.records.now (g.D.Disk.held c.args.disk.now) (g.D.Disk.calls c.args.disk.now) c.new-order.result c.args.back.now
+    c.open_desk-halt.new.records (g.D.Disk.held c.open_desk-halt.new.disk) (g.D.Disk.calls c.open_desk-halt.new.disk) c.open_desk-halt.new.order c.finish.new.back c.open_desk-halt.result
+    (outcome c.args.hints.now (setting c.args.header.now c.args.hints.now) c.args.inbox.now c.open_desk-halt.new.inbox c.finish.new.inbox c.open_desk-halt.new.door.ended c.finish.new.door.ended
+    (opening_standing c.args.inbox.now.senders c.args.records.now (g.D.Disk.held c.args.disk.now) (g.D.Disk.calls c.args.disk.now) c.new-order.result c.args.back.now)
+    c.open_desk-halt.new.records (g.D.Disk.held c.open_desk-halt.new.disk) (g.D.Disk.calls c.open_desk-halt.new.disk) c.open_desk-halt.new.order c.open_desk-halt.new.back c.finish.new.back c.open_desk-halt.result c.open_desk-halt.ensures.halted c.finish.ensures)
+    c.new-order.ensures c.args.header.now.records c.requires.records c.requires.lines c.fault_of.result e c.fault_of.ensures
 
 pub returns-clause-cause : goal.returns-clause-cause
 returns-clause-cause g c = λ e. c.open_desk-halt.ensures.cause.failed (sym c.fault_of.ensures ∙ e)

@@ -3,6 +3,7 @@ use Rattle.std.proofs.Common.{ℕ, Err, refl, ◌∙◌, subst, arith}
 use Rattle.collective_round.specs.Rounds.{setting}
 use Rattle.thread_run.specs.Owned.{standing, Grows}
 use Rattle.thread_run.specs.Stopping.{held_stops, AllHaveEnded}
+use Rattle.thread_run.proofs.RefusedSteps.{fault_at}
 use Rattle.thread_run.proofs.HaltLaws.{fault_cause, halt_ended, halt_fault, halt_strange, no_cause, served_more, served_none, stranger_cause}
 use Rattle.thread_run.proofs.serving.serve_all.Goals as goal
 
@@ -49,6 +50,9 @@ returns-in-Err-clause-halted g c =
     c.loop.invariant.served
     (record { items = c.take-number.ensures.items; senders = c.take-number.ensures.senders; of = c.take-number.ensures.of; low = c.take-number.ensures.number; noted = c.take-number.ensures.noted })
     c.in-Err.ensures.order c.in-Err.ensures.stopped
+    (fault_at (setting c.args.header.now c.args.hints.now) c.in-Err.fault (standing c.loop.desk c.loop.records (g.D.Disk.held c.loop.disk) (g.D.Disk.calls c.loop.disk) c.loop.order c.loop.back) c.take-number.result
+    c.arrive-done.new.records (g.D.Disk.held c.arrive-done.new.disk)
+    (λ file. c.is_strange.ensures (setting c.args.header.now c.args.hints.now) file c.loop.records refl ∙ c.if-is_strange.false) c.in-Err.ensures.refused)
 
 pub returns-in-Err-clause-cause : goal.returns-in-Err-clause-cause
 returns-in-Err-clause-cause g c =

@@ -8,6 +8,7 @@ use Rattle.collective_round.specs.Rounds.{setting}
 use Rattle.thread_run.specs.Owned.{desk_of, standing}
 use Rattle.thread_run.proofs.ArriveSteps.{all_stopped, as_item, done_alone, done_ended, done_held, done_together, good_at, held_as, on_ok_three, seat_read, steady_alone, steady_ended, steady_held, stopped_as}
 use Rattle.turn_run.proofs.ListLaws.{get_read}
+use Rattle.thread_run.proofs.RefusedSteps.{arrival_alone, arrival_together}
 use Rattle.thread_run.proofs.desk.Desk.arrive.Goals as goal
 
 pub do_alone-requires-clause-fit : goal.do_alone-requires-clause-fit
@@ -105,3 +106,23 @@ returns-else-all_hold-clause-steady g c =
     steady_held c.args.header.now (g.D.Disk.len c.args.disk.now) b c.args.number c.in-Offer.call c.in-Offer.offer c.hold.new.self c.in-Meet.field-0 c.requires.steady good
     (held_as good.seat c.index_mut-in-Meet.result.now c.hold.new.self c.in-Offer.offer (seat_read c.args.self.now.seats.items c.args.number good.seat c.index_mut-in-Meet.result.now good.there c.index_mut-in-Meet.ensures.value)
     c.hold.ensures) c.in-Meet.is
+
+pub returns-in-Solo-clause-refused : goal.returns-in-Solo-clause-refused
+returns-in-Solo-clause-refused g c =
+    let b = standing c.args.self.now c.args.records.now (g.D.Disk.held c.args.disk.now) (g.D.Disk.calls c.args.disk.now) c.args.order.now c.args.back.now in
+    let good = good_at (setting c.args.header.now c.args.hints.now) (g.D.Disk.len c.args.disk.now) b c.args.number c.in-Offer.call c.args.item c.in-Offer.offer c.requires.sound c.requires.steady c.requires.number
+    c.requires.own c.requires.fit c.in-Offer.is in
+    on_err_weaker c.do_alone.result (λ h held single.
+    arrival_alone (setting c.args.header.now c.args.hints.now) b c.args.number c.in-Offer.call c.args.records.now c.args.item c.in-Offer.offer good.seat (g.D.Disk.held c.do_alone.new.disk) c.in-Offer.is good.there
+    c.in-Solo.is (h c.args.records.now)) c.do_alone.ensures.refused
+
+pub returns-then-all_hold-clause-refused : goal.returns-then-all_hold-clause-refused
+returns-then-all_hold-clause-refused g c =
+    let b = standing c.args.self.now c.args.records.now (g.D.Disk.held c.args.disk.now) (g.D.Disk.calls c.args.disk.now) c.args.order.now c.args.back.now in
+    let good = good_at (setting c.args.header.now c.args.hints.now) (g.D.Disk.len c.args.disk.now) b c.args.number c.in-Offer.call c.args.item c.in-Offer.offer c.requires.sound c.requires.steady c.requires.number
+    c.requires.own c.requires.fit c.in-Offer.is in
+    on_err_weaker c.do_together.result (λ h.
+    arrival_together (setting c.args.header.now c.args.hints.now) b c.args.number c.in-Offer.call c.do_together.new.records c.args.item c.in-Offer.offer good.seat c.hold.new.self c.in-Meet.field-0
+    (g.D.Disk.held c.do_together.new.disk) c.in-Offer.is good.there
+    (held_as good.seat c.index_mut-in-Meet.result.now c.hold.new.self c.in-Offer.offer (seat_read c.args.self.now.seats.items c.args.number good.seat c.index_mut-in-Meet.result.now good.there c.index_mut-in-Meet.ensures.value)
+    c.hold.ensures) c.in-Meet.is (ap (λ ss. list_all holds ss) (sym c.deref.ensures.value) ∙ sym c.all_hold.ensures ∙ c.if-all_hold.true) h) c.do_together.ensures.refused

@@ -7,6 +7,10 @@ use Rattle.thread_run.specs.Owned.{standing}
 use Rattle.thread_run.proofs.AloneSteps.{alone}
 use Rattle.turn_run.proofs.CountLaws.{count_longer, count_max, count_still}
 use Rattle.thread_run.proofs.PutLaws.{one_put}
+use Rattle.serial_spec.specs.FileStep.{puts_of, told}
+use Rattle.collective_round.proofs.TornLaws.{done_torn}
+use Rattle.turn_run.proofs.HintLaws.{on_err}
+use Rattle.thread_run.proofs.RefusedSteps.{refused_each}
 use Rattle.thread_run.proofs.desk.Desk.reply_alone.Goals as goal
 
 pub returns-clause-done : goal.returns-clause-done
@@ -33,3 +37,16 @@ returns-clause-reached g c h =
     subst (λ (n : ℕ). IsCount c.args.header.now (g.D.Disk.len c.solo_reply.new.disk) n) (sym c.max-self.ensures)
     (count_max c.args.header.now (g.D.Disk.len c.solo_reply.new.disk) c.args.self.now.reached c.in_ok-reply.reply.records
     (count_longer c.args.header.now (g.D.Disk.len c.args.disk.now) (g.D.Disk.len c.solo_reply.new.disk) c.args.self.now.reached c.in_ok-reply.ensures.longer h) (inr c.in_ok-reply.ensures.count))
+
+pub returns-in_err-reply-clause-refused : goal.returns-in_err-reply-clause-refused
+returns-in_err-reply-clause-refused g c =
+    on_err _ (refused_each (setting c.args.header.now c.args.hints.now) c.args.number c.args.call c.args.offer.now c.args.self.now (g.D.Disk.held c.args.disk.now) (g.D.Disk.held c.solo_reply.new.disk)
+    (g.D.Disk.calls c.args.disk.now) c.args.order.now c.args.back.now c.in_err-reply.ensures.refused)
+
+pub returns-in_err-push-clause-refused : goal.returns-in_err-push-clause-refused
+returns-in_err-push-clause-refused g c =
+    let s = setting c.args.header.now c.args.hints.now in
+    let puts = puts_of (c.args.number, c.args.offer.now) in
+    on_err _ (refused_each s c.args.number c.args.call c.args.offer.now c.args.self.now (g.D.Disk.held c.args.disk.now) (g.D.Disk.held c.solo_reply.new.disk)
+    (g.D.Disk.calls c.args.disk.now) c.args.order.now c.args.back.now
+    (done_torn s puts (told s puts) (g.D.Disk.held c.args.disk.now) (g.D.Disk.held c.solo_reply.new.disk) c.in_ok-reply.ensures.bytes))

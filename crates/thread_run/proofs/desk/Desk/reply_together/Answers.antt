@@ -13,6 +13,9 @@ use Rattle.thread_run.specs.Owned.{standing}
 use Rattle.turn_run.specs.Steps.{IsJob}
 use Rattle.thread_run.proofs.HeldLaws.{held_job, held_low, held_once, held_rise, steady_freed}
 use Rattle.thread_run.proofs.TogetherSteps.{together}
+use Rattle.std.proofs.Common.{refl}
+use Rattle.turn_run.proofs.HintLaws.{on_err}
+use Rattle.thread_run.proofs.RefusedSteps.{done_once, none_once, refused_once}
 use Rattle.thread_run.proofs.desk.Desk.reply_together.Goals as goal
 
 pub meet_on_file-requires-clause-job : goal.meet_on_file-requires-clause-job
@@ -55,3 +58,26 @@ returns-clause-steady g c =
     let b = standing c.args.self.now c.args.records.now (g.D.Disk.held c.args.disk.now) (g.D.Disk.calls c.args.disk.now) c.args.order.now c.args.back.now in
     steady_freed c.args.header.now (g.D.Disk.len c.args.disk.now) (g.D.Disk.len c.meet_on_file.new.disk) b
     (standing (record { seats = c.take_job.new.self.seats; met = c.in_ok-met.met; reached = c.max-self.result }) c.meet_on_file.new.records (g.D.Disk.held c.meet_on_file.new.disk) (g.D.Disk.calls c.meet_on_file.new.disk) c.push.new.self c.reply_all.new.back) c.requires.steady c.in_ok-job.ensures.freed c.reply_all.ensures.long c.in_ok-pair.ensures.longer c.in_ok-pair.ensures.count (c.max-self.ensures ∙ ap (λ k. max k c.meet_on_file.new.records) c.in_ok-job.ensures.reached)
+
+pub returns-in_err-job-clause-refused : goal.returns-in_err-job-clause-refused
+returns-in_err-job-clause-refused g c =
+    let b = standing c.args.self.now c.args.records.now (g.D.Disk.held c.args.disk.now) (g.D.Disk.calls c.args.disk.now) c.args.order.now c.args.back.now in
+    on_err _ (none_once (setting c.args.header.now c.args.hints.now) b c.args.records.now (g.D.Disk.held c.args.disk.now) refl refl)
+
+pub returns-in_err-pair-clause-refused : goal.returns-in_err-pair-clause-refused
+returns-in_err-pair-clause-refused g c =
+    let b = standing c.args.self.now c.args.records.now (g.D.Disk.held c.args.disk.now) (g.D.Disk.calls c.args.disk.now) c.args.order.now c.args.back.now in
+    on_err _ (refused_once (setting c.args.header.now c.args.hints.now) b c.in_ok-job.job.batches c.in_ok-job.known c.meet_on_file.new.records (g.D.Disk.held c.meet_on_file.new.disk)
+    c.in_ok-job.ensures.batches c.in_ok-job.ensures.known (held_once c.args.header.now (g.D.Disk.len c.args.disk.now) b c.requires.steady c.requires.all) c.in_err-pair.ensures.refused c.in_err-pair.ensures.kept)
+
+pub returns-in_err-met-clause-refused : goal.returns-in_err-met-clause-refused
+returns-in_err-met-clause-refused g c =
+    let b = standing c.args.self.now c.args.records.now (g.D.Disk.held c.args.disk.now) (g.D.Disk.calls c.args.disk.now) c.args.order.now c.args.back.now in
+    on_err _ (done_once (setting c.args.header.now c.args.hints.now) b c.in_ok-job.job.batches c.in_ok-job.known c.meet_on_file.new.records (g.D.Disk.held c.meet_on_file.new.disk)
+    c.in_ok-job.ensures.batches c.in_ok-job.ensures.known c.in_ok-pair.ensures.bytes c.in_ok-pair.ensures.records)
+
+pub returns-in_err-push-clause-refused : goal.returns-in_err-push-clause-refused
+returns-in_err-push-clause-refused g c =
+    let b = standing c.args.self.now c.args.records.now (g.D.Disk.held c.args.disk.now) (g.D.Disk.calls c.args.disk.now) c.args.order.now c.args.back.now in
+    on_err _ (done_once (setting c.args.header.now c.args.hints.now) b c.in_ok-job.job.batches c.in_ok-job.known c.meet_on_file.new.records (g.D.Disk.held c.meet_on_file.new.disk)
+    c.in_ok-job.ensures.batches c.in_ok-job.ensures.known c.in_ok-pair.ensures.bytes c.in_ok-pair.ensures.records)

@@ -1,0 +1,317 @@
+-- Where a run on threads stood that a fault cut off, and which answers its ranks have.
+use Rattle.std.proofs.Common.{◌≡◌, ℕ, zero, suc, ◌+◌, ◌<◌, ◌≤◌, refl, sym, ◌∙◌, ap, subst, inl, inr, ◌⊎◌, List, [], ◌∷◌, ◌++◌, length, map, set, replicate, Bool, true, false, cond, Option, Some, None, append_assoc, arith}
+use Rattle.std.proofs.lemmas.Bool.Decides.{eqb_tells}
+use Rattle.std.proofs.lemmas.List.{append-nil}
+use borrow.Author.Tests.{ltb-true, ltb-false}
+use Rattle.std.proofs.lemmas.Option.{same_Some}
+use Rattle.std.specs.Prelude.{slice_get, flat_map, fold, nat_lt, ◌==◌}
+use Rattle.std.specs.List.{enumerate_from, list_all, list_any}
+use Rattle.std.specs.Int.{byte_len}
+use Rattle.list_laws.proofs.Places.{entry_below}
+use Rattle.list_laws.proofs.Truth.{and_first, and_second}
+use Rattle.nc_base.specs.declared.header.Header.{Header}
+use Rattle.nc_base.specs.declared.request.Call.{Call}
+use Rattle.nc_base.specs.declared.script.Script.{Script}
+use Rattle.nc_base.specs.declared.step.Mark.{Mark}
+use Rattle.nc_base.specs.declared.step.Mark.TheVariants.{Meet, Solo}
+use Rattle.nc_base.specs.declared.step.Offer.{Offer}
+use Rattle.nc_base.specs.declared.step.OfferKind.{OfferKind}
+use Rattle.nc_base.specs.declared.step.OfferKind.TheVariants as offer
+use Rattle.nc_base.specs.declared.step.OwnerItem.{OwnerItem}
+use Rattle.nc_base.specs.declared.step.OwnerItem.TheVariants.{Reply, Stop}
+use Rattle.nc_base.specs.declared.step.RankItem.{RankItem}
+use Rattle.nc_base.specs.declared.step.RankItem.TheVariants as item
+use Rattle.nc_base.specs.declared.step.Reply as reply
+use Rattle.nc_base.specs.declared.step.StepErr.{StepErr}
+use Rattle.nc_base.specs.declared.step.StepErr.TheVariants as fault
+use Rattle.overlay_laws.specs.Entries.{In}
+use Rattle.overlay_laws.proofs.SaidLaws.{same_file}
+use Rattle.serial_spec.specs.Desk.{Desk, Event, Seat, at_offer, event, holds, is_strange, meets_if, offers_at, offers_held, offers_met, own_items, step_offers}
+use Rattle.serial_spec.specs.File.{at}
+use Rattle.serial_spec.specs.FileStep.{Setting, Counted, after_puts, meeting, puts_of, raised, solo, told}
+use Rattle.serial_spec.specs.HeaderGrammar.{count_width}
+use Rattle.serial_spec.specs.History.{Arrival, IsLegal}
+use Rattle.serial_spec.specs.RankSide.{fits_offer, offered, offered_by, waiting}
+use Rattle.serial_spec.specs.SerialEnd.{Going, advance, after_mark, closed, first_going, hears, offers_of, rank_offer, solo_of}
+use Rattle.serial_spec.specs.SharedByte.{Puts, covered}
+use Rattle.serial_spec.specs.Torn.{IsLeft, IsTorn, OwnerStoodAt, StoodAt, bytes_of_mark}
+use Rattle.serial_spec.specs.Torn.OwnerStoodAt.{at_arrival, between_arrivals}
+use Rattle.serial_spec.specs.Torn.StoodAt.{in_step, in_close, between}
+use Rattle.collective_round.specs.Rounds.{counted}
+use Rattle.collective_round.proofs.TornLaws.{after_grows, raised_grows, torn_by, torn_sides, AreSides}
+use Rattle.run_laws.proofs.StandingLaws.{solo_goes}
+use Rattle.join_laws.specs.Begun.{HasOffered, IsBeginning}
+use Rattle.join_laws.proofs.ListLaws.{get_beside}
+use Rattle.join_laws.proofs.StreamLaws.{waiting_misfit, waiting_reply}
+use Rattle.join_laws.proofs.StepLaws.{meeting_is, same_offers, solo_of_is}
+use Rattle.turn_run.proofs.ListLaws.{get_set}
+use Rattle.thread_run.specs.Owned.{AreSingle, IsSingleOffer}
+use Rattle.thread_run.proofs.CutJoin.{Sits, Stands, fits_now, held_keeps, own_offer}
+use Rattle.join_laws.proofs.StrangeLaws.{event_is, strange_alone}
+use Rattle.join_laws.proofs.EventLaws.{own_here, own_other}
+use Rattle.thread_run.proofs.DeskRuns.{seat_ended, seat_held}
+use Rattle.thread_run.proofs.ThreadCalls.{single_go}
+
+-- ---- the step that an arrival brings
+
+-- it is the serial run's step of a mark, or none
+pub record BringsStep (s : Setting) (d : Desk) (goings : List Going) (a : Arrival) : Type 0 where
+  pub mark : Mark
+  pub marks : (event s d a).marks ≡ mark ∷ []
+  pub state : (event s d a).desk.state ≡ (after_mark s (d.state, goings) mark).0
+  pub bytes : covered s.header (flat_map puts_of (step_offers d a)) ≡ bytes_of_mark s goings mark
+
+abbrev pub Brings : Setting → Desk → List Going → Arrival → Type 0
+Brings s d goings a = ((event s d a).desk.state ≡ d.state) ⊎ BringsStep s d goings a
+
+module _ (s : Setting) (d : Desk) (goings : List Going) (r c : ℕ) (o : Offer) (x : Seat) (g : Going) (a : slice_get d.seats r ≡ Some x) (b : slice_get goings r ≡ Some g)
+    (next : (advance s.header g).1 ≡ Some o) where
+  offers_are : (kind : OfferKind) → o.kind ≡ kind → step_offers d (r, item.Offer c o) ≡ offers_at d r o x kind
+  offers_are kind k = ap (λ (m : Option Seat). elim m [ None ↦ [] | Some y ↦ offers_at d r o y o.kind ]) a ∙ ap (offers_at d r o x) k
+
+  event_of : (kind : OfferKind) → o.kind ≡ kind → event s d (r, item.Offer c o) ≡ at_offer s d r c o x kind
+  event_of kind k = event_is s d r (item.Offer c o) x a ∙ ap (at_offer s d r c o x) k
+
+  brings_solo : o.kind ≡ offer.Solo → BringsStep s d goings (r, item.Offer c o)
+  brings_solo k = record {
+    mark = Solo r c;
+    marks = ap (λ (e : Event). e.marks) (event_of offer.Solo k);
+    state = ap (λ (e : Event). e.desk.state) (event_of offer.Solo k)
+        ∙ sym (ap (λ (st : Counted × List Going). st.0) (solo_goes s r d.state goings g b) ∙ ap (λ (st : Counted × Going). st.0) (solo_of_is s r d.state (advance s.header g) o next));
+    bytes = ap (λ (os : List (ℕ × Offer)). covered s.header (flat_map puts_of os)) (offers_are offer.Solo k) ∙ ap (λ (ps : Puts). covered s.header ps) (append-nil (puts_of (r, o)))
+        ∙ sym (ap (λ (m : Option Going). some (elim m [ None ↦ None | Some h ↦ (advance s.header h).1 ])) b ∙ ap some next);
+  }
+    where
+      some : Option Offer → List ℕ
+      some m = elim m [ None ↦ [] | Some p ↦ covered s.header (puts_of (r, p)) ]
+
+  brings_meeting : (kind : _) → o.kind ≡ offer.Meet kind → list_all holds (set d.seats r (seat_held x o)) ≡ true → offers_of (map (advance s.header) goings) ≡ offers_held (set d.seats r (seat_held x o))
+      → BringsStep s d goings (r, item.Offer c o)
+  brings_meeting kind k all same = record {
+    mark = Meet d.met;
+    marks = ap (λ (e : Event). e.marks) to;
+    state = ap (λ (e : Event). e.desk.state) to ∙ sym (ap (λ (st : Counted × List Going). st.0) (meeting_is s (offers_held (set d.seats r (seat_held x o))) d.state goings same));
+    bytes = ap (λ (os : List (ℕ × Offer)). covered s.header (flat_map puts_of os)) (offers_are (offer.Meet kind) k ∙ ap (offers_met (set d.seats r (seat_held x o))) all)
+        ∙ sym (ap (λ (os : List Offer). covered s.header (flat_map puts_of (enumerate_from 0 os))) same);
+  }
+    where
+      to : event s d (r, item.Offer c o) ≡ meets_if s d (set d.seats r (seat_held x o)) true
+      to = event_of (offer.Meet kind) k ∙ ap (meets_if s d (set d.seats r (seat_held x o))) all
+
+  brings_none : (kind : _) → o.kind ≡ offer.Meet kind → list_all holds (set d.seats r (seat_held x o)) ≡ false → (event s d (r, item.Offer c o)).desk.state ≡ d.state
+  brings_none kind k all = ap (λ (e : Event). e.desk.state) (event_of (offer.Meet kind) k ∙ ap (meets_if s d (set d.seats r (seat_held x o))) all)
+
+pub brings : (s : Setting) (d : Desk) (goings : List Going) (r : ℕ) (i : RankItem) (others : List Arrival) (x : Seat) (g : Going) (given : ℕ → List OwnerItem) (end : ℕ → Going) → slice_get d.seats r ≡ Some x
+    → slice_get goings r ≡ Some g → is_strange s d (r, i) ≡ false → Stands s d goings (λ q. own_items q ((r, i) ∷ others)) given end → Brings s d goings (r, i)
+brings s d goings r (item.Ended m) others x g given end a b fit t = inl (ap (λ (e : Event). e.desk.state) (event_is s d r (item.Ended m) x a))
+brings s d goings r (item.Offer c o) others x g given end a b fit t = by_kind o.kind refl
+  where
+    free : x.held ≡ None
+    free = strange_alone s d r (item.Offer c o) x a fit refl
+
+    next : (advance s.header g).1 ≡ Some o
+    next = own_offer s d goings r c o others x g given end a b free t
+
+    by_full : (kind : _) → o.kind ≡ offer.Meet kind → (full : Bool) → list_all holds (set d.seats r (seat_held x o)) ≡ full → Brings s d goings (r, item.Offer c o)
+    by_full kind k false e = inl (brings_none s d goings r c o x g a b next kind k e)
+    by_full kind k true e =
+        let u = held_keeps s d goings r c o others x g given end a b free (fits_now s d r c o fit) t in
+        inr (brings_meeting s d goings r c o x g a b next kind k e
+        (same_offers s.header (set d.seats r (seat_held x o)) goings u.long e (λ q y h p f j k'. (u.sits q y h f j).waits p k')))
+
+    by_kind : (kind : OfferKind) → o.kind ≡ kind → Brings s d goings (r, item.Offer c o)
+    by_kind offer.Solo k = inr (brings_solo s d goings r c o x g a b next k)
+    by_kind (offer.Meet kind) k = by_full kind k (list_all holds (set d.seats r (seat_held x o))) refl
+
+-- ---- nothing was done
+
+-- each step, and the close, leaves a file that is as long at least
+grows : (s : Setting) (state : Counted × List Going) (m : Mark) → length state.0.file ≤ length (after_mark s state m).0.file
+grows s state (Meet k) =
+    let offers = offers_of (map (advance s.header) state.1) in
+    let puts = flat_map puts_of (enumerate_from 0 offers) in
+    both (length state.0.file) _ _ (after_grows s puts (told s puts) state.0.file) (raised_grows s (counted (after_puts s puts (told s puts) state.0.file) state.0.records) _)
+  where
+    both : (n k l : ℕ) → n ≤ k → k ≤ l → n ≤ l
+    both n k l h j = omega arith
+grows s state (Solo r c) = by_rank (slice_get state.1 r)
+  where
+    by_offer : (p : Going × Option Offer) → length state.0.file ≤ length (solo_of s r state.0 p).0.file
+    by_offer (h, None) = omega arith
+    by_offer (h, Some o) = after_grows s (puts_of (r, o)) (told s (puts_of (r, o))) state.0.file
+
+    by_rank : (m : Option Going) → length state.0.file
+        ≤ length (elim m as (λ m. Counted × List Going) [ None ↦ (state.0, state.1) | Some h ↦ let done = solo_of s r state.0 (advance s.header h) in (done.0, set state.1 r done.1) ]).0.file
+    by_rank None = omega arith
+    by_rank (Some h) = by_offer (advance s.header h)
+
+torn_none : (bytes : List ℕ) (field : ℕ) (old new : List ℕ) → length old ≤ length new → IsTorn bytes field old new old
+torn_none bytes field old new l = torn_by bytes field old new old (omega arith) l (λ x h. inl refl) (λ x h j k. inl refl) (λ x h k. refl)
+
+-- what is torn between a file and itself is that file
+torn_same : (bytes : List ℕ) (field : ℕ) (old new left : List ℕ) → new ≡ old → IsTorn bytes field old new left → left ≡ old
+torn_same bytes field old new left e t =
+    let u = subst (λ (f : List ℕ). IsTorn bytes field old f left) e t in
+    let long = u.long in
+    let short = u.short in
+    same_file left old (omega arith) (λ x. by_place x)
+  where
+    v : AreSides bytes field old old left
+    v = torn_sides bytes field old old left (subst (λ (f : List ℕ). IsTorn bytes field old f left) e t)
+
+    either : (x : ℕ) → (at left x ≡ at old x) ⊎ (at left x ≡ at old x) → at left x ≡ at old x
+    either x (inl q) = q
+    either x (inr q) = q
+
+    by_high : (x : ℕ) → list_any (λ y. y == x) bytes ≡ false → 4 ≤ x → (b : Bool) → nat_lt x (4 + field) ≡ b → at left x ≡ at old x
+    by_high x h l true k = either x (v.beside x l (ltb-true _ _ k))
+    by_high x h l false k = v.outside x h (inr (ltb-false _ _ k))
+
+    by_low : (x : ℕ) → list_any (λ y. y == x) bytes ≡ false → (b : Bool) → nat_lt x 4 ≡ b → at left x ≡ at old x
+    by_low x h true k = v.outside x h (inl (ltb-true _ _ k))
+    by_low x h false k = by_high x h (ltb-false _ _ k) (nat_lt x (4 + field)) refl
+
+    by_in : (x : ℕ) → (b : Bool) → list_any (λ y. y == x) bytes ≡ b → at left x ≡ at old x
+    by_in x true h = either x (v.inside x h)
+    by_in x false h = by_low x h (nat_lt x 4) refl
+
+    by_place : (x : ℕ) → at left x ≡ at old x
+    by_place x = by_in x (list_any (λ y. y == x) bytes) refl
+
+-- where nothing is told of a step, the run stood before any that may follow
+pub stood_still : (script : Script) (s : Setting) (e : StepErr) (state : Counted × List Going) (order : List Mark) (left : List ℕ) (records : ℕ) → ((later : List Mark) × IsLegal script (order ++ later))
+    → left ≡ state.0.file → records ≡ state.0.records → StoodAt script s e state order left records
+stood_still script s e state order left records (later, legal) l k = by_later later legal
+  where
+    here : (new : Counted) (bytes : List ℕ) → length state.0.file ≤ length new.file → IsLeft s.header bytes state.0 new left records
+    here new bytes g =
+        (subst (λ (f : List ℕ). IsTorn bytes (byte_len (count_width s.header.version)) state.0.file new.file f) (sym l) (torn_none bytes (byte_len (count_width s.header.version)) state.0.file new.file g), inl k)
+
+    by_later : (ms : List Mark) → IsLegal script (order ++ ms) → StoodAt script s e state order left records
+    by_later [] h =
+        in_close (subst (λ (ms : List Mark). IsLegal script ms) (append-nil order) h)
+        (here (record { file = (closed s state).bytes; records = (closed s state).records }) [] (raised_grows s state.0 _))
+    by_later (m ∷ ms) h = in_step m ms h (here (after_mark s state m).0 (bytes_of_mark s state.1 m) (grows s state m))
+
+-- ---- where the owner stood
+
+pub stood_run : (script : Script) (s : Setting) (e : StepErr) (d : Desk) (goings : List Going) (order : List Mark) (later : List Arrival) (left : List ℕ) (records : ℕ) (given : ℕ → List OwnerItem) (end : ℕ → Going)
+    → Stands s d goings (λ q. own_items q later) given end → list_all (λ (a : Arrival). nat_lt a.0 (length d.seats)) later ≡ true → ((rest : List Mark) × IsLegal script (order ++ rest))
+    → ((a : Arrival) (others : List Arrival) → later ≡ a ∷ others → is_strange s d a ≡ false → (m : Mark) → (event s d a).marks ≡ m ∷ [] → (rest : List Mark) × IsLegal script (order ++ m ∷ rest))
+    → OwnerStoodAt s e d later left records → StoodAt script s e (d.state, goings) order left records
+stood_run script s e d goings order later left records given end t low begun next (between_arrivals memory l k) = between begun.0 begun.1 memory l k
+stood_run script s e d goings order later left records given end t low begun next (at_arrival a others is fit l) = by_step (found a.0 a.1 refl)
+  where
+    here : Stands s d goings (λ q. own_items q (a ∷ others)) given end
+    here = subst (λ (xs : List Arrival). Stands s d goings (λ q. own_items q xs) given end) is t
+
+    numbers : list_all (λ (b : Arrival). nat_lt b.0 (length d.seats)) (a ∷ others) ≡ true
+    numbers = subst (λ (xs : List Arrival). list_all (λ (b : Arrival). nat_lt b.0 (length d.seats)) xs ≡ true) is low
+
+    found : (r : ℕ) (i : RankItem) → (r, i) ≡ a → Brings s d goings a
+    found r i e =
+        let low = ltb-true r (length d.seats) (ap (λ (b : Arrival). nat_lt b.0 (length d.seats)) e ∙ and_first (nat_lt a.0 (length d.seats)) _ numbers) in
+        let seat = entry_below d.seats r low in
+        let going = get_beside d.seats goings r seat.0 t.long seat.1 in
+        subst (λ (b : Arrival). Brings s d goings b) e
+        (brings s d goings r i others seat.0 going.0 given end seat.1 going.1 (ap (λ (b : Arrival). is_strange s d b) e ∙ fit)
+        (subst (λ (b : Arrival). Stands s d goings (λ q. own_items q (b ∷ others)) given end) (sym e) here))
+
+    by_records : (n m : ℕ) → m ≡ n → (records ≡ n) ⊎ (records ≡ m) → records ≡ n
+    by_records n m e (inl q) = q
+    by_records n m e (inr q) = q ∙ e
+
+    by_step : Brings s d goings a → StoodAt script s e (d.state, goings) order left records
+    by_step (inl same) =
+        stood_still script s e (d.state, goings) order left records begun
+        (torn_same (covered s.header (flat_map puts_of (step_offers d a))) (byte_len (count_width s.header.version)) d.state.file (event s d a).desk.state.file left (ap (λ (c : Counted). c.file) same) l.0)
+        (by_records d.state.records (event s d a).desk.state.records (ap (λ (c : Counted). c.records) same) l.1)
+    by_step (inr b) =
+        let n = next a others is fit b.mark b.marks in
+        in_step b.mark n.0 n.1
+        (subst (λ (own : List ℕ). IsLeft s.header own d.state (after_mark s (d.state, goings) b.mark).0 left records) b.bytes
+        (subst (λ (new : Counted). IsLeft s.header (covered s.header (flat_map puts_of (step_offers d a))) d.state new left records) b.state l))
+
+-- ---- no rank's offer both raises the count and brings puts
+
+no_end : {A : Type 0} (c : ℕ) (o : Offer) → item.Ended false ≡ item.Offer c o → A
+no_end c o e = cc
+
+waiting_single : (header : Header) (t : Going) (p : Offer) (y : reply.Reply) (back : List OwnerItem) (c : ℕ) (o : Offer) → ((u : Going) → In (offered header u back) (item.Offer c o) → IsSingleOffer o)
+    → In (waiting header t p (Reply y ∷ back)) (item.Offer c o) → IsSingleOffer o
+waiting_single header t p y back c o again i = by_fits (fits_offer header p y) refl
+  where
+    by_one : In (item.Ended false ∷ []) (item.Offer c o) → IsSingleOffer o
+    by_one (inl e) = no_end c o e
+    by_one (inr j) = absurd j
+
+    by_fits : (f : Bool) → fits_offer header p y ≡ f → IsSingleOffer o
+    by_fits true f = again (hears header t y) (subst (λ (is : List RankItem). In is (item.Offer c o)) (waiting_reply header t p y back f) i)
+    by_fits false f = by_one (subst (λ (is : List RankItem). In is (item.Offer c o)) (waiting_misfit header t p y back f) i)
+
+next_single : (header : Header) (back : List OwnerItem) (g : Going) (c : ℕ) (o : Offer) → ((t : Going) (p : Offer) → In (waiting header t p back) (item.Offer c o) → IsSingleOffer o)
+    → (p : Going × Option Offer) → advance header g ≡ p → In (offered_by header p back) (item.Offer c o) → IsSingleOffer o
+next_single header back g c o again (t, None) e (inl k) = no_end c o k
+next_single header back g c o again (t, None) e (inr k) = absurd k
+next_single header back g c o again (t, Some p) e (inl k) = subst IsSingleOffer (same_offer k) (single_go header p g.calls g.rank g.answers (ap (λ (u : Going × Option Offer). u.1) e))
+  where
+    same_offer : item.Offer (length t.answers) p ≡ item.Offer c o → p ≡ o
+    same_offer z = cc
+next_single header back g c o again (t, Some p) e (inr k) = again t p k
+
+single_offered : (header : Header) (back : List OwnerItem) (g : Going) (c : ℕ) (o : Offer) → In (offered header g back) (item.Offer c o) → IsSingleOffer o
+single_offered header [] g c o i = next_single header [] g c o (λ t p j. absurd j) (advance header g) refl i
+single_offered header (Stop ∷ back) g c o i = next_single header (Stop ∷ back) g c o (λ t p j. by_one j) (advance header g) refl i
+  where
+    by_one : In (item.Ended false ∷ []) (item.Offer c o) → IsSingleOffer o
+    by_one (inl e) = no_end c o e
+    by_one (inr j) = absurd j
+single_offered header (Reply y ∷ back) g c o i =
+    next_single header (Reply y ∷ back) g c o (λ t p j. waiting_single header t p y back c o (λ u k. single_offered header back u c o k) j) (advance header g) refl i
+
+in_front : (xs ys : List RankItem) (i : RankItem) → In xs i → In (xs ++ ys) i
+in_front [] ys i k = absurd k
+in_front (x ∷ xs) ys i (inl e) = inl e
+in_front (x ∷ xs) ys i (inr k) = inr (in_front xs ys i k)
+
+in_either_part : (xs : List RankItem) (c : ℕ) (o : Offer) → In (xs ++ item.Ended true ∷ []) (item.Offer c o) → In xs (item.Offer c o)
+in_either_part [] c o (inl e) = absurd (apart e)
+  where
+    apart : item.Ended true ≡ item.Offer c o → ⊥
+    apart k = cc
+in_either_part [] c o (inr k) = absurd k
+in_either_part (x ∷ xs) c o (inl e) = inl e
+in_either_part (x ∷ xs) c o (inr k) = inr (in_either_part xs c o k)
+
+-- under its number
+in_own : (arrivals : List Arrival) (r : ℕ) (i : RankItem) → In arrivals (r, i) → In (own_items r arrivals) i
+in_own [] r i k = absurd k
+in_own ((q, j) ∷ arrivals) r i (inl e) =
+    let a : q ≡ r = ap (λ (x : Arrival). x.0) e in
+    let b : j ≡ i = ap (λ (x : Arrival). x.1) e in
+    subst (λ (is : List RankItem). In is i) (sym (ap (λ (n : ℕ). own_items r ((n, j) ∷ arrivals)) a ∙ own_here r j arrivals)) (inl b)
+in_own ((q, j) ∷ arrivals) r i (inr k) = by (eqb_tells q r) (in_own arrivals r i k)
+  where
+    by : (((q == r) ≡ true) × (q ≡ r)) ⊎ (((q == r) ≡ false) × (q ≡ r → ⊥)) → In (own_items r arrivals) i → In (own_items r ((q, j) ∷ arrivals)) i
+    by (inl (e, f)) again = subst (λ (is : List RankItem). In is i) (sym (ap (λ (n : ℕ). own_items r ((n, j) ∷ arrivals)) f ∙ own_here r j arrivals)) (inr again)
+    by (inr (e, f)) again = subst (λ (is : List RankItem). In is i) (sym (own_other r q j arrivals (λ z. f (sym z)))) again
+
+pub single_begun : (script : Script) (header : Header) (arrivals : List Arrival) (taken : ℕ → List OwnerItem) → length script.calls ≡ script.ranks → HasOffered script header arrivals taken → AreSingle arrivals
+single_begun script header arrivals taken long h (r, item.Ended m) i = tt
+single_begun script header arrivals taken long h (r, item.Offer c o) i =
+    let low = ltb-true r script.ranks (passes_in (λ (a : Arrival). nat_lt a.0 script.ranks) arrivals h.numbers (r, item.Offer c o) i) in
+    let own = entry_below script.calls r (omega arith) in
+    by_begin own.0 (h.each r own.0 own.1) (in_own arrivals r (item.Offer c o) i)
+  where
+    passes_in : (test : Arrival → Bool) (xs : List Arrival) → list_all test xs ≡ true → (a : Arrival) → In xs a → test a ≡ true
+    passes_in test [] e a k = absurd k
+    passes_in test (x ∷ xs) e a (inl f) = ap test (sym f) ∙ and_first (test x) (list_all test xs) e
+    passes_in test (x ∷ xs) e a (inr k) = passes_in test xs (and_second (test x) (list_all test xs) e) a k
+
+    by_begin : (own : List Call) → IsBeginning (own_items r arrivals) (offered header (first_going header own) (taken r)) → In (own_items r arrivals) (item.Offer c o) → IsSingleOffer o
+    by_begin own (front, (more, b), inl e) k =
+        single_offered header (taken r) (first_going header own) c o
+        (subst (λ (is : List RankItem). In is (item.Offer c o)) b (in_front front more (item.Offer c o) (subst (λ (is : List RankItem). In is (item.Offer c o)) e k)))
+    by_begin own (front, (more, b), inr e) k =
+        single_offered header (taken r) (first_going header own) c o
+        (subst (λ (is : List RankItem). In is (item.Offer c o)) b (in_front front more (item.Offer c o) (in_either_part front c o (subst (λ (is : List RankItem). In is (item.Offer c o)) e k))))

@@ -1,0 +1,437 @@
+-- A run on threads that a fault cut off, from what the owner tells and what the close tells.
+use Rattle.std.proofs.Common.{◌≡◌, ℕ, zero, suc, ◌+◌, ◌-◌, ◌<◌, ◌≤◌, refl, sym, ◌∙◌, ap, subst, inl, inr, ◌⊎◌, List, [], ◌∷◌, ◌++◌, length, map, max, replicate, Bool, true, false, cond, ◌&&◌, Option, Some, None, append_assoc, arith}
+use Rattle.std.proofs.lemmas.List.{append-nil, length-append, length-map, length-replicate}
+use Rattle.std.proofs.lemmas.List.Folds.{list_all-append}
+use Rattle.std.proofs.lemmas.Option.{slice_get_within, same_Some}
+use mathlib.Core.List.{IsPrefix}
+use Rattle.std.specs.Prelude.{slice_get, nat_lt, filter, IfSome}
+use Rattle.std.specs.Int.{byte_len}
+use Rattle.std.specs.List.{list_all}
+use Rattle.list_laws.proofs.Places.{entry_below}
+use Rattle.list_laws.proofs.Truth.{and_first, and_second}
+use Rattle.nc_base.specs.declared.answer.Answer.{Answer}
+use Rattle.nc_base.specs.declared.header.Header.{Header}
+use Rattle.nc_base.specs.declared.request.Call.{Call}
+use Rattle.nc_base.specs.declared.run.RankEnd.{RankEnd}
+use Rattle.nc_base.specs.declared.run.RankStop.{RankStop}
+use Rattle.nc_base.specs.declared.run.RankStop.TheVariants as stop
+use Rattle.nc_base.specs.declared.run.RunEnd.{RunEnd}
+use Rattle.nc_base.specs.declared.run.ServeEnd.{ServeEnd}
+use Rattle.nc_base.specs.declared.script.Hints.{Hints}
+use Rattle.nc_base.specs.declared.script.Script.{Script}
+use Rattle.nc_base.specs.declared.step.Mark.{Mark}
+use Rattle.nc_base.specs.declared.step.Offer.{Offer}
+use Rattle.nc_base.specs.declared.step.OwnerItem.{OwnerItem}
+use Rattle.nc_base.specs.declared.step.OwnerItem.TheVariants.{Stop}
+use Rattle.nc_base.specs.declared.step.RankItem.{RankItem}
+use Rattle.nc_base.specs.declared.step.StepErr.{StepErr}
+use Rattle.nc_base.specs.declared.step.StepErr.TheVariants as fault
+use Rattle.nc_outside.specs.Told.{BothTold}
+use Rattle.serial_spec.specs.Desk.{Desk, Seat, event, first_desk, free_seat, given_along, is_strange, offers_in, own_items, owed, served, stop_held, stops}
+use Rattle.serial_spec.specs.FileStep.{Setting, Counted, raised}
+use Rattle.serial_spec.specs.HeaderGrammar.{count_width, is_sound}
+use Rattle.serial_spec.specs.History.{Arrival, IsLegal, is_offer}
+use Rattle.serial_spec.specs.Joined.{opening_desk, run_of}
+use Rattle.serial_spec.specs.Lawful.{is_lawful}
+use Rattle.serial_spec.specs.RankSide.{rank_end}
+use Rattle.serial_spec.specs.SerialEnd.{Going, advance, closed, first_going, first_state, serial_from, setting_of, state_after}
+use Rattle.serial_spec.specs.Torn.{Begins, HasAnswers, HasAnswersOfEach, IsCutRun, IsLeft, IsTorn, OwnerStoodAt, StoodAt}
+use Rattle.serial_spec.specs.Torn.StoodAt.{in_step, in_close, between}
+use Rattle.collective_round.specs.Rounds.{as_setting, counted}
+use Rattle.join_laws.specs.Begun.{HasOffered}
+use Rattle.join_laws.proofs.ListLaws.{get_beside}
+use Rattle.join_laws.proofs.Completing.{completed, completed_by}
+use Rattle.turn_run.specs.Begun.{HasBegun}
+use Rattle.turn_run.specs.Said.{HasSaid}
+use Rattle.turn_run.specs.Seated.{calls_of}
+use Rattle.turn_run.proofs.CutRuns.{no_answers}
+use Rattle.turn_run.proofs.ListLaws.{get_mapped}
+use Rattle.turn_run.proofs.SaidLaws.{said_here, said_part, said_up}
+use Rattle.thread_run.specs.Attending.{HasAttended, HasBroken, HasFinished}
+use Rattle.thread_run.specs.Owned.{AreSingle}
+use Rattle.thread_run.specs.Refused.{HasCutService}
+use Rattle.thread_run.specs.Serving.{IsDone, IsDoneSo, opening}
+use Rattle.turn_run.specs.Run.{HasCut}
+use Rattle.thread_run.specs.Threads.{EndedAt, NoneBroke, most_known_of}
+use Rattle.thread_run.specs.Threads.EndedAt.{as_left, in_close as in_closing}
+use Rattle.thread_run.proofs.CutJoin.{Ran, Stands, cut_run, end_of_rank, last_end, Sits}
+use Rattle.thread_run.proofs.CutStood.{single_begun, stood_run}
+use Rattle.join_laws.proofs.JoinLaws.{stranger_on, owed_stop}
+use Rattle.thread_run.proofs.DeskRuns.{GoesOn, goes_on, served_on, stops_at}
+use Rattle.thread_run.proofs.ThreadRuns.{Finished, FinishedSo, finished, finished_so}
+use Rattle.thread_run.proofs.ThreadTies.{Own, Told, begun, broke_or_not, offered_all, own_of, puts, takes}
+
+-- ---- the part of a run that was done
+
+-- what came before the first strange arrival, or before the fault
+pub record Service (s : Setting) (d : Desk) (ranks : ℕ) (arrivals : List Arrival) (given : ℕ → List OwnerItem) (order : List Mark) : Type 0 where
+  pub first : List Arrival
+  pub later : List Arrival
+  pub all : arrivals ≡ first ++ later
+  pub none : (served s d first).stranger ≡ None
+  pub order_is : order ≡ (served s d first).marks
+  pub gives : (q : ℕ) → q < ranks → (k : ℕ) × (given q ≡ given_along s d first q ++ replicate k Stop)
+
+pub service_cut : (s : Setting) (d : Desk) (ranks n : ℕ) (e : StepErr) (arrivals : List Arrival) (given : ℕ → List OwnerItem) (order : List Mark) (held : Option (List ℕ)) → ranks ≡ length d.seats
+    → HasCutService s e d arrivals order held n given → Service s d ranks arrivals given order
+service_cut s d ranks n e arrivals given order held long h = record {
+  first = h.first;
+  later = h.later;
+  all = h.all;
+  none = h.service.no_stranger;
+  order_is = h.service.in_order;
+  gives = λ q l.
+      let low : q < length d.seats = omega arith in
+      let g = h.service.gives q low in
+      (g.stopped, g.whole ∙ ap (λ (items : List OwnerItem). items ++ replicate g.stopped Stop) (sym (append-nil g.replies) ∙ ap (λ (items : List OwnerItem). g.replies ++ items) (sym (h.all_heard q low)) ∙ g.begins));
+}
+
+-- without a fault
+record Front (s : Setting) (d : Desk) (arrivals : List Arrival) : Type 0 where
+  first : List Arrival
+  later : List Arrival
+  all : arrivals ≡ first ++ later
+  none : (served s d first).stranger ≡ None
+  marks : (served s d arrivals).marks ≡ (served s d first).marks
+  desk : (served s d arrivals).desk ≡ (served s d first).desk
+  owes : (q : ℕ) → owed s (served s d first).desk later q ≡ stops (served s d first).desk later q
+
+front : (s : Setting) (arrivals : List Arrival) (d : Desk) → Front s d arrivals
+front s [] d = record { first = []; later = []; all = refl; none = refl; marks = refl; desk = refl; owes = λ q. refl }
+front s (a ∷ rest) d = by (is_strange s d a) refl (front s rest (event s d a).desk)
+  where
+    by : (v : Bool) → is_strange s d a ≡ v → Front s (event s d a).desk rest → Front s d (a ∷ rest)
+    by true f again =
+        let at = stops_at s d a rest f in
+        record { first = []; later = a ∷ rest; all = refl; none = refl; marks = at.marks; desk = at.desk; owes = λ q. owed_stop s d a rest q f }
+    by false f again =
+        let long = served_on s d a rest f in
+        let short = served_on s d a again.first f in
+        record {
+          first = a ∷ again.first;
+          later = again.later;
+          all = ap (λ (xs : List Arrival). a ∷ xs) again.all;
+          none = short.stranger ∙ again.none;
+          marks = long.marks ∙ ap (λ (ms : List Mark). (event s d a).marks ++ ms) again.marks ∙ sym short.marks;
+          desk = long.desk ∙ again.desk ∙ sym short.desk;
+          owes = λ q. ap (λ (e : Desk). owed s e again.later q) short.desk ∙ again.owes q ∙ ap (λ (e : Desk). stops e again.later q) (sym short.desk);
+        }
+
+stops_are : (xs : List RankItem) → map (λ (i : RankItem). Stop) xs ≡ replicate (length xs) Stop
+stops_are [] = refl
+stops_are (x ∷ xs) = ap (λ (items : List OwnerItem). Stop ∷ items) (stops_are xs)
+
+only_stops : (m : Option Seat) (xs : List RankItem) → (k : ℕ) × (stop_held m ++ map (λ (i : RankItem). Stop) xs ≡ replicate k Stop)
+only_stops None xs = (length xs, stops_are xs)
+only_stops (Some x) xs = by_held x.held x.ended
+  where
+    by_held : (held : Option Offer) (ended : Option Bool) → (k : ℕ) × (stop_held (Some (record { held = held; ended = ended })) ++ map (λ (i : RankItem). Stop) xs ≡ replicate k Stop)
+    by_held None ended = (length xs, stops_are xs)
+    by_held (Some p) ended = (suc (length xs), ap (λ (items : List OwnerItem). Stop ∷ items) (stops_are xs))
+
+pub service_done : (hints : Hints) (s : Setting) (d : Desk) (ranks : ℕ) (arrivals : List Arrival) (given : ℕ → List OwnerItem) (order : List Mark) → order ≡ (served s d arrivals).marks
+    → ((q : ℕ) → q < ranks → given q ≡ owed s d arrivals q) → (h : Service s d ranks arrivals given order) × ((served s d h.first).desk ≡ (served s d arrivals).desk)
+service_done hints s d ranks arrivals given order e owes =
+    let f = front s arrivals d in
+    let on = goes_on hints s d f.first f.later f.none in (
+      record {
+        first = f.first;
+        later = f.later;
+        all = f.all;
+        none = f.none;
+        order_is = e ∙ f.marks;
+        gives = λ q l.
+            let k = only_stops (slice_get (served s d f.first).desk.seats q) (filter is_offer (own_items q f.later)) in (
+              k.0,
+              owes q l ∙ ap (λ (xs : List Arrival). owed s d xs q) f.all ∙ on.owed_items q
+                  ∙ ap (λ (items : List OwnerItem). given_along s d f.first q ++ items) (f.owes q ∙ k.1),
+            );
+      },
+      sym f.desk,
+    )
+
+-- ---- the ranks
+
+stood_as : (script : Script) (s : Setting) (x e : StepErr) (state : Counted × List Going) (order : List Mark) (left : List ℕ) (records : ℕ) → (x ≡ e) ⊎ (e ≡ fault.Memory)
+    → StoodAt script s x state order left records → StoodAt script s e state order left records
+stood_as script s x e state order left records which (in_step m later legal l) = in_step m later legal l
+stood_as script s x e state order left records which (in_close legal l) = in_close legal l
+stood_as script s x e state order left records (inl same) (between later legal memory l k) = between later legal (sym same ∙ memory) l k
+stood_as script s x e state order left records (inr memory') (between later legal memory l k) = between later legal memory' l k
+
+rows_of : (script : Script) (e : StepErr) (table answers : List (List Answer)) → length table ≡ length script.calls → (e ≡ fault.Disk → answers ≡ table) → (answers ≡ table) ⊎ (answers ≡ []) → HasAnswersOfEach e script answers
+rows_of script fault.Disk table answers long disk are = let k = ap (λ (rows : List (List Answer)). length rows) (disk refl) in omega arith
+rows_of script fault.Memory table answers long disk (inl q) = let k = ap (λ (rows : List (List Answer)). length rows) q in omega arith
+rows_of script fault.Memory table answers long disk (inr q) = let k = ap (λ (rows : List (List Answer)). length rows) q in omega arith
+
+module _ (script : Script) (header : Header) (arrivals : List Arrival) (given : ℕ → List OwnerItem) (ends : List RankEnd) (sound : is_sound header ≡ true) (lawful : is_lawful script ≡ true)
+    (t : Told script header arrivals given ends) (file : List ℕ) (order : List Mark) (h : Service (setting_of script header) (opening_desk script header file) script.ranks arrivals given order) where
+  taken : ℕ → List OwnerItem
+  taken = takes script header arrivals given ends t
+
+  stopped : ℕ → ℕ
+  stopped q = length (given q) - length (given_along (setting_of script header) (opening_desk script header file) h.first q)
+
+  offered_of : HasOffered script header (h.first ++ h.later) (takes script header arrivals given ends t)
+  offered_of = subst (λ (xs : List Arrival). HasOffered script header xs (takes script header arrivals given ends t)) h.all (offered_all script header arrivals given ends t)
+
+  own_at : (r : ℕ) → r < script.ranks → (own : List Call) × (slice_get script.calls r ≡ Some own)
+  own_at r l = entry_below script.calls r (let k = t.calls in omega arith)
+
+  came : (r : ℕ) → r < script.ranks
+      → Begins (takes script header arrivals given ends t r) (given_along (setting_of script header) (opening_desk script header file) h.first r
+      ++ replicate (length (given r) - length (given_along (setting_of script header) (opening_desk script header file) h.first r)) Stop)
+  came r l =
+      let own = own_at r l in
+      let o = own_of script header arrivals given ends t r own.0 own.1 in
+      let g = h.gives r l in
+      let long = ap (λ (items : List OwnerItem). length items) g.1 ∙ length-append (given_along (setting_of script header) (opening_desk script header file) h.first r) (replicate g.0 Stop) in
+      let wide = length-replicate g.0 Stop in
+      let count : g.0 ≡ length (given r) - length (given_along (setting_of script header) (opening_desk script header file) h.first r) = omega arith in
+      (o.came_back.0, o.came_back.1 ∙ g.1 ∙ ap (λ (k : ℕ). given_along (setting_of script header) (opening_desk script header file) h.first r ++ replicate k Stop) count)
+
+  offers_front : (xs ys : List RankItem) → offers_in xs ≤ offers_in (xs ++ ys)
+  offers_front [] ys = omega arith
+  offers_front (x ∷ xs) ys = by (is_offer x) (offers_front xs ys)
+    where
+      by : (b : Bool) → offers_in xs ≤ offers_in (xs ++ ys) → length (cond b (x ∷ filter is_offer xs) (filter is_offer xs)) ≤ length (cond b (x ∷ filter is_offer (xs ++ ys)) (filter is_offer (xs ++ ys)))
+      by true l = omega arith
+      by false l = l
+
+  enough : (r : ℕ) → r < script.ranks → offers_in (own_items r (h.first ++ h.later)) ≤ length (takes script header arrivals given ends t r)
+  enough r l =
+      let own = own_at r l in
+      let o = own_of script header arrivals given ends t r own.0 own.1 in
+      let one = o.attended.one_each in
+      let few = offers_front (own_items r arrivals) o.arrived_of.0 in
+      let whole = ap (λ (items : List RankItem). offers_in items) o.arrived_of.1 in
+      let same = ap (λ (xs : List Arrival). offers_in (own_items r xs)) h.all in
+      omega arith
+
+  run : Ran (setting_of script header) (opening_desk script header file) (map (first_going header) script.calls) h.first h.later stopped (end_of_rank script header (takes script header arrivals given ends t))
+  unfolding stopped
+  run = cut_run script header file h.first h.later (takes script header arrivals given ends t) stopped sound t.calls h.none offered_of enough came
+
+  state_is : state_after script header file order ≡ ((run_of script header file h.first).desk.state, run.last)
+  state_is = ap (λ (ms : List Mark). state_after script header file ms) h.order_is ∙ run.folded
+
+  -- ---- its answers
+
+  own_answers : (e : StepErr) → (e ≡ fault.Disk → NoneBroke ends) → (r : ℕ) (g : Going) (end : RankEnd) → slice_get run.last r ≡ Some g → slice_get ends r ≡ Some end → HasAnswers header e g end.answers
+  own_answers e whole r g end a b =
+      let low : r < script.ranks = (let l = slice_get_within ends r end b in let k = t.long in omega arith) in
+      let own = own_at r low in
+      let o = own_of script header arrivals given ends t r own.0 own.1 in
+      let same : o.end ≡ end = same_Some o.end end (sym o.at_end ∙ b) in
+      let x = get_beside run.last (run_of script header file h.first).desk.seats r g (sym run.stands.long) a in
+      let ended : (advance header g).0 ≡ end_of_rank script header (takes script header arrivals given ends t) r =
+      last_end header x.0 g (own_items r h.later) (stopped r) (end_of_rank script header (takes script header arrivals given ends t) r) (run.stands.sits r x.0 g x.1 a) in
+      let its : calls_of script r ≡ own.0 = ap (λ (m : Option (List Call)). elim m [ None ↦ [] | Some cs ↦ cs ]) own.1 in
+      let all : (advance header g).0.answers ≡ (rank_end header (first_going header own.0) (takes script header arrivals given ends t r)).answers =
+      ap (λ (v : Going). v.answers) ended ∙ ap (λ (cs : List Call). (rank_end header (first_going header cs) (takes script header arrivals given ends t r)).answers) its in
+      said_up header e g end.answers (subst (λ (z : RankEnd). HasSaid e (advance header g) z.answers) same (by_end own.0 o all (broke_or_not o.end.end)))
+    where
+      by_cause : (x : StepErr) → x ≡ e → (e ≡ fault.Disk → ⊥) → e ≡ fault.Memory
+      by_cause fault.Memory f n = sym f
+      by_cause fault.Disk f n = absurd (n (sym f))
+
+      by_end : (own : List Call) (o : Own header own (own_items r arrivals) (given r) ends r (puts script header arrivals given ends t r) (takes script header arrivals given ends t r))
+          → (advance header g).0.answers ≡ (rank_end header (first_going header own) (takes script header arrivals given ends t r)).answers
+          → (o.end.end ≡ stop.Memory) ⊎ (o.end.end ≡ stop.Memory → ⊥) → HasSaid e (advance header g) o.end.answers
+      by_end own o all (inl memory) =
+          let b = o.attended.broken memory in
+          said_part e (advance header g) o.end.answers (by_cause e refl (λ disk. whole disk r o.end o.at_end memory)) (b.unanswered, b.answers ∙ sym all)
+      by_end own o all (inr n) = said_here e (advance header g) o.end.answers ((o.attended.finished n).answers ∙ sym all)
+
+  all_answers : (e : StepErr) → (e ≡ fault.Disk → NoneBroke ends) → (answers : List (List Answer)) → (answers ≡ map (λ end. end.answers) ends) ⊎ (answers ≡ [])
+      → (r : ℕ) (g : Going) (own : List Answer) → slice_get (state_after script header file order).1 r ≡ Some g → slice_get answers r ≡ Some own → HasAnswers header e g own
+  all_answers e whole answers (inr none) r g own a b = no_answers script header e order file answers none r g own a b
+  all_answers e whole answers (inl are) r g own a b =
+      let row = get_mapped (λ (end : RankEnd). end.answers) ends r own (ap (λ (rows : List (List Answer)). slice_get rows r) (sym are) ∙ b) in
+      subst (λ (xs : List Answer). HasAnswers header e g xs) row.1.1
+      (own_answers e whole r g row.0 (ap (λ (st : Counted × List Going). slice_get st.1 r) (sym state_is) ∙ a) row.1.0)
+
+  -- ---- where it stood
+
+  begun_order : HasBegun script order
+  begun_order = subst (λ (ms : List Mark). HasBegun script ms) (sym h.order_is) (begun script header arrivals given ends t file h.first h.later h.all lawful)
+
+  may_follow : (later : List Mark) × IsLegal script (order ++ later)
+  may_follow = completed script order lawful begun_order.known_ranks begun_order.each_rank
+
+  next_mark : (a : Arrival) (others : List Arrival) → h.later ≡ a ∷ others → is_strange (setting_of script header) (run_of script header file h.first).desk a ≡ false → (m : Mark)
+      → (event (setting_of script header) (run_of script header file h.first).desk a).marks ≡ m ∷ [] → (rest : List Mark) × IsLegal script (order ++ m ∷ rest)
+  next_mark a others is fit m marks =
+      let s = setting_of script header in
+      let d = opening_desk script header file in
+      let on = goes_on script.hints s d h.first (a ∷ []) h.none in
+      let one = served_on s (served s d h.first).desk a [] fit in
+      let same : (run_of script header file (h.first ++ a ∷ [])).marks ≡ order ++ m ∷ [] =
+      on.marks ∙ ap (λ (ms : List Mark). (served s d h.first).marks ++ ms) (one.marks ∙ append-nil (event s (served s d h.first).desk a).marks ∙ marks)
+      ∙ ap (λ (ms : List Mark). ms ++ m ∷ []) (sym h.order_is) in
+      let b = subst (λ (ms : List Mark). HasBegun script ms) same
+      (begun script header arrivals given ends t file (h.first ++ a ∷ []) others (h.all ∙ ap (λ (xs : List Arrival). h.first ++ xs) is ∙ sym (append_assoc h.first (a ∷ []) others)) lawful) in
+      completed_by script order m lawful b.known_ranks b.each_rank
+
+  stood_served : (e : StepErr) (left : List ℕ) (records : ℕ) → OwnerStoodAt (setting_of script header) e (run_of script header file h.first).desk h.later left records
+      → StoodAt script (setting_of script header) e (state_after script header file order) order left records
+  stood_served e left records at =
+      subst (λ (st : Counted × List Going). StoodAt script (setting_of script header) e st order left records) (sym state_is)
+      (stood_run script (setting_of script header) e (run_of script header file h.first).desk run.last order h.later left records (λ q. replicate (stopped q) Stop)
+      (end_of_rank script header (takes script header arrivals given ends t)) run.stands numbers may_follow next_mark at)
+    where
+      numbers : list_all (λ (b : Arrival). nat_lt b.0 (length (run_of script header file h.first).desk.seats)) h.later ≡ true
+      numbers =
+          let seats = run.stands.long ∙ run.long ∙ length-replicate (length script.calls) free_seat ∙ t.calls in
+          let both = sym (list_all-append (λ (a : Arrival). nat_lt a.0 script.ranks) h.first h.later) ∙ offered_of.numbers in
+          ap (λ (k : ℕ). list_all (λ (b : Arrival). nat_lt b.0 k) h.later) seats ∙ and_second (list_all (λ (a : Arrival). nat_lt a.0 script.ranks) h.first) _ both
+
+  single : AreSingle (h.first ++ h.later)
+  single = single_begun script header (h.first ++ h.later) (takes script header arrivals given ends t) t.calls offered_of
+
+-- ---- the run
+
+-- what is told of the end of a run with a fault
+pub record EndOfCut (header : Header) (ends : List RankEnd) (before : ServeEnd) (e : StepErr) (held : Option (List ℕ)) (count : ℕ) (left : Option (List ℕ)) (records : ℕ) (end : RunEnd) : Type 0 where
+  pub order : end.order ≡ before.order
+  pub at : EndedAt header ends before.fault e held count left records
+  pub rows : (end.answers ≡ map (λ x. x.answers) ends) ⊎ (end.answers ≡ [])
+  pub whole : e ≡ fault.Disk → NoneBroke ends
+  pub kept : e ≡ fault.Disk → end.answers ≡ map (λ x. x.answers) ends
+
+module _ (script : Script) (header : Header) (arrivals : List Arrival) (given : ℕ → List OwnerItem) (ends : List RankEnd) (sound : is_sound header ≡ true) (lawful : is_lawful script ≡ true)
+    (t : Told script header arrivals given ends) (file : List ℕ) where
+  abbrev desk : Desk
+  desk = opening_desk script header file
+
+  desk_is : opening script.ranks (counted file header.records) ≡ opening_desk script header file
+  desk_is = ap (λ (n : ℕ). first_desk (replicate n free_seat) (counted file header.records)) (sym t.calls)
+
+  ranks_are : script.ranks ≡ length (opening_desk script header file).seats
+  ranks_are = sym t.calls ∙ sym (length-replicate (length script.calls) free_seat)
+
+  as_run : (e : StepErr) (before : ServeEnd) (held : Option (List ℕ)) (count : ℕ) (left : Option (List ℕ)) (records : ℕ) (end : RunEnd) → EndOfCut header ends before e held count left records end
+      → (h : Service (setting_of script header) (opening_desk script header file) script.ranks arrivals given before.order) → (bytes : List ℕ)
+      → StoodAt script (setting_of script header) e (state_after script header file before.order) before.order bytes records → IsCutRun script header file e end.order bytes records end.answers
+  as_run e before held count left records end c h bytes at = subst (λ (ms : List Mark). IsCutRun script header file e ms bytes records end.answers) (sym c.order) (record {
+    stood = at;
+    each_rank = rows_of script e (map (λ (x : RankEnd). x.answers) ends) end.answers (length-map ends (λ (x : RankEnd). x.answers) ∙ t.long ∙ sym t.calls) c.kept c.rows;
+    some_answers = all_answers script header arrivals given ends sound lawful t file before.order h e c.whole end.answers c.rows;
+  })
+
+  -- the owner met a fault
+  cut_served : (x e : StepErr) (before : ServeEnd) (held : Option (List ℕ)) (count : ℕ) (left : Option (List ℕ)) (records : ℕ) (end : RunEnd) → EndOfCut header ends before e held count left records end
+      → (x ≡ e) ⊎ (e ≡ fault.Memory) → left ≡ held → records ≡ count
+      → HasCutService (setting_of script header) x (opening script.ranks (counted file header.records)) arrivals before.order held count given
+      → (bytes : List ℕ) × (left ≡ Some bytes) × IsCutRun script header file e end.order bytes records end.answers
+  unfolding service_cut
+  cut_served x e before held count left records end c which l k service =
+      let g = subst (λ (d : Desk). HasCutService (setting_of script header) x d arrivals before.order held count given) desk_is service in
+      let h = service_cut (setting_of script header) (opening_desk script header file) script.ranks count x arrivals given before.order held ranks_are g in
+      let alone = single script header arrivals given ends sound lawful t file before.order h in
+      let told = g.told (subst AreSingle (sym g.all) alone) in
+      let at = stood_served script header arrivals given ends sound lawful t file before.order h x g.left count (g.service.stood alone) in (
+        g.left,
+        l ∙ told,
+        as_run e before held count left records end c h g.left
+            (subst (λ (n : ℕ). StoodAt script (setting_of script header) e (state_after script header file before.order) before.order g.left n) (sym k)
+            (stood_as script (setting_of script header) x e (state_after script header file before.order) before.order g.left count which at)),
+      )
+
+  -- a rank had no memory, and the owner met no fault
+  cut_broken : (e : StepErr) (before : ServeEnd) (held : Option (List ℕ)) (count : ℕ) (left : Option (List ℕ)) (records : ℕ) (end : RunEnd) → EndOfCut header ends before e held count left records end
+      → e ≡ fault.Memory → left ≡ held → records ≡ count
+      → IsDone (setting_of script header) (opening script.ranks (counted file header.records)) arrivals script.ranks given before.order before.stranger
+      → IsDoneSo (setting_of script header) (opening script.ranks (counted file header.records)) arrivals script.ranks given held count
+      → (bytes : List ℕ) × (left ≡ Some bytes) × IsCutRun script header file e end.order bytes records end.answers
+  cut_broken e before held count left records end c memory l k done so =
+      let s = setting_of script header in
+      let d = subst (λ (d : Desk). IsDone s d arrivals script.ranks given before.order before.stranger) desk_is done in
+      let o = subst (λ (d : Desk). IsDoneSo s d arrivals script.ranks given held count) desk_is so in
+      let h = service_done script.hints s (opening_desk script header file) script.ranks arrivals given before.order d.order o.given in
+      let state = state_is script header arrivals given ends sound lawful t file before.order h.0 in
+      let there : (run_of script header file arrivals).desk.state ≡ (state_after script header file before.order).0 =
+      ap (λ (x : Desk). x.state) (sym h.1) ∙ sym (ap (λ (st : Counted × List Going). st.0) state) in
+      let may = may_follow script header arrivals given ends sound lawful t file before.order h.0 in (
+        (run_of script header file arrivals).desk.state.file,
+        l ∙ o.told,
+        as_run e before held count left records end c h.0 (run_of script header file arrivals).desk.state.file
+            (between may.0 may.1 memory (ap (λ (x : Counted). x.file) there) (k ∙ o.records ∙ ap (λ (x : Counted). x.records) there)),
+      )
+
+  -- the close was refused, or done before there was no memory
+  cut_closing : (e : StepErr) (before : ServeEnd) (held : Option (List ℕ)) (count : ℕ) (left : Option (List ℕ)) (records : ℕ) (end : RunEnd) → EndOfCut header ends before e held count left records end
+      → NoneBroke ends → BothTold (λ old now. IsTorn [] (byte_len (count_width header.version)) old (raised (as_setting header) (counted old count) (most_known_of ends)).file now) held left
+      → (records ≡ count) ⊎ (records ≡ max count (most_known_of ends))
+      → ((f : List ℕ) → IsDone (setting_of script header) (opening script.ranks (counted f header.records)) arrivals script.ranks given before.order before.stranger)
+      → IsDoneSo (setting_of script header) (opening script.ranks (counted file header.records)) arrivals script.ranks given held count
+      → (bytes : List ℕ) × (left ≡ Some bytes) × IsCutRun script header file e end.order bytes records end.answers
+  cut_closing e before held count left records end c whole torn which done so =
+      let s = setting_of script header in
+      let d = subst (λ (d : Desk). IsDone s d arrivals script.ranks given before.order before.stranger) desk_is (done file) in
+      let o = subst (λ (d : Desk). IsDoneSo s d arrivals script.ranks given held count) desk_is so in
+      let h = service_done script.hints s (opening_desk script header file) script.ranks arrivals given before.order d.order o.given in
+      let state = state_is script header arrivals given ends sound lawful t file before.order h.0 in
+      let there : (run_of script header file arrivals).desk.state ≡ (state_after script header file before.order).0 =
+      ap (λ (x : Desk). x.state) (sym h.1) ∙ sym (ap (λ (st : Counted × List Going). st.0) state) in
+      let fin = finished script header arrivals given ends before.order before.stranger sound lawful t whole done in
+      let last = subst (λ (d : Desk). FinishedSo script header arrivals ends before.order file (served s d arrivals).desk) desk_is
+      (finished_so script header arrivals given ends before.order before.stranger sound lawful t whole done file held count so) in
+      let st = (run_of script header file arrivals).desk.state in
+      let b = subst (λ (m : Option (List ℕ)). BothTold (λ old now. IsTorn [] (byte_len (count_width header.version)) old (raised (as_setting header) (counted old count) (most_known_of ends)).file now) m left) o.told torn in
+      let file_is : (raised (as_setting header) (counted st.file count) (most_known_of ends)).file ≡ (serial_from script header file before.order).bytes =
+      ap (λ (n : ℕ). (raised (as_setting header) (counted st.file n) (most_known_of ends)).file) o.records ∙ last.bytes in (
+        b.0,
+        b.1,
+        as_run e before held count left records end c h.0 b.0
+            (in_close fin.legal
+            (subst (λ (old : Counted). IsLeft header [] old (record { file = (serial_from script header file before.order).bytes; records = (serial_from script header file before.order).records }) b.0 records) there (
+              subst (λ (f : List ℕ). IsTorn [] (byte_len (count_width header.version)) st.file f b.0) file_is b.2,
+              by_count st.records (serial_from script header file before.order).records o.records (last.records) which,
+            ))),
+      )
+    where
+      by_count : (n m : ℕ) → count ≡ n → max n (most_known_of ends) ≡ m → (records ≡ count) ⊎ (records ≡ max count (most_known_of ends)) → (records ≡ n) ⊎ (records ≡ m)
+      by_count n m e f (inl q) = inl (q ∙ e)
+      by_count n m e f (inr q) = inr (q ∙ ap (λ (k : ℕ). max k (most_known_of ends)) e ∙ f)
+
+  cut_at : (e : StepErr) (before : ServeEnd) (held : Option (List ℕ)) (count : ℕ) (left : Option (List ℕ)) (records : ℕ) (end : RunEnd) → EndOfCut header ends before e held count left records end
+      → EndedAt header ends before.fault e held count left records
+      → (before.fault ≡ None → (f : List ℕ) → IsDone (setting_of script header) (opening script.ranks (counted f header.records)) arrivals script.ranks given before.order before.stranger)
+      → (before.fault ≡ None → IsDoneSo (setting_of script header) (opening script.ranks (counted file header.records)) arrivals script.ranks given held count)
+      → ((x : StepErr) → before.fault ≡ Some x → HasCutService (setting_of script header) x (opening script.ranks (counted file header.records)) arrivals before.order held count given)
+      → (bytes : List ℕ) × (left ≡ Some bytes) × IsCutRun script header file e end.order bytes records end.answers
+  cut_at e before held count left records end c (in_closing none whole torn which) done so cut = cut_closing e before held count left records end c whole torn which (done none) (so none)
+  cut_at e before held count left records end c (as_left (inl some) l k) done so cut = cut_served e e before held count left records end c (inl refl) l k (cut e some)
+  cut_at e before held count left records end c (as_left (inr memory) l k) done so cut = by_fault before.fault refl
+    where
+      by_fault : (m : Option StepErr) → before.fault ≡ m → (bytes : List ℕ) × (left ≡ Some bytes) × IsCutRun script header file e end.order bytes records end.answers
+      by_fault None f = cut_broken e before held count left records end c memory l k (done f file) (so f)
+      by_fault (Some x) f = cut_served x e before held count left records end c (inr memory) l k (cut x f)
+
+pub run_cut : (script : Script) (header : Header) (arrivals : List Arrival) (given : ℕ → List OwnerItem) (ends : List RankEnd) → is_sound header ≡ true → is_lawful script ≡ true
+    → Told script header arrivals given ends → (told held : Option (List ℕ)) (count : ℕ) (before : ServeEnd) (left : Option (List ℕ)) (records : ℕ) (end : RunEnd) (n : ℕ) → n ≡ script.ranks
+    → (before.fault ≡ None → (file : List ℕ) → IsDone (setting_of script header) (opening n (counted file header.records)) arrivals n given before.order before.stranger)
+    → (before.fault ≡ None → IfSome told (λ file. IsDoneSo (setting_of script header) (opening n (counted file header.records)) arrivals n given held count))
+    → ((x : StepErr) → before.fault ≡ Some x → IfSome told (λ file. HasCutService (setting_of script header) x (opening n (counted file header.records)) arrivals before.order held count given))
+    → ((e : StepErr) → end.fault ≡ Some e → EndOfCut header ends before e held count left records end) → HasCut script header told left records end
+run_cut script header arrivals given ends sound lawful t told held count before left records end n same done so cut c e is =
+    by_ranks n same done so cut
+  where
+    by_told : (m : Option (List ℕ))
+        → (before.fault ≡ None → (file : List ℕ) → IsDone (setting_of script header) (opening script.ranks (counted file header.records)) arrivals script.ranks given before.order before.stranger)
+        → (before.fault ≡ None → IfSome m (λ file. IsDoneSo (setting_of script header) (opening script.ranks (counted file header.records)) arrivals script.ranks given held count))
+        → ((x : StepErr) → before.fault ≡ Some x → IfSome m (λ file. HasCutService (setting_of script header) x (opening script.ranks (counted file header.records)) arrivals before.order held count given))
+        → IfSome m (λ file. (bytes : List ℕ) × (left ≡ Some bytes) × IsCutRun script header file e end.order bytes records end.answers)
+    by_told None done so cut = tt
+    by_told (Some file) done so cut = cut_at script header arrivals given ends sound lawful t file e before held count left records end (c e is) (c e is).at done so cut
+
+    by_ranks : (k : ℕ) → k ≡ script.ranks
+        → (before.fault ≡ None → (file : List ℕ) → IsDone (setting_of script header) (opening k (counted file header.records)) arrivals k given before.order before.stranger)
+        → (before.fault ≡ None → IfSome told (λ file. IsDoneSo (setting_of script header) (opening k (counted file header.records)) arrivals k given held count))
+        → ((x : StepErr) → before.fault ≡ Some x → IfSome told (λ file. HasCutService (setting_of script header) x (opening k (counted file header.records)) arrivals before.order held count given))
+        → IfSome told (λ file. (bytes : List ℕ) × (left ≡ Some bytes) × IsCutRun script header file e end.order bytes records end.answers)
+    by_ranks k e done so cut =
+        by_told told (λ none file. subst (λ (m : ℕ). IsDone (setting_of script header) (opening m (counted file header.records)) arrivals m given before.order before.stranger) e (done none file))
+        (λ none. subst (λ (m : ℕ). IfSome told (λ file. IsDoneSo (setting_of script header) (opening m (counted file header.records)) arrivals m given held count)) e (so none))
+        (λ x some. subst (λ (m : ℕ). IfSome told (λ file. HasCutService (setting_of script header) x (opening m (counted file header.records)) arrivals before.order held count given)) e (cut x some))
