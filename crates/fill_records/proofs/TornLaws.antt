@@ -293,5 +293,7 @@ pub variable_refused : (header : Header) (held mid now : Option (List ℕ)) (k s
     → BothTold (λ old left. IsBetween old (filled header old) left) held now
 variable_refused header held mid now k size v next sound long room e b =
     change_refused held mid now (λ file. fold (fill_var header) file (fixed_variables header (take k header.vars))) (filled_variable header v) (filled header) e
-    (for_told held (λ file l. (some_filled header k file sound (omega arith),
-    subst (λ (f : List ℕ). IsBetween file (filled header file) f) (sym (filled_more header k v file next)) (some_filled header (k + 1) file sound (omega arith)))) long) b
+    (for_told held (λ file l. (
+      some_filled header k file sound (omega arith),
+      subst (λ (f : List ℕ). IsBetween file (filled header file) f) (sym (filled_more header k v file next)) (some_filled header (k + 1) file sound (omega arith)),
+    )) long) b

@@ -2,7 +2,7 @@
 use Rattle.std.proofs.Common.{◌≡◌, ℕ, ◌+◌, ◌-◌, ◌*◌, ◌<◌, ◌≤◌, ◌⊎◌, inl, inr, refl, sym, ◌∙◌, ap, subst, List, [], ◌∷◌, ◌++◌, length, Bool, true, false, Option, Some, None, Result, Ok, Err, arith}
 use Rattle.std.specs.Prelude.{not, ◌==◌, flat_map, IfSome, OnOk, OnErr, IsTrue}
 use Rattle.std.specs.List.{range_with_len}
-use Rattle.std.proofs.lemmas.Bool.Decides.{nat_tests}
+use borrow.Author.Tests.{eqb-true}
 use Rattle.nc_outside.specs.DiskState.{PartlyWritten}
 use Rattle.nc_outside.specs.Told.{after, BothTold}
 use Rattle.overlay_laws.specs.Entries.{In}
@@ -105,12 +105,16 @@ outside_window z j x s w e h = subst (λ (v : Slab). IsOutside v.to v.len x) (sy
     by_side (inl l) = inl (omega arith)
     by_side (inr l) = inr (omega arith)
 
-pub changed : (s : Slab) → (s.from == s.to) ≡ false → IsTrue (changes s)
-changed s e = ap (λ (b : Bool). not b) e
+changed : (s : Slab) → (s.from ≡ s.to → ⊥) → IsTrue (changes s)
+changed s differ = by_test (s.from == s.to) refl
+  where
+    by_test : (t : Bool) → (s.from == s.to) ≡ t → IsTrue (changes s)
+    by_test true e = absurd (differ (eqb-true s.from s.to e))
+    by_test false e = ap (λ (b : Bool). not b) e
 
 -- the only slab
-pub outside_one : (s : Slab) (x : ℕ) → (s.from == s.to) ≡ false → IsUnmoved (s ∷ []) x → IsOutside s.to s.len x
-outside_one s x e h = h s (inl refl) (changed s e)
+pub outside_one : (s : Slab) (x : ℕ) → (s.from ≡ s.to → ⊥) → IsUnmoved (s ∷ []) x → IsOutside s.to s.len x
+outside_one s x differ h = h s (inl refl) (changed s differ)
 
 pub unmoved_of : (some all : List Slab) (x : ℕ) → ((s : Slab) → In some s → In all s) → IsUnmoved all x → IsUnmoved some x
 unmoved_of some all x f h s i c = h s (f s i) c

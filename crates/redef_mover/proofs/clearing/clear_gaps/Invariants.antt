@@ -1,5 +1,5 @@
 -- The gaps between the slabs of the records that are left, cleared as they are, give the whole.
-use Rattle.std.proofs.Common.{◌≡◌, ◌≤◌}
+use Rattle.std.proofs.Common.{◌≡◌, ◌≤◌, ℕ}
 use Rattle.nc_outside.specs.Told.{after, with_end, BothTold}
 use Rattle.redef_mover.specs.Kept.{IsBeside, IsKept}
 use Rattle.redef_laws.specs.Rising.{gaps}
