@@ -1,8 +1,9 @@
 // The filling of a new dataset.
-ghost use Rattle.std.specs.Prelude.{◌≡◌, ◌<◌, ◌≤◌, ◌+◌, ◌%◌, ◌^◌, true, flat_map, length, take, drop, slice_get, IfSome, IfOk, OnOk};
+ghost use Rattle.std.specs.Prelude.{◌≡◌, ◌<◌, ◌≤◌, ◌+◌, ◌%◌, ◌^◌, true, flat_map, length, take, drop, slice_get, IfSome, IfOk, OnOk, OnErr};
 ghost use Rattle.fill_records.specs.Filling.{fill_stores, repeated, filled_variable, variable_stores};
 ghost use Rattle.nc_outside.specs.Cause.{HasDiskCause};
-ghost use Rattle.nc_outside.specs.Told.{after, with_end};
+ghost use Rattle.nc_outside.specs.Told.{after, with_end, BothTold};
+ghost use Rattle.overlay_laws.specs.Changes.{IsBetween};
 ghost use Rattle.serial_spec.specs.DeviceCalls.{stores};
 ghost use Rattle.serial_spec.specs.File.{written};
 ghost use Rattle.serial_spec.specs.Fill.{filled};
@@ -17,7 +18,7 @@ use type_external::size_of;
 use var_layout::{is_record, slab};
 
 /// Fills the fixed variables of a new dataset, in order of definition, by writes of `size` bytes, the last of each variable shorter
-/// or equal. Bytes between variables stay. Refused, it leaves what was written before.
+/// or equal. Bytes between variables stay. Refused, it leaves each byte old or as it would have been.
 ///
 /// It takes memory for one write and at most two values more.
 pub fn prefill<D: Disk>(
@@ -32,11 +33,13 @@ pub fn prefill<D: Disk>(
     requires some { 1 ≤ size }
     requires most { size ≤ 2 ^ 25 }
     ensures bytes { OnOk result (D.held disk.new ≡ after (filled header.now) (D.held disk.old)) }
+    ensures refused { OnErr result (BothTold (λ old left. IsBetween old (filled header.now old) left) (D.held disk.old) (D.held disk.new)) }
     ensures calls { OnOk result (D.calls disk.new ≡ with_end (D.calls disk.old) (fill_stores size header.now)) }
     ensures from { D.from disk.new ≡ 0 }
     ensures len { D.len disk.new ≡ D.len disk.old }
     ensures cause { HasDiskCause (D.faults disk.old) (D.faults disk.new) result }
 {
+    let _length = disk.size();
     for var in 0..header.vars.len() {
         fill_variable(alloc, disk, header, var, size)?;
     }
@@ -58,6 +61,7 @@ fn fill_variable<D: Disk>(
     requires some { 1 ≤ size }
     requires most { size ≤ 2 ^ 25 }
     ensures bytes { OnOk result (IfSome (slice_get header.now.vars var) (λ v. D.held disk.new ≡ after (filled_variable header.now v) (D.held disk.old))) }
+    ensures refused { OnErr result (IfSome (slice_get header.now.vars var) (λ v. BothTold (λ old left. IsBetween old (filled_variable header.now v old) left) (D.held disk.old) (D.held disk.new))) }
     ensures calls { OnOk result (IfSome (slice_get header.now.vars var) (λ v. D.calls disk.new ≡ with_end (D.calls disk.old) (variable_stores size header.now v))) }
     ensures from { D.from disk.new ≡ 0 }
     ensures len { D.len disk.new ≡ D.len disk.old }
@@ -91,6 +95,7 @@ fn write_value<D: Disk>(
     requires some { 1 ≤ size }
     requires most { size ≤ 2 ^ 25 }
     ensures bytes { OnOk result (D.held disk.new ≡ after (λ file. written file begin (repeated value.now 0 len)) (D.held disk.old)) }
+    ensures refused { OnErr result (BothTold (λ old left. IsBetween old (written old begin (repeated value.now 0 len)) left) (D.held disk.old) (D.held disk.new)) }
     ensures calls { OnOk result (D.calls disk.new ≡ with_end (D.calls disk.old) (stores size begin len)) }
     ensures from { D.from disk.new ≡ 0 }
     ensures len { D.len disk.new ≡ D.len disk.old }

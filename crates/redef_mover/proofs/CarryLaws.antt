@@ -145,7 +145,7 @@ bare_zero file b end (s ∷ ss) x h l m bare = elim (bare s (inl refl)) [
 
 -- ---- the whole
 
-longer_long : (file : List ℕ) (n : ℕ) → length (longer file n) ≡ max (length file) n
+pub longer_long : (file : List ℕ) (n : ℕ) → length (longer file n) ≡ max (length file) n
 longer_long file n = grind (arith, common_steps)
 
 -- the file before the header is written

@@ -14,3 +14,5 @@ pub mod ListedLaws
 pub mod CarryLaws
 pub mod CallsLaws
 pub mod AppliedLaws
+pub mod KeptLaws
+pub mod CutLaws

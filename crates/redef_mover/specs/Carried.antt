@@ -2,12 +2,13 @@
 --     IsCarriable old new            the slabs of the old variables lie one behind another in both files, below the new end, and move up or stay
 --     carried old new file           the file, longer where it is too short, with its slabs at the new places, zeros in the gaps, and the new header
 --     carry_calls z old new file     the calls, in windows of z bytes
-use Rattle.std.specs.Prelude.{◌≡◌, ℕ, ◌+◌, ◌^◌, ◌<◌, ◌≤◌, List, [], ◌∷◌, ◌++◌, length, reverse, true}
+--     IsPartlyCarried old new file left      what it leaves of a file where it is refused
+use Rattle.std.specs.Prelude.{◌≡◌, ℕ, ◌+◌, ◌^◌, ◌<◌, ◌≤◌, max, ◌⊎◌, List, [], ◌∷◌, ◌++◌, length, reverse, true}
 use Rattle.nc_base.specs.declared.header.Header.{Header}
 use Rattle.nc_base.specs.declared.step.DiskCall.{DiskCall}
 use Rattle.nc_base.specs.declared.step.DiskCall.TheVariants.{Store}
 use Rattle.serial_spec.specs.DeviceCalls.{Slab, grow_to}
-use Rattle.serial_spec.specs.File.{longer, written}
+use Rattle.serial_spec.specs.File.{at, longer, written}
 use Rattle.serial_spec.specs.HeaderGrammar.{canon, header_len, is_sound, is_writable}
 use Rattle.overlay_laws.specs.Entries.{In}
 use Rattle.redef_laws.specs.Rising.{gaps, rising, IsRisen}
@@ -31,3 +32,12 @@ abbrev pub carry_calls : ℕ → Header → Header → List ℕ → List DiskCal
 carry_calls z old new file =
     let end = new_end old new in
     grow_to (length file) end ++ all_calls z (reverse (rising old new)) ++ gap_calls z (gaps (header_len new) end (rising old new)) ++ Store 0 (header_len new) ∷ []
+
+-- Where the new header stands, each byte is old or that of the header; bytes past the new end stay, and those of each slab that
+-- has its place already.
+pub record IsPartlyCarried (old new : Header) (file left : List ℕ) : Type 0 where
+  pub long : length file ≤ length left
+  pub short : length left ≤ max (length file) (new_end old new)
+  pub head : (x : ℕ) → x < header_len new → (at left x ≡ at file x) ⊎ (at left x ≡ at (canon new) x)
+  pub past : (x : ℕ) → new_end old new ≤ x → at left x ≡ at file x
+  pub stays : (s : Slab) → In (rising old new) s → s.from ≡ s.to → (x : ℕ) → s.to ≤ x → x < s.to + s.len → at left x ≡ at file x

@@ -2,4 +2,5 @@ pub mod Relocation
 pub mod Placing
 pub mod Ranges
 pub mod Moves
+pub mod Kept
 pub mod Carried

@@ -1,7 +1,8 @@
 // Zeros in the gaps between the slabs at their new places.
 ghost use Rattle.std.specs.Prelude.{◌≡◌, ◌≤◌, ◌+◌, length, map, min, replicate, take, IfOk, OnOk};
 ghost use Rattle.nc_outside.specs.Cause.{HasDiskCause};
-ghost use Rattle.nc_outside.specs.Told.{after, with_end};
+ghost use Rattle.nc_outside.specs.Told.{after, with_end, BothTold};
+ghost use Rattle.redef_mover.specs.Kept.{IsBeside, IsKept, IsOutside};
 ghost use Rattle.redef_laws.specs.Rising.{gaps};
 ghost use Rattle.redef_mover.specs.Moves.{all_cleared, behind, cleared, further, gap_calls, gaps_before, listed, slab_of, AreClearable, AreSpaced, AreSteps};
 ghost use Rattle.serial_spec.specs.DeviceCalls.{stores};
@@ -29,6 +30,7 @@ pub(crate) fn clear_gaps<D: Disk>(
     requires zeros { zeros.now ≡ replicate (length zeros.now) 0 }
     requires room { min size end ≤ length zeros.now }
     ensures bytes { OnOk result (D.held disk.new ≡ after (λ file. all_cleared file (gaps first end (listed slabs.now))) (D.held disk.old)) }
+    ensures kept { BothTold (IsKept (IsBeside (gaps first end (listed slabs.now)))) (D.held disk.old) (D.held disk.new) }
     ensures calls { OnOk result (D.calls disk.new ≡ with_end (D.calls disk.old) (gap_calls size (gaps first end (listed slabs.now)))) }
     ensures from { D.from disk.new ≡ 0 }
     ensures len { D.len disk.new ≡ D.len disk.old }
@@ -58,6 +60,7 @@ fn clear_before<D: Disk>(
     requires zeros { zeros.now ≡ replicate (length zeros.now) 0 }
     ensures place { IfOk result (λ place. place ≡ behind at (map (further offset.old offset.new) (map slab_of slabs.now))) }
     ensures bytes { OnOk result (D.held disk.new ≡ after (λ file. all_cleared file (gaps_before at (map (further offset.old offset.new) (map slab_of slabs.now)))) (D.held disk.old)) }
+    ensures kept { BothTold (IsKept (IsBeside (gaps_before at (map (further offset.old offset.new) (map slab_of slabs.now))))) (D.held disk.old) (D.held disk.new) }
     ensures calls { OnOk result (D.calls disk.new ≡ with_end (D.calls disk.old) (gap_calls size (gaps_before at (map (further offset.old offset.new) (map slab_of slabs.now))))) }
     ensures from { D.from disk.new ≡ 0 }
     ensures len { D.len disk.new ≡ D.len disk.old }
@@ -87,6 +90,7 @@ fn clear<D: Disk>(
     requires zeros { zeros.now ≡ replicate (length zeros.now) 0 }
     requires room { min size len ≤ length zeros.now }
     ensures bytes { OnOk result (D.held disk.new ≡ after (λ file. cleared file (at, len)) (D.held disk.old)) }
+    ensures kept { BothTold (IsKept (IsOutside at len)) (D.held disk.old) (D.held disk.new) }
     ensures calls { OnOk result (D.calls disk.new ≡ with_end (D.calls disk.old) (stores size at len)) }
     ensures from { D.from disk.new ≡ 0 }
     ensures len { D.len disk.new ≡ D.len disk.old }

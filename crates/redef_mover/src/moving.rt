@@ -1,7 +1,8 @@
 // The slabs of the old variables at their new places.
 ghost use Rattle.std.specs.Prelude.{◌≡◌, ◌≤◌, ◌+◌, ◌∷◌, [], ℕ, length, map, reverse, OnOk};
 ghost use Rattle.nc_outside.specs.Cause.{HasDiskCause};
-ghost use Rattle.nc_outside.specs.Told.{after, with_end};
+ghost use Rattle.nc_outside.specs.Told.{after, with_end, BothTold};
+ghost use Rattle.redef_mover.specs.Kept.{IsKept, IsOutside, IsUnmoved};
 ghost use Rattle.redef_mover.specs.Moves.{all_calls, all_moved, further, listed, slab_calls, slab_moved, slab_of, window_calls, AreListed, AreMovable, IsMovable};
 
 use crate::slabs::{Offset, Shift, Slabs};
@@ -20,6 +21,7 @@ pub(crate) fn move_all<D: Disk>(
     requires slabs { AreListed (D.len disk.old) size (length buf.old) slabs.now }
     requires some { 1 ≤ size }
     ensures bytes { OnOk result (D.held disk.new ≡ after (λ file. all_moved file (reverse (listed slabs.now))) (D.held disk.old)) }
+    ensures kept { BothTold (IsKept (IsUnmoved (listed slabs.now))) (D.held disk.old) (D.held disk.new) }
     ensures calls { OnOk result (D.calls disk.new ≡ with_end (D.calls disk.old) (all_calls size (reverse (listed slabs.now)))) }
     ensures from { D.from disk.new ≡ 0 }
     ensures len { D.len disk.new ≡ D.len disk.old }
@@ -51,6 +53,7 @@ fn move_slabs<D: Disk>(
     requires movable { AreMovable (D.len disk.old) size (length buf.old) (map (further offset.old offset.new) (map slab_of slabs.now)) }
     requires some { 1 ≤ size }
     ensures bytes { OnOk result (D.held disk.new ≡ after (λ file. all_moved file (reverse (map (further offset.old offset.new) (map slab_of slabs.now)))) (D.held disk.old)) }
+    ensures kept { BothTold (IsKept (IsUnmoved (map (further offset.old offset.new) (map slab_of slabs.now)))) (D.held disk.old) (D.held disk.new) }
     ensures calls { OnOk result (D.calls disk.new ≡ with_end (D.calls disk.old) (all_calls size (reverse (map (further offset.old offset.new) (map slab_of slabs.now))))) }
     ensures from { D.from disk.new ≡ 0 }
     ensures len { D.len disk.new ≡ D.len disk.old }
@@ -75,6 +78,7 @@ fn move_changed<D: Disk>(
     requires movable { IsMovable (D.len disk.old) size (length buf.old) (slab_of slab.now) }
     requires some { 1 ≤ size }
     ensures bytes { OnOk result (D.held disk.new ≡ after (λ file. all_moved file (slab_of slab.now ∷ [])) (D.held disk.old)) }
+    ensures kept { BothTold (IsKept (IsUnmoved (slab_of slab.now ∷ []))) (D.held disk.old) (D.held disk.new) }
     ensures calls { OnOk result (D.calls disk.new ≡ with_end (D.calls disk.old) (all_calls size (slab_of slab.now ∷ []))) }
     ensures from { D.from disk.new ≡ 0 }
     ensures len { D.len disk.new ≡ D.len disk.old }
@@ -98,6 +102,7 @@ fn move_slab<D: Disk>(
     requires movable { IsMovable (D.len disk.old) size (length buf.old) (slab_of slab.now) }
     requires some { 1 ≤ size }
     ensures bytes { OnOk result (D.held disk.new ≡ after (λ file. slab_moved file (slab_of slab.now)) (D.held disk.old)) }
+    ensures kept { BothTold (IsKept (IsOutside slab.now.to slab.now.len)) (D.held disk.old) (D.held disk.new) }
     ensures calls { OnOk result (D.calls disk.new ≡ with_end (D.calls disk.old) (slab_calls size (slab_of slab.now))) }
     ensures from { D.from disk.new ≡ 0 }
     ensures len { D.len disk.new ≡ D.len disk.old }
@@ -122,6 +127,7 @@ fn move_window<D: Disk>(
     requires end { window.now.to + window.now.len ≤ D.len disk.old }
     requires room { window.now.len ≤ length buf.old }
     ensures bytes { OnOk result (D.held disk.new ≡ after (λ file. slab_moved file (slab_of window.now)) (D.held disk.old)) }
+    ensures kept { BothTold (IsKept (IsOutside window.now.to window.now.len)) (D.held disk.old) (D.held disk.new) }
     ensures calls { OnOk result (D.calls disk.new ≡ with_end (D.calls disk.old) (window_calls (slab_of window.now))) }
     ensures from { D.from disk.new ≡ 0 }
     ensures len { D.len disk.new ≡ D.len disk.old }

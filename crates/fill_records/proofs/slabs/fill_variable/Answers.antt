@@ -3,7 +3,8 @@ use Rattle.std.proofs.Common.{◌≡◌, ◌∙◌, sym, ap, false, true, arith}
 use Rattle.std.specs.Prelude.{slice_get}
 use Rattle.std.proofs.lemmas.Result.{on_ok_weaker}
 use Rattle.list_laws.proofs.Optional.{if_some_at}
-use Rattle.nc_outside.specs.Told.{after, with_end}
+use Rattle.nc_outside.specs.Told.{after, with_end, BothTold}
+use Rattle.overlay_laws.specs.Changes.{IsBetween}
 use Rattle.serial_spec.specs.File.{written}
 use Rattle.serial_spec.specs.Fill.{fill_bytes}
 use Rattle.serial_spec.specs.HeaderGrammar.{header_len}
@@ -11,6 +12,7 @@ use Rattle.serial_spec.specs.Layout.{is_record, slab}
 use Rattle.var_layout.proofs.ElementPlaces.{sound_end}
 use Rattle.var_layout.proofs.Soundness.{if_there}
 use Rattle.fill_records.specs.Filling.{repeated, filled_variable, variable_stores}
+use Rattle.fill_records.proofs.TornLaws.{err_weaker, whole_same}
 use Rattle.fill_records.proofs.VariableLaws.{got, room_long, fixed_end, record_kept, fixed_filled, record_stores, fixed_stores}
 use Rattle.fill_records.proofs.WindowLaws.{told_begin, told_end, for_told, no_calls}
 use Rattle.fill_records.proofs.slabs.fill_variable.Goals as goal
@@ -86,3 +88,23 @@ returns-clause-calls g c =
     (λ v. g.D.Disk.calls c.write_value.new.disk ≡ with_end (g.D.Disk.calls c.args.disk.now) (variable_stores c.args.size c.args.header.now v)) own
     (told ∙ ap (λ calls. with_end (g.D.Disk.calls c.args.disk.now) calls)
     (fixed_stores c.args.size c.args.header.now c.index-as_slice-var.result c.slab.result fixed same))) c.write_value.ensures.calls
+
+pub returns-clause-refused : goal.returns-clause-refused
+returns-clause-refused g c =
+    let own = got c.args.header.now.vars c.as_slice.result.now c.args.var c.index-as_slice-var.result c.as_slice.ensures c.requires.there c.index-as_slice-var.is in
+    let fixed : is_record c.args.header.now c.index-as_slice-var.result ≡ false = sym c.is_record.ensures ∙ c.if-is_record.false in
+    let end = fixed_end c.args.header.now (header_len c.args.header.now) c.args.var c.index-as_slice-var.result own fixed in
+    let same : c.slab.result ≡ slab c.args.header.now c.index-as_slice-var.result =
+    if_some_at (λ v. c.slab.result ≡ slab c.args.header.now v) (slice_get c.args.header.now.vars c.args.var) c.index-as_slice-var.result own c.slab.ensures.value in
+    let value : c.fill_value.new.into ≡ fill_bytes c.index-as_slice-var.result =
+    if_some_at (λ v. c.fill_value.new.into ≡ fill_bytes v) (slice_get c.args.header.now.vars c.args.var) c.index-as_slice-var.result own c.fill_value.ensures in
+    let long = c.requires.long in
+    err_weaker c.write_value.result (λ told.
+    if_there (slice_get c.args.header.now.vars c.args.var) c.index-as_slice-var.result
+    (λ v. BothTold (λ old left. IsBetween old (filled_variable c.args.header.now v old) left) (g.D.Disk.held c.args.disk.now) (g.D.Disk.held c.write_value.new.disk)) own
+    (whole_same (g.D.Disk.held c.args.disk.now) (g.D.Disk.held c.write_value.new.disk)
+    (λ file. written file c.index-as_slice-var.result.begin (repeated c.fill_value.new.into 0 c.slab.result)) (filled_variable c.args.header.now c.index-as_slice-var.result)
+    (for_told (g.D.Disk.held c.args.disk.now) (λ file e.
+    fixed_filled c.args.header.now c.index-as_slice-var.result c.fill_value.new.into file c.slab.result fixed value
+    (c.fill_value.auto.into ∙ room_long c.index-as_slice-var.result.kind c.size_of.result c.size_of.ensures) same (omega arith)) c.size-length.ensures.told)
+    told)) c.write_value.ensures.refused

@@ -3,11 +3,13 @@ use Rattle.std.proofs.Common.{◌≡◌, ◌∙◌, ◌+◌, ◌≤◌, ap, take
 use Rattle.std.specs.Prelude.{fold, flat_map}
 use Rattle.std.proofs.Math.Seq.{take_all}
 use Rattle.nc_base.specs.declared.header.Var.{Var}
-use Rattle.nc_outside.specs.Told.{after, with_end}
+use Rattle.nc_outside.specs.Told.{after, with_end, BothTold}
+use Rattle.overlay_laws.specs.Changes.{IsBetween}
 use Rattle.serial_spec.specs.DeviceCalls.{stores}
 use Rattle.serial_spec.specs.Fill.{fill_var}
 use Rattle.serial_spec.specs.Layout.{slab, fixed_variables}
 use Rattle.fill_records.specs.Filling.{filled_variable, variable_stores}
+use Rattle.fill_records.proofs.TornLaws.{on_err, variable_refused}
 use Rattle.fill_records.proofs.VariableLaws.{known_at, filled_more, fill_stores_more}
 use Rattle.fill_records.proofs.WindowLaws.{told_more, always_told, calls_more}
 use Rattle.fill_records.proofs.slabs.prefill.Goals as goal
@@ -45,3 +47,11 @@ returns-clause-bytes g c =
     c.loop-var.invariant.bytes
     ∙ ap (λ (vars : List Var). after (λ file. fold (fill_var c.args.header.now) file (fixed_variables c.args.header.now vars)) (g.D.Disk.held c.args.disk.now))
     (take_all c.loop-var.var c.args.header.now.vars all)
+
+pub returns-in_err-fill_variable-clause-refused : goal.returns-in_err-fill_variable-clause-refused
+returns-in_err-fill_variable-clause-refused g c =
+    let left = known_at (λ v. BothTold (λ old left. IsBetween old (filled_variable c.args.header.now v old) left) (g.D.Disk.held c.loop-var.disk) (g.D.Disk.held c.fill_variable.new.disk))
+    c.args.header.now.vars c.loop-var.var (omega arith) c.in_err-fill_variable.ensures.refused in
+    on_err c.from_residual.result
+    (variable_refused c.args.header.now (g.D.Disk.held c.args.disk.now) (g.D.Disk.held c.loop-var.disk) (g.D.Disk.held c.fill_variable.new.disk) c.loop-var.var (g.D.Disk.len c.args.disk.now)
+    left.0 left.1 c.requires.sound c.size-length.ensures.told c.requires.long c.loop-var.invariant.bytes left.2)

@@ -1,13 +1,15 @@
 -- The lists stand for all slabs, which rise below the new end.
-use Rattle.std.proofs.Common.{◌≡◌, ◌∙◌, subst, ap, length, List, ℕ, arith}
+use Rattle.std.proofs.Common.{◌≡◌, ◌∙◌, ◌-◌, ◌≤◌, refl, subst, ap, length, List, ℕ, arith}
 use Rattle.std.proofs.lemmas.Result.{on_ok_weaker}
 use Rattle.serial_spec.specs.DeviceCalls.{Slab}
 use Rattle.serial_spec.specs.HeaderGrammar.{header_len}
 use Rattle.overlay_laws.specs.Entries.{In}
-use Rattle.redef_laws.specs.Rising.{rising}
+use Rattle.redef_laws.specs.Rising.{gaps, rising}
 use Rattle.redef_laws.specs.Shifted.{new_end}
 use Rattle.redef_mover.specs.Moves.{listed}
 use Rattle.redef_mover.proofs.CallsLaws.{carry_called}
+use Rattle.redef_mover.proofs.CutLaws.{err_as, not_begun, on_err, on_way_cleared, on_way_end, on_way_grown, on_way_headed, on_way_moved, room_grown, room_kept}
+use Rattle.redef_mover.specs.Kept.{IsBeside, IsUnmoved}
 use Rattle.redef_mover.proofs.CarryLaws.{carriable_spaced}
 use Rattle.redef_mover.proofs.ListedLaws.{risen_up}
 use Rattle.redef_mover.proofs.ToldSteps.{when_ok}
@@ -43,3 +45,61 @@ returns-clause-calls g c =
     (ap (λ (b : List ℕ). length b) (c.as_slice.ensures ∙ c.in_ok-head.ensures))
     c.in_ok-grow_to.ensures.calls c.in_ok-move_all.ensures.calls c.in_ok-clear_gaps.ensures.calls)
     (when_ok c.write_at.result (g.D.Disk.calls c.write_at.new.self) _ _ c.write_at.ensures.calls)
+
+pub returns-in_err-slabs-clause-refused : goal.returns-in_err-slabs-clause-refused
+returns-in_err-slabs-clause-refused g c =
+    on_err c.from_residual.result (not_begun c.args.old.now c.args.new.now (g.D.Disk.held c.args.disk.now) (g.D.Disk.held c.args.disk.now) refl)
+
+pub returns-in_err-head-clause-refused : goal.returns-in_err-head-clause-refused
+returns-in_err-head-clause-refused g c =
+    on_err c.from_residual-in_err-head.result (not_begun c.args.old.now c.args.new.now (g.D.Disk.held c.args.disk.now) (g.D.Disk.held c.args.disk.now) refl)
+
+pub returns-in_err-buf-clause-refused : goal.returns-in_err-buf-clause-refused
+returns-in_err-buf-clause-refused g c =
+    on_err c.from_residual-in_err-buf.result (not_begun c.args.old.now c.args.new.now (g.D.Disk.held c.args.disk.now) (g.D.Disk.held c.args.disk.now) refl)
+
+pub returns-in_err-grow_to-clause-refused : goal.returns-in_err-grow_to-clause-refused
+returns-in_err-grow_to-clause-refused g c =
+    on_err c.from_residual-in_err-grow_to.result
+    (on_way_end c.args.old.now c.args.new.now (g.D.Disk.held c.args.disk.now) (g.D.Disk.held c.grow_to.new.disk)
+    (on_way_grown c.args.old.now c.args.new.now (g.D.Disk.held c.args.disk.now) (g.D.Disk.held c.grow_to.new.disk) c.end_of-end.result c.end_of-end.ensures c.in_err-grow_to.ensures.grown))
+
+pub returns-in_err-move_all-clause-refused : goal.returns-in_err-move_all-clause-refused
+returns-in_err-move_all-clause-refused g c =
+    let grown = on_way_grown c.args.old.now c.args.new.now (g.D.Disk.held c.args.disk.now) (g.D.Disk.held c.grow_to.new.disk) c.end_of-end.result c.end_of-end.ensures c.in_ok-grow_to.ensures.grown in
+    on_err c.from_residual-in_err-move_all.result
+    (on_way_end c.args.old.now c.args.new.now (g.D.Disk.held c.args.disk.now) (g.D.Disk.held c.move_all.new.disk)
+    (on_way_moved c.args.old.now c.args.new.now (g.D.Disk.held c.args.disk.now) (g.D.Disk.held c.grow_to.new.disk) (g.D.Disk.held c.move_all.new.disk) (listed c.in_ok-slabs.slabs)
+    c.requires.carriable c.in_ok-slabs.ensures.all grown c.in_err-move_all.ensures.kept))
+
+pub returns-in_err-clear_gaps-clause-refused : goal.returns-in_err-clear_gaps-clause-refused
+returns-in_err-clear_gaps-clause-refused g c =
+    let grown = on_way_grown c.args.old.now c.args.new.now (g.D.Disk.held c.args.disk.now) (g.D.Disk.held c.grow_to.new.disk) c.end_of-end.result c.end_of-end.ensures c.in_ok-grow_to.ensures.grown in
+    let moved = on_way_moved c.args.old.now c.args.new.now (g.D.Disk.held c.args.disk.now) (g.D.Disk.held c.grow_to.new.disk) (g.D.Disk.held c.move_all.new.disk) (listed c.in_ok-slabs.slabs)
+    c.requires.carriable c.in_ok-slabs.ensures.all grown c.in_ok-move_all.ensures.kept in
+    on_err c.from_residual-in_err-clear_gaps.result
+    (on_way_end c.args.old.now c.args.new.now (g.D.Disk.held c.args.disk.now) (g.D.Disk.held c.clear_gaps.new.disk)
+    (on_way_cleared c.args.old.now c.args.new.now (g.D.Disk.held c.args.disk.now) (g.D.Disk.held c.move_all.new.disk) (g.D.Disk.held c.clear_gaps.new.disk) (listed c.in_ok-slabs.slabs)
+    c.len.result c.end_of-end.result c.requires.carriable c.in_ok-slabs.ensures.all (c.len.ensures ∙ ap (λ (b : List ℕ). length b) c.in_ok-head.ensures) c.end_of-end.ensures moved
+    c.in_err-clear_gaps.ensures.kept))
+
+pub returns-clause-refused : goal.returns-clause-refused
+returns-clause-refused g c =
+    let grown = on_way_grown c.args.old.now c.args.new.now (g.D.Disk.held c.args.disk.now) (g.D.Disk.held c.grow_to.new.disk) c.end_of-end.result c.end_of-end.ensures c.in_ok-grow_to.ensures.grown in
+    let moved = on_way_moved c.args.old.now c.args.new.now (g.D.Disk.held c.args.disk.now) (g.D.Disk.held c.grow_to.new.disk) (g.D.Disk.held c.move_all.new.disk) (listed c.in_ok-slabs.slabs)
+    c.requires.carriable c.in_ok-slabs.ensures.all grown c.in_ok-move_all.ensures.kept in
+    let cleared = on_way_cleared c.args.old.now c.args.new.now (g.D.Disk.held c.args.disk.now) (g.D.Disk.held c.move_all.new.disk) (g.D.Disk.held c.clear_gaps.new.disk) (listed c.in_ok-slabs.slabs)
+    c.len.result c.end_of-end.result c.requires.carriable c.in_ok-slabs.ensures.all (c.len.ensures ∙ ap (λ (b : List ℕ). length b) c.in_ok-head.ensures) c.end_of-end.ensures moved
+    c.in_ok-clear_gaps.ensures.kept in
+    let zero = c.in_ok-clear_gaps.ensures.from in
+    let place : 0 - g.D.Disk.from c.clear_gaps.new.disk ≡ 0 = omega arith in
+    let end : c.end_of-end.result ≡ new_end c.args.old.now c.args.new.now = c.end_of-end.ensures in
+    let fits : header_len c.args.new.now ≤ c.end_of-end.result = omega arith in
+    let room = room_kept (IsBeside (gaps c.len.result c.end_of-end.result (listed c.in_ok-slabs.slabs))) (g.D.Disk.held c.move_all.new.disk) (g.D.Disk.held c.clear_gaps.new.disk) c.end_of-end.result
+    (room_kept (IsUnmoved (listed c.in_ok-slabs.slabs)) (g.D.Disk.held c.grow_to.new.disk) (g.D.Disk.held c.move_all.new.disk) c.end_of-end.result
+    (room_grown (g.D.Disk.held c.args.disk.now) (g.D.Disk.held c.grow_to.new.disk) c.end_of-end.result c.in_ok-grow_to.ensures.bytes) c.in_ok-move_all.ensures.kept)
+    c.in_ok-clear_gaps.ensures.kept in
+    err_as c.write_at.result
+    (on_way_headed c.args.old.now c.args.new.now (g.D.Disk.held c.args.disk.now) (g.D.Disk.held c.clear_gaps.new.disk) (g.D.Disk.held c.write_at.new.self) c.as_slice.result.now
+    (0 - g.D.Disk.from c.clear_gaps.new.disk) c.end_of-end.result c.requires.carriable (c.as_slice.ensures ∙ c.in_ok-head.ensures) place room fits cleared)
+    c.write_at.ensures.refused

@@ -1,9 +1,11 @@
 -- Each window goes on where the one before it ended.
-use Rattle.std.proofs.Common.{◌∙◌, ◌+◌, ◌-◌, ◌*◌, ◌<◌, ◌≤◌, min, refl, ap, length, [], ◌∷◌, arith}
+use Rattle.std.proofs.Common.{◌≡◌, ◌∙◌, ◌+◌, ◌-◌, ◌*◌, ◌<◌, ◌≤◌, min, refl, ap, length, [], ◌∷◌, arith}
 use Rattle.nc_base.specs.declared.step.DiskCall.TheVariants.{Store}
 use Rattle.nc_outside.specs.Told.{with_end}
 use Rattle.serial_spec.specs.File.{written}
+use Rattle.redef_mover.specs.Kept.{IsOutside}
 use Rattle.redef_mover.specs.Moves.{cleared}
+use Rattle.redef_mover.proofs.KeptLaws.{first_kept, kept_long, kept_more, kept_written, outside_part}
 use Rattle.redef_mover.proofs.ClearLaws.{all_stored, stores_before, stores_more, window_cleared, window_zeros, zeros_count}
 use Rattle.redef_mover.proofs.ToldSteps.{calls_more, told_more}
 use Rattle.redef_mover.proofs.WindowLaws.{window_inside}
@@ -43,3 +45,30 @@ returns-clause-calls g c =
     c.loop-window.invariant.calls
     ∙ ap (λ calls. with_end (g.D.Disk.calls c.args.disk.now) calls)
     (all_stored c.args.size c.args.at c.args.len c.loop-window.window c.div_ceil-window-end.result c.requires.some (omega arith) c.div_ceil-window-end.ensures)
+
+pub returns-in_err-write_at-clause-kept : goal.returns-in_err-write_at-clause-kept
+returns-in_err-write_at-clause-kept g c =
+    let x = c.args.at in
+    let z = c.args.size in
+    let len = c.args.len in
+    let j = c.loop-window.window in
+    let inside : j * z < len = window_inside z len j c.div_ceil-window-end.result c.requires.some c.div_ceil-window-end.ensures c.loop-window-test.true in
+    let room : c.min.result ≤ length c.args.zeros.now = (let some = c.min.ensures in let most = c.requires.room in omega arith) in
+    let zeros = window_zeros c.args.zeros.now c.first_of-bytes.result.now c.min.result c.requires.zeros room c.first_of-bytes.ensures in
+    let end = c.requires.inside in
+    let some = c.min.ensures in
+    let zero = c.loop-window.invariant.from in
+    let place : x + j * z - g.D.Disk.from c.loop-window.disk ≡ x + j * z = omega arith in
+    let before = first_kept (g.D.Disk.held c.args.disk.now) (g.D.Disk.held c.loop-window.disk) x (min len (j * z)) len (g.D.Disk.len c.args.disk.now) c.size-length.ensures.told
+    (omega arith) end c.loop-window.invariant.bytes in
+    kept_more (IsOutside (x + j * z) c.min.result) (IsOutside x len) (g.D.Disk.held c.args.disk.now) (g.D.Disk.held c.loop-window.disk) (g.D.Disk.held c.write_at.new.self)
+    (λ y h. outside_part x len (x + j * z) c.min.result y (omega arith) (omega arith) h) before
+    (kept_written c.write_at.result (g.D.Disk.held c.loop-window.disk) (g.D.Disk.held c.loop-window.disk) (g.D.Disk.held c.write_at.new.self) c.first_of-bytes.result.now
+    (x + j * z - g.D.Disk.from c.loop-window.disk) (x + j * z) c.min.result (g.D.Disk.len c.args.disk.now)
+    (kept_long (IsOutside x len) (g.D.Disk.held c.args.disk.now) (g.D.Disk.held c.loop-window.disk) (g.D.Disk.len c.args.disk.now) c.size-length.ensures.told before)
+    refl place (zeros_count c.first_of-bytes.result.now c.min.result zeros) (omega arith) c.write_at.ensures.bytes c.write_at.ensures.refused)
+
+pub returns-clause-kept : goal.returns-clause-kept
+returns-clause-kept g c =
+    first_kept (g.D.Disk.held c.args.disk.now) (g.D.Disk.held c.loop-window.disk) c.args.at (min c.args.len (c.loop-window.window * c.args.size)) c.args.len (g.D.Disk.len c.args.disk.now)
+    c.size-length.ensures.told (omega arith) c.requires.inside c.loop-window.invariant.bytes

@@ -1,9 +1,11 @@
 -- The first of the slabs that are left ends where the next gap begins.
-use Rattle.std.proofs.Common.{◌∙◌, ◌+◌, ◌-◌, ◌≤◌, sym, ap, length, List, get_or, drop, ℕ, arith}
+use Rattle.std.proofs.Common.{refl, ◌∙◌, ◌+◌, ◌-◌, ◌≤◌, sym, ap, length, List, get_or, drop, ℕ, arith}
 use Rattle.nc_outside.specs.Told.{after, with_end}
 use Rattle.serial_spec.specs.DeviceCalls.{Slab}
 use Rattle.redef_mover.specs.declared.slabs.Shift.{Shift}
+use Rattle.redef_mover.specs.Kept.{IsBeside, IsOutside}
 use Rattle.redef_mover.specs.Moves.{all_cleared, behind, further, gap_calls, gaps_before, slab_of}
+use Rattle.redef_mover.proofs.KeptLaws.{beside_first, beside_rest, kept_more, kept_still}
 use Rattle.redef_mover.proofs.ClearLaws.{first_clearable, left_cleared, left_stored, none_after, none_behind, none_uncleared, none_unstored, slabs_left}
 use Rattle.redef_mover.proofs.clearing.clear_before.Invariants.{left}
 use Rattle.redef_mover.proofs.clearing.clear_before.Goals as goal
@@ -58,6 +60,19 @@ overflow_add-at g c =
     let inside = first.inside in
     omega arith
 
+pub loop-slab-init : goal.loop-slab-init
+loop-slab-init g c = record {
+  from = c.requires.from;
+  len = refl;
+  clearable = c.requires.clearable;
+  place = refl;
+  bytes = refl;
+  calls = refl;
+  others = λ x h. h;
+  kept = kept_still (IsBeside (gaps_before c.args.at (left c.args.offset.old c.args.offset.new c.args.slabs.now))) (g.D.Disk.held c.args.disk.now);
+  faults = omega arith;
+}
+
 pub loop-slab-preserved : goal.loop-slab-preserved
 loop-slab-preserved g c =
     let a = c.args.offset.old in
@@ -83,6 +98,10 @@ loop-slab-preserved g c =
       calls = left_stored (with_end (g.D.Disk.calls c.args.disk.now) (gap_calls c.args.size (gaps_before c.args.at (left a b ss))))
           (g.D.Disk.calls c.loop-slab.disk) (g.D.Disk.calls c.clear.new.disk) c.args.size (at, s.to - at) (gaps_before (s.to + s.len) others) (gaps_before at (left a b (drop i ss)))
           gaps c.loop-slab.invariant.calls c.in_ok-clear.ensures.calls;
+      others = λ x h. beside_rest (at, s.to - at) (gaps_before (s.to + s.len) others) (gaps_before at (left a b (drop i ss))) x gaps (c.loop-slab.invariant.others x h);
+      kept = kept_more (IsOutside at (s.to - at)) (IsBeside (gaps_before c.args.at (left a b ss))) (g.D.Disk.held c.args.disk.now) (g.D.Disk.held c.loop-slab.disk) (g.D.Disk.held c.clear.new.disk)
+          (λ x h. beside_first (at, s.to - at) (gaps_before (s.to + s.len) others) (gaps_before at (left a b (drop i ss))) x gaps (c.loop-slab.invariant.others x h))
+          c.loop-slab.invariant.kept c.in_ok-clear.ensures.kept;
       faults = omega arith;
     }
 
@@ -106,3 +125,17 @@ returns-clause-calls g c =
     none_unstored (with_end (g.D.Disk.calls c.args.disk.now) (gap_calls c.args.size (gaps_before c.args.at (left c.args.offset.old c.args.offset.new c.args.slabs.now))))
     (g.D.Disk.calls c.loop-slab.disk) c.args.size (gaps_before c.loop-slab.at (left c.args.offset.old c.args.offset.new (drop c.loop-slab.slab-index c.args.slabs.now)))
     (ap (λ xs. gaps_before c.loop-slab.at xs) (none_after c.args.offset.old c.args.offset.new c.args.slabs.now c.loop-slab.slab-index all)) c.loop-slab.invariant.calls
+
+pub returns-in_err-clear-clause-kept : goal.returns-in_err-clear-clause-kept
+returns-in_err-clear-clause-kept g c =
+    let a = c.args.offset.old in
+    let b = c.args.offset.new in
+    let ss = c.args.slabs.now in
+    let i = c.loop-slab.slab-index in
+    let at = c.loop-slab.at in
+    let s : Slab = slab_at a b ss i in
+    let others : List Slab = left a b (drop (i + 1) ss) in
+    let gaps = ap (λ xs. gaps_before at xs) (slabs_left a b ss i none c.loop-slab-test.true) in
+    kept_more (IsOutside at (s.to - at)) (IsBeside (gaps_before c.args.at (left a b ss))) (g.D.Disk.held c.args.disk.now) (g.D.Disk.held c.loop-slab.disk) (g.D.Disk.held c.clear.new.disk)
+    (λ x h. beside_first (at, s.to - at) (gaps_before (s.to + s.len) others) (gaps_before at (left a b (drop i ss))) x gaps (c.loop-slab.invariant.others x h))
+    c.loop-slab.invariant.kept c.in_err-clear.ensures.kept

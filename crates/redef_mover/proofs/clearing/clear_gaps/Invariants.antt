@@ -1,6 +1,7 @@
 -- The gaps between the slabs of the records that are left, cleared as they are, give the whole.
-use Rattle.std.proofs.Common.{◌≡◌, ◌≤◌}
-use Rattle.nc_outside.specs.Told.{after, with_end}
+use Rattle.std.proofs.Common.{◌≡◌, ◌≤◌, ℕ}
+use Rattle.nc_outside.specs.Told.{after, with_end, BothTold}
+use Rattle.redef_mover.specs.Kept.{IsBeside, IsKept}
 use Rattle.redef_laws.specs.Rising.{gaps}
 use Rattle.redef_mover.specs.Moves.{all_cleared, gap_calls, listed, AreSpaced}
 use Rattle.redef_mover.proofs.ClearLaws.{above}
@@ -15,5 +16,7 @@ invariant-loop-record g l = record {
       ≡ after (λ file. all_cleared file (gaps l.fn.first l.end (listed l.slabs))) (g.D.Disk.held l.fn.disk);
   calls : with_end (g.D.Disk.calls l.disk) (gap_calls l.size (gaps l.at l.end (above l.slabs l.record)))
       ≡ with_end (g.D.Disk.calls l.fn.disk) (gap_calls l.size (gaps l.fn.first l.end (listed l.slabs)));
+  others : (x : ℕ) → IsBeside (gaps l.fn.first l.end (listed l.slabs)) x → IsBeside (gaps l.at l.end (above l.slabs l.record)) x;
+  kept : BothTold (IsKept (IsBeside (gaps l.fn.first l.end (listed l.slabs)))) (g.D.Disk.held l.fn.disk) (g.D.Disk.held l.disk);
   faults : g.D.Disk.faults l.fn.disk ≤ g.D.Disk.faults l.disk;
 }

@@ -6,7 +6,9 @@ use Rattle.nc_outside.specs.Told.{after, with_end}
 use Rattle.serial_spec.specs.DeviceCalls.{Slab}
 use Rattle.overlay_laws.specs.Entries.{In}
 use Rattle.redef_mover.specs.declared.slabs.Shift.{Shift}
+use Rattle.redef_mover.specs.Kept.{IsUnmoved}
 use Rattle.redef_mover.specs.Moves.{all_calls, all_moved, further, listed, slab_of}
+use Rattle.redef_mover.proofs.KeptLaws.{kept_more, kept_still, unmoved_of}
 use Rattle.redef_mover.proofs.MovesLaws.{below, fixed_last, fixed_listed, last_called, last_moved, left_called, left_moved, record_first, record_listed}
 use Rattle.redef_mover.proofs.moving.move_all.Goals as goal
 
@@ -36,6 +38,16 @@ move_slabs-requires-2-clause-movable g c κs within =
     let same = c.loop-record.invariant.len in
     record { up = up; inside = omega arith; fits = omega arith }
 
+pub loop-record-init : goal.loop-record-init
+loop-record-init g c = record {
+  from = c.requires.from;
+  len = refl;
+  bytes = refl;
+  calls = refl;
+  kept = kept_still (IsUnmoved (listed c.args.slabs.now)) (g.D.Disk.held c.args.disk.now);
+  faults = omega arith;
+}
+
 pub loop-record-preserved : goal.loop-record-preserved
 loop-record-preserved g c =
     let next : c.loop-record.record ≡ c.loop-record.record - 1 + 1 = omega arith in
@@ -54,6 +66,12 @@ loop-record-preserved g c =
           (g.D.Disk.calls c.loop-record.disk) (g.D.Disk.calls c.move_slabs.new.disk) c.args.size
           (reverse (rest c.deref.result.now c.times.result.old c.times.result.new)) (below c.args.slabs.now (c.loop-record.record - 1)) (below c.args.slabs.now c.loop-record.record)
           first c.loop-record.invariant.calls c.in_ok-move_slabs.ensures.calls;
+      kept = kept_more (IsUnmoved (rest c.deref.result.now c.times.result.old c.times.result.new)) (IsUnmoved (listed c.args.slabs.now)) (g.D.Disk.held c.args.disk.now)
+          (g.D.Disk.held c.loop-record.disk) (g.D.Disk.held c.move_slabs.new.disk)
+          (λ x h. unmoved_of (rest c.deref.result.now c.times.result.old c.times.result.new) (listed c.args.slabs.now) x
+          (λ s i. record_listed c.args.slabs.now (c.loop-record.record - 1) c.times.result.old c.times.result.new s (omega arith) c.times.ensures.old c.times.ensures.new
+          (subst (λ (ss : List Shift). In (rest ss c.times.result.old c.times.result.new) s) c.deref.ensures.value i)) h)
+          c.loop-record.invariant.kept c.in_ok-move_slabs.ensures.kept;
       faults = omega arith;
     }
 
@@ -74,3 +92,19 @@ returns-clause-calls g c =
     (last_called (with_end (g.D.Disk.calls c.args.disk.now) (all_calls c.args.size (reverse (listed c.args.slabs.now)))) (g.D.Disk.calls c.loop-record.disk)
     (g.D.Disk.calls c.move_slabs-2.new.disk) c.args.size (reverse (rest c.deref-2.result.now 0 0)) (below c.args.slabs.now c.loop-record.record) last c.loop-record.invariant.calls)
     c.move_slabs-2.ensures.calls
+
+pub returns-in_err-move_slabs-clause-kept : goal.returns-in_err-move_slabs-clause-kept
+returns-in_err-move_slabs-clause-kept g c =
+    kept_more (IsUnmoved (rest c.deref.result.now c.times.result.old c.times.result.new)) (IsUnmoved (listed c.args.slabs.now)) (g.D.Disk.held c.args.disk.now)
+    (g.D.Disk.held c.loop-record.disk) (g.D.Disk.held c.move_slabs.new.disk)
+    (λ x h. unmoved_of (rest c.deref.result.now c.times.result.old c.times.result.new) (listed c.args.slabs.now) x
+    (λ s i. record_listed c.args.slabs.now (c.loop-record.record - 1) c.times.result.old c.times.result.new s (omega arith) c.times.ensures.old c.times.ensures.new
+    (subst (λ (ss : List Shift). In (rest ss c.times.result.old c.times.result.new) s) c.deref.ensures.value i)) h)
+    c.loop-record.invariant.kept c.in_err-move_slabs.ensures.kept
+
+pub returns-clause-kept : goal.returns-clause-kept
+returns-clause-kept g c =
+    kept_more (IsUnmoved (rest c.deref-2.result.now 0 0)) (IsUnmoved (listed c.args.slabs.now)) (g.D.Disk.held c.args.disk.now) (g.D.Disk.held c.loop-record.disk) (g.D.Disk.held c.move_slabs-2.new.disk)
+    (λ x h. unmoved_of (rest c.deref-2.result.now 0 0) (listed c.args.slabs.now) x
+    (λ s i. fixed_listed c.args.slabs.now 0 0 s refl refl (subst (λ (ss : List Shift). In (rest ss 0 0) s) c.deref-2.ensures.value i)) h)
+    c.loop-record.invariant.kept c.move_slabs-2.ensures.kept

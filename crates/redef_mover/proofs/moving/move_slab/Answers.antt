@@ -1,7 +1,9 @@
 -- Each window goes on where the one above it ended.
 use Rattle.std.proofs.Common.{◌≡◌, ◌∙◌, ◌+◌, ◌*◌, ◌<◌, ◌≤◌, ap, ◌++◌, ℕ, arith}
 use Rattle.nc_outside.specs.Told.{with_end}
+use Rattle.redef_mover.specs.Kept.{IsOutside}
 use Rattle.redef_mover.specs.Moves.{slab_moved, slab_of, window_calls}
+use Rattle.redef_mover.proofs.KeptLaws.{kept_more, outside_window, upper_kept}
 use Rattle.redef_mover.proofs.ToldSteps.{calls_more, told_end, told_more}
 use Rattle.redef_mover.proofs.WindowLaws.{all_called, calls_before, upper, whole_moved, window_called, window_inside, window_moved, windows_reach}
 use Rattle.redef_mover.proofs.moving.move_slab.Goals as goal
@@ -48,3 +50,17 @@ returns-clause-calls g c =
     c.loop-number.invariant.calls
     ∙ ap (λ calls. with_end (g.D.Disk.calls c.args.disk.now) calls)
     (all_called c.args.size c.loop-number.number c.div_ceil-number-end.result (slab_of c.args.slab.now) c.requires.some (omega arith) c.div_ceil-number-end.ensures)
+
+pub returns-in_err-move_window-clause-kept : goal.returns-in_err-move_window-clause-kept
+returns-in_err-move_window-clause-kept g c =
+    let s = slab_of c.args.slab.now in
+    kept_more (IsOutside c.window.result.to c.window.result.len) (IsOutside c.args.slab.now.to c.args.slab.now.len) (g.D.Disk.held c.args.disk.now) (g.D.Disk.held c.loop-number.disk)
+    (g.D.Disk.held c.move_window.new.disk) (λ x h. outside_window c.args.size c.loop-number.number x s (slab_of c.window.result) c.window.ensures h)
+    (upper_kept (g.D.Disk.held c.args.disk.now) (g.D.Disk.held c.loop-number.disk) c.args.size c.loop-number.number (g.D.Disk.len c.args.disk.now) s c.size-length.ensures.told
+    c.requires.movable.inside c.loop-number.invariant.bytes)
+    c.in_err-move_window.ensures.kept
+
+pub returns-clause-kept : goal.returns-clause-kept
+returns-clause-kept g c =
+    upper_kept (g.D.Disk.held c.args.disk.now) (g.D.Disk.held c.loop-number.disk) c.args.size c.loop-number.number (g.D.Disk.len c.args.disk.now) (slab_of c.args.slab.now)
+    c.size-length.ensures.told c.requires.movable.inside c.loop-number.invariant.bytes

@@ -4,8 +4,11 @@ use Rattle.std.specs.Prelude.{reverse}
 use Rattle.std.proofs.Math.Seq.{take_all}
 use Rattle.nc_outside.specs.Told.{after, with_end}
 use Rattle.serial_spec.specs.DeviceCalls.{Slab}
+use Rattle.overlay_laws.specs.Entries.{In}
 use Rattle.redef_mover.specs.declared.slabs.Shift.{Shift}
+use Rattle.redef_mover.specs.Kept.{IsUnmoved}
 use Rattle.redef_mover.specs.Moves.{all_calls, all_moved, further, slab_of, IsMovable}
+use Rattle.redef_mover.proofs.KeptLaws.{kept_more, kept_still, unmoved_one}
 use Rattle.redef_mover.proofs.MovesLaws.{in_record, left_called, left_moved, none_left, none_uncalled, slab_first}
 use Rattle.redef_mover.proofs.moving.move_slabs.Goals as goal
 
@@ -20,6 +23,7 @@ loop-k-init g c =
       len = refl;
       bytes = ap (λ (ss : List Shift). after (λ file. all_moved file (reverse (map (further c.args.offset.old c.args.offset.new) (map slab_of ss)))) (g.D.Disk.held c.args.disk.now)) all;
       calls = ap (λ (ss : List Shift). with_end (g.D.Disk.calls c.args.disk.now) (all_calls c.args.size (reverse (map (further c.args.offset.old c.args.offset.new) (map slab_of ss))))) all;
+      kept = kept_still (IsUnmoved (map (further c.args.offset.old c.args.offset.new) (map slab_of c.args.slabs.now))) (g.D.Disk.held c.args.disk.now);
       faults = omega arith;
     }
 
@@ -57,6 +61,8 @@ loop-k-preserved g c =
     let next : c.loop-k.k ≡ c.loop-k.k - 1 + 1 = omega arith in
     let k : c.loop-k.k - 1 < length c.args.slabs.now = omega arith in
     let first = slab_first c.args.offset.old c.args.offset.new c.args.slabs.now (c.loop-k.k - 1) c.loop-k.k none (slab_of c.further.result) c.further.ensures next k in
+    let there = subst (λ (s : Slab). In (map (further c.args.offset.old c.args.offset.new) (map slab_of c.args.slabs.now)) s) (sym c.further.ensures)
+    (in_record c.args.offset.old c.args.offset.new c.args.slabs.now (c.loop-k.k - 1) none k) in
     let later = c.in_ok-move_changed.ensures.cause.later in
     let before = c.loop-k.invariant.faults in
     record {
@@ -74,6 +80,10 @@ loop-k-preserved g c =
           (reverse (map (further c.args.offset.old c.args.offset.new) (map slab_of (take (c.loop-k.k - 1) c.args.slabs.now))))
           (reverse (map (further c.args.offset.old c.args.offset.new) (map slab_of (take c.loop-k.k c.args.slabs.now))))
           first c.loop-k.invariant.calls c.in_ok-move_changed.ensures.calls;
+      kept = kept_more (IsUnmoved (slab_of c.further.result ∷ [])) (IsUnmoved (map (further c.args.offset.old c.args.offset.new) (map slab_of c.args.slabs.now))) (g.D.Disk.held c.args.disk.now)
+          (g.D.Disk.held c.loop-k.disk) (g.D.Disk.held c.move_changed.new.disk)
+          (λ x h. unmoved_one (slab_of c.further.result) (map (further c.args.offset.old c.args.offset.new) (map slab_of c.args.slabs.now)) x there h)
+          c.loop-k.invariant.kept c.in_ok-move_changed.ensures.kept;
       faults = omega arith;
     }
 
@@ -90,3 +100,13 @@ returns-clause-calls g c =
     none_uncalled (with_end (g.D.Disk.calls c.args.disk.now) (all_calls c.args.size (reverse (map (further c.args.offset.old c.args.offset.new) (map slab_of c.args.slabs.now)))))
     (g.D.Disk.calls c.loop-k.disk) c.args.size (reverse (map (further c.args.offset.old c.args.offset.new) (map slab_of (take c.loop-k.k c.args.slabs.now))))
     (ap (λ (n : ℕ). reverse (map (further c.args.offset.old c.args.offset.new) (map slab_of (take n c.args.slabs.now)))) end) c.loop-k.invariant.calls
+
+pub returns-in_err-move_changed-clause-kept : goal.returns-in_err-move_changed-clause-kept
+returns-in_err-move_changed-clause-kept g c =
+    let k : c.loop-k.k - 1 < length c.args.slabs.now = omega arith in
+    let there = subst (λ (s : Slab). In (map (further c.args.offset.old c.args.offset.new) (map slab_of c.args.slabs.now)) s) (sym c.further.ensures)
+    (in_record c.args.offset.old c.args.offset.new c.args.slabs.now (c.loop-k.k - 1) none k) in
+    kept_more (IsUnmoved (slab_of c.further.result ∷ [])) (IsUnmoved (map (further c.args.offset.old c.args.offset.new) (map slab_of c.args.slabs.now))) (g.D.Disk.held c.args.disk.now)
+    (g.D.Disk.held c.loop-k.disk) (g.D.Disk.held c.move_changed.new.disk)
+    (λ x h. unmoved_one (slab_of c.further.result) (map (further c.args.offset.old c.args.offset.new) (map slab_of c.args.slabs.now)) x there h)
+    c.loop-k.invariant.kept c.in_err-move_changed.ensures.kept

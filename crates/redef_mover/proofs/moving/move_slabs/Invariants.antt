@@ -1,7 +1,8 @@
 -- The slabs that are left, moved as they are, give the whole.
 use Rattle.std.proofs.Common.{◌≡◌, ◌≤◌, map, take}
 use Rattle.std.specs.Prelude.{reverse}
-use Rattle.nc_outside.specs.Told.{after, with_end}
+use Rattle.nc_outside.specs.Told.{after, with_end, BothTold}
+use Rattle.redef_mover.specs.Kept.{IsKept, IsUnmoved}
 use Rattle.redef_mover.specs.Moves.{all_calls, all_moved, further, slab_of}
 use Rattle.redef_mover.proofs.moving.move_slabs.Given as goal
 
@@ -13,5 +14,6 @@ invariant-loop-k g l = record {
       ≡ after (λ file. all_moved file (reverse (map (further l.offset.old l.offset.new) (map slab_of l.slabs)))) (g.D.Disk.held l.initial.disk);
   calls : with_end (g.D.Disk.calls l.disk) (all_calls l.size (reverse (map (further l.offset.old l.offset.new) (map slab_of (take l.k l.slabs)))))
       ≡ with_end (g.D.Disk.calls l.initial.disk) (all_calls l.size (reverse (map (further l.offset.old l.offset.new) (map slab_of l.slabs))));
+  kept : BothTold (IsKept (IsUnmoved (map (further l.offset.old l.offset.new) (map slab_of l.slabs)))) (g.D.Disk.held l.initial.disk) (g.D.Disk.held l.disk);
   faults : g.D.Disk.faults l.initial.disk ≤ g.D.Disk.faults l.disk;
 }

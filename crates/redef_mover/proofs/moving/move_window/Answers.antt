@@ -1,8 +1,10 @@
 -- The bytes that are written are those that were read.
-use Rattle.std.proofs.Common.{◌∙◌, arith}
+use Rattle.std.proofs.Common.{◌≡◌, ◌∙◌, ◌-◌, length, arith}
 use Rattle.std.proofs.lemmas.List.{length-take}
 use Rattle.std.proofs.lemmas.Result.{on_ok_weaker}
+use Rattle.redef_mover.specs.Kept.{IsOutside}
 use Rattle.redef_mover.specs.Moves.{slab_of}
+use Rattle.redef_mover.proofs.KeptLaws.{kept_same, kept_written}
 use Rattle.redef_mover.proofs.WindowLaws.{window_told}
 use Rattle.redef_mover.proofs.moving.move_window.Goals as goal
 
@@ -13,3 +15,18 @@ returns-clause-bytes g c =
     _ (g.D.Disk.from c.args.disk.now) (g.D.Disk.from c.read_at.new.self) (g.D.Disk.len c.args.disk.now) c.size-length.ensures.told c.requires.old_end
     (length-take c.args.window.now.len c.args.buf.now ∙ (let room = c.requires.room in omega arith)) c.requires.from c.in_ok-read_at.ensures.from c.in_ok-read_at.ensures.read c.in_ok-read_at.ensures.bytes)
     c.write_at.ensures.bytes
+
+pub returns-in_err-read_at-clause-kept : goal.returns-in_err-read_at-clause-kept
+returns-in_err-read_at-clause-kept g c =
+    kept_same (IsOutside c.args.window.now.to c.args.window.now.len) (g.D.Disk.held c.args.disk.now) (g.D.Disk.held c.read_at.new.self) c.in_err-read_at.ensures.bytes
+
+pub returns-clause-kept : goal.returns-clause-kept
+returns-clause-kept g c =
+    let same = c.in_ok-read_at.ensures.from in
+    let zero = c.requires.from in
+    let place : c.args.window.now.to - g.D.Disk.from c.read_at.new.self ≡ c.args.window.now.to = omega arith in
+    let room = c.requires.room in
+    let long : length c.read_at.new.into ≡ c.args.window.now.len = c.read_at.auto.into ∙ length-take c.args.window.now.len c.args.buf.now ∙ omega arith in
+    kept_written c.write_at.result (g.D.Disk.held c.args.disk.now) (g.D.Disk.held c.read_at.new.self) (g.D.Disk.held c.write_at.new.self) c.read_at.new.into
+    (c.args.window.now.to - g.D.Disk.from c.read_at.new.self) c.args.window.now.to c.args.window.now.len (g.D.Disk.len c.args.disk.now) c.size-length.ensures.told
+    c.in_ok-read_at.ensures.bytes place long c.requires.end c.write_at.ensures.bytes c.write_at.ensures.refused

@@ -12,6 +12,7 @@ use Rattle.redef_laws.proofs.RisingLaws.{rising_all}
 use Rattle.redef_laws.proofs.WrittenLaws.{written}
 use Rattle.redef_mover.specs.Carried.{carried}
 use Rattle.redef_mover.proofs.AppliedLaws.{has_laws, HasLaws, relocated, relocation_called}
+use Rattle.redef_mover.proofs.CutLaws.{err_as, relocation_keeps, relocation_torn}
 use Rattle.redef_mover.proofs.ToldSteps.{for_told}
 use Rattle.redef_mover.proofs.relocating.relocate.Goals as goal
 
@@ -38,3 +39,17 @@ returns-clause-calls g c =
     (λ file told. told ∙ ap (λ more. with_end (g.D.Disk.calls c.args.disk.now) more)
     (relocation_called c.args.size c.args.old.now c.args.new.now file (laws c.args.old.now c.args.new.now c.requires.applied.0 c.requires.applied.1) some)) calls)
     c.carry.ensures.calls
+
+pub returns-clause-refused : goal.returns-clause-refused
+returns-clause-refused g c =
+    err_as c.carry.result
+    (relocation_torn c.args.old.now c.args.new.now (g.D.Disk.held c.args.disk.now) (g.D.Disk.held c.carry.new.disk)
+    (laws c.args.old.now c.args.new.now c.requires.applied.0 c.requires.applied.1))
+    c.carry.ensures.refused
+
+pub returns-clause-stays : goal.returns-clause-stays
+returns-clause-stays g c =
+    err_as c.carry.result
+    (relocation_keeps c.args.old.now c.args.new.now (g.D.Disk.held c.args.disk.now) (g.D.Disk.held c.carry.new.disk)
+    (laws c.args.old.now c.args.new.now c.requires.applied.0 c.requires.applied.1))
+    c.carry.ensures.refused

@@ -1,0 +1,297 @@
+-- A relocation that was cut off: what it may have changed of a file.
+use Rattle.std.proofs.Common.{◌≡◌, ℕ, ◌+◌, ◌-◌, ◌<◌, ◌≤◌, max, ◌⊎◌, inl, inr, refl, sym, ◌∙◌, ap, subst, List, [], ◌∷◌, ◌++◌, length, take, get_or, Bool, true, false, Option, Some, None, Result, Ok, Err, arith}
+use Rattle.std.specs.Prelude.{not, ◌==◌, IfSome, OnErr, IsTrue}
+use Rattle.std.proofs.lemmas.Bool.Decides.{nat_tests}
+use Rattle.std.proofs.lemmas.Bool.{cases_lt}
+use Rattle.std.proofs.lemmas.Grind.{common_steps}
+use Rattle.nc_base.specs.declared.header.Header.{Header}
+use Rattle.nc_outside.specs.DiskState.{PartlyWritten}
+use Rattle.nc_outside.specs.Told.{after, BothTold}
+use Rattle.overlay_laws.specs.Entries.{In}
+use Rattle.redef_laws.specs.Rising.{changes, gaps, rising}
+use Rattle.redef_laws.specs.Shifted.{new_end, IsMoved}
+use Rattle.serial_spec.specs.DeviceCalls.{Slab, slabs}
+use Rattle.serial_spec.specs.File.{at, longer, written}
+use Rattle.serial_spec.specs.HeaderGrammar.{canon, header_len}
+use Rattle.serial_spec.specs.Redefinition.{redefined}
+use Rattle.serial_spec.specs.Torn.{IsLengthened, IsTornRedefinition}
+use Rattle.serial_spec.proofs.FileLaws.{at-longer, at-written_after, get_or-written_within, length-written_inside}
+use Rattle.redef_mover.specs.Kept.{IsBeside, IsKept, IsOutside, IsUnmoved}
+use Rattle.redef_mover.specs.Moves.{AreSpaced}
+use Rattle.redef_mover.specs.Carried.{carried, IsCarriable, IsPartlyCarried}
+use Rattle.redef_mover.specs.Relocation.{KeepsPlaces}
+use Rattle.redef_mover.proofs.ClearLaws.{spaced_low}
+use Rattle.redef_mover.proofs.CarryLaws.{carriable_spaced, carried_is, longer_long}
+use Rattle.redef_mover.proofs.AppliedLaws.{HasLaws, relocated}
+
+pub on_err : {T E P : Type 0} (r : Result T E) → P → OnErr r P
+on_err (Ok x) p = tt
+on_err (Err e) p = p
+
+pub err_as : {T E P Q : Type 0} (r : Result T E) → (P → Q) → OnErr r P → OnErr r Q
+err_as (Ok x) f p = tt
+err_as (Err e) f p = f p
+
+-- ---- bytes that neither moves nor zeros change
+
+-- the byte is before the slabs and gaps, or past them, or in a slab that has its place
+pub data Spared (b end : ℕ) (ss : List Slab) (x : ℕ) : Type 0 where
+  before : x < b → Spared b end ss x
+  past : end ≤ x → Spared b end ss x
+  in_place : (s : Slab) → In ss s → s.from ≡ s.to → s.to ≤ x → x < s.to + s.len → Spared b end ss x
+
+low_of : (b end : ℕ) (ss : List Slab) (s : Slab) → AreSpaced b end ss → In ss s → b ≤ s.to
+low_of b end [] s h i = absurd i
+low_of b end (t ∷ ss) s h (inl e) = subst (λ (u : Slab). b ≤ u.to) e h.0
+low_of b end (t ∷ ss) s h (inr i) = let low : b ≤ t.to = h.0 in let rest = low_of (t.to + t.len) end ss s h.1 i in omega arith
+
+high_of : (b end : ℕ) (ss : List Slab) (s : Slab) → AreSpaced b end ss → In ss s → s.to + s.len ≤ end
+high_of b end [] s h i = absurd i
+high_of b end (t ∷ ss) s h (inl e) = subst (λ (u : Slab). u.to + u.len ≤ end) e (spaced_low (t.to + t.len) end ss h.1)
+high_of b end (t ∷ ss) s h (inr i) = high_of (t.to + t.len) end ss s h.1 i
+
+stays_same : (s : Slab) → s.from ≡ s.to → IsTrue (changes s) → ⊥
+stays_same s e c = by_test (s.from == s.to) refl
+  where
+    by_test : (t : Bool) → (s.from == s.to) ≡ t → ⊥
+    by_test true g = clash (sym (ap (λ (b : Bool). not b) g) ∙ c)
+      where
+        clash : false ≡ true → ⊥
+        clash h = cc
+    by_test false g = absurd (grind (arith, nat_tests))
+
+-- a slab that moves is beside one that does not
+two_beside : (b end : ℕ) (ss : List Slab) (s t : Slab) (x : ℕ) → AreSpaced b end ss → In ss s → In ss t → s.from ≡ s.to → IsTrue (changes t) → s.to ≤ x → x < s.to + s.len
+    → IsOutside t.to t.len x
+two_beside b end [] s t x h i j e c l k = absurd i
+two_beside b end (u ∷ ss) s t x h (inl i) (inl j) e c l k = absurd (stays_same t (subst (λ (v : Slab). v.from ≡ v.to) (sym i ∙ j) e) c)
+two_beside b end (u ∷ ss) s t x h (inl i) (inr j) e c l k =
+    let low = low_of (u.to + u.len) end ss t h.1 j in
+    let first : u.to ≡ s.to = ap (λ (v : Slab). v.to) i in
+    let long : u.len ≡ s.len = ap (λ (v : Slab). v.len) i in
+    inl (omega arith)
+two_beside b end (u ∷ ss) s t x h (inr i) (inl j) e c l k =
+    let low = low_of (u.to + u.len) end ss s h.1 i in
+    let first : u.to ≡ t.to = ap (λ (v : Slab). v.to) j in
+    let long : u.len ≡ t.len = ap (λ (v : Slab). v.len) j in
+    inr (omega arith)
+two_beside b end (u ∷ ss) s t x h (inr i) (inr j) e c l k = two_beside (u.to + u.len) end ss s t x h.1 i j e c l k
+
+spared_unmoved : (b end : ℕ) (ss : List Slab) (x : ℕ) → AreSpaced b end ss → Spared b end ss x → IsUnmoved ss x
+spared_unmoved b end ss x h (before l) t i c = let low = low_of b end ss t h i in inl (omega arith)
+spared_unmoved b end ss x h (past l) t i c = let high = high_of b end ss t h i in inr (omega arith)
+spared_unmoved b end ss x h (in_place s i e l k) t j c = two_beside b end ss s t x h i j e c l k
+
+gap_low : (b end : ℕ) (ss : List Slab) (g : ℕ × ℕ) → AreSpaced b end ss → In (gaps b end ss) g → b ≤ g.0
+gap_low b end [] g h (inl e) = subst (λ (f : ℕ × ℕ). b ≤ f.0) e (omega arith)
+gap_low b end [] g h (inr i) = absurd i
+gap_low b end (s ∷ ss) g h (inl e) = subst (λ (f : ℕ × ℕ). b ≤ f.0) e (omega arith)
+gap_low b end (s ∷ ss) g h (inr i) = let low : b ≤ s.to = h.0 in let rest = gap_low (s.to + s.len) end ss g h.1 i in omega arith
+
+gap_high : (b end : ℕ) (ss : List Slab) (g : ℕ × ℕ) → AreSpaced b end ss → In (gaps b end ss) g → g.0 + g.1 ≤ end
+gap_high b end [] g h (inl e) = subst (λ (f : ℕ × ℕ). f.0 + f.1 ≤ end) e (let low : b ≤ end = h in omega arith)
+gap_high b end [] g h (inr i) = absurd i
+gap_high b end (s ∷ ss) g h (inl e) =
+    subst (λ (f : ℕ × ℕ). f.0 + f.1 ≤ end) e (let low : b ≤ s.to = h.0 in let rest = spaced_low (s.to + s.len) end ss h.1 in omega arith)
+gap_high b end (s ∷ ss) g h (inr i) = gap_high (s.to + s.len) end ss g h.1 i
+
+-- a gap is beside each slab
+gap_beside : (b end : ℕ) (ss : List Slab) (s : Slab) (g : ℕ × ℕ) (x : ℕ) → AreSpaced b end ss → In ss s → In (gaps b end ss) g → s.to ≤ x → x < s.to + s.len → IsOutside g.0 g.1 x
+gap_beside b end [] s g x h i j l k = absurd i
+gap_beside b end (t ∷ ss) s g x h i (inl e) l k =
+    subst (λ (f : ℕ × ℕ). IsOutside f.0 f.1 x) e (let low : b ≤ t.to = h.0 in let first = low_of t.to end (t ∷ ss) s (omega arith, h.1) i in inr (omega arith))
+gap_beside b end (t ∷ ss) s g x h (inl e) (inr j) l k =
+    let low = gap_low (t.to + t.len) end ss g h.1 j in
+    let first : t.to ≡ s.to = ap (λ (v : Slab). v.to) e in
+    let long : t.len ≡ s.len = ap (λ (v : Slab). v.len) e in
+    inl (omega arith)
+gap_beside b end (t ∷ ss) s g x h (inr i) (inr j) l k = gap_beside (t.to + t.len) end ss s g x h.1 i j l k
+
+spared_beside : (b end : ℕ) (ss : List Slab) (x : ℕ) → AreSpaced b end ss → Spared b end ss x → IsBeside (gaps b end ss) x
+spared_beside b end ss x h (before l) g i = let low = gap_low b end ss g h i in inl (omega arith)
+spared_beside b end ss x h (past l) g i = let high = gap_high b end ss g h i in inr (omega arith)
+spared_beside b end ss x h (in_place s i e l k) g j = gap_beside b end ss s g x h i j l k
+
+-- ---- a file on the way
+
+-- as far as it was carried before its header is written
+pub record IsOnWay (old new : Header) (file left : List ℕ) : Type 0 where
+  pub long : length file ≤ length left
+  pub short : length left ≤ max (length file) (new_end old new)
+  pub spared : (x : ℕ) → Spared (header_len new) (new_end old new) (rising old new) x → at left x ≡ at file x
+
+way_grown : (old new : Header) (file left : List ℕ) (end : ℕ) → end ≡ new_end old new → IsLengthened end file left → IsOnWay old new file left
+way_grown old new file left end e l = record {
+  long = l.long;
+  short = subst (λ (n : ℕ). length left ≤ max (length file) n) e l.short;
+  spared = λ x h. ap (λ (f : List ℕ). at f x) l.kept ∙ at-longer file (length left) x;
+}
+
+way_kept : (old new : Header) (P : ℕ → Type 0) (file mid left : List ℕ) → ((x : ℕ) → Spared (header_len new) (new_end old new) (rising old new) x → P x)
+    → IsOnWay old new file mid → IsKept P mid left → IsOnWay old new file left
+way_kept old new P file mid left f w k =
+    let same = k.len in
+    let long = w.long in
+    let short = w.short in
+    record { long = omega arith; short = omega arith; spared = λ x h. k.kept x (f x h) ∙ w.spared x h }
+
+way_end : (old new : Header) (file left : List ℕ) → IsOnWay old new file left → IsPartlyCarried old new file left
+way_end old new file left w = record {
+  long = w.long;
+  short = w.short;
+  head = λ x l. inl (w.spared x (before l));
+  past = λ x l. w.spared x (past l);
+  stays = λ s i e x l k. w.spared x (in_place s i e l k);
+}
+
+-- the header was cut off
+way_headed : (old new : Header) (file mid left bytes : List ℕ) (place : ℕ) → bytes ≡ canon new → place ≡ 0 → AreSpaced (header_len new) (new_end old new) (rising old new)
+    → header_len new ≤ length mid → IsOnWay old new file mid → PartlyWritten place bytes mid left → IsPartlyCarried old new file left
+way_headed old new file mid left bytes place b p spaced room w q = record {
+  long = (let same = length_same in let long = w.long in omega arith);
+  short = (let same = length_same in let short = w.short in omega arith);
+  head = λ x l. by_head x l (plain.each x);
+  past = λ x l. by_rest x (let low = spaced_low (header_len new) (new_end old new) (rising old new) spaced in omega arith) (plain.each x) ∙ w.spared x (past l);
+  stays = λ s i e x l k. by_rest x (let low = low_of (header_len new) (new_end old new) (rising old new) s spaced i in omega arith) (plain.each x) ∙ w.spared x (in_place s i e l k);
+}
+  where
+    plain : PartlyWritten 0 (canon new) mid left
+    plain = subst (λ (y : ℕ). PartlyWritten y (canon new) mid left) p (subst (λ (c : List ℕ). PartlyWritten place c mid left) b q)
+
+    length_same : length left ≡ length mid
+    length_same = plain.len ∙ length-written_inside mid 0 (canon new) (omega arith)
+
+    by_head : (x : ℕ) → x < header_len new → (at left x ≡ at mid x) ⊎ (at left x ≡ at (written mid 0 (canon new)) x) → (at left x ≡ at file x) ⊎ (at left x ≡ at (canon new) x)
+    by_head x l (inl e) = inl (e ∙ w.spared x (before l))
+    by_head x l (inr e) =
+        let same : x - 0 ≡ x = omega arith in
+        inr (e ∙ get_or-written_within mid 0 (canon new) x (omega arith) (omega arith) (omega arith) ∙ ap (λ (y : ℕ). get_or (canon new) y 0) same)
+
+    by_rest : (x : ℕ) → header_len new ≤ x → (at left x ≡ at mid x) ⊎ (at left x ≡ at (written mid 0 (canon new)) x) → at left x ≡ at mid x
+    by_rest x l (inl e) = e
+    by_rest x l (inr e) = e ∙ at-written_after mid (canon new) 0 x (omega arith)
+
+-- ---- files that may be told
+
+pub told_as : {A : Type 0} (R S : A → A → Type 0) (held now : Option A) → ((old left : A) → R old left → S old left) → BothTold R held now → BothTold S held now
+told_as R S None now f b = b
+told_as R S (Some old) now f b = (b.0, b.1, f old b.0 b.2)
+
+told_twice : {A : Type 0} (R S T : A → A → Type 0) (held mid now : Option A) → ((old one two : A) → R old one → S one two → T old two)
+    → BothTold R held mid → BothTold S mid now → BothTold T held now
+told_twice R S T None mid now f a b = subst (λ m. BothTold S m now) a b
+told_twice R S T (Some old) mid now f a b = by_mid (subst (λ m. BothTold S m now) a.1 b)
+  where
+    by_mid : BothTold S (Some a.0) now → BothTold T (Some old) now
+    by_mid c = (c.0, c.1, f old a.0 c.0 a.2 c.2)
+
+-- nothing was changed
+pub not_begun : (old new : Header) (held now : Option (List ℕ)) → now ≡ held → BothTold (IsPartlyCarried old new) held now
+not_begun old new held now e = subst (λ (m : Option (List ℕ)). BothTold (IsPartlyCarried old new) held m) (sym e) (by_told held)
+  where
+    by_told : (h : Option (List ℕ)) → BothTold (IsPartlyCarried old new) h h
+    by_told None = refl
+    by_told (Some file) = (
+      file,
+      refl,
+      record { long = omega arith; short = omega arith; head = λ x l. inl refl; past = λ x l. refl; stays = λ s i e x l k. refl },
+    )
+
+pub on_way_grown : (old new : Header) (held now : Option (List ℕ)) (end : ℕ) → end ≡ new_end old new → BothTold (IsLengthened end) held now
+    → BothTold (IsOnWay old new) held now
+on_way_grown old new held now end e b = told_as (IsLengthened end) (IsOnWay old new) held now (λ file left l. way_grown old new file left end e l) b
+
+pub on_way_moved : (old new : Header) (held mid now : Option (List ℕ)) (ss : List Slab) → IsCarriable old new → ss ≡ rising old new
+    → BothTold (IsOnWay old new) held mid → BothTold (IsKept (IsUnmoved ss)) mid now → BothTold (IsOnWay old new) held now
+on_way_moved old new held mid now ss h e a b =
+    told_twice (IsOnWay old new) (IsKept (IsUnmoved (rising old new))) (IsOnWay old new) held mid now
+    (λ file one two w k. way_kept old new (IsUnmoved (rising old new)) file one two
+    (λ x s. spared_unmoved (header_len new) (new_end old new) (rising old new) x (carriable_spaced old new (rising old new) (header_len new) (new_end old new) h refl refl refl) s) w k)
+    a (subst (λ (xs : List Slab). BothTold (IsKept (IsUnmoved xs)) mid now) e b)
+
+pub on_way_cleared : (old new : Header) (held mid now : Option (List ℕ)) (ss : List Slab) (b end : ℕ) → IsCarriable old new → ss ≡ rising old new → b ≡ header_len new
+    → end ≡ new_end old new → BothTold (IsOnWay old new) held mid → BothTold (IsKept (IsBeside (gaps b end ss))) mid now → BothTold (IsOnWay old new) held now
+on_way_cleared old new held mid now ss b end h e f g a c =
+    told_twice (IsOnWay old new) (IsKept (IsBeside (gaps (header_len new) (new_end old new) (rising old new)))) (IsOnWay old new) held mid now
+    (λ file one two w k. way_kept old new (IsBeside (gaps (header_len new) (new_end old new) (rising old new))) file one two
+    (λ x s. spared_beside (header_len new) (new_end old new) (rising old new) x (carriable_spaced old new (rising old new) (header_len new) (new_end old new) h refl refl refl) s) w k)
+    a (subst (λ (xs : List Slab). BothTold (IsKept (IsBeside (gaps (header_len new) (new_end old new) xs))) mid now) e
+    (subst (λ (y : ℕ). BothTold (IsKept (IsBeside (gaps (header_len new) y ss))) mid now) g
+    (subst (λ (y : ℕ). BothTold (IsKept (IsBeside (gaps y end ss))) mid now) f c)))
+
+pub on_way_end : (old new : Header) (held now : Option (List ℕ)) → BothTold (IsOnWay old new) held now → BothTold (IsPartlyCarried old new) held now
+on_way_end old new held now b = told_as (IsOnWay old new) (IsPartlyCarried old new) held now (λ file left w. way_end old new file left w) b
+
+-- there is room up to the end
+pub room_grown : (held now : Option (List ℕ)) (end : ℕ) → now ≡ after (λ file. longer file end) held → IfSome now (λ file. end ≤ length file)
+room_grown None now end e = subst (λ (m : Option (List ℕ)). IfSome m (λ file. end ≤ length file)) (sym e) tt
+room_grown (Some file) now end e =
+    subst (λ (m : Option (List ℕ)). IfSome m (λ f. end ≤ length f)) (sym e) (let whole = longer_long file end in omega arith)
+
+pub room_kept : (P : ℕ → Type 0) (mid now : Option (List ℕ)) (end : ℕ) → IfSome mid (λ file. end ≤ length file) → BothTold (IsKept P) mid now
+    → IfSome now (λ file. end ≤ length file)
+room_kept P None now end h k = subst (λ (m : Option (List ℕ)). IfSome m (λ file. end ≤ length file)) (sym k) tt
+room_kept P (Some file) now end h k =
+    subst (λ (m : Option (List ℕ)). IfSome m (λ f. end ≤ length f)) (sym k.1) (let same = k.2.len in omega arith)
+
+pub on_way_headed : (old new : Header) (held mid now : Option (List ℕ)) (bytes : List ℕ) (place end : ℕ) → IsCarriable old new → bytes ≡ canon new → place ≡ 0
+    → IfSome mid (λ file. end ≤ length file) → header_len new ≤ end → BothTold (IsOnWay old new) held mid → BothTold (PartlyWritten place bytes) mid now
+    → BothTold (IsPartlyCarried old new) held now
+on_way_headed old new held mid now bytes place end h b p room fits w q =
+    by_held held w
+  where
+    spaced : AreSpaced (header_len new) (new_end old new) (rising old new)
+    spaced = carriable_spaced old new (rising old new) (header_len new) (new_end old new) h refl refl refl
+
+    by_held : (t : Option (List ℕ)) → BothTold (IsOnWay old new) t mid → BothTold (IsPartlyCarried old new) t now
+    by_held None a = subst (λ (m : Option (List ℕ)). BothTold (PartlyWritten place bytes) m now) a q
+    by_held (Some file) a =
+        let c : BothTold (PartlyWritten place bytes) (Some a.0) now = subst (λ (m : Option (List ℕ)). BothTold (PartlyWritten place bytes) m now) a.1 q in
+        let l : end ≤ length a.0 = subst (λ (m : Option (List ℕ)). IfSome m (λ f. end ≤ length f)) a.1 room in
+        (c.0, c.1, way_headed old new file a.0 c.0 bytes place b p spaced (omega arith) a.2 c.2)
+
+-- ---- what a relocation promises
+
+head_at : (old new : Header) (file : List ℕ) → IsMoved old new file (redefined file old new) → (x : ℕ) → x < header_len new → at (canon new) x ≡ at (redefined file old new) x
+head_at old new file m x l =
+    sym (ap (λ (f : List ℕ). at f x) m.head) ∙ front (redefined file old new) (header_len new) x l
+  where
+    front : (f : List ℕ) (n y : ℕ) → y < n → at (take n f) y ≡ at f y
+    front f n y h = grind (arith, common_steps)
+
+is_moved : (old new : Header) (file : List ℕ) → HasLaws old new → IsMoved old new file (redefined file old new)
+is_moved old new file h = subst (λ (f : List ℕ). IsMoved old new file f) (relocated old new h file) (carried_is old new file h.carriable (λ s. (h.all s).1) (λ s. (h.all s).0))
+
+torn : (old new : Header) (file left : List ℕ) → HasLaws old new → IsPartlyCarried old new file left
+    → IsTornRedefinition (header_len new) (new_end old new) file (redefined file old new) left
+torn old new file left h p =
+    let m = is_moved old new file h in
+    let whole = m.long in
+    let most = p.short in
+    record {
+      long = p.long;
+      short = omega arith;
+      head = λ x l. by_head m x l (p.head x l);
+      past = λ x l k. p.past x l;
+    }
+  where
+    by_head : IsMoved old new file (redefined file old new) → (x : ℕ) → x < header_len new → (at left x ≡ at file x) ⊎ (at left x ≡ at (canon new) x)
+        → (at left x ≡ at file x) ⊎ (at left x ≡ at (redefined file old new) x)
+    by_head m x l (inl e) = inl e
+    by_head m x l (inr e) = inr (e ∙ head_at old new file m x l)
+
+keeps : (old new : Header) (file left : List ℕ) → HasLaws old new → IsPartlyCarried old new file left → KeepsPlaces old new file left
+keeps old new file left h p s i e d l =
+    let same : s.to + d ≡ s.from + d = omega arith in
+    p.stays s ((h.all s).1 i) e (s.to + d) (omega arith) (omega arith) ∙ ap (λ (x : ℕ). at file x) same
+
+pub relocation_torn : (old new : Header) (held now : Option (List ℕ)) → HasLaws old new → BothTold (IsPartlyCarried old new) held now
+    → BothTold (λ file left. IsTornRedefinition (header_len new) (new_end old new) file (redefined file old new) left) held now
+relocation_torn old new held now h b =
+    told_as (IsPartlyCarried old new) (λ file left. IsTornRedefinition (header_len new) (new_end old new) file (redefined file old new) left) held now
+    (λ file left p. torn old new file left h p) b
+
+pub relocation_keeps : (old new : Header) (held now : Option (List ℕ)) → HasLaws old new → BothTold (IsPartlyCarried old new) held now
+    → BothTold (KeepsPlaces old new) held now
+relocation_keeps old new held now h b =
+    told_as (IsPartlyCarried old new) (KeepsPlaces old new) held now (λ file left p. keeps old new file left h p) b

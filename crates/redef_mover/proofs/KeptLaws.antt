@@ -1,0 +1,175 @@
+-- What the moves and the zeros keep of a file.
+use Rattle.std.proofs.Common.{◌≡◌, ℕ, ◌+◌, ◌-◌, ◌*◌, ◌<◌, ◌≤◌, ◌⊎◌, inl, inr, refl, sym, ◌∙◌, ap, subst, List, [], ◌∷◌, ◌++◌, length, Bool, true, false, Option, Some, None, Result, Ok, Err, arith}
+use Rattle.std.specs.Prelude.{not, ◌==◌, flat_map, IfSome, OnOk, OnErr, IsTrue}
+use Rattle.std.specs.List.{range_with_len}
+use borrow.Author.Tests.{eqb-true}
+use Rattle.nc_outside.specs.DiskState.{PartlyWritten}
+use Rattle.nc_outside.specs.Told.{after, BothTold}
+use Rattle.overlay_laws.specs.Entries.{In}
+use Rattle.overlay_laws.proofs.HullLaws.{in_left, in_right}
+use Rattle.redef_laws.specs.Rising.{changes, gaps}
+use Rattle.serial_spec.specs.DeviceCalls.{Slab}
+use Rattle.serial_spec.specs.File.{at, written}
+use Rattle.serial_spec.proofs.FileLaws.{at-written_before, at-written_after, length-written_inside}
+use Rattle.redef_mover.specs.Kept.{IsBeside, IsKept, IsOutside, IsUnmoved}
+use Rattle.redef_mover.specs.declared.slabs.Slabs.{Slabs}
+use Rattle.redef_mover.specs.Moves.{cleared, slab_moved, slabs_at, window}
+use Rattle.redef_mover.proofs.ClearLaws.{above, cleared_after, cleared_before, cleared_long}
+use Rattle.redef_mover.proofs.SlabLaws.{moved_after, moved_before, moved_long}
+use Rattle.redef_mover.proofs.WindowLaws.{upper}
+
+-- ---- files
+
+still : (P : ℕ → Type 0) (file : List ℕ) → IsKept P file file
+still P file = record { len = refl; kept = λ x h. refl }
+
+twice : (P : ℕ → Type 0) (old mid left : List ℕ) → IsKept P old mid → IsKept P mid left → IsKept P old left
+twice P old mid left a b = record { len = b.len ∙ a.len; kept = λ x h. b.kept x h ∙ a.kept x h }
+
+fewer : (P Q : ℕ → Type 0) (old left : List ℕ) → ((x : ℕ) → Q x → P x) → IsKept P old left → IsKept Q old left
+fewer P Q old left f a = record { len = a.len; kept = λ x h. a.kept x (f x h) }
+
+write_beside : (file bytes : List ℕ) (place x : ℕ) → IsOutside place (length bytes) x → at (written file place bytes) x ≡ at file x
+write_beside file bytes place x (inl h) = at-written_before file bytes place x h
+write_beside file bytes place x (inr h) = at-written_after file bytes place x h
+
+write_keeps : (file bytes : List ℕ) (place : ℕ) → place + length bytes ≤ length file → IsKept (IsOutside place (length bytes)) file (written file place bytes)
+write_keeps file bytes place room = record { len = length-written_inside file place bytes room; kept = λ x h. write_beside file bytes place x h }
+
+-- a write that was cut off
+part_keeps : (file bytes left : List ℕ) (place : ℕ) → place + length bytes ≤ length file → PartlyWritten place bytes file left
+    → IsKept (IsOutside place (length bytes)) file left
+part_keeps file bytes left place room p = record { len = p.len ∙ length-written_inside file place bytes room; kept = λ x h. by_byte x h (p.each x) }
+  where
+    by_byte : (x : ℕ) → IsOutside place (length bytes) x → (at left x ≡ at file x) ⊎ (at left x ≡ at (written file place bytes) x) → at left x ≡ at file x
+    by_byte x h (inl e) = e
+    by_byte x h (inr e) = e ∙ write_beside file bytes place x h
+
+-- ---- files that may be told
+
+pub kept_still : (P : ℕ → Type 0) (held : Option (List ℕ)) → BothTold (IsKept P) held held
+kept_still P None = refl
+kept_still P (Some file) = (file, refl, still P file)
+
+pub kept_same : (P : ℕ → Type 0) (held now : Option (List ℕ)) → now ≡ held → BothTold (IsKept P) held now
+kept_same P held now e = subst (λ (m : Option (List ℕ)). BothTold (IsKept P) held m) (sym e) (kept_still P held)
+
+pub kept_twice : (P : ℕ → Type 0) (held mid now : Option (List ℕ)) → BothTold (IsKept P) held mid → BothTold (IsKept P) mid now → BothTold (IsKept P) held now
+kept_twice P None mid now a b = subst (λ (m : Option (List ℕ)). BothTold (IsKept P) m now) a b
+kept_twice P (Some file) mid now a b = by_mid (subst (λ (m : Option (List ℕ)). BothTold (IsKept P) m now) a.1 b)
+  where
+    by_mid : BothTold (IsKept P) (Some a.0) now → BothTold (IsKept P) (Some file) now
+    by_mid c = (c.0, c.1, twice P file a.0 c.0 a.2 c.2)
+
+pub kept_of : (P Q : ℕ → Type 0) (held now : Option (List ℕ)) → ((x : ℕ) → Q x → P x) → BothTold (IsKept P) held now → BothTold (IsKept Q) held now
+kept_of P Q None now f a = a
+kept_of P Q (Some file) now f a = (a.0, a.1, fewer P Q file a.0 f a.2)
+
+-- one change more, which keeps more
+pub kept_more : (P Q : ℕ → Type 0) (held mid now : Option (List ℕ)) → ((x : ℕ) → Q x → P x) → BothTold (IsKept Q) held mid → BothTold (IsKept P) mid now
+    → BothTold (IsKept Q) held now
+kept_more P Q held mid now f a b = kept_twice Q held mid now a (kept_of P Q mid now f b)
+
+-- a write, done or cut off
+pub kept_written : {T E : Type 0} (r : Result T E) (held mid now : Option (List ℕ)) (bytes : List ℕ) (place a n size : ℕ)
+    → IfSome held (λ file. length file ≡ size) → mid ≡ held → place ≡ a → length bytes ≡ n → a + n ≤ size
+    → OnOk r (now ≡ after (λ file. written file place bytes) mid) → OnErr r (BothTold (PartlyWritten place bytes) mid now)
+    → BothTold (IsKept (IsOutside a n)) held now
+kept_written r held mid now bytes place a n size long same p l room ok bad =
+    subst (λ (k : ℕ). BothTold (IsKept (IsOutside a k)) held now) l
+    (subst (λ (y : ℕ). BothTold (IsKept (IsOutside y (length bytes))) held now) p
+    (by_result r held long (subst (λ (m : Option (List ℕ)). OnOk r (now ≡ after (λ file. written file place bytes) m)) same ok)
+    (subst (λ (m : Option (List ℕ)). OnErr r (BothTold (PartlyWritten place bytes) m now)) same bad)))
+  where
+    by_result : {T E : Type 0} (r : Result T E) (held : Option (List ℕ)) → IfSome held (λ file. length file ≡ size)
+        → OnOk r (now ≡ after (λ file. written file place bytes) held) → OnErr r (BothTold (PartlyWritten place bytes) held now)
+        → BothTold (IsKept (IsOutside place (length bytes))) held now
+    by_result (Ok x) None long ok bad = ok
+    by_result (Ok x) (Some file) long ok bad = (written file place bytes, ok, write_keeps file bytes place (omega arith))
+    by_result (Err e) None long ok bad = bad
+    by_result (Err e) (Some file) long ok bad = (bad.0, bad.1, part_keeps file bytes bad.0 place (omega arith) bad.2)
+
+-- the length of a file that was kept
+pub kept_long : (P : ℕ → Type 0) (held mid : Option (List ℕ)) (size : ℕ) → IfSome held (λ file. length file ≡ size) → BothTold (IsKept P) held mid
+    → IfSome mid (λ file. length file ≡ size)
+kept_long P None mid size long a = subst (λ (m : Option (List ℕ)). IfSome m (λ file. length file ≡ size)) (sym a) tt
+kept_long P (Some file) mid size long a =
+    subst (λ (m : Option (List ℕ)). IfSome m (λ file. length file ≡ size)) (sym a.1) (a.2.len ∙ long)
+
+-- ---- moves
+
+pub outside_window : (z j x : ℕ) (s w : Slab) → w ≡ window z s j → IsOutside s.to s.len x → IsOutside w.to w.len x
+outside_window z j x s w e h = subst (λ (v : Slab). IsOutside v.to v.len x) (sym e) (by_side h)
+  where
+    by_side : IsOutside s.to s.len x → IsOutside (window z s j).to (window z s j).len x
+    by_side (inl l) = inl (omega arith)
+    by_side (inr l) = inr (omega arith)
+
+changed : (s : Slab) → (s.from ≡ s.to → ⊥) → IsTrue (changes s)
+changed s differ = by_test (s.from == s.to) refl
+  where
+    by_test : (t : Bool) → (s.from == s.to) ≡ t → IsTrue (changes s)
+    by_test true e = absurd (differ (eqb-true s.from s.to e))
+    by_test false e = ap (λ (b : Bool). not b) e
+
+-- the only slab
+pub outside_one : (s : Slab) (x : ℕ) → (s.from ≡ s.to → ⊥) → IsUnmoved (s ∷ []) x → IsOutside s.to s.len x
+outside_one s x differ h = h s (inl refl) (changed s differ)
+
+pub unmoved_of : (some all : List Slab) (x : ℕ) → ((s : Slab) → In some s → In all s) → IsUnmoved all x → IsUnmoved some x
+unmoved_of some all x f h s i c = h s (f s i) c
+
+-- one of the slabs
+pub unmoved_one : (s : Slab) (all : List Slab) (x : ℕ) → In all s → IsUnmoved all x → IsUnmoved (s ∷ []) x
+unmoved_one s all x i h t (inl e) c = h t (subst (λ (u : Slab). In all u) e i) c
+unmoved_one s all x i h t (inr k) c = absurd k
+
+-- the upper windows of a slab
+pub upper_kept : (held now : Option (List ℕ)) (z j size : ℕ) (s : Slab) → IfSome held (λ file. length file ≡ size) → s.to + s.len ≤ size
+    → now ≡ after (λ file. slab_moved file (upper z s j)) held → BothTold (IsKept (IsOutside s.to s.len)) held now
+upper_kept None now z j size s long room e = e
+upper_kept (Some file) now z j size s long room e =
+    (slab_moved file (upper z s j), e, record { len = moved_long file (upper z s j) (omega arith); kept = by_side })
+  where
+    by_side : (x : ℕ) → IsOutside s.to s.len x → at (slab_moved file (upper z s j)) x ≡ at file x
+    by_side x (inl l) = moved_before file (upper z s j) x (omega arith)
+    by_side x (inr l) = moved_after file (upper z s j) x (omega arith)
+
+-- ---- gaps
+
+pub outside_part : (a n b m x : ℕ) → a ≤ b → b + m ≤ a + n → IsOutside a n x → IsOutside b m x
+outside_part a n b m x low high (inl l) = inl (omega arith)
+outside_part a n b m x low high (inr l) = inr (omega arith)
+
+-- the first windows of a gap
+pub first_kept : (held now : Option (List ℕ)) (place n len size : ℕ) → IfSome held (λ file. length file ≡ size) → n ≤ len → place + len ≤ size
+    → now ≡ after (λ file. cleared file (place, n)) held → BothTold (IsKept (IsOutside place len)) held now
+first_kept None now place n len size long few room e = e
+first_kept (Some file) now place n len size long few room e =
+    (cleared file (place, n), e, record { len = cleared_long file place n (omega arith); kept = by_side })
+  where
+    by_side : (x : ℕ) → IsOutside place len x → at (cleared file (place, n)) x ≡ at file x
+    by_side x (inl l) = cleared_before file place n x l
+    by_side x (inr l) = cleared_after file place n x (omega arith)
+
+pub beside_first : (g : ℕ × ℕ) (rest all : List (ℕ × ℕ)) (x : ℕ) → all ≡ g ∷ rest → IsBeside all x → IsOutside g.0 g.1 x
+beside_first g rest all x e h = h g (subst (λ (gs : List (ℕ × ℕ)). In gs g) (sym e) (inl refl))
+
+pub beside_rest : (g : ℕ × ℕ) (rest all : List (ℕ × ℕ)) (x : ℕ) → all ≡ g ∷ rest → IsBeside all x → IsBeside rest x
+beside_rest g rest all x e h f i = h f (subst (λ (gs : List (ℕ × ℕ)). In gs f) (sym e) (inr i))
+
+pub beside_front : (front rest all : List (ℕ × ℕ)) (x : ℕ) → all ≡ front ++ rest → IsBeside all x → IsBeside front x
+beside_front front rest all x e h g i = h g (subst (λ (gs : List (ℕ × ℕ)). In gs g) (sym e) (in_left front rest g i))
+
+pub beside_back : (front rest all : List (ℕ × ℕ)) (x : ℕ) → all ≡ front ++ rest → IsBeside all x → IsBeside rest x
+beside_back front rest all x e h g i = h g (subst (λ (gs : List (ℕ × ℕ)). In gs g) (sym e) (in_right front rest g i))
+
+pub beside_last : (place n : ℕ) (all : List (ℕ × ℕ)) (x : ℕ) → all ≡ (place, n) ∷ [] → IsBeside all x → IsOutside place n x
+beside_last place n all x e h = beside_first (place, n) [] all x e h
+
+-- the gap behind the slabs of the last record
+pub last_beside : (slabs : Slabs) (r place end x : ℕ) → slabs.count ≤ r → IsBeside (gaps place end (above slabs r)) x → IsOutside place (end - place) x
+last_beside slabs r place end x h b =
+    let none : slabs.count - r ≡ 0 = omega arith in
+    beside_last place (end - place) (gaps place end (above slabs r)) x
+    (ap (λ (n : ℕ). gaps place end (flat_map (slabs_at slabs.step slabs.records.items) (range_with_len r n))) none) b
