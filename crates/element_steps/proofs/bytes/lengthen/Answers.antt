@@ -1,0 +1,19 @@
+-- One zero more.
+use Rattle.std.proofs.Common.{◌+◌, ◌∙◌, sym, ap, ◌∷◌, [], List, ℕ, length, length-append, arith}
+use Rattle.serial_spec.specs.File.{longer}
+use Rattle.serial_spec.proofs.FileLaws.{longer-enough}
+use Rattle.element_steps.proofs.GatherLaws.{longer_push}
+use Rattle.element_steps.proofs.bytes.lengthen.Goals as goal
+
+pub loop-length-preserved : goal.loop-length-preserved
+loop-length-preserved c = record {
+  whole =
+      ap (λ (f : List ℕ). longer f c.args.size) c.in_ok-push.ensures.items
+      ∙ longer_push c.loop-length.file.items c.args.size (omega (arith, c.loop-length-test.true, c.loop-length.invariant.long))
+      ∙ c.loop-length.invariant.whole;
+  long = ap (λ (f : List ℕ). length f) c.in_ok-push.ensures.items ∙ length-append c.loop-length.file.items (0 ∷ []) ∙ ap (λ (n : ℕ). n + 1) c.loop-length.invariant.long;
+}
+
+pub returns : goal.returns
+returns c =
+    sym (longer-enough c.loop-length.file.items c.args.size (omega (arith, c.loop-length-test.false, c.loop-length.invariant.long))) ∙ c.loop-length.invariant.whole

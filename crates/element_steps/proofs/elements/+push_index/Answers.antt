@@ -1,0 +1,16 @@
+-- An index, one dimension after another.
+use Rattle.std.proofs.Common.{◌++◌, ◌∙◌, ◌^◌, ℕ, List, ap, sym, subst, append-nil, rules}
+use Rattle.element_steps.specs.Requests.{AreBelow}
+use Rattle.element_steps.proofs.IndexLaws.{index_step, no_counts}
+use Rattle.element_steps.proofs.elements.+push_index.Goals as goal
+
+pub returns-in_default-counts : goal.returns-in_default-counts
+returns-in_default-counts t c =
+    sym (ap (λ (l : List ℕ). c.args.index.now.items ++ l) (no_counts c.args.starts.now c.args.counts.now c.args.strides.now c.args.number c.in_default-counts.len_below)
+    ∙ append-nil c.args.index.now.items)
+
+pub push_index-requires : goal.push_index-requires
+push_index-requires t c =
+    let step = index_step c.args.starts.now c.args.counts.now c.args.strides.now c.args.number c.element_count-inner.result
+    c.in-len1-up.len_at_least c.in-len1-up-counts.len_at_least c.in-len1-up-strides.len_at_least c.requires.number c.requires.few c.element_count-inner.ensures in
+    (search rules, (step.number_low, (step.few, (subst (λ (l : List ℕ). AreBelow (2 ^ 62) l) step.is c.requires.low).1)))

@@ -1,0 +1,27 @@
+-- One element more.
+use Rattle.std.proofs.Common.{◌*◌, ◌∙◌, ℕ, List, Some, ap, sym, take, drop, arith}
+use Rattle.serial_spec.specs.ExternalForm.{size_of}
+use Rattle.serial_spec.specs.Layout.{product}
+use Rattle.serial_spec.specs.Request.{places}
+use Rattle.vara_extents.proofs.NumberLaws.{length-places, place_at}
+use Rattle.element_steps.proofs.WriteSteps.{put_end, put_step}
+use Rattle.element_steps.proofs.elements.put_elements.Goals as goal
+
+pub loop-number-preserved : goal.loop-number-preserved
+loop-number-preserved c =
+    let count = c.element_count-number-end.ensures ∙ ap (λ (l : List ℕ). product l) c.as_slice.ensures in
+    let k = c.loop-number.number in
+    put_step (size_of c.args.of.now.kind) (places c.args.header.now c.args.of.now c.args.post.now.region) c.args.post.now.bytes c.loop-number.file.items _ _ c.element.result.now
+    k c.in_ok-at.at
+    (place_at c.args.header.now c.args.of.now c.args.post.now.region k (omega (arith, c.loop-number-test.true, count)) ∙ ap Some (sym c.in_ok-at.ensures.place))
+    (c.element.ensures
+    ∙ ap (λ (n : ℕ). take n (drop (k * n) c.as_slice-bytes.result.now)) c.size_of-size.ensures
+    ∙ ap (λ (b : List ℕ). take (size_of c.args.of.now.kind) (drop (k * size_of c.args.of.now.kind) b)) c.as_slice-bytes.ensures)
+    c.in_ok-write.ensures c.loop-number.invariant
+
+pub returns : goal.returns
+returns c =
+    let count = c.element_count-number-end.ensures ∙ ap (λ (l : List ℕ). product l) c.as_slice.ensures in
+    let long = length-places c.args.header.now c.args.of.now c.args.post.now.region in
+    put_end (size_of c.args.of.now.kind) (places c.args.header.now c.args.of.now c.args.post.now.region) _ c.loop-number.file.items _ c.loop-number.number
+    (omega (arith, c.loop-number-test.false, count, long)) c.loop-number.invariant

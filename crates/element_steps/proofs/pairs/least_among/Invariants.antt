@@ -1,0 +1,8 @@
+-- The least so far, and those that are left.
+use Rattle.std.proofs.Common.{◌≡◌, drop, filter}
+use Rattle.serial_spec.specs.SharedByte.{is_shared}
+use Rattle.element_steps.specs.Least.{least_with}
+use Rattle.element_steps.proofs.pairs.least_among.Given as goal
+
+abbrev pub invariant-loop-byte : goal.invariant-loop-byte
+invariant-loop-byte l = least_with l.least (filter (is_shared l.held) (drop l.byte-index l.bytes)) ≡ least_with l.fn.known (filter (is_shared l.held) l.bytes)

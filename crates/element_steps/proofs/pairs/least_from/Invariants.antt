@@ -1,0 +1,7 @@
+-- The least so far, and those that are left.
+use Rattle.std.proofs.Common.{◌≡◌, drop, fold}
+use Rattle.serial_spec.specs.SharedByte.{lesser_key}
+use Rattle.element_steps.proofs.pairs.least_from.Given as goal
+
+abbrev pub invariant-loop-key : goal.invariant-loop-key
+invariant-loop-key l = fold lesser_key l.least (drop l.key-index l.keys) ≡ fold lesser_key l.fn.key l.keys

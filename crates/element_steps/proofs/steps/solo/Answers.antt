@@ -1,0 +1,19 @@
+-- The puts are those of the rank.
+use Rattle.std.proofs.Common.{ℕ, List, ◌++◌, ◌∙◌, ap, subst}
+use Rattle.nc_base.specs.declared.plan.Post.{Post}
+use Rattle.overlay_laws.specs.Entries.{In}
+use Rattle.serial_spec.specs.FileStep.{puts_of}
+use Rattle.element_steps.proofs.MeetSteps.{own_right}
+use Rattle.element_steps.proofs.steps.solo.Goals as goal
+
+pub told-requires-clause-accepted : goal.told-requires-clause-accepted
+told-requires-clause-accepted c = λ p m.
+    (own_right c.args.header.now c.args.rank c.args.offer.now p c.requires.right
+    (subst (λ (ps : List (ℕ × Post)). In ps p)
+    (c.as_slice.ensures.value ∙ c.in_ok-add_puts.ensures ∙ ap (λ (ps : List (ℕ × Post)). ps ++ puts_of (c.args.rank, c.args.offer.now)) c.new-puts.ensures.items) m)).accepted
+
+pub do_puts-requires-clause-right : goal.do_puts-requires-clause-right
+do_puts-requires-clause-right c = λ p m.
+    own_right c.args.header.now c.args.rank c.args.offer.now p c.requires.right
+    (subst (λ (ps : List (ℕ × Post)). In ps p)
+    (c.as_slice-2.ensures.value ∙ c.in_ok-add_puts.ensures ∙ ap (λ (ps : List (ℕ × Post)). ps ++ puts_of (c.args.rank, c.args.offer.now)) c.new-puts.ensures.items) m)

@@ -1,0 +1,5 @@
+//! Tests of serial_eval.
+#![tactic(auto)]
+
+#[cfg(test)]
+mod tests;
