@@ -47,8 +47,8 @@ use Rattle.join_laws.proofs.TieLaws.{one_if}
 use Rattle.turn_run.specs.Seated.{calls_of}
 use Rattle.turn_run.proofs.ListLaws.{get_mapped, get_replicate}
 use Rattle.join_laws.proofs.StrangeLaws.{event_is, strange_alone}
-use Rattle.join_laws.proofs.JoinLaws.{stranger_on}
-use Rattle.thread_run.proofs.DeskRuns.{given_on, seat_ended, seat_held, served_on, ServedOn}
+use Rattle.join_laws.proofs.JoinLaws.{stranger_on, served_on, ServedOn}
+use Rattle.thread_run.proofs.DeskRuns.{given_on, seat_ended, seat_held}
 
 -- ---- a beginning of what a rank puts
 

@@ -44,14 +44,6 @@ stops_at s d a rest e = record { desk = rw (e, served) refl; marks = rw (e, serv
 pub calls_stop : (hints : Hints) (s : Setting) (d : Desk) (a : Arrival) (rest : List Arrival) → is_strange s d a ≡ true → desk_calls hints s d (a ∷ rest) ≡ []
 calls_stop hints s d a rest e = rw (e, desk_calls) refl
 
-pub record ServedOn (s : Setting) (d : Desk) (a : Arrival) (rest : List Arrival) : Type 0 where
-  pub desk : (served s d (a ∷ rest)).desk ≡ (served s (event s d a).desk rest).desk
-  pub marks : (served s d (a ∷ rest)).marks ≡ (event s d a).marks ++ (served s (event s d a).desk rest).marks
-  pub stranger : (served s d (a ∷ rest)).stranger ≡ (served s (event s d a).desk rest).stranger
-
-pub served_on : (s : Setting) (d : Desk) (a : Arrival) (rest : List Arrival) → is_strange s d a ≡ false → ServedOn s d a rest
-served_on s d a rest e = record { desk = rw (e, served) refl; marks = rw (e, served) refl; stranger = rw (e, served) refl }
-
 pub given_on : (s : Setting) (d : Desk) (a : Arrival) (rest : List Arrival) (q : ℕ) → is_strange s d a ≡ false
     → given_along s d (a ∷ rest) q ≡ (event s d a).given q ++ given_along s (event s d a).desk rest q
 given_on s d a rest q e = rw (e, given_along) refl

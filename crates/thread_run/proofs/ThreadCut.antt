@@ -56,8 +56,8 @@ use Rattle.thread_run.specs.Threads.{EndedAt, NoneBroke, most_known_of}
 use Rattle.thread_run.specs.Threads.EndedAt.{as_left, in_close as in_closing}
 use Rattle.thread_run.proofs.CutJoin.{Ran, Stands, cut_run, end_of_rank, last_end, Sits}
 use Rattle.thread_run.proofs.CutStood.{single_begun, stood_run}
-use Rattle.join_laws.proofs.JoinLaws.{stranger_on, owed_stop}
-use Rattle.thread_run.proofs.DeskRuns.{GoesOn, goes_on, served_on, stops_at}
+use Rattle.join_laws.proofs.JoinLaws.{stranger_on, owed_stop, served_on}
+use Rattle.thread_run.proofs.DeskRuns.{GoesOn, goes_on, stops_at}
 use Rattle.thread_run.proofs.ThreadRuns.{Finished, FinishedSo, finished, finished_so}
 use Rattle.thread_run.proofs.ThreadTies.{Own, Told, begun, broke_or_not, offered_all, own_of, puts, takes}
 
