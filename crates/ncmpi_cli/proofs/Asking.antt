@@ -30,6 +30,7 @@ wanting (Some (run name)) before now status order h e o = record {
   faulty = λ _ _ _. inr e;
   complete = λ _ _ _ _. inr e;
   steps = begins_none before.left order o;
+  began = inl o;
   unread = λ _. o;
   unfit = λ _. o;
 }

@@ -15,7 +15,7 @@ use Rattle.script_spec.specs.Texts.{run_text}
 use Rattle.script_spec.specs.ScriptGrammar.{Reads}
 use Rattle.rank_meeting.specs.Begun.{HasBegun}
 use Rattle.ncmpi_cli.specs.Headline.{Asks, BeginsFor, IsDone, Ran}
-use Rattle.ncmpi_cli.specs.Opening.{first_calls, IsReady}
+use Rattle.ncmpi_cli.specs.Opening.{first_calls, CanHaveBegun, IsReady}
 use Rattle.ncmpi_cli.proofs.Ready.{same_script}
 
 -- ---- a file that is told
@@ -68,6 +68,20 @@ begins_none None order e = tt
 begins_none (Some text) order e = λ script r. subst (λ (o : List Mark). HasBegun script o) (sym e) (record { known_ranks = refl; each_rank = λ q h. (_, refl) })
 
 -- ---- the run
+
+pub can_have_begun : (script : Script) (header : Header) (left_before left_after held_before held_mid : Option (List ℕ)) (calls_before calls_mid : Option (List DiskCall))
+    → Asks left_before script → IsReady script header held_before held_mid calls_before calls_mid → left_after ≡ after (λ _. []) left_before → CanHaveBegun left_before left_after held_before
+can_have_begun script header left_before left_after held_before held_mid calls_before calls_mid asks ready taken = record {
+  script = script;
+  old = ready.old;
+  header = header;
+  file = ready.file;
+  asks = asks;
+  taken = taken;
+  held = ready.held;
+  heads = ready.heads;
+  faultless = ready.faultless;
+}
 
 pub ran : (script : Script) (header : Header) (left_before left_after held_before held_mid held_after : Option (List ℕ)) (calls_before calls_mid calls_after : Option (List DiskCall))
     (order end_order : List Mark) (records : ℕ) (answers : List (List Answer)) (pending : List ℕ) (text : List ℕ)

@@ -12,6 +12,7 @@ use Rattle.rank_meeting.specs.Begun.{HasBegun}
 use Rattle.ncmpi_cli.specs.Generated.{IsMadeStatus, MadeFront, MadeWhole, script_made}
 use Rattle.ncmpi_cli.specs.Headline.{AsksFor, BeginsFor, GivesLine, IsBadDataset, IsRight, IsWrong, RanToSink, RanWell, refusal, TellsHeader}
 use Rattle.ncmpi_cli.specs.Listing.{IsFaultyFront, IsListStatus, IsOfReadHeader, IsSoundFront, ListsFront, ListsWhole}
+use Rattle.ncmpi_cli.specs.Opening.{CanHaveBegun}
 use Rattle.ncmpi_cli.specs.Words.{Asked, run, offsets, generate}
 
 pub record Seen : Type 0 where
@@ -57,7 +58,9 @@ pub record HasRun (before now : Seen) (status : ℕ) (order : List Mark) : Type 
       → ¬ (DiskFailed before now) → (status ≡ 0) ⊎ (status ≡ 8)
   -- the steps that were finished begin an order of the script
   pub steps : IfSome before.left (λ text. BeginsFor text order)
-  -- no rank began where the text is refused or its dataset is, whatever the status
+  -- whatever the status, a step was done only where the ranks can have begun
+  pub began : (order ≡ []) ⊎ CanHaveBegun before.left now.left before.held
+  -- and so none where the text is refused or its dataset is
   pub unread : IsSomeAnd before.left (λ text. is_some (refusal text) ≡ true) → order ≡ []
   pub unfit : IsSomeAnd before.left (λ text. AsksFor IsWrong text before.held) → order ≡ []
 

@@ -5,6 +5,7 @@
 --     first_calls script old header file    the device calls before the ranks begin
 --     IsFaultless script held               nothing is wrong with the dataset
 --     IsReady script header ..              what is made of a dataset before the ranks begin
+--     CanHaveBegun left left' held          a script was taken whole, and its dataset opened or laid out without a fault
 use Rattle.std.specs.Prelude.{ℕ, ◌==◌, ◌≡◌, List, [], ◌++◌, length, Bool, true, false, Option, None, IfSome, if◌then◌else◌}
 use Rattle.nc_base.specs.declared.header.Header.{Header}
 use Rattle.nc_base.specs.declared.script.Hints.{Hints}
@@ -18,7 +19,7 @@ use Rattle.serial_spec.specs.Layout.{end_of}
 use Rattle.serial_spec.specs.Redefinition.{brought, layout_fault}
 use Rattle.serial_spec.specs.SerialEnd.{start}
 use Rattle.cdf_header.specs.Decoding.{BeginsWith}
-use Rattle.ncmpi_cli.specs.Headline.{align_of, front, AreHeadersOf, IsSoundFile}
+use Rattle.ncmpi_cli.specs.Headline.{align_of, front, AreHeadersOf, Asks, IsSoundFile}
 
 -- the front of what is held, or of some file where nothing is told, spells the header
 pub record IsOpened (held : Option (List ℕ)) (header : Header) : Type 0 where
@@ -59,3 +60,16 @@ pub record IsReady (script : Script) (header : Header) (held_before held_after :
   pub faultless : IsFaultless script held_before
   pub bytes : held_after ≡ after (λ before. start script header (brought script old header before)) held_before
   pub calls : IfSome held_before (λ bytes. calls_after ≡ after (λ _. first_calls script old header bytes) calls_before)
+
+-- The ranks can have begun: the source's text, which spells this script, was taken to its end, these are the headers of its
+-- dataset, and nothing is wrong with it.
+pub record CanHaveBegun (left_before left_after held_before : Option (List ℕ)) : Type 0 where
+  pub script : Script
+  pub old : Header
+  pub header : Header
+  pub file : List ℕ
+  pub asks : Asks left_before script
+  pub taken : left_after ≡ after (λ _. []) left_before
+  pub held : IfSome held_before (λ bytes. bytes ≡ file)
+  pub heads : AreHeadersOf script file old header
+  pub faultless : IsFaultless script held_before

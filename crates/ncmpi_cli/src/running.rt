@@ -4,6 +4,7 @@ ghost use Rattle.nc_outside.specs.Cause.{Rose};
 ghost use Rattle.nc_base.specs.declared.script.Script.{Script};
 ghost use Rattle.script_spec.specs.ScriptGrammar.{Reads};
 ghost use Rattle.ncmpi_cli.specs.Headline.{AsksFor, BeginsFor, GivesLine, IsBadDataset, IsBeforeRanks, IsBeforeStart, IsRight, IsSilent, IsStatus, IsWrong, RanToSink, RanWell, refusal};
+ghost use Rattle.ncmpi_cli.specs.Opening.{CanHaveBegun};
 ghost use Rattle.ncmpi_cli.specs.Stops.{line_of_status};
 
 use crate::beginning::{Begun, begin};
@@ -62,6 +63,7 @@ pub(crate) fn run_script<R: Threads + Wait + Sync, S: Source, K: Sink, D: Disk, 
     ensures unchanged { result.status ≡ 4 → D.held disk.new ≡ D.held disk.old }
     ensures silent { IsSilent result.status → out.new ≡ out.old }
     ensures steps { IfSome (S.left script.old) (λ text. BeginsFor text result.order) }
+    ensures began { (result.order ≡ []) ⊎ CanHaveBegun (S.left script.old) (S.left script.new) (D.held disk.old) }
     ensures unread { IsSomeAnd (S.left script.old) (λ text. is_some (refusal text) ≡ true) → result.order ≡ [] }
     ensures unfit { IsSomeAnd (S.left script.old) (λ text. AsksFor IsWrong text (D.held disk.old)) → result.order ≡ [] }
     ensures no_step { IsBeforeRanks result.status → result.order ≡ [] }

@@ -1,4 +1,4 @@
-use Rattle.std.proofs.Common.{◌≡◌, ◌∙◌, ap, refl, List, ℕ, Some, rules}
+use Rattle.std.proofs.Common.{◌≡◌, ◌∙◌, ap, inl, inr, refl, List, ℕ, Some, rules}
 use Rattle.std.specs.Prelude.{Err}
 use Rattle.nc_base.specs.declared.run.RunEnd.{RunEnd}
 use Rattle.nc_base.specs.declared.script.Script.{Script}
@@ -6,7 +6,7 @@ use Rattle.nc_base.specs.declared.step.StepErr.TheVariants as fault
 use Rattle.ncmpi_cli.specs.declared.stop.Stop.{Stop}
 use Rattle.script_spec.specs.Texts.{run_text}
 use Rattle.script_laws.proofs.LawfulLaws.{read_lawful}
-use Rattle.ncmpi_cli.proofs.Ran.{begins, begins_none, ran}
+use Rattle.ncmpi_cli.proofs.Ran.{begins, begins_none, can_have_begun, ran}
 use Rattle.ncmpi_cli.proofs.Telling.{dataset, not_unread, not_wrong, refused, rose_later, wants_memory}
 use Rattle.ncmpi_cli.proofs.running.run_script.Goals as goal
 
@@ -93,6 +93,26 @@ returns-in-Some-Disk-clause-steps g c =
 pub returns-clause-steps : goal.returns-clause-steps
 returns-clause-steps g c =
     begins (g.S.Source.left c.args.script.now) c.in-Ok.begun.script _ c.run_ranks-end.result.order c.in-Ok.ensures.asks c.tell-in-Some-Memory.ensures.order c.run_ranks-end.ensures.run.begun
+
+-- ---- where the ranks can have begun
+
+pub returns-in-Err-clause-began : goal.returns-in-Err-clause-began
+returns-in-Err-clause-began g c = inl (c.tell.ensures.order ∙ c.new.ensures)
+
+pub returns-in-None-clause-began : goal.returns-in-None-clause-began
+returns-in-None-clause-began g c =
+    inr (can_have_begun c.in-Ok.begun.script c.in-Ok.begun.header (g.S.Source.left c.args.script.now) _ (g.D.Disk.held c.args.disk.now) (g.D.Disk.held c.begin.new.disk)
+    (g.D.Disk.calls c.args.disk.now) (g.D.Disk.calls c.begin.new.disk) c.in-Ok.ensures.asks c.in-Ok.ensures.ready c.in-Ok.ensures.taken)
+
+pub returns-in-Some-Disk-clause-began : goal.returns-in-Some-Disk-clause-began
+returns-in-Some-Disk-clause-began g c =
+    inr (can_have_begun c.in-Ok.begun.script c.in-Ok.begun.header (g.S.Source.left c.args.script.now) _ (g.D.Disk.held c.args.disk.now) (g.D.Disk.held c.begin.new.disk)
+    (g.D.Disk.calls c.args.disk.now) (g.D.Disk.calls c.begin.new.disk) c.in-Ok.ensures.asks c.in-Ok.ensures.ready c.in-Ok.ensures.taken)
+
+pub returns-clause-began : goal.returns-clause-began
+returns-clause-began g c =
+    inr (can_have_begun c.in-Ok.begun.script c.in-Ok.begun.header (g.S.Source.left c.args.script.now) _ (g.D.Disk.held c.args.disk.now) (g.D.Disk.held c.begin.new.disk)
+    (g.D.Disk.calls c.args.disk.now) (g.D.Disk.calls c.begin.new.disk) c.in-Ok.ensures.asks c.in-Ok.ensures.ready c.in-Ok.ensures.taken)
 
 -- ---- where no rank began
 

@@ -19,6 +19,7 @@ returns-in-Ok-Some-Run-clause-ends g c =
       faulty = run_is.faulty;
       complete = run_is.complete;
       steps = run_is.steps;
+      began = run_is.began;
       unread = run_is.unread;
       unfit = run_is.unfit;
     })
