@@ -1,7 +1,6 @@
 -- A dataset that was not made ready.
-use Rattle.std.proofs.Common.{◌≡◌, ℕ, ◌+◌, ◌≤◌, ◌<◌, ◌==◌, max, ◌⊎◌, inl, inr, refl, sym, ◌∙◌, ap, subst, List, [], ◌++◌, length, Bool, true, false, Option, Some, None, arith}
-use Rattle.std.specs.Prelude.{IfSome, Result, Ok, Err, OnErr}
-use Rattle.std.specs.Result.{IsErrAnd}
+use Rattle.std.proofs.Common.{◌≡◌, ℕ, ◌≤◌, ◌==◌, max, ◌⊎◌, inl, inr, refl, sym, ◌∙◌, ap, subst, List, [], length, Bool, true, false, Option, Some, None, arith}
+use Rattle.std.specs.Prelude.{Result, Ok, Err, OnErr}
 use Rattle.std.proofs.lemmas.Grind.{common_steps}
 use Rattle.nc_base.specs.declared.header.Header as head
 use Rattle.nc_base.specs.declared.script.Extra.{Extra}
@@ -9,7 +8,6 @@ use Rattle.nc_base.specs.declared.script.Script as script_type
 use Rattle.nc_outside.specs.DiskState.{PartlyWritten}
 use Rattle.nc_outside.specs.Told.{after, BothTold}
 use Rattle.serial_spec.specs.File.{at, longer, written}
-use Rattle.serial_spec.specs.Fill.{filled}
 use Rattle.serial_spec.specs.HeaderGrammar.{canon, header_len}
 use Rattle.serial_spec.specs.Layout.{end_of}
 use Rattle.serial_spec.specs.SerialEnd.{start}
@@ -18,13 +16,12 @@ use Rattle.serial_spec.specs.Torn.{IsBegun, IsLengthened, IsTornCreation, IsTorn
 use Rattle.serial_spec.proofs.FileLaws.{at-longer}
 use Rattle.overlay_laws.specs.Changes.{IsBetween}
 use Rattle.fill_records.proofs.TornLaws.{filled_long}
-use Rattle.cdf_header.specs.Decoding.{BeginsWith}
 use Rattle.redef_laws.specs.Applied.{IsApplied}
 use Rattle.redef_laws.specs.Shifted.{new_end}
 use Rattle.redef_mover.specs.Relocation.{KeepsPlaces}
-use Rattle.ncmpi_cli.specs.Headline.{created_header, front, header_of_run, AreHeadersOf}
+use Rattle.ncmpi_cli.specs.Headline.{created_header, header_of_run, AreHeadersOf}
 use Rattle.ncmpi_cli.specs.Opening.{filled_if, IsCutRedefinition, IsNotReady, IsOpened, IsPartlyOpened, IsPartlyRedefined}
-use Rattle.ncmpi_cli.proofs.Created.{front-of-zeros, front_fits}
+use Rattle.ncmpi_cli.proofs.Created.{front-of-zeros}
 use Rattle.ncmpi_cli.proofs.Ready.{begun, false-true, header-changed, header-kept, start-created}
 
 pub on_err : {T E P : Type 0} (r : Result T E) → P → OnErr r P

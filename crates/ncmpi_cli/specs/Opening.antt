@@ -8,7 +8,7 @@
 --     IsCutRedefinition old new file left   what a redefinition that was cut off leaves of a file
 --     IsTornOpening ..                      the same of the opening of an existing dataset, whose header is read
 --     IsNotReady script file left           what stands of a dataset that was not made ready
---     IsLeftUnready left before after       the same where a script was read, or the dataset was not touched
+--     IsLeftUnready left before now         the same where a script was read, or the dataset was not touched
 use Rattle.std.specs.Prelude.{ℕ, ◌==◌, ◌≡◌, ◌⊎◌, List, [], ◌++◌, length, Bool, true, false, Option, None, IfSome, if◌then◌else◌}
 use Rattle.nc_base.specs.declared.header.Header.{Header}
 use Rattle.nc_base.specs.declared.script.Extra.{Extra}

@@ -16,4 +16,4 @@ pub returns-in_err-script-clause-torn : goal.returns-in_err-script-clause-torn
 returns-in_err-script-clause-torn g c = on_err c.from_residual.result (inl refl)
 
 pub returns-in_err-header-clause-torn : goal.returns-in_err-header-clause-torn
-returns-in_err-header-clause-torn g c = on_err c.from_residual-in_err-header.result (inr (c.in_ok-script.script, (c.in_ok-script.ensures.asks, c.in_err-header.ensures.refused)))
+returns-in_err-header-clause-torn g c = on_err c.from_residual-in_err-header.result (inr (c.in_ok-script.script, c.in_ok-script.ensures.asks, c.in_err-header.ensures.refused))
