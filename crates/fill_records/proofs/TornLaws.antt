@@ -1,6 +1,6 @@
 -- What a filling that was refused leaves: each byte is old, or that of the filled file.
-use Rattle.std.proofs.Common.{◌≡◌, ℕ, zero, suc, ◌+◌, ◌-◌, ◌*◌, ◌%◌, ◌<◌, ◌≤◌, ◌⊎◌, inl, inr, refl, sym, ◌∙◌, ap, subst, List, [], ◌∷◌, ◌++◌, length, take, get_or, Bool, true, false, not, cond, Option, Some, None, Result, Ok, Err, arith}
-use Rattle.std.specs.Prelude.{fold, find, filter, max, nat_lt, nat_le, slice_get, IfSome, OnErr}
+use Rattle.std.proofs.Common.{◌≡◌, ℕ, zero, suc, ◌+◌, ◌-◌, ◌<◌, ◌≤◌, ◌⊎◌, inl, inr, refl, sym, ◌∙◌, ap, subst, List, [], ◌∷◌, ◌++◌, length, take, Bool, true, false, not, cond, Option, Some, None, Result, Ok, Err, arith}
+use Rattle.std.specs.Prelude.{fold, find, nat_lt, nat_le, slice_get, IfSome, OnErr}
 use Rattle.std.specs.Int.{Width, byte_len, to_be_bytes, w8, w16, w32, w64, w128}
 use Rattle.std.proofs.lemmas.Bool.{cases_lt}
 use Rattle.std.proofs.lemmas.Bool.Decides.{nat_tests}
@@ -19,7 +19,7 @@ use Rattle.serial_spec.specs.Fill.{default_fill, fill_bytes, fill_var, filled, i
 use Rattle.serial_spec.specs.HeaderGrammar.{header_len, is_sound}
 use Rattle.serial_spec.specs.Layout.{end_of, fixed_variables, is_record, meet, records_meet, share, sharing_from, sharing_with, slab}
 use Rattle.serial_spec.proofs.ApartLaws.{none_shared, none_with}
-use Rattle.serial_spec.proofs.FileLaws.{written-inside, length-written_inside, get_or-written_below, get_or-written_within, get_or-written_above}
+use Rattle.serial_spec.proofs.FileLaws.{length-written_inside, get_or-written_below, get_or-written_within, get_or-written_above}
 use Rattle.overlay_laws.specs.Changes.{IsBetween}
 use Rattle.fill_records.specs.Filling.{repeated, filled_variable}
 use Rattle.fill_records.proofs.RepeatedLaws.{repeated_long, at_repeated}

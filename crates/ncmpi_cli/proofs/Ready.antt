@@ -61,7 +61,7 @@ some_extras script h = by_test (length script.extra == 0) refl
 pub header-kept : (script : script_type.Script) (old : head.Header) → AddsNothing script true → header_of_run script old ≡ old
 header-kept script old x = ap (λ (b : Bool). elim b [ true ↦ old | false ↦ redefined_header old script.extra ]) x
 
-header-changed : (script : script_type.Script) (old new : head.Header) → AddsNothing script false → IsApplied old script.extra new → new ≡ header_of_run script old
+pub header-changed : (script : script_type.Script) (old new : head.Header) → AddsNothing script false → IsApplied old script.extra new → new ≡ header_of_run script old
 header-changed script old new x a = a.made ∙ sym (ap (λ (b : Bool). elim b [ true ↦ old | false ↦ redefined_header old script.extra ]) x)
 
 pub file-kept : (script : script_type.Script) (old new : head.Header) (file : List ℕ) → AddsNothing script true → brought script old new file ≡ file
@@ -89,7 +89,7 @@ some-none e o f g = clash (sym f ∙ g)
 
 -- ---- the file before the ranks begin
 
-start-created : (script : script_type.Script) (header : head.Header) (file : List ℕ) → script.fresh ≡ true
+pub start-created : (script : script_type.Script) (header : head.Header) (file : List ℕ) → script.fresh ≡ true
     → start script header file ≡ filled_if script.filled header (longer (canon header) (end_of header (header_len header) 0))
 start-created script header file f = ap (λ (b : Bool). elim b [ false ↦ longer file (end_of header (header_len header) header.records) | true ↦ begun ]) f ∙ by_filled script.filled
   where
@@ -209,7 +209,7 @@ ready-created script header before mid now calls_before calls_mid calls_now f x 
 -- ---- an existing dataset
 
 -- the header at the front of what is held
-begun : (held : Option (List ℕ)) (header : head.Header) → IsOpened held header → IfSome held (λ file. (n : ℕ) × BeginsWith (front file) header n)
+pub begun : (held : Option (List ℕ)) (header : head.Header) → IsOpened held header → IfSome held (λ file. (n : ℕ) × BeginsWith (front file) header n)
 begun None header o = tt
 begun (Some file) header o = (o.count, subst (λ (t : List ℕ). BeginsWith (front t) header o.count) (sym o.told) o.begins)
 

@@ -1,11 +1,11 @@
 // What comes before the ranks: the script and the dataset.
 ghost use Rattle.std.specs.Prelude.{◌≡◌, ◌≤◌, ℕ, [], true, IfOk, IfErr, OnOk, OnErr, IfSome, IsErrOf, Err, Some, None};
-ghost use Rattle.nc_outside.specs.Told.{after};
+ghost use Rattle.nc_outside.specs.Told.{after, BothTold};
 ghost use Rattle.nc_outside.specs.Cause.{Rose};
 ghost use Rattle.serial_spec.specs.HeaderGrammar.{header_len, is_sound, is_writable};
 ghost use Rattle.serial_spec.specs.Layout.{end_of};
 ghost use Rattle.ncmpi_cli.specs.Headline.{align_of, Asks, created_header, IsBeforeStart, IsKept, IsRead, refusal, TellsDataset};
-ghost use Rattle.ncmpi_cli.specs.Opening.{IsReady};
+ghost use Rattle.ncmpi_cli.specs.Opening.{IsLeftUnready, IsNotReady, IsReady};
 ghost use Rattle.ncmpi_cli.specs.Stops.{IsOfDataset, IsOfLayout, line_of, status_of};
 ghost use Rattle.nc_base.specs.declared.errors.LayoutErr.{LayoutErr};
 ghost use Rattle.nc_base.specs.declared.script.Script.{Script};
@@ -47,6 +47,7 @@ pub(crate) fn begin<S: Source, D: Disk>(
     ensures asked { IfErr result (λ stop. status_of stop ≡ 7 → (script : Script) × Asks (S.left source.old) script) }
     ensures unlaid { IfErr result (λ stop. status_of stop ≡ 4 → IfSome (S.left source.old) (λ text. (s : Script) → Reads text s → s.fresh ≡ true → disk.new ≡ disk.old)) }
     ensures unchanged { IfErr result (λ stop. status_of stop ≡ 4 → D.held disk.new ≡ D.held disk.old) }
+    ensures torn { OnErr result (IsLeftUnready (S.left source.old) (D.held disk.old) (D.held disk.new)) }
     ensures source { IsErrOf result Stop.Source → Rose (S.faults source.old) (S.faults source.new) }
     ensures disk { IsErrOf result Stop.Disk → Rose (D.faults disk.old) (D.faults disk.new) }
     ensures later { D.faults disk.old ≤ D.faults disk.new }
@@ -71,6 +72,7 @@ pub(crate) fn make_ready<D: Disk>(
     ensures bad { IfErr result (λ stop. status_of stop ≡ 4 → IfSome (line_of stop) (TellsDataset script.now (D.held disk.old))) }
     ensures unlaid { IfErr result (λ stop. status_of stop ≡ 4 → script.now.fresh ≡ true → disk.new ≡ disk.old) }
     ensures unchanged { IfErr result (λ stop. status_of stop ≡ 4 → D.held disk.new ≡ D.held disk.old) }
+    ensures refused { OnErr result (BothTold (IsNotReady script.now) (D.held disk.old) (D.held disk.new)) }
     ensures disk { IsErrOf result Stop.Disk → Rose (D.faults disk.old) (D.faults disk.new) }
     ensures later { D.faults disk.old ≤ D.faults disk.new }
     ensures only { IfErr result IsOfDataset }

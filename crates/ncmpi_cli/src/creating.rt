@@ -1,12 +1,14 @@
 // A new dataset.
 ghost use Rattle.std.specs.Prelude.{◌≡◌, ◌≤◌, ◌∷◌, [], true, OnOk, OnErr, IfOk, IfErr};
 ghost use Rattle.nc_base.specs.declared.step.DiskCall.TheVariants.{Grow, Store};
-ghost use Rattle.nc_outside.specs.Told.{after, with_end};
+ghost use Rattle.nc_outside.specs.Told.{after, with_end, BothTold};
+ghost use Rattle.overlay_laws.specs.Changes.{IsBetween};
 ghost use Rattle.nc_outside.specs.Cause.{HasDiskCause};
 ghost use Rattle.serial_spec.specs.File.{longer};
 ghost use Rattle.serial_spec.specs.HeaderGrammar.{canon, header_len, is_writable, is_sound};
 ghost use Rattle.serial_spec.specs.Lawful.{are_lawful_hints};
 ghost use Rattle.serial_spec.specs.Layout.{end_of};
+ghost use Rattle.serial_spec.specs.Torn.{IsTornCreation};
 ghost use Rattle.ncmpi_cli.specs.Opening.{fill_calls_if, filled_if};
 
 use cdf_header::encode;
@@ -25,6 +27,7 @@ pub(crate) fn create<D: Disk>(
 ) -> Result<(), DiskErr>
     requires writable { is_writable header.now ≡ true }
     ensures bytes { OnOk result (D.held disk.new ≡ after (λ _. longer (canon header.now) (end_of header.now (header_len header.now) 0)) (D.held disk.old)) }
+    ensures refused { OnErr result (BothTold (λ old left. IsTornCreation (canon header.now) (longer (canon header.now) (end_of header.now (header_len header.now) 0)) old left) (D.held disk.old) (D.held disk.new)) }
     ensures calls { OnOk result (D.calls disk.new ≡ after (λ _. Grow (end_of header.now (header_len header.now) 0) ∷ Store 0 (header_len header.now) ∷ []) (D.calls disk.old)) }
     ensures from { OnOk result (D.from disk.new ≡ 0) }
     ensures len { OnOk result (D.len disk.new ≡ end_of header.now (header_len header.now) 0) }
@@ -50,6 +53,7 @@ pub(crate) fn fill<D: Disk>(
     requires from { D.from disk.old ≡ 0 }
     requires long { end_of header.now (header_len header.now) 0 ≤ D.len disk.old }
     ensures bytes { OnOk result (D.held disk.new ≡ after (filled_if script.now.filled header.now) (D.held disk.old)) }
+    ensures refused { OnErr result (BothTold (λ old left. IsBetween old (filled_if script.now.filled header.now old) left) (D.held disk.old) (D.held disk.new)) }
     ensures calls { OnOk result (D.calls disk.new ≡ with_end (D.calls disk.old) (fill_calls_if script.now.filled script.now.hints header.now)) }
     ensures from { D.from disk.new ≡ 0 }
     ensures len { D.len disk.new ≡ D.len disk.old }

@@ -1,13 +1,14 @@
 // An existing dataset to which the script adds.
-ghost use Rattle.std.specs.Prelude.{◌≡◌, ◌≤◌, Some, true, OnOk, IfOk, IfErr, IfSome, IsErrOf, Err};
+ghost use Rattle.std.specs.Prelude.{◌≡◌, ◌≤◌, Some, true, OnOk, OnErr, IfOk, IfErr, IfSome, IsErrOf, Err};
 ghost use Rattle.nc_base.specs.declared.errors.RedefErr.{RedefErr};
-ghost use Rattle.nc_outside.specs.Told.{after, with_end};
+ghost use Rattle.nc_outside.specs.Told.{after, with_end, BothTold};
 ghost use Rattle.nc_outside.specs.Cause.{Rose};
 ghost use Rattle.serial_spec.specs.Redefinition.{is_redefinable, redefined, redefined_fault};
 ghost use Rattle.redef_laws.specs.Applied.{IsApplied};
 ghost use Rattle.redef_laws.specs.Shifted.{new_end};
 ghost use Rattle.redef_mover.specs.Relocation.{relocation_calls};
 ghost use Rattle.ncmpi_cli.specs.Headline.{IsKept};
+ghost use Rattle.ncmpi_cli.specs.Opening.{IsPartlyRedefined};
 ghost use Rattle.ncmpi_cli.specs.Stops.{IsOfRedefinition};
 
 use crate::stop::Stop;
@@ -32,6 +33,7 @@ pub(crate) fn redefine<D: Disk>(
     ensures from { OnOk result (D.from disk.new ≡ 0) }
     ensures len { IfOk result (λ header. new_end old.now header ≤ D.len disk.new) }
     ensures refused { (e : RedefErr) → result ≡ Err (Stop.Redefinition e) → redefined_fault old.now script.now.extra ≡ Some e }
+    ensures torn { OnErr result (BothTold (IsPartlyRedefined old.now script.now.extra) (D.held disk.old) (D.held disk.new)) }
     ensures unchanged { (e : RedefErr) → result ≡ Err (Stop.Redefinition e) → disk.new ≡ disk.old }
     ensures disk { IsErrOf result Stop.Disk → Rose (D.faults disk.old) (D.faults disk.new) }
     ensures later { D.faults disk.old ≤ D.faults disk.new }

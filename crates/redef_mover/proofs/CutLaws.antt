@@ -1,8 +1,7 @@
 -- A relocation that was cut off: what it may have changed of a file.
-use Rattle.std.proofs.Common.{◌≡◌, ℕ, ◌+◌, ◌-◌, ◌<◌, ◌≤◌, max, ◌⊎◌, inl, inr, refl, sym, ◌∙◌, ap, subst, List, [], ◌∷◌, ◌++◌, length, take, get_or, Bool, true, false, Option, Some, None, Result, Ok, Err, arith}
+use Rattle.std.proofs.Common.{◌≡◌, ℕ, ◌+◌, ◌-◌, ◌<◌, ◌≤◌, max, ◌⊎◌, inl, inr, refl, sym, ◌∙◌, ap, subst, List, [], ◌∷◌, length, take, get_or, Bool, true, false, Option, Some, None, Result, Ok, Err, arith}
 use Rattle.std.specs.Prelude.{not, ◌==◌, IfSome, OnErr, IsTrue}
 use Rattle.std.proofs.lemmas.Bool.Decides.{nat_tests}
-use Rattle.std.proofs.lemmas.Bool.{cases_lt}
 use Rattle.std.proofs.lemmas.Grind.{common_steps}
 use Rattle.nc_base.specs.declared.header.Header.{Header}
 use Rattle.nc_outside.specs.DiskState.{PartlyWritten}
@@ -10,7 +9,7 @@ use Rattle.nc_outside.specs.Told.{after, BothTold}
 use Rattle.overlay_laws.specs.Entries.{In}
 use Rattle.redef_laws.specs.Rising.{changes, gaps, rising}
 use Rattle.redef_laws.specs.Shifted.{new_end, IsMoved}
-use Rattle.serial_spec.specs.DeviceCalls.{Slab, slabs}
+use Rattle.serial_spec.specs.DeviceCalls.{Slab}
 use Rattle.serial_spec.specs.File.{at, longer, written}
 use Rattle.serial_spec.specs.HeaderGrammar.{canon, header_len}
 use Rattle.serial_spec.specs.Redefinition.{redefined}
@@ -18,7 +17,7 @@ use Rattle.serial_spec.specs.Torn.{IsLengthened, IsTornRedefinition}
 use Rattle.serial_spec.proofs.FileLaws.{at-longer, at-written_after, get_or-written_within, length-written_inside}
 use Rattle.redef_mover.specs.Kept.{IsBeside, IsKept, IsOutside, IsUnmoved}
 use Rattle.redef_mover.specs.Moves.{AreSpaced}
-use Rattle.redef_mover.specs.Carried.{carried, IsCarriable, IsPartlyCarried}
+use Rattle.redef_mover.specs.Carried.{IsCarriable, IsPartlyCarried}
 use Rattle.redef_mover.specs.Relocation.{KeepsPlaces}
 use Rattle.redef_mover.proofs.ClearLaws.{spaced_low}
 use Rattle.redef_mover.proofs.CarryLaws.{carriable_spaced, carried_is, longer_long}

@@ -1,5 +1,5 @@
 -- What the moves and the zeros keep of a file.
-use Rattle.std.proofs.Common.{◌≡◌, ℕ, ◌+◌, ◌-◌, ◌*◌, ◌<◌, ◌≤◌, ◌⊎◌, inl, inr, refl, sym, ◌∙◌, ap, subst, List, [], ◌∷◌, ◌++◌, length, Bool, true, false, Option, Some, None, Result, Ok, Err, arith}
+use Rattle.std.proofs.Common.{◌≡◌, ℕ, ◌+◌, ◌-◌, ◌≤◌, ◌⊎◌, inl, inr, refl, sym, ◌∙◌, ap, subst, List, [], ◌∷◌, ◌++◌, length, Bool, true, false, Option, Some, None, Result, Ok, Err, arith}
 use Rattle.std.specs.Prelude.{not, ◌==◌, flat_map, IfSome, OnOk, OnErr, IsTrue}
 use Rattle.std.specs.List.{range_with_len}
 use borrow.Author.Tests.{eqb-true}

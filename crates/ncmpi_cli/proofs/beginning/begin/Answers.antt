@@ -1,4 +1,6 @@
 use Rattle.ncmpi_cli.proofs.Keeping.{read_kept}
+use Rattle.std.proofs.Common.{inl, inr, refl}
+use Rattle.ncmpi_cli.proofs.NotReady.{on_err}
 use Rattle.ncmpi_cli.proofs.Ready.{unlaid}
 use Rattle.ncmpi_cli.proofs.beginning.begin.Goals as goal
 
@@ -9,3 +11,9 @@ returns-in_err-header-clause-unlaid g c =
 
 pub make_ready-requires-clause-kept : goal.make_ready-requires-clause-kept
 make_ready-requires-clause-kept g c = λ _ _. read_kept c.in_ok-script.ensures.read.0 c.in_ok-script.script c.in_ok-script.ensures.read.1
+
+pub returns-in_err-script-clause-torn : goal.returns-in_err-script-clause-torn
+returns-in_err-script-clause-torn g c = on_err c.from_residual.result (inl refl)
+
+pub returns-in_err-header-clause-torn : goal.returns-in_err-header-clause-torn
+returns-in_err-header-clause-torn g c = on_err c.from_residual-in_err-header.result (inr (c.in_ok-script.script, c.in_ok-script.ensures.asks, c.in_err-header.ensures.refused))

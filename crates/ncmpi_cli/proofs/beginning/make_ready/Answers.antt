@@ -1,6 +1,7 @@
 use Rattle.std.proofs.Common.{◌∙◌}
 use Rattle.redef_laws.proofs.MovedLaws.{writable_is_sound}
 use Rattle.ncmpi_cli.proofs.Keeping.{kept_created, kept_hints, kept_records}
+use Rattle.ncmpi_cli.proofs.NotReady.{create_refused, err_as, fill_refused, not_laid, on_err, open_refused}
 use Rattle.ncmpi_cli.proofs.Ready.{created_long, ready-created}
 use Rattle.ncmpi_cli.proofs.beginning.make_ready.Goals as goal
 
@@ -21,3 +22,22 @@ pub returns-in_ok-fill-clause-len : goal.returns-in_ok-fill-clause-len
 returns-in_ok-fill-clause-len g c =
     created_long c.args.script.now c.in_ok-header.header (g.D.Disk.len c.fill.new.disk) (kept_records c.args.script.now c.requires.kept) c.in_ok-header.ensures.header
     (c.fill.ensures.len ∙ c.in_ok-create.ensures.len)
+
+pub returns-in_err-header-clause-refused : goal.returns-in_err-header-clause-refused
+returns-in_err-header-clause-refused g c = on_err c.from_residual.result (not_laid c.args.script.now (g.D.Disk.held c.args.disk.now) c.if-script.true)
+
+pub returns-in_err-create-clause-refused : goal.returns-in_err-create-clause-refused
+returns-in_err-create-clause-refused g c =
+    on_err c.from_residual-in_err-create.result
+    (create_refused c.args.script.now c.in_ok-header.header (g.D.Disk.held c.args.disk.now) (g.D.Disk.held c.create.new.disk) c.if-script.true c.in_ok-header.ensures.header
+    c.in_err-create.ensures.refused)
+
+pub returns-in_err-fill-clause-refused : goal.returns-in_err-fill-clause-refused
+returns-in_err-fill-clause-refused g c =
+    on_err c.from_residual-in_err-fill.result
+    (fill_refused c.args.script.now c.in_ok-header.header (g.D.Disk.held c.args.disk.now) (g.D.Disk.held c.create.new.disk) (g.D.Disk.held c.fill.new.disk) c.if-script.true
+    c.in_ok-header.ensures.header c.in_ok-create.ensures.bytes c.in_err-fill.ensures.refused)
+
+pub returns-else-script-clause-refused : goal.returns-else-script-clause-refused
+returns-else-script-clause-refused g c =
+    err_as c.open.result (open_refused c.args.script.now (g.D.Disk.held c.args.disk.now) (g.D.Disk.held c.open.new.disk) c.if-script.false) c.open.ensures.refused
