@@ -1,17 +1,1 @@
-pub mod WordLaws
-pub mod NumberLaws
-pub mod NameLaws
-pub mod TextLaws
-pub mod LineLaws
-pub mod FoundLaws
-pub mod VarLaws
-pub mod FitLaws
-pub mod RangeLaws
-pub mod PartLaws
-pub mod CallLaws
-pub mod MismatchLaws
-pub mod ListLaws
-pub mod CallWordLaws
-pub mod LineOfCall
-pub mod DraftWordLaws
 pub mod TopLaws

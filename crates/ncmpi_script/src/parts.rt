@@ -2,15 +2,13 @@
 ghost use Rattle.std.specs.Prelude.{◌≡◌, ◌≤◌, IfOk, IfSome};
 ghost use Rattle.script_spec.specs.ScriptWords.{significant_of};
 ghost use Rattle.script_spec.specs.ScriptGrammar.{head, data_line, definition_step, definitions, call_step, data_part, at_line};
-ghost use Rattle.ncmpi_script.specs.Reading.{Gives, GivesAt, word_of};
+ghost use Rattle.script_words.specs.Reading.{Gives, GivesAt, word_of};
 
-use crate::call_table::RankTable;
-use crate::draft::Draft;
-use crate::fault::{LineErr, ReadErr};
-use crate::lines::{Line, TextLines, significant_line};
-use crate::reading::{bare, ended, version};
-use crate::words::{Token, Words};
 use nc_base::{ScriptErr, ScriptKind};
+use script_calls::RankTable;
+use script_definitions::Draft;
+use script_words::reading::{bare, ended, version};
+use script_words::{Line, LineErr, ReadErr, TextLines, Token, Words, significant_line};
 use std::alloc::Global;
 
 /// Reads the head: the version of a new dataset, or 0 for an existing one.

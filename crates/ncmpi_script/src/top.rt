@@ -3,23 +3,22 @@ ghost use Rattle.std.specs.Prelude.{◌≡◌, ◌≢◌, ◌≤◌, ◌<◌, �
 ghost use Rattle.script_spec.specs.ScriptWords.{text_lines, significant_of, is_newline};
 ghost use Rattle.script_spec.specs.ScriptGrammar.{finish, is_mismatch, newlines, without_head, Reads, script_fault};
 ghost use Rattle.ncmpi_script.specs.TopWords.{head_by, definitions_by, data_part_by, finish_by, made_by, end_by, calls_by, rest_by, headed_by, lines_by, utf8_by, text_by};
-ghost use Rattle.ncmpi_script.specs.Seen.{line_seen};
+ghost use Rattle.script_words.specs.Seen.{line_seen};
 ghost use Rattle.nc_base.specs.declared.errors.ScriptKind.TheVariants as kind;
-ghost use Rattle.ncmpi_script.specs.Reading.{GivesAt};
+ghost use Rattle.script_words.specs.Reading.{GivesAt};
 
-use crate::call_table::RankTable;
-use crate::draft::Draft;
-use crate::fault::LineErr;
-use crate::lines::{Line, TextLines, significant_line};
-use crate::mismatch::mismatch;
 use crate::parts::{data_part, definitions, head_line};
 use nc_base::{
     CallTable, LimitName, MAX_SCRIPT_BYTES, MAX_SCRIPT_LINES, Script, ScriptErr, ScriptKind,
 };
+use script_calls::RankTable;
+use script_calls::mismatch::mismatch;
+use script_definitions::Draft;
+use script_words::{Line, LineErr, TextLines, significant_line};
 use std::alloc::Global;
 
 /// How many lines a text has.
-#[tactic(auto, using(crate::proofs::LineLaws::few_lines, crate::proofs::LineLaws::numbered))]
+#[tactic(auto, using(script_words::proofs::LineLaws::few_lines, script_words::proofs::LineLaws::numbered))]
 fn count_lines(text: &[u8]) -> u32
     requires { length text.now ≤ 2 ^ 26 }
     ensures value { result ≡ length (text_lines text.now) }

@@ -1,8 +1,0 @@
-use Rattle.std.proofs.Common.{◌∙◌, sym, ap, bytes_eq, position}
-use Rattle.list_laws.proofs.Maps.{position_map}
-use Rattle.ncmpi_script.proofs.names.Names.find.Goals as goal
-
-pub returns-clause-value : goal.returns-clause-value
-returns-clause-value c =
-    c.get_index_of.ensures.index
-    ∙ (sym (position_map (bytes_eq c.args.name.now) (λ k. k.now) c.self.inside.set.keys) ∙ ap (position (bytes_eq c.args.name.now)) c.self.view_is)

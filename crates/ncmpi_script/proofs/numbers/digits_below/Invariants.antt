@@ -1,6 +1,0 @@
-use Rattle.std.proofs.Common.{◌≡◌, take, min}
-use Rattle.script_spec.specs.ScriptWords.{digits_value}
-use Rattle.ncmpi_script.proofs.numbers.digits_below.Given as goal
-
-abbrev pub invariant-loop-d : goal.invariant-loop-d
-invariant-loop-d l = l.n ≡ min (digits_value (take l.d-index l.digits)) l.limit

@@ -1,7 +1,0 @@
--- What the reader's values stand for.
-use Rattle.ncmpi_script.specs.declared.lines.Line as own
-use Rattle.script_spec.specs.ScriptWords.{Line}
-use Rattle.ncmpi_script.specs.Reading.{word_of}
-
-abbrev pub line_seen : own.Line → Line
-line_seen l = record { number = l.number; first = word_of l.first; rest = l.rest }

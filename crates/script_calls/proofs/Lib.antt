@@ -1,0 +1,4 @@
+pub mod CallLaws
+pub mod MismatchLaws
+pub mod CallWordLaws
+pub mod LineOfCall

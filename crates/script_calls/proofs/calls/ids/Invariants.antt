@@ -1,0 +1,9 @@
+use Rattle.std.proofs.Common.{◌≡◌, [], length}
+use Rattle.script_spec.specs.ScriptCalls.{ids}
+use Rattle.script_calls.proofs.calls.ids.Given as goal
+
+abbrev pub invariant-loop-found : goal.invariant-loop-found
+invariant-loop-found l = ids l.found l.words ≡ ids [] l.fn.words
+
+abbrev pub decreases-loop-found : goal.decreases-loop-found
+decreases-loop-found l = length l.words

@@ -1,0 +1,9 @@
+use Rattle.std.proofs.Common.{◌≡◌, ◌≤◌, take, length}
+use Rattle.serial_spec.specs.History.{kinds}
+use Rattle.script_calls.proofs.rank_calls.kinds.Given as goal
+
+abbrev pub invariant-loop-call : goal.invariant-loop-call
+invariant-loop-call l = record {
+  value : l.list ≡ kinds (take l.call-index l.calls);
+  bound : length l.list ≤ l.call-index;
+}

@@ -1,0 +1,3 @@
+pub mod VarLaws
+pub mod ListLaws
+pub mod DraftWordLaws

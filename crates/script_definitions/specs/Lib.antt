@@ -1,0 +1,2 @@
+pub mod HintPlaces
+pub mod DraftWords

@@ -1,0 +1,199 @@
+// What a script adds to an existing dataset.
+ghost use Rattle.std.specs.Prelude.{◌≡◌, ◌≤◌, ◌^◌, ◌+◌, IfOk, length, drop, nat_lt};
+ghost use Rattle.std.specs.List.{list_any};
+ghost use Rattle.script_spec.specs.ScriptDefinitions.{Added, nothing_added, is_added_record, added_shape, owner_name, dim_addition, var_addition, att_addition, addition};
+ghost use Rattle.script_words.specs.Reading.{Gives};
+
+use crate::attributes::attribute;
+use crate::dims::Dims;
+use crate::titles::Titles;
+use crate::vars::{name_list, var_head};
+use nc_base::{Dim, Extra, ExtraList, LimitName, MAX_VAR_DIMS, Memory, Name, NameList, ScriptKind};
+use script_words::reading::{ended, owner};
+use script_words::{ListParts, Names, ReadErr, Words};
+use std::alloc::{AllocError, Global};
+use std::marker::Model;
+
+#[derive(Drop)]
+pub struct Additions<'a> {
+    alloc: Global,
+    dims: Dims<'a>,
+    vars: Names<'a>,
+    titles: Titles<'a>,
+    extras: ExtraList,
+}
+
+impl<'a> Model for Additions<'a> {
+    ghost use Rattle.script_spec.specs.ScriptDefinitions.{Added};
+
+    ghost Value = { Added };
+
+    ghost view = { λ d. record { dims = d.dims; vars = d.vars; titles = d.titles; extras = d.extras } };
+}
+
+fn owned(alloc: Global, name: &[u8]) -> Result<Name, AllocError>
+    ensures { IfOk result (λ n. n ≡ name.now) }
+{
+    Ok(Name::from_vec(Vec::from_slice(alloc, name)?))
+}
+
+/// The names, each with its own bytes.
+fn owned_names(alloc: Global, names: &mut ListParts<'_>) -> Result<NameList, Memory>
+    ensures { IfOk result (λ list. list ≡ names.old) }
+{
+    let mut list = NameList::new(alloc);
+    while let Some(name) = names.take() {
+        list.push(owned(alloc, name)?)?;
+    }
+    Ok(list)
+}
+
+/// The owner of an attribute, none for the dataset.
+fn owner_name(alloc: Global, owner: &[u8]) -> Result<Option<Name>, AllocError>
+    ensures { IfOk result (λ name. name ≡ owner_name owner.now) }
+{
+    if owner == b":".as_slice() {
+        return Ok(None);
+    }
+    Ok(Some(owned(alloc, owner)?))
+}
+
+fn any_record(dims: &Dims<'_>, names: &mut ListParts<'_>) -> bool
+    ensures { result ≡ list_any (is_added_record dims.now) names.old }
+{
+    while let Some(name) = names.take() {
+        if dims.is_named_record(name) {
+            return true;
+        }
+    }
+    false
+}
+
+fn has_later_record(dims: &Dims<'_>, names: &ListParts<'_>) -> bool
+    ensures { result ≡ list_any (is_added_record dims.now) (drop 1 names.now) }
+{
+    let mut later = names.again();
+    match later.take() {
+        Some(_) => any_record(dims, &mut later),
+        None => false,
+    }
+}
+
+/// Whether there are more names than so many.
+fn are_more_than(names: &mut ListParts<'_>, limit: usize) -> bool
+    ensures { result ≡ nat_lt limit (length names.old) }
+{
+    let mut left = limit;
+    while let Some(_) = names.take() {
+        if left == 0 {
+            return true;
+        }
+        left -= 1;
+    }
+    false
+}
+
+/// Reads the names of a variable's dimensions.
+fn shape<'a>(dims: &Dims<'a>, words: &mut Words<'a>) -> Result<ListParts<'a>, ReadErr>
+    ensures { Gives (λ names. (names, words.new)) result (added_shape dims.now words.old) }
+{
+    let names = name_list(words)?;
+    if are_more_than(&mut names.again(), MAX_VAR_DIMS) {
+        return Err(ReadErr::Fault(ScriptKind::Limit(LimitName::VarDims)));
+    }
+    if has_later_record(dims, &names) {
+        return Err(ReadErr::Fault(ScriptKind::BadShape));
+    }
+    Ok(names)
+}
+
+impl<'a> Additions<'a> {
+    pub fn new(alloc: Global) -> Self
+        ensures { result ≡ nothing_added }
+    {
+        Additions {
+            alloc,
+            dims: Dims::new(alloc),
+            vars: Names::new(alloc),
+            titles: Titles::new(alloc),
+            extras: ExtraList::new(alloc),
+        }
+    }
+
+    /// What is added, in order.
+    pub fn into_extras(self) -> ExtraList
+        ensures { result ≡ self.entry.extras }
+    {
+        let Additions { extras, .. } = self;
+        extras
+    }
+
+    fn read_dim(&mut self, words: &mut Words<'a>) -> Result<u64, ReadErr>
+        ensures { Gives (λ n. (n, self.new)) result (dim_addition self.old words.old) }
+    {
+        let (name, len) = self.dims.read(5, words)?;
+        let dim = Dim {
+            name: owned(self.alloc, name)?,
+            len,
+        };
+        self.dims.push(name, len)?;
+        self.extras.push(Extra::Dim(dim))?;
+        Ok(0)
+    }
+
+    fn read_var(&mut self, words: &mut Words<'a>) -> Result<u64, ReadErr>
+        ensures { Gives (λ n. (n, self.new)) result (var_addition self.old words.old) }
+    {
+        let (kind, name) = var_head(5, &self.vars, words)?;
+        let mut dims = shape(&self.dims, words)?;
+        ended(words)?;
+        let var = Extra::Var {
+            kind,
+            name: owned(self.alloc, name)?,
+            dims: owned_names(self.alloc, &mut dims)?,
+        };
+        self.vars.push(name)?;
+        self.extras.push(var)?;
+        Ok(0)
+    }
+
+    fn read_att(&mut self, before: u64, words: &mut Words<'a>) -> Result<u64, ReadErr>
+        requires { before ≤ 2 ^ 24 }
+        ensures read { Gives (λ n. (n, self.new)) result (att_addition before self.old words.old) }
+        ensures bound { IfOk result (λ n. before + n ≤ 2 ^ 24) }
+    {
+        let owner = owner(words)?;
+        let (name, attr) = attribute(self.alloc, 5, &self.titles, before, owner, words)?;
+        let count = attr.count;
+        let owner_name = owner_name(self.alloc, owner)?;
+        self.titles.push(owner, name)?;
+        self.extras.push(Extra::Att {
+            owner: owner_name,
+            attr,
+        })?;
+        Ok(count)
+    }
+
+    /// Reads a line: how many values it has.
+    pub fn read(
+        &mut self,
+        before: u64,
+        first: &'a [u8],
+        words: &mut Words<'a>,
+    ) -> Result<u64, ReadErr>
+        requires { before ≤ 2 ^ 24 }
+        ensures read { Gives (λ n. (n, self.new)) result (addition before self.old first.now words.old) }
+        ensures bound { IfOk result (λ n. before + n ≤ 2 ^ 24) }
+    {
+        if first == b"dim".as_slice() {
+            return self.read_dim(words);
+        }
+        if first == b"var".as_slice() {
+            return self.read_var(words);
+        }
+        if first == b"att".as_slice() {
+            return self.read_att(before, words);
+        }
+        Err(ReadErr::Fault(ScriptKind::UnknownWord))
+    }
+}

@@ -1,0 +1,133 @@
+// The dimensions of a script, in the order of their lines, with their names beside them.
+ghost use Rattle.std.specs.Prelude.{◌≡◌, ◌<◌, ◌++◌, ◌∷◌, [], OnOk, length, false, position, bytes_eq};
+ghost use Rattle.std.specs.List.{list_any};
+ghost use Rattle.script_spec.specs.ScriptDefinitions.{is_among, is_unlimited, dim_line, dim_names, is_record_dim, is_added_record};
+ghost use Rattle.script_words.specs.Reading.{Gives};
+
+use nc_base::{Dim, DimList, LimitName, MAX_DIMS, Name, ScriptKind};
+use script_words::reading::{dim_length, ended, name};
+use script_words::{Names, ReadErr, Words};
+use std::alloc::{AllocError, Global};
+use std::marker::Model;
+
+#[derive(Drop)]
+pub struct Dims<'a> {
+    alloc: Global,
+    list: Vec<Dim>,
+    names: Names<'a>,
+    unlimited: bool,
+}
+
+impl<'a> Model for Dims<'a> {
+    ghost use Rattle.std.specs.Prelude.{◌≡◌, ◌≤◌, List, length};
+    ghost use Rattle.std.specs.List.{list_any};
+    ghost use Rattle.script_spec.specs.ScriptDefinitions.{is_unlimited, dim_names};
+    ghost use Rattle.nc_base.specs.declared.header.Dim.{Dim};
+
+    ghost Value = { List Dim };
+
+    ghost view = { λ d. d.list.items };
+
+    ghost invariant = { λ d. (d.names ≡ dim_names d.list.items) × (d.unlimited ≡ list_any is_unlimited d.list.items) × (length d.list.items ≤ 1024) };
+}
+
+impl<'a> Dims<'a> {
+    pub fn new(alloc: Global) -> Self
+        ensures { result ≡ [] }
+    {
+        Dims {
+            alloc,
+            list: Vec::new(alloc),
+            names: Names::new(alloc),
+            unlimited: false,
+        }
+    }
+
+    pub fn len(&self) -> usize
+        ensures { result ≡ length self.now }
+    {
+        self.list.len()
+    }
+
+    pub fn is_named(&self, name: &'a [u8]) -> bool
+        ensures { result ≡ is_among name.now (dim_names self.now) }
+    {
+        self.names.contains(name)
+    }
+
+    pub fn find(&self, name: &'a [u8]) -> Option<u32>
+        ensures { result ≡ position (bytes_eq name.now) (dim_names self.now) }
+    {
+        match self.names.find(name) {
+            Some(place) => Some(place as u32),
+            None => None,
+        }
+    }
+
+    /// Whether the dimension at this place is the record dimension.
+    pub fn is_record(&self, id: u32) -> bool
+        ensures { result ≡ is_record_dim self.now id }
+    {
+        match self.list.get(id as usize) {
+            Some(dim) => dim.len == 0,
+            None => false,
+        }
+    }
+
+    /// Whether the dimension of this name is the record dimension.
+    pub fn is_named_record(&self, name: &[u8]) -> bool
+        ensures { result ≡ is_added_record self.now name.now }
+    {
+        self.list
+            .as_slice()
+            .iter()
+            .any(|dim| name == dim.name.as_slice() && dim.len == 0)
+    }
+
+    /// The dimensions, in order.
+    pub fn into_list(self) -> DimList
+        ensures { result ≡ self.entry }
+    {
+        let Dims { list, .. } = self;
+        DimList::from_vec(list)
+    }
+
+    pub fn has_unlimited(&self) -> bool
+        ensures { result ≡ list_any is_unlimited self.now }
+    {
+        self.unlimited
+    }
+
+    /// Reads the rest of a dimension's line.
+    pub fn read(&self, version: u8, words: &mut Words<'a>) -> Result<(&'a [u8], u64), ReadErr>
+        ensures { Gives (λ x. record { name = x.0.now; len = x.1 }) result (dim_line version self.now words.old) }
+    {
+        let name = name(words)?;
+        if self.is_named(name) {
+            return Err(ReadErr::Fault(ScriptKind::TwiceNamed));
+        }
+        if self.len() >= MAX_DIMS {
+            return Err(ReadErr::Fault(ScriptKind::Limit(LimitName::Dims)));
+        }
+        let len = dim_length(version, words)?;
+        if len == 0 && self.has_unlimited() {
+            return Err(ReadErr::Fault(ScriptKind::BadShape));
+        }
+        ended(words)?;
+        Ok((name, len))
+    }
+
+    /// Adds a dimension at the end.
+    pub fn push(&mut self, name: &'a [u8], len: u64) -> Result<(), AllocError>
+        requires new { is_among name.now (dim_names self.old) ≡ false }
+        requires room { length self.old < 1024 }
+        ensures { OnOk result (self.new ≡ self.old ++ record { name = name.now; len = len } ∷ []) }
+    {
+        let owned = Name::from_vec(Vec::from_slice(self.alloc, name)?);
+        self.list.reserve(1)?;
+        self.names.push(name)?;
+        self.unlimited = self.unlimited || len == 0;
+        self.list.push(Dim { name: owned, len })?;
+        Ok(())
+    }
+}

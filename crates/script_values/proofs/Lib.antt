@@ -1,0 +1,4 @@
+pub mod FoundLaws
+pub mod FitLaws
+pub mod RangeLaws
+pub mod PartLaws

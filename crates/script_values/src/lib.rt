@@ -1,0 +1,6 @@
+//! The values of a call or of an attribute, and the regions of a call, as the words of a line say them.
+#![tactic(auto)]
+
+mod fits;
+pub mod regions;
+pub mod values;

@@ -1,0 +1,163 @@
+// The regions of calls.
+ghost use Rattle.std.specs.Prelude.{◌≡◌, [], map};
+ghost use Rattle.script_spec.specs.ScriptWords.{all_some, size_of_text};
+ghost use Rattle.script_spec.specs.ScriptSteps.{list, or_fault};
+ghost use Rattle.script_spec.specs.ScriptCalls.{form_of_text, part, part_list, many_regions, region, given_of};
+ghost use Rattle.nc_base.specs.declared.errors.ScriptKind.TheVariants as kind;
+ghost use Rattle.nc_base.specs.declared.request.Form.TheVariants as form;
+ghost use Rattle.script_words.specs.Reading.{Gives};
+
+use nc_base::{Form, Given, LimitName, MAX_PARTS, Part, PartList, ScriptKind, SizeList};
+use script_words::numbers::size_of_text;
+use script_words::reading::{bracketed, size};
+use script_words::{ListParts, ReadErr, Words};
+use std::alloc::Global;
+
+/// The sizes among these parts.
+fn sizes_in(alloc: Global, parts: &mut ListParts<'_>) -> Result<SizeList, ReadErr>
+    ensures { Gives (λ sizes. sizes) result (or_fault kind.BadNumber (all_some (map size_of_text parts.old))) }
+{
+    let mut sizes = SizeList::new(alloc);
+    while let Some(part) = parts.take() {
+        let Some(size) = size_of_text(part) else {
+            return Err(ReadErr::Fault(ScriptKind::BadNumber));
+        };
+        sizes.push(size)?;
+    }
+    Ok(sizes)
+}
+
+/// Reads a list of sizes.
+fn list(alloc: Global, words: &mut Words<'_>) -> Result<SizeList, ReadErr>
+    ensures { Gives (λ sizes. (sizes, words.new)) result (list words.old) }
+{
+    let inside = bracketed(words)?;
+    sizes_in(alloc, &mut ListParts::new(inside))
+}
+
+/// The form that a word names.
+pub fn form_of_text(word: &[u8]) -> Option<Form>
+    ensures { result ≡ form_of_text word.now }
+{
+    if word == b"var1".as_slice() {
+        Some(Form::Var1)
+    } else if word == b"var".as_slice() {
+        Some(Form::Var)
+    } else if word == b"vara".as_slice() {
+        Some(Form::Vara)
+    } else if word == b"vars".as_slice() {
+        Some(Form::Vars)
+    } else if word == b"varm".as_slice() {
+        Some(Form::Varm)
+    } else if word == b"varn".as_slice() {
+        Some(Form::Varn)
+    } else {
+        None
+    }
+}
+
+/// Reads one of many regions.
+fn part(alloc: Global, words: &mut Words<'_>) -> Result<Part, ReadErr>
+    ensures { Gives (λ p. (p, words.new)) result (part words.old) }
+{
+    let start = list(alloc, words)?;
+    let count = list(alloc, words)?;
+    Ok(Part { start, count })
+}
+
+/// Reads so many regions.
+#[tactic(auto, using(crate::proofs::PartLaws::part_more))]
+fn part_list(alloc: Global, n: u64, words: &mut Words<'_>) -> Result<PartList, ReadErr>
+    ensures { Gives (λ parts. (parts, words.new)) result (part_list n [] words.old) }
+{
+    let mut parts = PartList::new(alloc);
+    let mut left = n;
+    while left > 0 {
+        let next = part(alloc, words)?;
+        parts.push(next)?;
+        left -= 1;
+    }
+    Ok(parts)
+}
+
+fn many_regions(alloc: Global, words: &mut Words<'_>) -> Result<Given, ReadErr>
+    ensures { Gives (λ g. (g, words.new)) result (many_regions words.old) }
+{
+    let n = size(words)?;
+    if n == 0 {
+        return Err(ReadErr::Fault(ScriptKind::BadNumber));
+    }
+    if n > MAX_PARTS as u64 {
+        return Err(ReadErr::Fault(ScriptKind::Limit(LimitName::Parts)));
+    }
+    let parts = part_list(alloc, n, words)?;
+    let mut given = whole(alloc, Form::Varn);
+    given.parts = parts;
+    Ok(given)
+}
+
+/// A region of this form without any list.
+fn whole(alloc: Global, form: Form) -> Given
+    ensures { result ≡ given_of form [] [] [] [] }
+{
+    Given {
+        form,
+        start: SizeList::new(alloc),
+        count: SizeList::new(alloc),
+        stride: SizeList::new(alloc),
+        imap: SizeList::new(alloc),
+        parts: PartList::new(alloc),
+    }
+}
+
+fn one_element(alloc: Global, words: &mut Words<'_>) -> Result<Given, ReadErr>
+    ensures { Gives (λ g. (g, words.new)) result (region form.Var1 words.old) }
+{
+    let mut given = whole(alloc, Form::Var1);
+    given.start = list(alloc, words)?;
+    Ok(given)
+}
+
+fn part_of_array(alloc: Global, words: &mut Words<'_>) -> Result<Given, ReadErr>
+    ensures { Gives (λ g. (g, words.new)) result (region form.Vara words.old) }
+{
+    let mut given = whole(alloc, Form::Vara);
+    given.start = list(alloc, words)?;
+    given.count = list(alloc, words)?;
+    Ok(given)
+}
+
+fn strided(alloc: Global, words: &mut Words<'_>) -> Result<Given, ReadErr>
+    ensures { Gives (λ g. (g, words.new)) result (region form.Vars words.old) }
+{
+    let mut given = whole(alloc, Form::Vars);
+    given.start = list(alloc, words)?;
+    given.count = list(alloc, words)?;
+    given.stride = list(alloc, words)?;
+    Ok(given)
+}
+
+fn mapped(alloc: Global, words: &mut Words<'_>) -> Result<Given, ReadErr>
+    ensures { Gives (λ g. (g, words.new)) result (region form.Varm words.old) }
+{
+    let mut given = whole(alloc, Form::Varm);
+    given.start = list(alloc, words)?;
+    given.count = list(alloc, words)?;
+    given.stride = list(alloc, words)?;
+    given.imap = list(alloc, words)?;
+    Ok(given)
+}
+
+/// Reads the region of a call of this form.
+pub fn region(alloc: Global, form: Form, words: &mut Words<'_>) -> Result<Given, ReadErr>
+    ensures { Gives (λ g. (g, words.new)) result (region form words.old) }
+{
+    match form {
+        Form::Var => Ok(whole(alloc, Form::Var)),
+        Form::Var1 => one_element(alloc, words),
+        Form::Vara => part_of_array(alloc, words),
+        Form::Vars => strided(alloc, words),
+        Form::Varm => mapped(alloc, words),
+        Form::Varn => many_regions(alloc, words),
+    }
+}

@@ -1,0 +1,5 @@
+pub mod WordLaws
+pub mod NumberLaws
+pub mod NameLaws
+pub mod TextLaws
+pub mod LineLaws

@@ -1,0 +1,9 @@
+use Rattle.std.proofs.Common.{◌≡◌, length}
+use Rattle.script_spec.specs.ScriptWords.{significant_of}
+use Rattle.script_words.proofs.lines.significant_line.Given as goal
+
+abbrev pub invariant-loop-number : goal.invariant-loop-number
+invariant-loop-number l = significant_of l.lines ≡ significant_of l.fn.lines
+
+abbrev pub decreases-loop-number : goal.decreases-loop-number
+decreases-loop-number l = length l.lines

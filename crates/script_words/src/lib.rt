@@ -1,0 +1,19 @@
+//! The lines and the words of a script's text, and what single words mean: names, numbers, types, texts, the parts of lists.
+//!
+//! Each reader takes the next words of a line and promises what the definition of its words gives.
+#![tactic(auto)]
+
+mod fault;
+mod lines;
+mod names;
+pub mod numbers;
+mod parts_of_list;
+pub mod reading;
+mod texts;
+mod words;
+
+pub use fault::{LineErr, ReadErr};
+pub use lines::{Line, TextLines, significant_line};
+pub use names::Names;
+pub use parts_of_list::ListParts;
+pub use words::{Token, Words};
