@@ -1,0 +1,5 @@
+//! Tests of element_steps.
+#![tactic(auto)]
+
+#[cfg(test)]
+mod tests;
