@@ -4,6 +4,7 @@ use Rattle.nc_base.specs.declared.step.Mark.{Mark}
 use Rattle.ncmpi_cli.specs.Ends.{EndsAs, Seen}
 use Rattle.ncmpi_cli.specs.Listing.{IsOfReadHeader}
 use Rattle.ncmpi_cli.specs.Words.{Asked, run, offsets, generate}
+use Rattle.ncmpi_cli.proofs.CutOff.{made_unready}
 use Rattle.ncmpi_cli.proofs.Made.{made_begins_none}
 use Rattle.ncmpi_cli.proofs.Ran.{begins_none}
 
@@ -33,6 +34,8 @@ wanting (Some (run name)) before now status order h e o = record {
   began = inl o;
   unread = λ _. o;
   unfit = λ _. o;
+  torn = λ s. absurd (omega (arith, e, s));
+  wanting = λ _. inl (inl (o, inl h));
 }
 wanting (Some (offsets name)) before now status order h e o = record {
   statuses = inr (inr (inr (inr e)));
@@ -51,4 +54,6 @@ wanting (Some (generate seed size name)) before now status order h e o = record 
   cut = λ s. absurd (omega (arith, e, s));
   complete = λ _ _. inr e;
   steps = made_begins_none seed size order o;
+  torn = λ s. absurd (omega (arith, e, s));
+  wanting = λ _. inl (inl (o, made_unready seed size before.held now.held h));
 }

@@ -69,7 +69,7 @@ begins_none (Some text) order e = λ script r. subst (λ (o : List Mark). HasBeg
 
 -- ---- the run
 
-pub can_have_begun : (script : Script) (header : Header) (left_before left_after held_before held_mid : Option (List ℕ)) (calls_before calls_mid : Option (List DiskCall))
+unfoldable pub can_have_begun : (script : Script) (header : Header) (left_before left_after held_before held_mid : Option (List ℕ)) (calls_before calls_mid : Option (List DiskCall))
     → Asks left_before script → IsReady script header held_before held_mid calls_before calls_mid → left_after ≡ after (λ _. []) left_before → CanHaveBegun left_before left_after held_before
 can_have_begun script header left_before left_after held_before held_mid calls_before calls_mid asks ready taken = record {
   script = script;

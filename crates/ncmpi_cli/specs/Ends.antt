@@ -5,10 +5,12 @@
 use Rattle.std.specs.Prelude.{ℕ, ◌≡◌, ◌⊎◌, List, [], Option, Some, None, IfSome, IsSomeAnd, is_some, true}
 use Rattle.nc_base.specs.declared.step.DiskCall.{DiskCall}
 use Rattle.nc_base.specs.declared.step.Mark.{Mark}
+use Rattle.nc_base.specs.declared.step.StepErr.TheVariants.{Disk}
 use Rattle.nc_outside.specs.Cause.{Rose}
 use Rattle.nc_outside.specs.Told.{after}
 use Rattle.serial_spec.specs.DeviceCalls.{head_load}
 use Rattle.rank_meeting.specs.Begun.{HasBegun}
+use Rattle.ncmpi_cli.specs.Faults.{EndsEarly, MadeEndsEarly, MadeWantsMemory, WantsMemory}
 use Rattle.ncmpi_cli.specs.Generated.{IsMadeStatus, MadeFront, MadeWhole, script_made}
 use Rattle.ncmpi_cli.specs.Headline.{AsksFor, BeginsFor, GivesLine, IsBadDataset, IsRight, IsWrong, RanToSink, RanWell, refusal, TellsHeader}
 use Rattle.ncmpi_cli.specs.Listing.{IsFaultyFront, IsListStatus, IsOfReadHeader, IsSoundFront, ListsFront, ListsWhole}
@@ -63,6 +65,10 @@ pub record HasRun (before now : Seen) (status : ℕ) (order : List Mark) : Type 
   -- and so none where the text is refused or its dataset is
   pub unread : IsSomeAnd before.left (λ text. is_some (refusal text) ≡ true) → order ≡ []
   pub unfit : IsSomeAnd before.left (λ text. AsksFor IsWrong text before.held) → order ≡ []
+  -- where the disk fails, the dataset was not made ready, or the run of its ranks was cut off behind the steps of the order
+  pub torn : status ≡ 7 → EndsEarly before.left now.left before.held now.held Disk order
+  -- where memory is wanting, the same, or all but the text was done
+  pub wanting : status ≡ 8 → WantsMemory before.left now.left before.held now.held before.calls now.calls order
 
 -- ---- a list of offsets
 
@@ -89,6 +95,10 @@ pub record HasGenerated (seed size : ℕ) (before now : Seen) (status : ℕ) (or
   pub complete : ¬ (SinkFailed before now) → ¬ (DiskFailed before now) → (status ≡ 0) ⊎ (status ≡ 8)
   -- the steps that were finished begin an order of the script
   pub steps : HasBegun (script_made seed size) order
+  -- where the disk fails, the dataset was not made ready, or the run of its ranks was cut off behind the steps of the order
+  pub torn : status ≡ 7 → MadeEndsEarly seed size before.held now.held Disk order
+  -- where memory is wanting, the same, or all but the text was done
+  pub wanting : status ≡ 8 → MadeWantsMemory seed size before.held now.held before.calls now.calls order
 
 -- ---- every form
 

@@ -6,4 +6,5 @@ pub mod Headline
 pub mod Opening
 pub mod Listing
 pub mod Generated
+pub mod Faults
 pub mod Ends

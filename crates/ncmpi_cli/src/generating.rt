@@ -1,14 +1,16 @@
 // A run of a script that is made by a seed.
-ghost use Rattle.std.specs.Prelude.{◌≡◌, ◌≤◌, ◌⊎◌, ℕ, [], true, take, IfErr, IfOk, IfSome, IsErrOf, OnOk};
-ghost use Rattle.nc_outside.specs.Told.{with_end};
+ghost use Rattle.std.specs.Prelude.{◌≡◌, ◌≤◌, ◌⊎◌, ℕ, [], true, take, IfErr, IfOk, IfSome, IsErrOf, OnErr, OnOk};
+ghost use Rattle.nc_base.specs.declared.step.StepErr.TheVariants as fault;
+ghost use Rattle.nc_outside.specs.Told.{with_end, BothTold};
 ghost use Rattle.script_spec.specs.Generator as spec;
 ghost use Rattle.nc_outside.specs.Cause.{Rose};
 ghost use Rattle.rank_meeting.specs.Begun.{HasBegun};
 ghost use Rattle.serial_spec.specs.HeaderGrammar.{header_len, is_sound};
 ghost use Rattle.serial_spec.specs.Layout.{end_of};
+ghost use Rattle.ncmpi_cli.specs.Faults.{MadeEndsEarly, MadeWantsMemory};
 ghost use Rattle.ncmpi_cli.specs.Generated.{IsMadeStatus, MadeFront, MadeWhole, script_made};
 ghost use Rattle.ncmpi_cli.specs.Headline.{GivesLine};
-ghost use Rattle.ncmpi_cli.specs.Opening.{IsReady};
+ghost use Rattle.ncmpi_cli.specs.Opening.{IsNotReady, IsReady};
 ghost use Rattle.ncmpi_cli.specs.Stops.{IsOfDataset, line_of_status, status_of};
 
 use crate::beginning::{Begun, make_ready};
@@ -42,6 +44,8 @@ pub(crate) fn run_made<R: Threads + Wait + Sync, K: Sink, D: Disk, G: Gate>(
     ensures sink { result.status ≡ 6 → Rose (K.faults out.old) (K.faults out.new) }
     ensures disk { result.status ≡ 7 → Rose (D.faults disk.old) (D.faults disk.new) }
     ensures complete { ¬ (Rose (K.faults out.old) (K.faults out.new)) → ¬ (Rose (D.faults disk.old) (D.faults disk.new)) → (result.status ≡ 0) ⊎ (result.status ≡ 8) }
+    ensures torn { result.status ≡ 7 → MadeEndsEarly seed size (D.held disk.old) (D.held disk.new) fault.Disk result.order }
+    ensures wanting { result.status ≡ 8 → MadeWantsMemory seed size (D.held disk.old) (D.held disk.new) (D.calls disk.old) (D.calls disk.new) result.order }
     ensures silent { result.status ≡ 8 → out.new ≡ out.old }
     ensures steps { HasBegun (script_made seed size) result.order }
     ensures readings { result.readings ≡ [] }
@@ -78,6 +82,7 @@ fn begin_made<D: Disk>(
     ensures from { OnOk result (D.from disk.new ≡ 0) }
     ensures len { IfOk result (λ b. end_of b.header (header_len b.header) b.header.records ≤ D.len disk.new) }
     ensures laid { IfErr result (λ stop. ¬ (status_of stop ≡ 4)) }
+    ensures torn { OnErr result (BothTold (IsNotReady (script_made seed size)) (D.held disk.old) (D.held disk.new)) }
     ensures disk { IsErrOf result Stop.Disk → Rose (D.faults disk.old) (D.faults disk.new) }
     ensures later { D.faults disk.old ≤ D.faults disk.new }
     ensures only { IfErr result IsOfDataset }

@@ -2,7 +2,9 @@
 ghost use Rattle.std.specs.Prelude.{◌≡◌, ◌⊎◌, ℕ, List, [], true, is_some, IfSome, IsSomeAnd};
 ghost use Rattle.nc_outside.specs.Cause.{Rose};
 ghost use Rattle.nc_base.specs.declared.script.Script.{Script};
+ghost use Rattle.nc_base.specs.declared.step.StepErr.TheVariants as fault;
 ghost use Rattle.script_spec.specs.ScriptGrammar.{Reads};
+ghost use Rattle.ncmpi_cli.specs.Faults.{EndsEarly, WantsMemory};
 ghost use Rattle.ncmpi_cli.specs.Headline.{AsksFor, BeginsFor, GivesLine, IsBadDataset, IsBeforeRanks, IsBeforeStart, IsRight, IsSilent, IsStatus, IsWrong, RanToSink, RanWell, refusal};
 ghost use Rattle.ncmpi_cli.specs.Opening.{CanHaveBegun};
 ghost use Rattle.ncmpi_cli.specs.Stops.{line_of_status};
@@ -56,6 +58,10 @@ pub(crate) fn run_script<R: Threads + Wait + Sync, S: Source, K: Sink, D: Disk, 
 
     // Where the sink fails, the file is that of the run, and a front of the text was given.
     ensures front { result.status ≡ 6 → RanToSink (S.left script.old) (S.left script.new) (D.held disk.old) (D.held disk.new) (D.calls disk.old) (D.calls disk.new) (K.given out.old) (K.given out.new) result.order }
+
+    // Where the disk fails, or memory is wanting, the dataset was not made ready, or the run of its ranks was cut off; or all but the text was done.
+    ensures torn { result.status ≡ 7 → EndsEarly (S.left script.old) (S.left script.new) (D.held disk.old) (D.held disk.new) fault.Disk result.order }
+    ensures wanting { result.status ≡ 8 → WantsMemory (S.left script.old) (S.left script.new) (D.held disk.old) (D.held disk.new) (D.calls disk.old) (D.calls disk.new) result.order }
 
     // What is untouched.
     ensures not_started { IsBeforeStart result.status → disk.new ≡ disk.old }

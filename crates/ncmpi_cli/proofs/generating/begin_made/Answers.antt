@@ -1,6 +1,8 @@
-use Rattle.std.proofs.Common.{◌∙◌, subst, sym}
+use Rattle.std.proofs.Common.{◌∙◌, refl, subst, sym}
 use Rattle.ncmpi_cli.specs.Headline.{IsKept}
 use Rattle.ncmpi_cli.proofs.Made.{made_is, made_kept, never_four, never_told}
+use Rattle.ncmpi_cli.proofs.CutOff.{made_unready, unready_made}
+use Rattle.ncmpi_cli.proofs.NotReady.{on_err}
 use Rattle.ncmpi_cli.proofs.generating.begin_made.Goals as goal
 
 pub make_ready-requires-clause-kept : goal.make_ready-requires-clause-kept
@@ -15,3 +17,12 @@ returns-in_err-header-clause-laid g c =
 
 pub returns-clause-script : goal.returns-clause-script
 returns-clause-script g c = c.in_ok-script.ensures ∙ made_is c.args.seed c.args.size
+
+pub returns-in_err-script-clause-torn : goal.returns-in_err-script-clause-torn
+returns-in_err-script-clause-torn g c = on_err c.from_residual.result (made_unready c.args.seed c.args.size (g.D.Disk.held c.args.disk.now) (g.D.Disk.held c.args.disk.now) refl)
+
+pub returns-in_err-header-clause-torn : goal.returns-in_err-header-clause-torn
+returns-in_err-header-clause-torn g c =
+    on_err c.from_residual-in_err-header.result
+    (unready_made c.args.seed c.args.size c.in_ok-script.script (g.D.Disk.held c.args.disk.now) (g.D.Disk.held c.make_ready.new.disk)
+    (c.in_ok-script.ensures ∙ made_is c.args.seed c.args.size) c.in_err-header.ensures.refused)

@@ -1,4 +1,4 @@
-use Rattle.std.proofs.Common.{◌≡◌, ◌∙◌, ap, refl, subst, sym, true, List, ℕ, Some, rules}
+use Rattle.std.proofs.Common.{◌≡◌, ◌∙◌, ap, inl, inr, refl, subst, sym, true, List, ℕ, Some, rules}
 use Rattle.std.specs.Prelude.{Err}
 use Rattle.nc_base.specs.declared.run.RunEnd.{RunEnd}
 use Rattle.nc_base.specs.declared.script.Script.{Script}
@@ -6,6 +6,7 @@ use Rattle.nc_base.specs.declared.step.StepErr.TheVariants as fault
 use Rattle.ncmpi_cli.specs.declared.stop.Stop.{Stop}
 use Rattle.serial_spec.specs.Lawful.{is_lawful}
 use Rattle.script_spec.specs.Generator.{has_counts, summary_text}
+use Rattle.ncmpi_cli.proofs.CutOff.{made_cut}
 use Rattle.ncmpi_cli.proofs.Made.{made_begins, made_begins_none, made_counts, made_kept, made_ran, made_status, made_wants}
 use Rattle.ncmpi_cli.proofs.Telling.{rose_later}
 use Rattle.ncmpi_cli.proofs.generating.run_made.Goals as goal
@@ -81,3 +82,38 @@ returns-in-Some-Disk-clause-steps g c =
 pub returns-clause-steps : goal.returns-clause-steps
 returns-clause-steps g c =
     made_begins c.args.seed c.args.size c.in-Ok.begun.script _ c.run_ranks-end.result.order c.in-Ok.ensures.script c.tell-in-Some-Memory.ensures.order c.run_ranks-end.ensures.run.begun
+
+-- ---- where the run ended early
+
+pub returns-in-Err-clause-torn : goal.returns-in-Err-clause-torn
+returns-in-Err-clause-torn g c = λ _. inl (c.tell.ensures.order ∙ c.new.ensures, c.in-Err.ensures.torn)
+
+pub returns-in-Err-clause-wanting : goal.returns-in-Err-clause-wanting
+returns-in-Err-clause-wanting g c = λ _. inl (inl (c.tell.ensures.order ∙ c.new.ensures, c.in-Err.ensures.torn))
+
+pub returns-in-None-clause-wanting : goal.returns-in-None-clause-wanting
+returns-in-None-clause-wanting g c = λ _.
+    let script : Script = c.in-Ok.begun.script in
+    let end : RunEnd = c.run_ranks-end.result in
+    let run = c.run_ranks-end.ensures.run in
+    let text : List ℕ = summary_text c.args.seed c.args.size script (record c.in-Ok.begun.header { records = c.run_ranks-end.new.records }) end.order end.answers in
+    inr (
+      text,
+      made_ran c.args.seed c.args.size script c.in-Ok.begun.header _ (g.D.Disk.held c.begin_made.new.disk) _ _ (g.D.Disk.calls c.begin_made.new.disk) _ c.sum_up.result.order end.order
+          c.run_ranks-end.new.records end.answers end.pending text c.in-Ok.ensures.script c.in-Ok.ensures.ready c.sum_up.ensures.order
+          (run.legal c.in-None.is) (run.bytes c.in-None.is) (run.records c.in-None.is) (run.answers c.in-None.is) (run.pending c.in-None.is) (run.calls c.in-None.is) refl,
+    )
+
+pub returns-in-Some-Disk-clause-torn : goal.returns-in-Some-Disk-clause-torn
+returns-in-Some-Disk-clause-torn g c = λ _.
+    let failed : c.run_ranks-end.result.fault ≡ Some fault.Disk = search rules in
+    inr (made_cut c.args.seed c.args.size fault.Disk c.in-Ok.begun.script c.in-Ok.begun.header (g.D.Disk.held c.args.disk.now) (g.D.Disk.held c.begin_made.new.disk) (g.D.Disk.held c.run_ranks-end.new.disk) (g.D.Disk.calls c.args.disk.now)
+    (g.D.Disk.calls c.begin_made.new.disk) c.tell-in-Some-Disk.result.order c.run_ranks-end.new.records c.run_ranks-end.result c.in-Ok.ensures.script
+    c.in-Ok.ensures.ready c.tell-in-Some-Disk.ensures.order failed c.run_ranks-end.ensures.run.cut)
+
+pub returns-clause-wanting : goal.returns-clause-wanting
+returns-clause-wanting g c = λ _.
+    let failed : c.run_ranks-end.result.fault ≡ Some fault.Memory = search rules in
+    inl (inr (made_cut c.args.seed c.args.size fault.Memory c.in-Ok.begun.script c.in-Ok.begun.header (g.D.Disk.held c.args.disk.now) (g.D.Disk.held c.begin_made.new.disk) (g.D.Disk.held c.run_ranks-end.new.disk) (g.D.Disk.calls c.args.disk.now)
+    (g.D.Disk.calls c.begin_made.new.disk) c.tell-in-Some-Memory.result.order c.run_ranks-end.new.records c.run_ranks-end.result c.in-Ok.ensures.script
+    c.in-Ok.ensures.ready c.tell-in-Some-Memory.ensures.order failed c.run_ranks-end.ensures.run.cut))

@@ -6,6 +6,7 @@ use Rattle.nc_base.specs.declared.step.StepErr.TheVariants as fault
 use Rattle.ncmpi_cli.specs.declared.stop.Stop.{Stop}
 use Rattle.script_spec.specs.Texts.{run_text}
 use Rattle.script_laws.proofs.LawfulLaws.{read_lawful}
+use Rattle.ncmpi_cli.proofs.CutOff.{cut_off}
 use Rattle.ncmpi_cli.proofs.Ran.{begins, begins_none, can_have_begun, ran}
 use Rattle.ncmpi_cli.proofs.Telling.{dataset, not_unread, not_wrong, refused, rose_later, wants_memory}
 use Rattle.ncmpi_cli.proofs.running.run_script.Goals as goal
@@ -142,3 +143,40 @@ returns-clause-unread g c = λ asks. not_unread (g.S.Source.left c.args.script.n
 pub returns-clause-unfit : goal.returns-clause-unfit
 returns-clause-unfit g c = λ asks.
     not_wrong (g.S.Source.left c.args.script.now) (g.D.Disk.held c.args.disk.now) c.in-Ok.begun.script c.in-Ok.ensures.asks c.in-Ok.ensures.ready.faultless asks
+
+-- ---- where the run ended early
+
+pub returns-in-Err-clause-torn : goal.returns-in-Err-clause-torn
+returns-in-Err-clause-torn g c = λ _. inl (c.tell.ensures.order ∙ c.new.ensures, c.in-Err.ensures.torn)
+
+pub returns-in-Err-clause-wanting : goal.returns-in-Err-clause-wanting
+returns-in-Err-clause-wanting g c = λ _. inl (inl (c.tell.ensures.order ∙ c.new.ensures, c.in-Err.ensures.torn))
+
+pub returns-in-None-clause-wanting : goal.returns-in-None-clause-wanting
+returns-in-None-clause-wanting g c = λ _.
+    let script : Script = c.in-Ok.begun.script in
+    let end : RunEnd = c.run_ranks-end.result in
+    let run = c.run_ranks-end.ensures.run in
+    let text : List ℕ = run_text script (record c.in-Ok.begun.header { records = c.run_ranks-end.new.records }) end.order end.answers end.pending in
+    inr (
+      text,
+      ran script c.in-Ok.begun.header _ _ _ (g.D.Disk.held c.begin.new.disk) _ _ (g.D.Disk.calls c.begin.new.disk) _ c.finish.result.order end.order
+          c.run_ranks-end.new.records end.answers end.pending text c.in-Ok.ensures.asks c.in-Ok.ensures.ready c.in-Ok.ensures.taken c.finish.ensures.order
+          (run.legal c.in-None.is) (run.bytes c.in-None.is) (run.records c.in-None.is) (run.answers c.in-None.is) (run.pending c.in-None.is) (run.calls c.in-None.is) refl,
+    )
+
+pub returns-in-Some-Disk-clause-torn : goal.returns-in-Some-Disk-clause-torn
+returns-in-Some-Disk-clause-torn g c = λ _.
+    let failed : c.run_ranks-end.result.fault ≡ Some fault.Disk = search rules in
+    inr (cut_off fault.Disk c.in-Ok.begun.script c.in-Ok.begun.header (g.S.Source.left c.args.script.now) (g.S.Source.left c.begin.new.source) (g.D.Disk.held c.args.disk.now) (g.D.Disk.held c.begin.new.disk)
+    (g.D.Disk.held c.run_ranks-end.new.disk) (g.D.Disk.calls c.args.disk.now)
+    (g.D.Disk.calls c.begin.new.disk) c.tell-in-Some-Disk.result.order c.run_ranks-end.new.records c.run_ranks-end.result c.in-Ok.ensures.asks c.in-Ok.ensures.ready
+    c.in-Ok.ensures.taken c.tell-in-Some-Disk.ensures.order failed c.run_ranks-end.ensures.run.cut)
+
+pub returns-clause-wanting : goal.returns-clause-wanting
+returns-clause-wanting g c = λ _.
+    let failed : c.run_ranks-end.result.fault ≡ Some fault.Memory = search rules in
+    inl (inr (cut_off fault.Memory c.in-Ok.begun.script c.in-Ok.begun.header (g.S.Source.left c.args.script.now) (g.S.Source.left c.begin.new.source) (g.D.Disk.held c.args.disk.now) (g.D.Disk.held c.begin.new.disk)
+    (g.D.Disk.held c.run_ranks-end.new.disk) (g.D.Disk.calls c.args.disk.now)
+    (g.D.Disk.calls c.begin.new.disk) c.tell-in-Some-Memory.result.order c.run_ranks-end.new.records c.run_ranks-end.result c.in-Ok.ensures.asks c.in-Ok.ensures.ready
+    c.in-Ok.ensures.taken c.tell-in-Some-Memory.ensures.order failed c.run_ranks-end.ensures.run.cut))

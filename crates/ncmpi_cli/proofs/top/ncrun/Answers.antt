@@ -22,6 +22,8 @@ returns-in-Ok-Some-Run-clause-ends g c =
       began = run_is.began;
       unread = run_is.unread;
       unfit = run_is.unfit;
+      torn = run_is.torn;
+      wanting = run_is.wanting;
     })
 
 pub returns-in-Ok-Some-Offsets-clause-ends : goal.returns-in-Ok-Some-Offsets-clause-ends
