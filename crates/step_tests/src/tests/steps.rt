@@ -14,7 +14,7 @@ use nc_base::{
     Hints, IdList, Job, Name, NcType, OverlapRule, Pair, Post, PostList, Region, SizeList, StepErr,
     Var, VarList,
 };
-use nc_outside::{Disk, MemDisk, OpenGate};
+use nc_outside::{Disk, Fail as Fault, FailList, FailOp, MemDisk, OpenGate};
 use std::alloc::{AllocError, Global};
 use std::process::Abort;
 use std::sync::Wait;
@@ -432,6 +432,32 @@ fn records_grow_the_file_and_are_counted(rt: HostRuntime) -> Result<(), Fail> {
         DiskCall::Store(4, 4),
     ];
     has(&rt, alloc, &disk, &calls, b"\0\0\0\0\0\0\0\x07")
+}
+
+// The record is written, and then the disk refuses its count.
+#[test]
+fn a_refused_count_is_not_told(rt: HostRuntime) -> Result<(), Fail> {
+    let alloc = rt.alloc();
+    let set = Dataset {
+        header: placed(&rt, unplaced(alloc, 0, NcType::Short)?),
+        hints: HINTS,
+    };
+    let refused = Fault {
+        op: FailOp::Store,
+        at: 4,
+    };
+    let plan = FailList::from_vec(vec![in alloc; refused]?);
+    let bytes = Blob::from_vec(vec![in alloc; 0; 80]?);
+    let mut disk = MemDisk::failing(alloc, bytes, plan)?;
+    let (a, b) = (post(alloc, 3, 1, 1, b"\0\x07")?, post(alloc, 0, 0, 1, b"")?);
+    let (end, records) = put_two(&rt, alloc, &mut disk, &set, a, b)?;
+    assert!(rt; end == Err(StepErr::Disk) && records == 0);
+    let calls = [DiskCall::Grow(88), DiskCall::Store(86, 2)];
+    has_calls(&rt, alloc, &disk, &calls)?;
+    let mut left = vec![in alloc; 0; 87]?;
+    left.push(7)?;
+    assert_eq!(rt; disk.bytes(alloc)?, Blob::from_vec(left));
+    Ok(())
 }
 
 #[test]
