@@ -1,7 +1,7 @@
 use Rattle.std.proofs.Common.{◌≡◌, ap, option_map, None, refl, rules, Some, sym, ◌∙◌}
 use Rattle.ncmpi_cli.specs.declared.command.Form.TheVariants as form
 use Rattle.ncmpi_cli.specs.Forms.{asked_of}
-use Rattle.ncmpi_cli.specs.Words.{form_of, offsets, run, texts}
+use Rattle.ncmpi_cli.specs.Words.{form_of, generate, offsets, run, texts}
 use Rattle.ncmpi_cli.proofs.Asking.{ends, wanting}
 use Rattle.ncmpi_cli.proofs.top.ncrun.Goals as goal
 
@@ -41,6 +41,22 @@ returns-in-Ok-Some-Offsets-clause-ends g c =
       unchanged = list.unchanged;
       steps = list.order;
       calls = list.calls;
+    })
+
+pub returns-in-Ok-Some-Generate-clause-ends : goal.returns-in-Ok-Some-Generate-clause-ends
+returns-in-Ok-Some-Generate-clause-ends g c =
+    let made = c.run_made.ensures in
+    let own = c.in-Ok-Some-Generate in
+    let is : own.field-0 ≡ Some (form.Generate own.seed own.size own.dataset) = search rules in
+    ends (form_of (texts c.args.words.now)) (Some (generate own.seed own.size own.dataset.now)) _ _ _ _ (sym (ap (option_map asked_of) is) ∙ own.ensures.asked)
+    (record {
+      statuses = made.statuses;
+      well = made.well;
+      cut = made.cut;
+      complete = made.complete;
+      steps = made.steps;
+      torn = made.torn;
+      wanting = made.wanting;
     })
 
 -- words of no form
