@@ -34,7 +34,7 @@ rest_solo r k (suc n) m xs e h = (m ∷ h.0, h.1, ap (λ (ys : List Mark). m ∷
 same_self : (r : ℕ) → (r == r) ≡ true
 same_self r = grind (arith, nat_tests)
 
-collective_kind : (c : Call) → is_collective c ≡ is_some (kind_of_call c)
+pub collective_kind : (c : Call) → is_collective c ≡ is_some (kind_of_call c)
 collective_kind (call.Put true name given vs) = refl
 collective_kind (call.Put false name given vs) = refl
 collective_kind (call.Get true name given) = refl

@@ -12,20 +12,6 @@ use Rattle.turn_run.proofs.ListLaws.{get_there}
 
 -- ---- alike
 
-tells_same : (y : reply.Reply) → TellAlike y y
-tells_same y = record { pair = refl; records = refl; lengths = refl }
-
-pub alike_same : (items : List OwnerItem) → AreAlike items items
-alike_same [] = tt
-alike_same (Stop ∷ items) = (tt, alike_same items)
-alike_same (Reply y ∷ items) = (tells_same y, alike_same items)
-
-pub alike_two : (a b c d : List OwnerItem) → AreAlike a b → AreAlike c d → AreAlike (a ++ c) (b ++ d)
-alike_two [] [] c d v w = w
-alike_two [] (j ∷ b) c d v w = absurd v
-alike_two (i ∷ a) [] c d v w = absurd v
-alike_two (i ∷ a) (j ∷ b) c d v w = (v.0, alike_two a b c d v.1 w)
-
 pub alike_by : (a b c d : List OwnerItem) → a ≡ b → d ≡ c → AreAlike b c → AreAlike a d
 alike_by a b c d e f w = subst (λ (x : List OwnerItem). AreAlike x d) (sym e) (subst (λ (x : List OwnerItem). AreAlike b x) (sym f) w)
 

@@ -47,7 +47,7 @@ use Rattle.join_laws.proofs.TieLaws.{one_if}
 use Rattle.turn_run.specs.Seated.{calls_of}
 use Rattle.turn_run.proofs.ListLaws.{get_mapped, get_replicate}
 use Rattle.join_laws.proofs.StrangeLaws.{event_is, strange_alone}
-use Rattle.join_laws.proofs.JoinLaws.{stranger_on, served_on, ServedOn}
+use Rattle.join_laws.proofs.JoinLaws.{stranger_on, served_on, ServedOn, fold_two}
 use Rattle.thread_run.proofs.DeskRuns.{given_on, seat_ended, seat_held}
 
 -- ---- a beginning of what a rank puts
@@ -507,10 +507,6 @@ pub record Ran (s : Setting) (d : Desk) (goings : List Going) (first later : Lis
   pub folded : fold (after_mark s) (d.state, goings) (served s d first).marks ≡ ((served s d first).desk.state, last)
   pub long : length last ≡ length d.seats
   pub stands : Stands s (served s d first).desk last (λ q. own_items q later) (λ q. replicate (n q) Stop) end
-
-fold_two : (s : Setting) (state : Counted × List Going) (a b : List Mark) → fold (after_mark s) state (a ++ b) ≡ fold (after_mark s) (fold (after_mark s) state a) b
-fold_two s state [] b = refl
-fold_two s state (m ∷ a) b = fold_two s (after_mark s state m) a b
 
 pub ran : (s : Setting) (first later : List Arrival) (d : Desk) (goings : List Going) (n : ℕ → ℕ) (end : ℕ → Going) → (served s d first).stranger ≡ None
     → list_all (λ (a : Arrival). nat_lt a.0 (length d.seats)) first ≡ true

@@ -11,6 +11,7 @@ use Rattle.serial_spec.specs.FileStep.{Setting}
 use Rattle.serial_spec.specs.History.{Arrival}
 use Rattle.serial_spec.specs.Desk.{Seat, Desk, event, given_along, is_strange, owed, served, stops}
 use Rattle.join_laws.proofs.JoinLaws.{owed_on, served_on, stranger_on, ServedOn}
+use Rattle.join_laws.proofs.GoingOnLaws.{given_on}
 use Rattle.thread_run.specs.Owned.{desk_calls, event_calls}
 
 -- ---- one arrival
@@ -43,10 +44,6 @@ stops_at s d a rest e = record { desk = rw (e, served) refl; marks = rw (e, serv
 
 pub calls_stop : (hints : Hints) (s : Setting) (d : Desk) (a : Arrival) (rest : List Arrival) → is_strange s d a ≡ true → desk_calls hints s d (a ∷ rest) ≡ []
 calls_stop hints s d a rest e = rw (e, desk_calls) refl
-
-pub given_on : (s : Setting) (d : Desk) (a : Arrival) (rest : List Arrival) (q : ℕ) → is_strange s d a ≡ false
-    → given_along s d (a ∷ rest) q ≡ (event s d a).given q ++ given_along s (event s d a).desk rest q
-given_on s d a rest q e = rw (e, given_along) refl
 
 calls_on : (hints : Hints) (s : Setting) (d : Desk) (a : Arrival) (rest : List Arrival) → is_strange s d a ≡ false
     → desk_calls hints s d (a ∷ rest) ≡ event_calls hints s d a ++ desk_calls hints s (event s d a).desk rest

@@ -31,12 +31,13 @@ use Rattle.thread_run.specs.Serving.{arrived, gained, more_on, opening, HasFaile
 use Rattle.thread_run.specs.Stopping.{stops_for, AllHaveEnded, HaveEnded, IsMore}
 use Rattle.thread_run.specs.declared.serving.Halt.{Halt}
 use Rattle.thread_run.specs.declared.serving.Halt.TheVariants as halt
-use Rattle.thread_run.proofs.AlikeLaws.{alike_by, alike_long, alike_same, alike_two, lines_as, lines_twice}
+use Rattle.thread_run.proofs.AlikeLaws.{alike_by, alike_long, lines_as, lines_twice}
 use Rattle.thread_run.proofs.DeskRuns.{calls_stop, goes_on, stops_at, GoesOn}
 use Rattle.turn_run.proofs.ListLaws.{get_replicate, get_there}
 use Rattle.thread_run.proofs.RefusedSteps.{stood_later}
 use Rattle.turn_run.proofs.MeetSolo.{told_at}
 use Rattle.join_laws.proofs.TieLaws.{one_if, owed_count}
+use Rattle.join_laws.proofs.OwnerAlikeLaws.{alike_same, alike_two}
 use Rattle.thread_run.proofs.StopLaws.{filter_joined, own_joined, stops_joined}
 
 -- ---- what ends gained

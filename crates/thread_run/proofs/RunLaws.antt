@@ -14,8 +14,9 @@ use Rattle.serial_spec.specs.History.{Arrival}
 use Rattle.serial_spec.specs.Desk.{Desk, Event, event, given_along, is_strange, served}
 use Rattle.join_laws.specs.Alike.{AreAlike}
 use Rattle.join_laws.proofs.JoinLaws.{served_on}
+use Rattle.join_laws.proofs.OwnerAlikeLaws.{alike_two}
 use Rattle.thread_run.specs.Owned.{desk_at, desk_calls, event_calls, run, AreSingle, GoesAlike, GoesSo, HasDone, HasMoved, HasRun, HoldSingle, IsSingle, Standing}
-use Rattle.thread_run.proofs.AlikeLaws.{alike_by, alike_two, lines_none, lines_twice}
+use Rattle.thread_run.proofs.AlikeLaws.{alike_by, lines_none, lines_twice}
 use Rattle.thread_run.proofs.DeskRuns.{goes_on, GoesOn}
 use Rattle.turn_run.proofs.StageLaws.{ended_twice}
 

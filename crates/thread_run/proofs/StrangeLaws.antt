@@ -32,7 +32,7 @@ use Rattle.rank_items.specs.Own.{HasOwnElements}
 use Rattle.rank_items.proofs.OwnBytes.{own_bytes}
 use Rattle.vara_extents.proofs.PartLaws.{ok_is}
 use Rattle.turn_run.specs.Counts.{IsCount, IsFit}
-use Rattle.join_laws.proofs.StrangeLaws.{event_is}
+use Rattle.join_laws.proofs.StrangeLaws.{event_is, freed_none as none_held}
 use Rattle.list_laws.proofs.Each.{fails_at}
 use Rattle.list_laws.proofs.Places.{entry_set}
 use Rattle.overlay_laws.proofs.Members.{at_in}
@@ -74,10 +74,6 @@ any_there p (z ∷ xs) (suc r) x e h = ap (λ (t : Bool). p z || t) (any_there p
     or_true false = refl
 
 -- ---- who is left behind
-
-none_held : (seats : List Seat) → list_any holds (map freed seats) ≡ false
-none_held [] = refl
-none_held (x ∷ seats) = none_held seats
 
 held_not_left : (x : Seat) → holds x ≡ true → has_left x ≡ false
 held_not_left x h = by x.held x.ended h

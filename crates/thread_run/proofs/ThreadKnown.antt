@@ -33,9 +33,9 @@ use Rattle.serial_spec.specs.SerialEnd.{Going, advance, after_mark}
 use Rattle.serial_spec.specs.SharedByte.{Puts}
 use Rattle.var_layout.proofs.ElementPlaces.{sound_end}
 use Rattle.collective_round.proofs.CountedLaws.{put_needed}
-use Rattle.join_laws.proofs.CountLaws.{bad_none, bad_put}
+use Rattle.join_laws.proofs.CountLaws.{bad_none, bad_put, passes_accepted}
 use Rattle.join_laws.proofs.EventLaws.{get_set}
-use Rattle.join_laws.proofs.JoinLaws.{Stands, served_on}
+use Rattle.join_laws.proofs.JoinLaws.{Stands, served_on, fold_two}
 use Rattle.join_laws.proofs.ListLaws.{get_beside}
 use Rattle.join_laws.proofs.StepLaws.{offer_at, offers_long}
 use Rattle.join_laws.proofs.StreamLaws.{Lasting, seat_held}
@@ -65,12 +65,8 @@ module _ (header : Header) (sound : is_sound header ≡ true) where
 
   near_post : (known : ℕ) (post : Post) → bad_put header known post ≡ false → EndsNear (needed header post)
   unfolding EndsNear
-  near_post known post h = (put_needed header post (record { accepted = (known, way.Put, ok_is _ (or_first_false _ _ h)); whole = whole (slice_get header.vars post.var) (or_second_false (refused header known way.Put post) _ h) })).1
+  near_post known post h = (put_needed header post (record { accepted = (known, way.Put, passes_accepted _ (or_first_false _ _ h)); whole = whole (slice_get header.vars post.var) (or_second_false (refused header known way.Put post) _ h) })).1
     where
-      ok_is : (c : Code) → not (is_ok_code c) ≡ false → c ≡ code.Ok
-      ok_is code.Ok e = refl
-      ok_is c e = absurd cc
-
       same : (a b : ℕ) → not (a == b) ≡ false → a ≡ b
       same a b e = by (eqb_tells a b)
         where
@@ -190,10 +186,6 @@ near_along s sound Good lasting ks d goings ((r, i) ∷ rest) t near =
       where
         fits : (q : ℕ) (g' : Going) (p : Offer) → slice_get goings q ≡ Some g' → (advance s.header g').1 ≡ Some p → strange_offer s.header d.reached (Some p) ≡ false
         fits q g' p b e = let y = get_beside goings d.seats q g' (sym t.seated.long) b in lasting.fits d.reached g' p (t.seated.sits q y.0 g' y.1 b).good e
-
-fold_two : (s : Setting) (state : Counted × List Going) (a b : List Mark) → fold (after_mark s) state (a ++ b) ≡ fold (after_mark s) (fold (after_mark s) state a) b
-fold_two s state [] b = refl
-fold_two s state (m ∷ a) b = fold_two s (after_mark s state m) a b
 
 -- what is true of the ranks at their ends
 pub good_along : (s : Setting) (Good : ℕ → Going → Type 0) (lasting : Lasting s.header Good) (ks : List MeetKind) (d : Desk) (goings : List Going) (arrivals : List Arrival)

@@ -29,20 +29,11 @@ use Rattle.join_laws.proofs.JoinLaws.{Joins, Stands, join}
 use Rattle.join_laws.proofs.ListLaws.{get_beside}
 use Rattle.join_laws.proofs.StreamLaws.{Sits, closes, seat_end}
 use Rattle.join_laws.proofs.TurnLaws.{Seated}
-use Rattle.join_laws.proofs.WholeLaws.{get_replicate, lawful_agrees}
+use Rattle.join_laws.proofs.WholeLaws.{get_replicate, lawful_agrees, get_map as from_map, none_first}
 use Rattle.thread_run.specs.Owned.{AreSingle, desk_calls}
 use Rattle.turn_run.proofs.ListLaws.{get_map}
 use Rattle.thread_run.proofs.ThreadCalls.{calls_along, single_along}
 use Rattle.thread_run.proofs.ThreadKnown.{EndsNear, good_along, near_along, near_first, small_along}
-
-from_map : {X Y : Type 0} (f : X → Y) (xs : List X) (q : ℕ) (y : Y) → slice_get (map f xs) q ≡ Some y → (x : X) × ((slice_get xs q ≡ Some x) × (y ≡ f x))
-from_map f [] q y e = cc
-from_map f (x ∷ xs) zero y e = (x, (refl, cc))
-from_map f (x ∷ xs) (suc q) y e = from_map f xs q y e
-
-none_first : (n : ℕ) → 0 < n → list_all holds (replicate n free_seat) ≡ false
-none_first zero l = absurd (omega arith)
-none_first (suc n) l = refl
 
 rows_within : {B : Type 0} (h : ℕ × B → ℕ) (n : ℕ) (ys : List B) (from : ℕ) → ((q : ℕ) (b : B) → slice_get ys q ≡ Some b → h (from + q, b) ≤ n) → greatest (map h (enumerate_from from ys)) ≤ n
 rows_within h n [] from f = omega arith

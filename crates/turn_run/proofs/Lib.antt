@@ -2,7 +2,6 @@ pub mod WrittenTwice
 pub mod ListLaws
 pub mod StageLaws
 pub mod CountLaws
-pub mod QuietLaws
 pub mod SeatLaws
 pub mod HintLaws
 pub mod AloneLaws

@@ -30,7 +30,7 @@ use Rattle.turn_run.specs.Counts.{raises, IsAsked}
 use Rattle.turn_run.specs.Seated.{asking, between, AsksAlone, HasHeard, IsPlaced, IsPlacedWith}
 use Rattle.turn_run.specs.declared.seats.Seat.{Seat}
 use Rattle.turn_run.proofs.ListLaws.{drop_get, get_read}
-use Rattle.turn_run.proofs.QuietLaws.{meets_quiet}
+use Rattle.join_laws.proofs.QuietLaws.{meets_quiet}
 
 -- between two calls, by the state and the answers
 abbrev pub at : List Call → machine.Rank → List Answer → Going

@@ -28,27 +28,9 @@ use Rattle.turn_run.specs.Stages.{arrived, arrived_all}
 use Rattle.turn_run.specs.declared.seats.Seat.{Seat}
 use Rattle.turn_run.proofs.ListLaws.{get_there}
 use Rattle.turn_run.proofs.SeatLaws.{advance_ended}
+use Rattle.join_laws.proofs.WholeLaws.{some_rank}
 
 -- ---- a rank that has arrived
-
--- a script has a rank
-some_rank : (script : Script) → is_lawful script ≡ true → 0 < script.ranks
-some_rank script h =
-    let t11 = and_first _ _ h in
-    let t10 = and_first _ _ t11 in
-    let t9 = and_first _ _ t10 in
-    let t8 = and_first _ _ t9 in
-    let t7 = and_first _ _ t8 in
-    let t6 = and_first _ _ t7 in
-    let t5 = and_first _ _ t6 in
-    let t4 = and_first _ _ t5 in
-    let t3 = and_first _ _ t4 in
-    let t2 = and_first _ _ t3 in
-    let t1 : is_within 1 most_ranks script.ranks ≡ true = and_first _ _ t2 in
-    from_one script.ranks (and_first (nat_le 1 script.ranks) _ t1)
-  where
-    from_one : (n : ℕ) → nat_le 1 n ≡ true → 0 < n
-    from_one n e = grind (arith, nat_tests)
 
 met_kind : (script : Script) (header : Header) (order : List Mark) (r : ℕ) (s : Going) (o : Offer) (kind : OfferKind) → (kind ≡ offer.Solo → ⊥)
     → IsPlacedWith script header order r s o kind → IsOnWay script order r s (Some o)

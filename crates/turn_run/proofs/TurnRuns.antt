@@ -37,6 +37,7 @@ use Rattle.turn_run.proofs.ListLaws.{get_long, get_replicate}
 use Rattle.turn_run.proofs.StageLaws.{calls_are, ended_twice, first_ranks, gone_up, serial_is}
 use Rattle.turn_run.proofs.TurnEnds.{are_over, map_ended, AreOver}
 use Rattle.turn_run.proofs.TurnSteps.{calls_there}
+use Rattle.turn_run.proofs.MeetFile.{raised_records}
 
 -- ---- before the first step
 
@@ -120,13 +121,6 @@ calls_from_first script header file records seats order lawful e s =
     ∙ sym (calls_are script header file order)
 
 -- ---- the close
-
-raised_records : (s : Setting) (c : Counted) (n : ℕ) → (raised s c n).records ≡ max c.records n
-raised_records s c n = by (nat_lt c.records n) refl
-  where
-    by : (t : Bool) → nat_lt c.records n ≡ t → (cond t (record { file = with_records s.header.version c.file n; records = n }) c).records ≡ max c.records n
-    by true e = grind (arith, nat_tests)
-    by false e = grind (arith, nat_tests)
 
 -- the end of a run, where it was closed
 pub record IsClosed (hints : Hints) (s : Setting) (stand : Stand) (order : List Mark) (begun : Option (List DiskCall)) (held : Option (List ℕ))

@@ -26,8 +26,9 @@ use Rattle.serial_spec.specs.SerialEnd.{advance, after_mark, after_meeting, clos
 use Rattle.serial_spec.specs.SharedByte.{Puts}
 use Rattle.join_laws.proofs.RankLaws.{go_went, hear_known, Went}
 use Rattle.join_laws.proofs.StepLaws.{meeting_within}
+use Rattle.join_laws.proofs.WholeLaws.{get_map as mapped_from}
 use Rattle.whole_run_laws.specs.Completed.{completed, completed_from, completed_puts, puts_asked, puts_at, puts_met, unless_told}
-use Rattle.whole_run_laws.proofs.Courses.{AreAlong, AreOn, first_along, Heard, heard_by, hears_then, mapped_from, mark_along, meets, offer_met, offers_met_long, set_cases, Stepped, steps}
+use Rattle.whole_run_laws.proofs.Courses.{AreAlong, AreOn, first_along, Heard, heard_by, hears_then, mark_along, meets, offer_met, offers_met_long, set_cases, Stepped, steps}
 
 -- ---- counts
 

@@ -28,6 +28,7 @@ use Rattle.run_laws.proofs.LawfulLaws.{own_lawful, ranks_lawful}
 use Rattle.run_laws.proofs.StandingLaws.{solo_goes}
 use Rattle.join_laws.proofs.RankLaws.{Went, Kinded, at_meeting, at_solo, go_went, hear_mode, hear_length}
 use Rattle.join_laws.proofs.StepLaws.{going_after, goings_long, replied, solo_of_is}
+use Rattle.join_laws.proofs.WholeLaws.{get_map as mapped_from}
 
 -- ---- one rank
 
@@ -204,14 +205,6 @@ offer_at ((g, Some o') ∷ ps) (suc q) p o f e h = offer_at ps q p o (λ r z d. 
 
 pub mapped_at : {X Y : Type 0} (f : X → Y) (xs : List X) (q : ℕ) (x : X) → slice_get xs q ≡ Some x → slice_get (map f xs) q ≡ Some (f x)
 mapped_at {X} {Y} f xs q x e = slice_get-map f xs q ∙ ap (λ (m : Option X). elim m as (λ z. Option Y) [ None ↦ None | Some z ↦ Some (f z) ]) e
-
--- what stands in a mapped list
-pub mapped_from : {X Y : Type 0} (f : X → Y) (xs : List X) (q : ℕ) (y : Y) → slice_get (map f xs) q ≡ Some y → (x : X) × ((slice_get xs q ≡ Some x) × (y ≡ f x))
-mapped_from f xs q y e =
-    let long = length-map xs f in
-    let below = slice_get_within (map f xs) q y e in
-    let x = entry_below xs q (omega arith) in
-    (x.0, (x.1, same_Some y (f x.0) (sym e ∙ mapped_at f xs q x.0 x.1)))
 
 pub all_ask : (header : Header) (ranks k j : ℕ) (ks : List MeetKind) (rest : List Mark) (goings : List Going) → AreOn ranks k ks (Meet j ∷ rest) goings
     → AllAsk (map (advance header) goings)

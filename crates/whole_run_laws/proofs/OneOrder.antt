@@ -25,6 +25,7 @@ use Rattle.run_laws.proofs.LawfulLaws.{own_lawful, ranks_lawful}
 use Rattle.run_laws.proofs.WayLaws.{kinds_skip, kinds_take, marks_alone, marks_meet, marks_solo}
 use Rattle.whole_run_laws.proofs.Hints.{some_rank}
 use Rattle.whole_run_laws.specs.Orders.{all_meetings, has_independent, has_solo, is_independent}
+use Rattle.join_laws.proofs.Completing.{collective_kind}
 
 abbrev is_solo : Mark → Bool
 is_solo m = not (is_meeting m)
@@ -39,15 +40,6 @@ meets_more : (k n m : ℕ) → m ≡ suc n → Meet k ∷ meets_from (suc k) n �
 meets_more k n m e =
     let next : suc k ≡ k + 1 = omega arith in
     ap (λ (j : ℕ). Meet k ∷ meets_from j n) next ∙ ap (λ (j : ℕ). meets_from k j) (sym e)
-
-collective_kind : (c : Call) → is_collective c ≡ is_some (kind_of_call c)
-collective_kind (call.Put true name given vs) = refl
-collective_kind (call.Put false name given vs) = refl
-collective_kind (call.Get true name given) = refl
-collective_kind (call.Get false name given) = refl
-collective_kind (call.Wait true ch) = refl
-collective_kind (call.Wait false ch) = refl
-collective_kind c = refl
 
 same_alone : (a b : List Mark) → a ≡ b → list_any is_solo a ≡ false → list_any is_solo b ≡ false
 same_alone a b e h = subst (λ (ms : List Mark). list_any is_solo ms ≡ false) e h

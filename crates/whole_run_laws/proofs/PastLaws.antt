@@ -40,18 +40,16 @@ use Rattle.serial_spec.specs.SharedByte.{bytes_of, bytes_of_some, covered, Puts}
 use Rattle.serial_spec.proofs.AcceptLaws.{accepted_elements}
 use Rattle.serial_spec.proofs.ApartLaws.{elements_past_header}
 use Rattle.join_laws.proofs.GoodLaws.{Fit, good_first, heard_fits, most_posts_held, offer_fits}
+use Rattle.join_laws.proofs.CountLaws.{passes_accepted as accepted}
+use Rattle.join_laws.proofs.WholeLaws.{get_map as mapped_from}
 use Rattle.whole_run_laws.specs.Completed.{completed, completed_from, completed_puts, IsBesideCount, is_held, puts_asked, puts_at, puts_met, unless_told}
-use Rattle.whole_run_laws.proofs.Courses.{AreAlong, first_along, heard_by, mapped_from, mark_along, meets, offer_met, offers_met_long, set_cases, steps}
+use Rattle.whole_run_laws.proofs.Courses.{AreAlong, first_along, heard_by, mark_along, meets, offer_met, offers_met_long, set_cases, steps}
 use Rattle.whole_run_laws.proofs.KeptLaws.{end_kept}
 
 -- ---- an accepted put
 
 abbrev Past : Header → Post → Type 0
 Past header p = (x : ℕ) → In (bytes_of header p) x → header_len header ≤ x
-
-accepted : (c : Code) → not (is_ok_code c) ≡ false → c ≡ code.Ok
-accepted code.Ok e = refl
-accepted c e = absurd cc
 
 post_past : (header : Header) (known : ℕ) (p : Post) → is_sound header ≡ true → (refused header known way.Put p || wrong_length header p) ≡ false → Past header p
 post_past header known p sound e x m = by (slice_get header.vars p.var) refl (accepted _ (or_first_false (refused header known way.Put p) _ e)) m

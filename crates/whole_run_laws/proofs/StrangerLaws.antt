@@ -29,10 +29,11 @@ use Rattle.serial_spec.specs.Joined.{run_of}
 use Rattle.serial_spec.specs.SerialEnd.{setting_of}
 use Rattle.serial_spec.specs.SharedByte.{Puts}
 use Rattle.join_laws.proofs.JoinLaws.{served_on, stranger_on}
-use Rattle.join_laws.proofs.StrangeLaws.{event_is, strange_alone}
-use Rattle.join_laws.proofs.WholeLaws.{get_replicate}
+use Rattle.join_laws.proofs.StrangeLaws.{event_is, strange_alone, freed_none as none_hold}
+use Rattle.join_laws.proofs.WholeLaws.{get_replicate, get_map as mapped_from}
+use Rattle.join_laws.proofs.DoneLaws.{all_holds as all_hold, holds_one as one_held}
 use Rattle.whole_run_laws.specs.Completed.{puts_met}
-use Rattle.whole_run_laws.proofs.Courses.{mapped_at, mapped_from, set_cases}
+use Rattle.whole_run_laws.proofs.Courses.{mapped_at, set_cases}
 use Rattle.whole_run_laws.specs.Strangers.{are_left_behind, brought, end_of_item, ends, first_stranger, first_stranger_from, has_fewer, has_left, is_strange_after, kind_waiting, last, meeting_offer, meeting_offers, puts_brought, puts_complete, waiting, waits}
 
 -- ---- what numbers brought, with one arrival more
@@ -242,22 +243,6 @@ not_all (x ∷ seats) e = by x.held refl (λ f. not_all seats f)
     by (Some o) f again =
         let w = again (rest (ap (λ (m : Option Offer). is_some m) f)) in
         record { number = suc w.number; free = w.free; at_free = w.at_free; is_free = w.is_free }
-
-all_hold : (seats : List Seat) (q : ℕ) (x : Seat) → list_all holds seats ≡ true → slice_get seats q ≡ Some x → holds x ≡ true
-all_hold [] q x h e = cc
-all_hold (y ∷ seats) zero x h e = ap holds (sym (same_Some y x e)) ∙ and_first (holds y) _ h
-all_hold (y ∷ seats) (suc q) x h e = all_hold seats q x (and_second (holds y) _ h) e
-
-one_held : (x : Seat) → holds x ≡ true → one_if x.held ≡ 1
-one_held x h = by x.held h
-  where
-    by : (m : Option Offer) → is_some m ≡ true → one_if m ≡ 1
-    by None e = cc
-    by (Some o) e = refl
-
-none_hold : (seats : List Seat) → list_any holds (map freed seats) ≡ false
-none_hold [] = refl
-none_hold (x ∷ seats) = none_hold seats
 
 some_holds : (seats : List Seat) (r : ℕ) (x : Seat) → slice_get seats r ≡ Some x → holds x ≡ true → list_any holds seats ≡ true
 some_holds [] r x e h = cc

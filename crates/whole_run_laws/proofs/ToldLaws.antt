@@ -43,7 +43,9 @@ use Rattle.serial_spec.specs.SharedByte.{holdings, IsSharedPair, IsUnshared, Put
 use Rattle.serial_spec.proofs.PairLaws.{pair_found, pair_none}
 use Rattle.run_laws.proofs.OrderLaws.{state_more, states_more}
 use Rattle.whole_run_laws.specs.Completed.{puts_asked, puts_at, puts_met}
-use Rattle.whole_run_laws.proofs.Courses.{AreAlong, AreOn, first_along, hears_then, mapped_from, mark_along, marks_along, meets, offer_met, offers_met_long, Stepped, steps}
+use Rattle.whole_run_laws.proofs.Courses.{AreAlong, AreOn, first_along, hears_then, mark_along, marks_along, meets, offer_met, offers_met_long, Stepped, steps}
+use Rattle.join_laws.proofs.QuietLaws.{IsQuiet, quiet_step}
+use Rattle.join_laws.proofs.WholeLaws.{get_map as mapped_from}
 
 -- what rank r has answered when these marks are done
 abbrev pub answers_of : Option Going → List Answer
@@ -84,41 +86,6 @@ pub only_refused : (s : Setting) (puts : Puts) (p : Pair) → told s puts ≡ So
 only_refused s puts p e = (told_shared s.overlap (shared_pair s.header puts) p e).1
 
 -- ---- an offer that raises the count by its kind brings no put
-
-abbrev IsQuiet : Rank × Want → Type 0
-IsQuiet (r, want.Answered a) = Unit {0}
-IsQuiet (r, want.Solo o) = raises o.kind ≡ true → o.batch.puts ≡ []
-IsQuiet (r, want.Meet o) = raises o.kind ≡ true → o.batch.puts ≡ []
-
-quiet_if : (t : Bool) (p q : Rank × Want) → IsQuiet p → IsQuiet q → IsQuiet (cond t p q)
-quiet_if true p q a b = a
-quiet_if false p q a b = b
-
-quiet_after : (r : Rank) (id : ℕ) (kind : PostKind) (asked : List Post) (c : Code) → IsQuiet (post_after r id kind asked c)
-quiet_after r id kind asked code.Ok = tt
-quiet_after r id kind asked _ = tt
-
-quiet_posts : (r : Rank) (id : ℕ) (kind : PostKind) (l : Look) → IsQuiet (posts r id kind l)
-quiet_posts r id kind (Refused c) = tt
-quiet_posts r id kind Empty = tt
-quiet_posts r id kind (Asks asked) = quiet_after r id kind asked _
-
-quiet_step : (header : Header) (r : Rank) (c : Call) → IsQuiet (step header r c)
-quiet_step header r (call.Put all name given values) =
-    quiet_if all _ _ (quiet_if r.independent _ _ (λ e. absurd cc) (λ e. absurd cc)) (quiet_if r.independent _ _ (λ e. absurd cc) tt)
-quiet_step header r (call.Get all name given) =
-    quiet_if all _ _ (quiet_if r.independent _ _ (λ e. absurd cc) (λ e. absurd cc)) (quiet_if r.independent _ _ (λ e. absurd cc) tt)
-quiet_step header r (call.Post id kind name given values) = quiet_posts r id kind (look header r.known id name given (values_of_post kind values))
-quiet_step header r (call.Wait true choice) = quiet_if r.independent _ _ (λ e. absurd cc) (λ e. absurd cc)
-quiet_step header r (call.Wait false choice) = quiet_if r.independent _ _ (λ e. absurd cc) tt
-quiet_step header r (call.Cancel choice) = tt
-quiet_step header r (call.Attach size) = tt
-quiet_step header r call.Detach = tt
-quiet_step header r call.BeginIndep = λ e. absurd cc
-quiet_step header r call.EndIndep = λ e. refl
-quiet_step header r call.SyncRecords = λ e. refl
-quiet_step header r (call.InqDim name) = tt
-quiet_step header r (call.FillRec name number share ranks) = quiet_if r.independent _ _ (λ e. absurd cc) (λ e. absurd cc)
 
 quiet_go : (header : Header) (o : Offer) (calls : List Call) (r : Rank) (answers : List Answer) → (go header r answers calls).1 ≡ Some o → raises o.kind ≡ true → o.batch.puts ≡ []
 quiet_go header o [] r answers e = absurd (never e)

@@ -10,8 +10,8 @@ use Rattle.nc_base.specs.declared.plan.Post.{Post}
 use Rattle.nc_base.specs.declared.step.Offer.{Offer}
 use Rattle.nc_base.specs.declared.step.Want.{Want}
 use Rattle.nc_base.specs.declared.step.Want.TheVariants.{Answered, Meet, Solo}
+use Rattle.serial_spec.specs.FileStep.{raises}
 use Rattle.serial_spec.specs.RankMachine.{Look, Refused, Empty, Asks, Rank, look, post_after, posts, step, values_of_post}
-use Rattle.turn_run.specs.Counts.{raises}
 
 abbrev pub IsQuiet : Rank × Want → Type 0
 IsQuiet (r, Answered a) = Unit {0}
