@@ -7,6 +7,7 @@ use Rattle.run_watch.specs.declared.rule.Heard.{Heard}
 use Rattle.run_watch.specs.declared.rule.Shown.{Shown}
 use Rattle.run_watch.specs.Heard.{summary, with_pair}
 use Rattle.run_watch.specs.Watching.{TellsMore}
+use Rattle.run_watch.specs.Ends.{Shows}
 
 pub ok_of : {A E : Type 0} (r : Result A E) (P : Type 0) (Q : E → Type 0) → false ≡ is_err r → MatchResult r (λ _. P) Q → P
 ok_of (Ok a) P Q e h = h
@@ -42,3 +43,10 @@ told_more told now y steps records mark e h = h mark (ap (λ (z : Shown). z.last
 
 pub opened_push : (first : Heard) (views : List Heard) (view : Heard) → All (λ v. v ≡ first) views → view ≡ first → All (λ v. v ≡ first) (views ++ view ∷ [])
 opened_push first = All-push (λ (v : Heard). v ≡ first)
+
+-- a board that shows one pair more than before, where this pair was pushed
+pub pushed : (before now : Heard) (mark : Mark) (records : ℕ) (pairs : List (Mark × ℕ)) (heard : Option Heard) (x : Shown) (waiting : List Shown) → before ≡ now
+    → pairs ≡ now.pairs ++ (mark, records) ∷ [] → Shows (with_pair before mark records) heard x waiting → Shows (record { opening = now.opening; pairs = pairs }) heard x waiting
+pushed before now mark records pairs heard x waiting same more shows =
+    let is : with_pair before mark records ≡ record { opening = now.opening; pairs = pairs } = ap (λ (h : Heard). with_pair h mark records) same ∙ (λ i. record { opening = now.opening; pairs = sym more i }) in
+    subst (λ (h : Heard). Shows h heard x waiting) is shows

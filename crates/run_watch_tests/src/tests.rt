@@ -83,9 +83,7 @@ fn read_many(mut view: View) -> (View, u32) {
     let mut last = 0;
     for _ in 0..10_000 {
         let seen = view.read();
-        wrong = wrong.wrapping_add(u32::from(
-            seen.steps < last || seen.records != seen.steps,
-        ));
+        wrong = wrong.wrapping_add(u32::from(seen.steps < last || seen.records != seen.steps));
         last = seen.steps;
     }
     (view, wrong)
