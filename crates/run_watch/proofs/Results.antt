@@ -1,5 +1,5 @@
 -- What the calls of a board give.
-use Rattle.std.proofs.Common.{◌≡◌, ◌+◌, ◌++◌, ◌∷◌, ℕ, true, false, true≢false, List, [], length, fold, All, Result, Ok, Err, is_err, IsOk, MatchResult, Option, Some, sym, refl, ap, ◌∙◌, subst, length-append, arith}
+use Rattle.std.proofs.Common.{◌≡◌, ◌+◌, ◌++◌, ◌∷◌, ℕ, false, true≢false, List, [], length, fold, All, Result, Ok, Err, is_err, IsOk, MatchResult, Option, Some, sym, refl, ap, ◌∙◌, subst, length-append, arith}
 use Rattle.std.proofs.lemmas.List.Elements.{All-push}
 use Rattle.nc_base.specs.declared.step.Mark.{Mark}
 use Rattle.serial_spec.specs.Reading.{last_count}

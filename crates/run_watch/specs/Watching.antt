@@ -2,7 +2,7 @@
 --     Keeps shown ends              what is shown is the summary of all that was told, and each end that has heard anything has heard a beginning of that
 --     Reads before shown now        an end has read the summary of what it has then heard, which goes on from what it had heard
 --     TellsMore before shown now    the end has heard one pair more: the mark that is shown, with the count that is shown
-use Rattle.std.specs.Prelude.{◌≡◌, ℕ, List, Option, Some, IfSome, All}
+use Rattle.std.specs.Prelude.{◌≡◌, List, Option, Some, IfSome, All}
 use Rattle.nc_base.specs.declared.step.Mark.{Mark}
 use Rattle.nc_outside.specs.Told.{after}
 use Rattle.run_watch.specs.declared.rule.Heard.{Heard}

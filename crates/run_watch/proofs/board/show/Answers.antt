@@ -1,9 +1,9 @@
-use Rattle.std.proofs.Common.{◌≡◌, ◌+◌, length, ◌++◌, ◌∷◌, [], List, Option, Some, drop, fold, refl, sym, ap, ◌∙◌, subst}
+use Rattle.std.proofs.Common.{◌≡◌, ◌++◌, ◌∷◌, [], List, Option, Some, drop, fold, refl, sym, ap, ◌∙◌, subst}
 use Rattle.left_right.specs.Sides.{view}
 use Rattle.crossbeam_utils.specs.Register.{TurnsAt}
 use Rattle.run_watch.specs.declared.rule.Heard.{Heard}
 use Rattle.run_watch.specs.declared.rule.Shown.{Shown}
-use Rattle.run_watch.specs.Heard.{summary, with_pair}
+use Rattle.run_watch.specs.Heard.{summary}
 use Rattle.run_watch.specs.Watching.{Keeps, TellsMore}
 use Rattle.run_watch.proofs.Moves.{tells}
 use Rattle.run_watch.proofs.Results.{ok_of, done, last_shown, shown, summed, told_more}
@@ -41,8 +41,7 @@ returns-clause-ok g c =
     let values : (y ≡ fold (λ (a b : Shown). b) x now) × (left ≡ []) =
     done c.publish_as-writer.result.1 ((y ≡ fold (λ (a b : Shown). b) x now) × (left ≡ [])) ((y ≡ x) × (left ≡ now)) (c.publish_as-writer.ensures.succeeds tt) c.publish_as-writer.ensures.values in
     let rule : TellsMore before y after = done c.publish_as-writer.result.1 (TellsMore before y after) (after ≡ before) (c.publish_as-writer.ensures.succeeds tt) c.publish_as-writer.ensures.rule in
-    let is : y ≡ one = last_shown x y one now single values.0 in
-    (
+    let is : y ≡ one = last_shown x y one now single values.0 in (
       told_more told after y c.args.steps c.args.records c.args.mark is (subst (λ (v : Option Heard). TellsMore v y after) heard rule),
       ap (λ (z : Shown). z.summary) is ∙ summed told c.args.mark c.args.steps c.args.records c.requires.steps,
       values.1,

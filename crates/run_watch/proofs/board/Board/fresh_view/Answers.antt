@@ -1,4 +1,4 @@
-use Rattle.run_watch.proofs.Moves.{admits, forks, merges}
+use Rattle.run_watch.proofs.Moves.{forks, merges}
 use Rattle.run_watch.proofs.board.Board.fresh_view.Goals as goal
 
 pub tell-requires : goal.tell-requires
