@@ -1,0 +1,6 @@
+use Rattle.std.proofs.Common.{◌≡◌, length, All}
+use Rattle.run_watch.specs.Heard.{opened}
+use Rattle.run_watch.proofs.board.watch.Given as goal
+
+abbrev pub invariant-loop-number : goal.invariant-loop-number
+invariant-loop-number g l = (l.board ≡ opened l.records) × (length l.views.items ≡ l.number) × All (λ view. view ≡ opened l.records) l.views.items

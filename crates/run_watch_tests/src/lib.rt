@@ -1,0 +1,5 @@
+//! Tests of run_watch.
+#![tactic(auto)]
+
+#[cfg(test)]
+mod tests;
