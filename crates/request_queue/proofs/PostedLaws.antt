@@ -1,11 +1,11 @@
 -- A request that is posted under a new id stands last, and the others keep their states.
-use Rattle.std.proofs.Common.{◌≡◌, ℕ, ◌+◌, ◌∙◌, ap, sym, refl, List, [], ◌∷◌, ◌++◌, map, Bool, true, false, cond, eqb, ◌||◌, Option, Some, None, arith}
+use Rattle.std.proofs.Common.{◌≡◌, ◌≤◌, ℕ, ◌+◌, ◌∙◌, ap, sym, refl, List, [], ◌∷◌, ◌++◌, map, Bool, true, false, cond, eqb, ◌||◌, Option, Some, None, length, arith}
 use Rattle.std.specs.Prelude.{find, filter, option_map, count_by}
 use Rattle.std.specs.List.{list_any}
 use Rattle.std.proofs.lemmas.Bool.{or_parts, or_from, cond_both, ne_eqb, eqb-false, cond-false, cond-true, eq-eqb, eqb-true}
 use Rattle.std.proofs.lemmas.List.Elements.{filter-append}
-use Rattle.std.proofs.lemmas.List.Sums.{sum_by_push}
-use Rattle.std.proofs.lemmas.List.{map-append}
+use Rattle.std.proofs.lemmas.List.Sums.{sum_by_push, length-filter, count_by-le-length}
+use Rattle.std.proofs.lemmas.List.{map-append, length-map}
 use Rattle.attached_buffer.specs.Buffer.{Account}
 use Rattle.nc_base.specs.declared.plan.Post.{Post}
 use Rattle.nc_base.specs.declared.request.PostKind.{PostKind}
@@ -13,14 +13,11 @@ use Rattle.nc_base.specs.declared.request.PostKind.TheVariants.{Iput, Iget, Bput
 use Rattle.serial_spec.specs.RankMachine.{Posted, Status, NullRequest, Waiting, Gone, is_waiting, is_bput, buffered, status_of}
 use Rattle.request_queue.specs.declared.queue.Posting.{Posting}
 use Rattle.request_queue.specs.declared.queue.Request.{Request}
-use Rattle.request_queue.specs.Kept.{status_in, standing, posted_of, as_posted, is_null, held, is_buffered, Accounts}
+use Rattle.request_queue.specs.Kept.{status_in, standing, has_waiting, posted_of, as_posted, is_null, held, is_buffered, Accounts}
 
--- some posted entry, some waiting request has the id
+-- some posted entry has the id
 abbrev pub has_posted : List Posted → ℕ → Bool
 has_posted posted id = list_any (λ (p : Posted). eqb p.id id) posted
-
-abbrev pub has_waiting : List Request → ℕ → Bool
-has_waiting waiting id = list_any (λ (r : Request). eqb r.id id) waiting
 
 pub cond_same : {A B : Type 0} (b : Bool) (f : A → B) (s x y : A) → f x ≡ f y → f (cond b s x) ≡ f (cond b s y)
 cond_same true f s x y h = refl
@@ -113,6 +110,16 @@ not_held Bput posts h = cc
 
 pub count-push : (w : List Request) (r : Request) → count_by is_buffered (w ++ r ∷ []) ≡ count_by is_buffered w + cond (is_buffered r) 1 0
 count-push w r = sum_by_push (λ (x : Request). cond (is_buffered x) 1 0) w r
+
+-- no more bputs wait than requests were posted
+pub held_posted : (history : List Posting) (w : List Request) (buffered : ℕ) → filter (λ (x : Posted). is_waiting x.status) (posted_of history w) ≡ map as_posted w
+    → buffered ≡ count_by is_buffered w → buffered ≤ length history
+held_posted history w buffered kept count =
+    let posted = posted_of history w in
+    let among = length-filter (λ (x : Posted). is_waiting x.status) posted in
+    let all = count_by-le-length (λ (x : Posted). is_waiting x.status) posted in
+    let waiting = ap (λ (l : List Posted). length l) kept in
+    omega (arith, count, count_by-le-length is_buffered w, length-map w as_posted, waiting, among, all, length-map history (standing w))
 
 pub accounts-push : (room : Option Account) (w : List Request) (r : Request) → is_buffered r ≡ false → Accounts room w → Accounts room (w ++ r ∷ [])
 accounts-push None w r h a = let e = cond-false {A = ℕ} (is_buffered r) 1 0 h in omega (arith, count-push w r, e, a)

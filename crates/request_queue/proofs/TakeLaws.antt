@@ -9,8 +9,8 @@ use Rattle.std.proofs.lemmas.Bool.{or_from, or_left, or_right, cond_both, cond-t
 use Rattle.serial_spec.specs.RankMachine.{Posted, Status, NullRequest, Waiting, Gone, is_waiting, status_of, item_code, items_from, has_id}
 use Rattle.request_queue.specs.declared.queue.Posting.{Posting}
 use Rattle.request_queue.specs.declared.queue.Request.{Request}
-use Rattle.request_queue.specs.Kept.{status_in, posted_of, as_posted, is_null, items_by, code_by}
-use Rattle.request_queue.proofs.PostedLaws.{has_posted, has_waiting, new_lacks}
+use Rattle.request_queue.specs.Kept.{status_in, has_waiting, posted_of, as_posted, is_null, items_by, code_by}
+use Rattle.request_queue.proofs.PostedLaws.{has_posted, new_lacks}
 
 -- ---- a set with one more number
 
@@ -99,7 +99,3 @@ or_swap true true = refl
 or_swap true false = refl
 or_swap false true = refl
 or_swap false false = refl
-
-pub id_waits : (w : List Request) (id : ℕ) → has_id (map (λ (r : Request). r.id) w) id ≡ has_waiting w id
-id_waits [] id = refl
-id_waits (r ∷ w) id = ap (λ (b : Bool). eqb r.id id || b) (id_waits w id)

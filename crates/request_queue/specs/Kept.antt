@@ -1,5 +1,6 @@
 -- What the queue keeps: each id that was posted, in order, and by themselves the requests that wait.
 use Rattle.std.specs.Prelude.{◌≡◌, ◌≤◌, ◌+◌, ◌-◌, ◌&&◌, ◌||◌, ◌^◌, nat_lt, ℕ, List, [], ◌∷◌, map, filter, sum_by, count_by, Bool, true, false, ◌==◌, if◌then◌else◌, Option, Some, None, option_map}
+use Rattle.std.specs.List.{list_any}
 use Rattle.std.specs.Ordering.{nat_cmp}
 use Rattle.std.specs.BTreeSet.{contains}
 use Rattle.nc_base.specs.declared.answer.Code.{Code}
@@ -19,6 +20,10 @@ abbrev pub status_in : List Request → ℕ → Status
 status_in [] id = Gone
 status_in (r ∷ waiting) id = if r.id == id then Waiting r.kind r.posts else status_in waiting id
 
+-- some waiting request has the id
+abbrev pub has_waiting : List Request → ℕ → Bool
+has_waiting waiting id = list_any (λ (r : Request). r.id == id) waiting
+
 abbrev pub standing : List Request → Posting → Posted
 standing waiting p = record { id = p.id; status = if p.null then NullRequest else status_in waiting p.id }
 
@@ -27,7 +32,7 @@ posted_of history waiting = map (standing waiting) history
 
 abbrev pub queued : Inside → Queued
 queued a = record {
-  posted = posted_of a.history.items a.waiting.items;
+  posted = posted_of a.history.items a.waiting;
   attached = option_map (λ (room : Account). room.size) a.room;
 }
 
@@ -59,10 +64,10 @@ abbrev pub claimed : Option Account → ℕ → Option Account
 claimed room len = option_map (λ (a : Account). record a { used = a.used + len }) room
 
 pub record IsKept (a : Inside) : Type 0 where
-  pub nulls : (id : ℕ) → contains nat_cmp a.nulls id ≡ is_null (status_of (posted_of a.history.items a.waiting.items) id)
-  pub waiting : filter (λ p. is_waiting p.status) (posted_of a.history.items a.waiting.items) ≡ map as_posted a.waiting.items
-  pub room : Accounts a.room a.waiting.items
-  pub buffered : a.buffered ≡ count_by is_buffered a.waiting.items
+  pub nulls : (id : ℕ) → contains nat_cmp a.nulls id ≡ is_null (status_of (posted_of a.history.items a.waiting) id)
+  pub waiting : filter (λ p. is_waiting p.status) (posted_of a.history.items a.waiting) ≡ map as_posted a.waiting
+  pub room : Accounts a.room a.waiting
+  pub buffered : a.buffered ≡ count_by is_buffered a.waiting
 
 -- ---- what leaves
 

@@ -5,6 +5,7 @@
 #![tactic(auto)]
 
 mod queue;
+mod requests;
 mod taking;
 
 pub use queue::Queue;

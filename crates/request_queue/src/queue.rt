@@ -3,11 +3,12 @@ ghost use Rattle.std.specs.Prelude.{◌≡◌, ◌+◌, ◌<◌, ◌≤◌, ◌�
 ghost use Rattle.nc_base.specs.declared.answer.Code.TheVariants as code;
 ghost use Rattle.nc_base.specs.declared.request.PostKind.TheVariants as kind;
 ghost use Rattle.serial_spec.specs.RankMachine.{status_of, buffer_code, bytes_in, attach_code, detach_code, pending, Waiting, NullRequest};
-ghost use Rattle.std.specs.Prelude.{vec_len, min, ◌-◌, ◌^◌, true, false};
+ghost use Rattle.std.specs.Prelude.{vec_len, min, ◌-◌, ◌^◌, false};
 ghost use Rattle.std.specs.Vec.{vec_capacity};
-ghost use Rattle.request_queue.specs.Kept.{is_buffered, claimed, claim_code};
+ghost use Rattle.request_queue.specs.Kept.{is_buffered, claimed, claim_code, freed, HasUsed};
 ghost use Rattle.request_queue.specs.Queued.{rank_with, with_request, id_of, IsCode, IsRefusal};
 
+use crate::requests::Requests;
 use attached_buffer::Room;
 use nc_base::{CallErr, Code, Memory, Post, PostKind, PostList};
 use std::alloc::Global;
@@ -38,8 +39,7 @@ pub struct Queue {
     pub(crate) history: Vec<Posting>,
     /// The ids of the requests without an element.
     pub(crate) nulls: BTreeSet<u32>,
-    /// In order of posting.
-    pub(crate) waiting: Vec<Request>,
+    pub(crate) waiting: Requests,
     /// How many of these are bputs.
     pub(crate) buffered: usize,
     pub(crate) room: Option<Room>,
@@ -66,7 +66,7 @@ impl Queue {
             alloc,
             history: Vec::new(alloc),
             nulls: BTreeSet::new(alloc),
-            waiting: Vec::new(alloc),
+            waiting: Requests::new(alloc),
             buffered: 0,
             room: None,
         }
@@ -165,12 +165,10 @@ impl Queue {
         ensures ok { OnOk result (self.new ≡ with_request self.old request.id (Waiting request.kind request.posts)) }
         ensures err { OnErr result (self.new ≡ self.old) }
     {
-        make_room(&mut self.history, &mut self.waiting)?;
-        self.history.push_reserved(Posting {
-            id: request.id,
-            null: false,
-        });
-        self.waiting.push_reserved(request);
+        make_room(&mut self.history)?;
+        let id = request.id;
+        self.waiting.push(request)?;
+        self.history.push_reserved(Posting { id, null: false });
         Ok(())
     }
 
@@ -181,32 +179,32 @@ impl Queue {
         ensures err { OnErr result (self.new ≡ self.old) }
         ensures refused { IfErr result (IsRefusal (buffer_code (rank_with self.old) kind.Bput (bytes_in posts))) }
     {
-        make_room(&mut self.history, &mut self.waiting)?;
+        make_room(&mut self.history)?;
         let len = len_of(posts.as_slice());
         match claim(&mut self.room, len) {
             Ok(()) => {}
             Err(code) => return Err(CallErr::Code(code)),
         }
+        let kind = PostKind::Bput;
+        match self.waiting.push(Request { id, kind, posts }) {
+            Ok(()) => {}
+            Err(Memory) => {
+                release(&mut self.room, len);
+                return Err(CallErr::Memory);
+            }
+        }
         self.buffered += 1;
         self.history.push_reserved(Posting { id, null: false });
-        self.waiting.push_reserved(Request {
-            id,
-            kind: PostKind::Bput,
-            posts,
-        });
         Ok(())
     }
 }
 
-fn make_room(history: &mut Vec<Posting>, waiting: &mut Vec<Request>) -> Result<(), Memory>
-    ensures history { history.new.items ≡ history.old.items }
-    ensures waiting { waiting.new.items ≡ waiting.old.items }
-    ensures history_room { OnOk result (vec_len history.new < vec_capacity history.new) }
-    ensures waiting_room { OnOk result (vec_len waiting.new < vec_capacity waiting.new) }
+/// Room for one more.
+fn make_room(history: &mut Vec<Posting>) -> Result<(), Memory>
+    ensures items { history.new.items ≡ history.old.items }
+    ensures room { OnOk result (vec_len history.new < vec_capacity history.new) }
 {
-    history.reserve(1)?;
-    waiting.reserve(1)?;
-    Ok(())
+    Ok(history.reserve(1)?)
 }
 
 /// The bytes of the posts, or 2^64 - 1 where they have more.
@@ -229,5 +227,15 @@ fn claim(room: &mut Option<Room>, len: u64) -> Result<(), Code>
     match room {
         None => Err(Code::ENullABuf),
         Some(room) => room.claim(len),
+    }
+}
+
+/// Gives so many bytes back.
+pub(crate) fn release(room: &mut Option<Room>, len: u64)
+    requires { HasUsed room.old len }
+    ensures { room.new ≡ freed room.old len }
+{
+    if let Some(room) = room {
+        room.release(len);
     }
 }

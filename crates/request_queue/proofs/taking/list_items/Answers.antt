@@ -3,7 +3,7 @@ use Rattle.nc_base.specs.declared.answer.Code.{Code}
 use Rattle.std.specs.Ordering.{nat_cmp}
 use Rattle.std.specs.BTreeSet.{contains}
 use Rattle.nc_base.specs.declared.answer.Item.{Item}
-use Rattle.request_queue.specs.Kept.{items_by, code_by}
+use Rattle.request_queue.specs.Kept.{has_waiting, items_by, code_by}
 use Rattle.request_queue.proofs.TakeLaws.{insert_is}
 use Rattle.request_queue.proofs.taking.list_items.Goals as goal
 
@@ -13,7 +13,7 @@ loop-id-preserved c =
     let i = c.loop-id.id-index in
     let id = get_or ids i 0 in
     let null = contains nat_cmp c.args.nulls.now in
-    let waits = contains nat_cmp c.args.waiting.now in
+    let waits = has_waiting c.args.waiting.now in
     let earlier = contains nat_cmp c.loop-id.earlier in
     let rest = drop (i + 1) ids in
     let item : Item = record { id = id; code = code_by (null id) (waits id) (earlier id); values = None } in

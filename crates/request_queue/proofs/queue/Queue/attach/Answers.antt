@@ -8,10 +8,10 @@ pub invariant_of-self : goal.invariant_of-self
 invariant_of-self c =
     let a = c.self.inside in
     let none = detached a.room (sym c.is_some.ensures ∙ c.if-is_some.false) in
-    let room = accounts-new a.waiting.items c.args.size (subst (λ (o : Option Account). Accounts o a.waiting.items) none c.self.invariant.room) c.in-Ok.ensures.right in
+    let room = accounts-new a.waiting c.args.size (subst (λ (o : Option Account). Accounts o a.waiting) none c.self.invariant.room) c.in-Ok.ensures.right in
     record {
       nulls = c.self.invariant.nulls;
       waiting = c.self.invariant.waiting;
-      room = subst (λ (o : Account). Accounts (Some o) a.waiting.items) (sym c.in-Ok.ensures.ok) room;
+      room = subst (λ (o : Account). Accounts (Some o) a.waiting) (sym c.in-Ok.ensures.ok) room;
       buffered = c.self.invariant.buffered;
     }

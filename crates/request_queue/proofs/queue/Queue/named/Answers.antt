@@ -1,6 +1,5 @@
-use Rattle.std.proofs.Common.{◌∙◌, ap, sym, map}
+use Rattle.std.proofs.Common.{◌∙◌, ap, sym}
 use Rattle.std.proofs.lemmas.Result.{IfOk-weaker}
-use Rattle.request_queue.specs.declared.queue.Request.{Request}
 use Rattle.serial_spec.specs.RankMachine.{waiting_ids, named}
 use Rattle.request_queue.specs.Queued.{Queued, rank_with}
 use Rattle.request_queue.specs.Kept.{posted_of}
@@ -10,7 +9,7 @@ use Rattle.request_queue.proofs.queue.Queue.named.Goals as goal
 pub returns-in-Every : goal.returns-in-Every
 returns-in-Every c =
     let a = c.self.inside in
-    let ids = waiting_ids_is (posted_of a.history.items a.waiting.items) a.waiting.items c.self.invariant.waiting in
+    let ids = waiting_ids_is (posted_of a.history.items a.waiting) a.waiting c.self.invariant.waiting in
     let rank = ap (λ (q : Queued). waiting_ids (rank_with q)) c.self.view_is in
-    IfOk-weaker c.waiting_ids.result _ _
-    (λ v e. e ∙ ap (map (λ (r : Request). r.id)) c.as_slice.ensures.value ∙ sym ids ∙ rank ∙ sym (ap (named (rank_with c.args.self.now)) c.in-Every.is)) c.waiting_ids.ensures
+    IfOk-weaker c.ids.result _ _
+    (λ v e. e ∙ sym ids ∙ rank ∙ sym (ap (named (rank_with c.args.self.now)) c.in-Every.is)) c.ids.ensures

@@ -1,10 +1,8 @@
-use Rattle.std.proofs.Common.{◌≡◌, ◌++◌, [], ◌∙◌, ap, sym, subst, arith, List, map, Option, Bool, not, cond}
+use Rattle.std.proofs.Common.{◌≡◌, ◌∙◌, ap, sym, subst, arith, List, map, Option, cond}
 use Rattle.request_queue.specs.declared.queue.Posting.{Posting}
 use Rattle.std.specs.Prelude.{filter, sum_by, count_by, option_map}
-use Rattle.std.specs.Ordering.{nat_cmp}
-use Rattle.std.specs.BTreeSet.{contains}
 use Rattle.attached_buffer.specs.Buffer.{Account}
-use Rattle.serial_spec.specs.RankMachine.{Posted, status_of}
+use Rattle.serial_spec.specs.RankMachine.{Posted, status_of, has_id}
 use Rattle.request_queue.specs.declared.queue.Request.{Request}
 use Rattle.request_queue.specs.Queued.{Queued}
 use Rattle.request_queue.specs.Kept.{as_posted, is_listed, removed, held, is_buffered, freed, is_null, posted_of, Accounts, Holds}
@@ -14,40 +12,37 @@ use Rattle.request_queue.proofs.queue.Queue.remove.Goals as goal
 abbrev queued_by : List Request → List Posting → Option Account → Queued
 queued_by w history room = record { posted = posted_of history w; attached = option_map (λ (o : Account). o.size) room }
 
-none_before : (f : Request → Bool) (old all new w : List Request) → old ≡ [] → all ≡ w → new ≡ old ++ filter f all → new ≡ filter f w
-none_before f old all new w o a n = n ∙ (λ i. o i ++ filter f (a i))
-
 pub free-requires-clause-count : goal.free-requires-clause-count
 free-requires-clause-count c =
-    let listed = contains nat_cmp c.args.listed.now in
-    let w = c.self.inside.waiting.items in
-    let all = none_before (λ (r : Request). listed r.id) _ _ _ w c.in_ok-taken.ensures.items (λ i. (c.replace-all.ensures.value i).items) c.split.ensures.taken in
+    let listed = has_id c.args.ids.now in
+    let w = c.self.inside.waiting in
+    let all = c.in_ok-taken.ensures.taken in
     let count = ap (count_by is_buffered) (c.as_slice.ensures.value ∙ all) in
     omega (arith, count, sum_by-parts (λ (r : Request). cond (is_buffered r) 1 0) listed w, c.self.invariant.buffered)
 
 pub free-requires-clause-bytes : goal.free-requires-clause-bytes
 free-requires-clause-bytes c =
-    let listed = contains nat_cmp c.args.listed.now in
-    let w = c.self.inside.waiting.items in
-    let all = none_before (λ (r : Request). listed r.id) _ _ _ w c.in_ok-taken.ensures.items (λ i. (c.replace-all.ensures.value i).items) c.split.ensures.taken in
+    let listed = has_id c.args.ids.now in
+    let w = c.self.inside.waiting in
+    let all = c.in_ok-taken.ensures.taken in
     subst (λ (l : List Request). Holds c.self.inside.room l) (sym (c.as_slice.ensures.value ∙ all)) (holds_taken c.self.inside.room listed w c.self.invariant.room)
 
-pub invariant_of-self : goal.invariant_of-self
-invariant_of-self c =
+pub invariant_of-self-2 : goal.invariant_of-self-2
+invariant_of-self-2 c =
     let a = c.self.inside in
-    let listed = contains nat_cmp c.args.listed.now in
-    let w = a.waiting.items in
-    let gone = none_before (λ (r : Request). listed r.id) _ _ _ w c.in_ok-taken.ensures.items (λ i. (c.replace-all.ensures.value i).items) c.split.ensures.taken in
-    let kept = none_before (λ (r : Request). not (listed r.id)) _ _ _ w c.in_ok-kept.ensures.items (λ i. (c.replace-all.ensures.value i).items) c.split.ensures.kept in
+    let listed = has_id c.args.ids.now in
+    let w = a.waiting in
+    let gone = c.in_ok-taken.ensures.taken in
+    let kept = c.in_ok-taken.ensures.left in
     let slice = c.as_slice.ensures.value ∙ gone in
     let count = ap (count_by is_buffered) slice in
-    let posted : posted_of a.history.items c.split.new.kept.items ≡ removed listed (posted_of a.history.items w) =
+    let posted : posted_of a.history.items c.remove.new.self ≡ removed listed (posted_of a.history.items w) =
     ap (λ (l : List Request). posted_of a.history.items l) kept ∙ posted-left listed a.history.items w in
     let room = c.free.ensures.room ∙ ap (λ (l : List Request). freed a.room (sum_by held l)) slice in
     record {
       nulls = λ id. c.self.invariant.nulls id ∙ sym (is_null-removed listed (posted_of a.history.items w) id) ∙ ap (λ (l : List Posted). is_null (status_of l id)) (sym posted);
       waiting = rw kept (waiting-left listed a.history.items w c.self.invariant.waiting);
-      room = subst (λ (o : Option Account). Accounts o c.split.new.kept.items) (sym room)
+      room = subst (λ (o : Option Account). Accounts o c.remove.new.self) (sym room)
           (subst (λ (l : List Request). Accounts (freed a.room (sum_by held (taken listed w))) l) (sym kept) (accounts_left a.room listed w c.self.invariant.room));
       buffered = rw kept (omega (arith, count, c.free.ensures.count, sum_by-parts (λ (r : Request). cond (is_buffered r) 1 0) listed w, c.self.invariant.buffered));
     }
@@ -55,19 +50,19 @@ invariant_of-self c =
 pub returns-clause-taken : goal.returns-clause-taken
 returns-clause-taken c =
     let a = c.self.inside in
-    let listed = contains nat_cmp c.args.listed.now in
-    let w = a.waiting.items in
-    let gone = none_before (λ (r : Request). listed r.id) _ _ _ w c.in_ok-taken.ensures.items (λ i. (c.replace-all.ensures.value i).items) c.split.ensures.taken in
+    let listed = has_id c.args.ids.now in
+    let w = a.waiting in
+    let gone = c.in_ok-taken.ensures.taken in
     ap (map as_posted) gone ∙ taken_is listed a.history.items w c.self.invariant.waiting ∙ ap (λ (q : Queued). filter (is_listed listed) q.posted) c.self.view_is
 
 pub returns-clause-after : goal.returns-clause-after
 returns-clause-after c =
     let a = c.self.inside in
-    let listed = contains nat_cmp c.args.listed.now in
-    let w = a.waiting.items in
-    let kept = none_before (λ (r : Request). not (listed r.id)) _ _ _ w c.in_ok-kept.ensures.items (λ i. (c.replace-all.ensures.value i).items) c.split.ensures.kept in
+    let listed = has_id c.args.ids.now in
+    let w = a.waiting in
+    let kept = c.in_ok-taken.ensures.left in
     let posted = ap (λ (l : List Request). posted_of a.history.items l) kept ∙ posted-left listed a.history.items w in
     let size = ap (option_map (λ (o : Account). o.size)) c.free.ensures.room ∙ size-freed a.room (sum_by held c.as_slice.result.now) in
-    let both : queued_by c.split.new.kept.items a.history.items c.free.new.room ≡ record { posted = removed listed (posted_of a.history.items w); attached = option_map (λ (o : Account). o.size) a.room } =
+    let both : queued_by c.remove.new.self a.history.items c.free.new.room ≡ record { posted = removed listed (posted_of a.history.items w); attached = option_map (λ (o : Account). o.size) a.room } =
     λ i. record { posted = posted i; attached = size i } in
     both ∙ ap (λ (q : Queued). record { posted = removed listed q.posted; attached = q.attached }) c.self.view_is

@@ -1,9 +1,8 @@
-use Rattle.std.proofs.Common.{◌≡◌, ◌∙◌, ap, sym, ℕ, List, map, length, arith, ◌&&◌}
+use Rattle.std.proofs.Common.{◌≡◌, ◌≤◌, ◌∙◌, ap, sym, subst, List, ℕ, map, length, arith}
 use Rattle.std.specs.Prelude.{filter, sum_by}
-use Rattle.std.specs.Ordering.{nat_cmp}
-use Rattle.std.specs.BTreeSet.{contains}
+use Rattle.std.specs.Vec.{vec_capacity}
 use Rattle.std.proofs.lemmas.List.Folds.{flat_map-map}
-use Rattle.serial_spec.specs.RankMachine.{Posted, batch_chosen, chosen, named, has_id, is_waiting, puts_in, gets_in}
+use Rattle.serial_spec.specs.RankMachine.{Posted, batch_chosen, chosen, named, is_chosen, has_id, puts_in, gets_in}
 use Rattle.request_queue.specs.declared.queue.Request.{Request}
 use Rattle.request_queue.specs.Queued.{Queued, rank_with}
 use Rattle.request_queue.specs.Kept.{as_posted, is_listed, puts_of, gets_of}
@@ -13,29 +12,29 @@ use Rattle.request_queue.proofs.queue.Queue.take.Goals as goal
 pub batch_of-requires-clause-puts_room : goal.batch_of-requires-clause-puts_room
 batch_of-requires-clause-puts_room c =
     let a = c.self.inside in
-    let listed = contains nat_cmp c.in_ok-items.listed in
-    let same = c.in_ok-taken.ensures.taken ∙ ap (λ (q : Queued). filter (is_listed listed) q.posted) (sym c.self.view_is) ∙ sym (taken_is listed a.history.items a.waiting.items c.self.invariant.waiting) in
-    let count = same_posts puts_in c.in_ok-taken.taken.items (taken listed a.waiting.items) same in
-    let room = ap (λ (l : List Request). sum_by (λ (r : Request). length (puts_of r)) (taken listed l)) c.as_slice-2.ensures.value in
-    omega (arith, count, room, c.in_ok-puts.ensures.room)
+    let listed = has_id c.as_slice-3.result.now in
+    let same = c.in_ok-taken.ensures.taken ∙ ap (λ (q : Queued). filter (is_listed listed) q.posted) (sym c.self.view_is) ∙ sym (taken_is listed a.history.items a.waiting c.self.invariant.waiting) in
+    let count = same_posts puts_in c.in_ok-taken.taken.items (taken listed a.waiting) same in
+    let ids = c.as_slice-2.ensures.value ∙ sym c.as_slice-3.ensures.value in
+    let room = subst (λ (l : List ℕ). sum_by (λ (r : Request). length (puts_of r)) (taken (has_id l) a.waiting) ≤ vec_capacity c.in_ok-puts.puts) ids c.in_ok-puts.ensures.puts in
+    omega (arith, count, room)
 
 pub batch_of-requires-clause-gets_room : goal.batch_of-requires-clause-gets_room
 batch_of-requires-clause-gets_room c =
     let a = c.self.inside in
-    let listed = contains nat_cmp c.in_ok-items.listed in
-    let same = c.in_ok-taken.ensures.taken ∙ ap (λ (q : Queued). filter (is_listed listed) q.posted) (sym c.self.view_is) ∙ sym (taken_is listed a.history.items a.waiting.items c.self.invariant.waiting) in
-    let count = same_posts gets_in c.in_ok-taken.taken.items (taken listed a.waiting.items) same in
-    let room = ap (λ (l : List Request). sum_by (λ (r : Request). length (gets_of r)) (taken listed l)) c.as_slice-3.ensures.value in
-    omega (arith, count, room, c.in_ok-gets.ensures.room)
+    let listed = has_id c.as_slice-3.result.now in
+    let same = c.in_ok-taken.ensures.taken ∙ ap (λ (q : Queued). filter (is_listed listed) q.posted) (sym c.self.view_is) ∙ sym (taken_is listed a.history.items a.waiting c.self.invariant.waiting) in
+    let count = same_posts gets_in c.in_ok-taken.taken.items (taken listed a.waiting) same in
+    let ids = c.as_slice-2.ensures.value ∙ sym c.as_slice-3.ensures.value in
+    let room = subst (λ (l : List ℕ). sum_by (λ (r : Request). length (gets_of r)) (taken (has_id l) a.waiting) ≤ vec_capacity c.in_ok-puts.gets) ids c.in_ok-puts.ensures.gets in
+    omega (arith, count, room)
 
 pub returns-clause-batch : goal.returns-clause-batch
 returns-clause-batch c =
-    let listed = contains nat_cmp c.in_ok-items.listed in
     let old = c.args.self.now in
-    let named_is : (id : ℕ) → listed id ≡ has_id (named (rank_with old) c.args.choice.now) id = λ id.
-    c.in_ok-items.ensures.listed id ∙ ap (λ (l : List ℕ). has_id l id) (c.as_slice.ensures.value ∙ c.in_ok-ids.ensures) in
+    let ids : c.as_slice-3.result.now ≡ named (rank_with old) c.args.choice.now = c.as_slice-3.ensures.value ∙ c.in_ok-ids.ensures in
     let all : map as_posted c.in_ok-taken.taken.items ≡ chosen (rank_with old) c.args.choice.now =
-    c.in_ok-taken.ensures.taken ∙ (λ i. filter (λ (p : Posted). is_waiting p.status && named_is p.id i) old.posted) in
+    c.in_ok-taken.ensures.taken ∙ ap (λ (l : List ℕ). filter (is_chosen l) old.posted) ids in
     let puts = c.batch_of.ensures.puts ∙ sym (flat_map-map (λ (p : Posted). puts_in p.status) as_posted c.in_ok-taken.taken.items) in
     let gets = c.batch_of.ensures.gets ∙ sym (flat_map-map (λ (p : Posted). gets_in p.status) as_posted c.in_ok-taken.taken.items) in
     let both : c.batch_of.result ≡ batch_chosen (map as_posted c.in_ok-taken.taken.items) = λ i. record { puts = puts i; gets = gets i } in

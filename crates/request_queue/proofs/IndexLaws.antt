@@ -1,0 +1,175 @@
+-- The index of the requests that wait: it stays one as requests come and go, and finds each by its id.
+use Rattle.std.proofs.Common.{◌≡◌, ℕ, ◌∙◌, ap, sym, refl, inl, inr, ◌⊎◌, List, [], ◌∷◌, Bool, true, false, cond, eqb, Option, Some, None}
+use Rattle.std.specs.Prelude.{filter, option_map, is_some}
+use Rattle.std.specs.List.{list_any, AllByRecursion}
+use Rattle.std.specs.Ordering.{nat_cmp}
+use Rattle.std.specs.Cmp.{nat_cmp_total}
+use Rattle.std.specs.Map.{values_of, lookup}
+use Rattle.std.specs.BTreeMap.{BTreeMap, get, is_at, values, IsOrdered}
+use Rattle.std.proofs.lemmas.Bool.{cases_eq, cases_Bool, cond-true, cond-false, eq-eqb, ne_eqb, eqb-true, or_left, or_right, or_cases}
+use Rattle.std.proofs.lemmas.List.Elements.{recursion_from_All, All-weaker}
+use Rattle.std.proofs.lemmas.Map.Views.{All-found}
+use Rattle.serial_spec.specs.RankMachine.{has_id}
+use Rattle.request_queue.specs.declared.queue.Request.{Request}
+use Rattle.request_queue.specs.Kept.{has_waiting}
+use Rattle.request_queue.specs.Indexed.{IsIndex, is_place, stands_at}
+use Rattle.request_queue.proofs.PlaceLaws.{at_same, at_apart}
+
+abbrev id_at : Option Request → Option ℕ
+id_at o = option_map (λ (r : Request). r.id) o
+
+-- the same entries have the same index
+pub index_same : (places new_places : BTreeMap ℕ ℕ) (by_place new_by_place : BTreeMap ℕ Request) → new_places.entries ≡ places.entries
+    → new_by_place.entries ≡ by_place.entries → IsIndex places by_place → IsIndex new_places new_by_place
+index_same places new_places by_place new_by_place e f index id p =
+    let there : get nat_cmp new_places id ≡ get nat_cmp places id = ap (lookup (is_at (nat_cmp id))) e in
+    let here : id_at (get nat_cmp new_by_place p) ≡ id_at (get nat_cmp by_place p) = ap (λ (es : List (ℕ × Request)). id_at (lookup (is_at (nat_cmp p)) es)) f in
+    (λ h. here ∙ (index id p).0 (sym there ∙ h), λ h. there ∙ (index id p).1 (sym here ∙ h))
+
+-- ---- one request less
+
+module _ (places new_places : BTreeMap ℕ ℕ) (by_place new_by_place : BTreeMap ℕ Request) (place : ℕ) (r : Request) where
+  pub index_removed : IsIndex places by_place → get nat_cmp by_place place ≡ Some r
+      → ((q : ℕ) → get nat_cmp new_by_place q ≡ cond (is_at (nat_cmp place) q) None (get nat_cmp by_place q))
+      → ((q : ℕ) → get nat_cmp new_places q ≡ cond (is_at (nat_cmp r.id) q) None (get nat_cmp places q))
+      → IsIndex new_places new_by_place
+  index_removed index there gone unlisted = λ id p. (to id p (cases_eq r.id id), from id p (cases_eq place p))
+    where
+      to : (id p : ℕ) → (r.id ≡ id) ⊎ (r.id ≡ id → ⊥) → get nat_cmp new_places id ≡ Some p → id_at (get nat_cmp new_by_place p) ≡ Some id
+      to id p (inl same) h =
+          let none = unlisted id ∙ cond-true (is_at (nat_cmp r.id) id) None (get nat_cmp places id) (at_same r.id id same) in
+          cc
+      to id p (inr apart) h =
+          let before = (index id p).0 (sym (unlisted id ∙ cond-false (is_at (nat_cmp r.id) id) None (get nat_cmp places id) (at_apart r.id id apart)) ∙ h) in
+          let elsewhere : place ≡ p → ⊥ = λ e. let here = ap id_at (ap (get nat_cmp by_place) (sym e) ∙ there) in let same : r.id ≡ id = cc in apart same in
+          ap id_at (gone p ∙ cond-false (is_at (nat_cmp place) p) None (get nat_cmp by_place p) (at_apart place p elsewhere)) ∙ before
+
+      from : (id p : ℕ) → (place ≡ p) ⊎ (place ≡ p → ⊥) → id_at (get nat_cmp new_by_place p) ≡ Some id → get nat_cmp new_places id ≡ Some p
+      from id p (inl same) h =
+          let none = ap id_at (gone p ∙ cond-true (is_at (nat_cmp place) p) None (get nat_cmp by_place p) (at_same place p same)) in
+          cc
+      from id p (inr apart) h =
+          let before = (index id p).1 (sym (ap id_at (gone p ∙ cond-false (is_at (nat_cmp place) p) None (get nat_cmp by_place p) (at_apart place p apart))) ∙ h) in
+          let other : r.id ≡ id → ⊥ = λ e. let here = ap (get nat_cmp places) (sym e) ∙ (index r.id place).1 (ap id_at there) in let same : place ≡ p = cc in apart same in
+          unlisted id ∙ cond-false (is_at (nat_cmp r.id) id) None (get nat_cmp places id) (at_apart r.id id other) ∙ before
+
+  -- ---- one request more
+
+  pub index_added : IsIndex places by_place → get nat_cmp by_place place ≡ None → get nat_cmp places r.id ≡ None
+      → ((q : ℕ) → get nat_cmp new_by_place q ≡ cond (is_at (nat_cmp place) q) (Some r) (get nat_cmp by_place q))
+      → ((q : ℕ) → get nat_cmp new_places q ≡ cond (is_at (nat_cmp r.id) q) (Some place) (get nat_cmp places q))
+      → IsIndex new_places new_by_place
+  index_added index free fresh added listed = λ id p. (to id p (cases_eq r.id id), from id p (cases_eq place p))
+    where
+      to : (id p : ℕ) → (r.id ≡ id) ⊎ (r.id ≡ id → ⊥) → get nat_cmp new_places id ≡ Some p → id_at (get nat_cmp new_by_place p) ≡ Some id
+      to id p (inl same) h =
+          let new = listed id ∙ cond-true (is_at (nat_cmp r.id) id) (Some place) (get nat_cmp places id) (at_same r.id id same) in
+          let here : place ≡ p = cc in
+          ap id_at (added p ∙ cond-true (is_at (nat_cmp place) p) (Some r) (get nat_cmp by_place p) (at_same place p here)) ∙ ap Some same
+      to id p (inr apart) h =
+          let before = (index id p).0 (sym (listed id ∙ cond-false (is_at (nat_cmp r.id) id) (Some place) (get nat_cmp places id) (at_apart r.id id apart)) ∙ h) in
+          let elsewhere : place ≡ p → ⊥ = λ e. let here = ap id_at (ap (get nat_cmp by_place) (sym e) ∙ free) in cc in
+          ap id_at (added p ∙ cond-false (is_at (nat_cmp place) p) (Some r) (get nat_cmp by_place p) (at_apart place p elsewhere)) ∙ before
+
+      from : (id p : ℕ) → (place ≡ p) ⊎ (place ≡ p → ⊥) → id_at (get nat_cmp new_by_place p) ≡ Some id → get nat_cmp new_places id ≡ Some p
+      from id p (inl same) h =
+          let new = ap id_at (added p ∙ cond-true (is_at (nat_cmp place) p) (Some r) (get nat_cmp by_place p) (at_same place p same)) in
+          let here : r.id ≡ id = cc in
+          listed id ∙ cond-true (is_at (nat_cmp r.id) id) (Some place) (get nat_cmp places id) (at_same r.id id here) ∙ ap Some same
+      from id p (inr apart) h =
+          let before = (index id p).1 (sym (ap id_at (added p ∙ cond-false (is_at (nat_cmp place) p) (Some r) (get nat_cmp by_place p) (at_apart place p apart))) ∙ h) in
+          let other : r.id ≡ id → ⊥ = λ e. let here = ap (get nat_cmp places) (sym e) ∙ fresh in cc in
+          listed id ∙ cond-false (is_at (nat_cmp r.id) id) (Some place) (get nat_cmp places id) (at_apart r.id id other) ∙ before
+
+-- ---- which ids it has
+
+lookup_waits_more : (test : ℕ → Bool) (e : ℕ × Request) (es : List (ℕ × Request)) (id : ℕ)
+    → (id_at (lookup test es) ≡ Some id → has_waiting (values_of es) id ≡ true)
+    → (b : Bool) → test e.0 ≡ b → id_at (lookup test (e ∷ es)) ≡ Some id → has_waiting (values_of (e ∷ es)) id ≡ true
+lookup_waits_more test e es id ih true t h =
+    let hit = ap id_at (cond-true (test e.0) (Some e.1) (lookup test es) t) in
+    let same : e.1.id ≡ id = cc in
+    or_left (eqb e.1.id id) (has_waiting (values_of es) id) (eq-eqb e.1.id id same)
+lookup_waits_more test e es id ih false t h =
+    or_right (eqb e.1.id id) (has_waiting (values_of es) id) (ih (sym (ap id_at (cond-false (test e.0) (Some e.1) (lookup test es) t)) ∙ h))
+
+lookup_waits : (test : ℕ → Bool) (es : List (ℕ × Request)) (id : ℕ) → id_at (lookup test es) ≡ Some id → has_waiting (values_of es) id ≡ true
+lookup_waits test [] id h = cc
+lookup_waits test (e ∷ es) id h = lookup_waits_more test e es id (lookup_waits test es id) (test e.0) refl h
+
+abbrev Listed : BTreeMap ℕ ℕ → ℕ × Request → Type 0
+Listed places e = get nat_cmp places e.1.id ≡ Some e.0
+
+waits_listed : (places : BTreeMap ℕ ℕ) (es : List (ℕ × Request)) (id : ℕ) → AllByRecursion (Listed places) es → has_waiting (values_of es) id ≡ true
+    → is_some (get nat_cmp places id) ≡ true
+waits_listed places [] id h w = cc
+waits_listed places (e ∷ es) id h w = by_case (waits_listed places es id h.1) (or_cases (eqb e.1.id id) (has_waiting (values_of es) id) w)
+  where
+    by_case : (has_waiting (values_of es) id ≡ true → is_some (get nat_cmp places id) ≡ true) → (eqb e.1.id id ≡ true) ⊎ (has_waiting (values_of es) id ≡ true)
+        → is_some (get nat_cmp places id) ≡ true
+    by_case ih (inl same) = ap (λ (n : ℕ). is_some (get nat_cmp places n)) (sym (eqb-true e.1.id id same)) ∙ ap is_some h.0
+    by_case ih (inr rest) = ih rest
+
+module _ (places : BTreeMap ℕ ℕ) (by_place : BTreeMap ℕ Request) (ordered : IsOrdered nat_cmp by_place) (index : IsIndex places by_place) where
+  all_listed : AllByRecursion (Listed places) by_place.entries
+  all_listed =
+      recursion_from_All (Listed places) by_place.entries
+      (All-weaker (λ (e : ℕ × Request). get nat_cmp by_place e.0 ≡ Some e.1) (Listed places) (λ e h. (index e.1.id e.0).1 (ap id_at h)) by_place.entries
+      (All-found nat_cmp_total by_place ordered))
+
+  by_place_of : (id : ℕ) (o : Option ℕ) → get nat_cmp places id ≡ o → is_some o ≡ has_waiting (values by_place) id
+  by_place_of id (Some p) e = sym (lookup_waits (is_at (nat_cmp p)) by_place.entries id ((index id p).0 e))
+  by_place_of id None e = by_case (cases_Bool (has_waiting (values by_place) id))
+    where
+      by_case : (has_waiting (values by_place) id ≡ true) ⊎ (has_waiting (values by_place) id ≡ false) → false ≡ has_waiting (values by_place) id
+      by_case (inl w) = let some = waits_listed places by_place.entries id all_listed w in let none = ap is_some e in cc
+      by_case (inr w) = sym w
+
+  -- the index has the ids of the requests
+  pub index_has : (id : ℕ) → is_some (get nat_cmp places id) ≡ has_waiting (values by_place) id
+  index_has id = by_place_of id (get nat_cmp places id) refl
+
+  pub index_lacks : (id : ℕ) → has_waiting (values by_place) id ≡ false → get nat_cmp places id ≡ None
+  index_lacks id h = by_option (get nat_cmp places id) refl
+    where
+      by_option : (o : Option ℕ) → get nat_cmp places id ≡ o → get nat_cmp places id ≡ None
+      by_option None e = e
+      by_option (Some p) e = let some = by_place_of id (Some p) e in cc
+
+  -- ---- the places of some ids
+
+  not_place : (id place : ℕ) (r : Request) → get nat_cmp by_place place ≡ Some r → (id ≡ r.id → ⊥) → (o : Option ℕ) → get nat_cmp places id ≡ o → is_place place o ≡ false
+  not_place id place r there apart None e = refl
+  not_place id place r there apart (Some p) e =
+      ne_eqb p place (λ same. let here = (index id place).0 (e ∙ ap Some same) in let held = ap id_at there in let equal : id ≡ r.id = cc in apart equal)
+
+  stands_one : (id place : ℕ) (r : Request) → get nat_cmp by_place place ≡ Some r → stands_at places place id ≡ eqb id r.id
+  stands_one id place r there = by_case (cases_eq id r.id)
+    where
+      by_case : (id ≡ r.id) ⊎ (id ≡ r.id → ⊥) → stands_at places place id ≡ eqb id r.id
+      by_case (inl same) =
+          ap (is_place place) (ap (get nat_cmp places) same ∙ (index r.id place).1 (ap id_at there)) ∙ eq-eqb place place refl ∙ sym (eq-eqb id r.id same)
+      by_case (inr apart) = not_place id place r there apart (get nat_cmp places id) refl ∙ sym (ne_eqb id r.id apart)
+
+  -- an entry stands at the place of one of the ids exactly if its request has one of them
+  pub all_stand : (ids : List ℕ) (listed : ℕ → Bool) → ((place : ℕ) → listed place ≡ list_any (stands_at places place) ids)
+      → AllByRecursion (λ (e : ℕ × Request). listed e.0 ≡ has_id ids e.1.id) by_place.entries
+  all_stand ids listed is =
+      recursion_from_All (λ (e : ℕ × Request). listed e.0 ≡ has_id ids e.1.id) by_place.entries
+      (All-weaker (λ (e : ℕ × Request). get nat_cmp by_place e.0 ≡ Some e.1) (λ (e : ℕ × Request). listed e.0 ≡ has_id ids e.1.id)
+      (λ e h. is e.0 ∙ (λ i. list_any (λ (id : ℕ). stands_one id e.0 e.1 h i) ids)) by_place.entries (All-found nat_cmp_total by_place ordered))
+
+-- ---- the requests of entries
+
+cond_values : (b : Bool) (e : ℕ × Request) (es : List (ℕ × Request)) (w : List Request) → values_of es ≡ w → values_of (cond b (e ∷ es) es) ≡ cond b (e.1 ∷ w) w
+cond_values true e es w h = ap (λ (l : List Request). e.1 ∷ l) h
+cond_values false e es w h = h
+
+-- a test of the places and a test of the requests that agree keep the same
+pub filter_values : (f : Bool → Bool) (listed : ℕ → Bool) (test : Request → Bool) (es : List (ℕ × Request)) → AllByRecursion (λ (e : ℕ × Request). listed e.0 ≡ test e.1) es
+    → values_of (filter (λ (e : ℕ × Request). f (listed e.0)) es) ≡ filter (λ (r : Request). f (test r)) (values_of es)
+filter_values f listed test [] h = refl
+filter_values f listed test (e ∷ es) h =
+    let rest = filter_values f listed test es h.1 in
+    cond_values (f (listed e.0)) e (filter (λ (e : ℕ × Request). f (listed e.0)) es) (filter (λ (r : Request). f (test r)) (values_of es)) rest
+    ∙ ap (λ (b : Bool). cond (f b) (e.1 ∷ filter (λ (r : Request). f (test r)) (values_of es)) (filter (λ (r : Request). f (test r)) (values_of es))) h.0

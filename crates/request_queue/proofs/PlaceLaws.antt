@@ -1,0 +1,226 @@
+-- The entries of a map at some keys, one key at a time from the least.
+use Rattle.std.proofs.Common.{◌≡◌, ℕ, ◌<◌, ◌≤◌, ◌∙◌, ap, sym, refl, subst, inl, inr, ◌⊎◌, List, [], ◌∷◌, ◌++◌, Bool, true, false, cond, not, ◌||◌, Option, Some, None, append_assoc, arith}
+use Rattle.std.specs.Prelude.{filter}
+use Rattle.std.specs.List.{list_any, AllByRecursion}
+use Rattle.std.specs.List.Sorted.{IsStrictlySortedBy}
+use Rattle.std.specs.Ordering.{nat_cmp, is_eq, match_ordering}
+use Rattle.std.specs.Cmp.{nat_cmp_is}
+use Rattle.std.specs.Map.{keys_of, values_of, lookup, remove_entry}
+use Rattle.std.specs.BTreeMap.{is_at, insert_entry}
+use Rattle.std.specs.declared.cmp.Ordering.{Ordering}
+use Rattle.std.specs.declared.cmp.Ordering.TheVariants.{Less, Equal, Greater}
+use Rattle.std.proofs.lemmas.Bool.{cases_order, cases_eq, cond-true, cond-false, or_from, or_left}
+use Rattle.std.proofs.lemmas.Cmp.{ranked}
+use Rattle.std.proofs.lemmas.Map.Keys.{sorted_head, sorted_tail}
+
+-- ---- one key
+
+pub at_same : (k q : ℕ) → k ≡ q → is_at (nat_cmp k) q ≡ true
+at_same k q e = ap is_eq (sym (nat_cmp_is k q Equal e))
+
+pub at_later : (k q : ℕ) → k < q → is_at (nat_cmp k) q ≡ false
+at_later k q l = ap is_eq (sym (nat_cmp_is k q Less l))
+
+pub at_earlier : (k q : ℕ) → q < k → is_at (nat_cmp k) q ≡ false
+at_earlier k q l = ap is_eq (sym (nat_cmp_is k q Greater l))
+
+pub at_apart : (k q : ℕ) → (k ≡ q → ⊥) → is_at (nat_cmp k) q ≡ false
+at_apart k q apart = by_order (cases_order k q)
+  where
+    by_order : (k ≡ q) ⊎ ((k < q) ⊎ (q < k)) → is_at (nat_cmp k) q ≡ false
+    by_order (inl e) = absurd (apart e)
+    by_order (inr (inl l)) = at_later k q l
+    by_order (inr (inr g)) = at_earlier k q g
+
+less : (p q : ℕ) → nat_cmp p q ≡ Less → p < q
+less p q e = ranked p q Less (sym e)
+
+-- ---- keys in order
+
+above : (k p : ℕ) (ks : List ℕ) → k ≤ p → AllByRecursion (λ q. nat_cmp p q ≡ Less) ks → AllByRecursion (λ q. k < q) ks
+above k p [] le h = tt
+above k p (q ∷ ks) le h = let l = less p q h.0 in (omega (arith, le, l), above k p ks le h.1)
+
+-- the keys behind the first are above what isn't above it
+pub above_first : (k p : ℕ) (ks : List ℕ) → k ≤ p → IsStrictlySortedBy nat_cmp (p ∷ ks) → AllByRecursion (λ q. k < q) ks
+above_first k p ks le s = above k p ks le (sorted_head nat_cmp p ks s)
+
+abbrev among : List ℕ → ℕ → Bool
+among ks q = list_any (is_at (nat_cmp q)) ks
+
+not_among : (q : ℕ) (ks : List ℕ) → AllByRecursion (λ k. q < k) ks → among ks q ≡ false
+not_among q [] h = refl
+not_among q (k ∷ ks) h = or_from (is_at (nat_cmp q) k) (among ks q) (at_later q k h.0) (not_among q ks h.1)
+
+module _ {X : Type 0} where
+  -- the entries at the keys, and the others
+  abbrev part : (Bool → Bool) → List ℕ → List (ℕ × X) → List (ℕ × X)
+  part f ks es = filter (λ e. f (among ks e.0)) es
+
+  abbrev pub at_keys : List ℕ → List (ℕ × X) → List (ℕ × X)
+  at_keys ks es = part (λ b. b) ks es
+
+  abbrev pub at_others : List ℕ → List (ℕ × X) → List (ℕ × X)
+  at_others ks es = part not ks es
+
+  pub none_left : (o : Option X) → ((x : X) → o ≡ Some x → ⊥) → o ≡ None
+  none_left None h = refl
+  none_left (Some x) h = absurd (h x refl)
+
+  abbrev pub found : Option X → List X
+  found None = []
+  found (Some x) = x ∷ []
+
+  -- ---- a key below all entries
+
+  abbrev Above : ℕ → List (ℕ × X) → Type 0
+  Above k es = AllByRecursion (λ q. k < q) (keys_of es)
+
+  lookup_above : (k : ℕ) (es : List (ℕ × X)) → Above k es → lookup (is_at (nat_cmp k)) es ≡ None
+  lookup_above k [] h = refl
+  lookup_above k (e ∷ es) h = cond-false (is_at (nat_cmp k) e.0) (Some e.1) (lookup (is_at (nat_cmp k)) es) (at_later k e.0 h.0) ∙ lookup_above k es h.1
+
+  remove_above : (k : ℕ) (es : List (ℕ × X)) → Above k es → remove_entry (is_at (nat_cmp k)) es ≡ es
+  remove_above k [] h = refl
+  remove_above k (e ∷ es) h =
+      cond-false (is_at (nat_cmp k) e.0) es (e ∷ remove_entry (is_at (nat_cmp k)) es) (at_later k e.0 h.0)
+      ∙ ap (λ (l : List (ℕ × X)). e ∷ l) (remove_above k es h.1)
+
+  part_above : (f : Bool → Bool) (k : ℕ) (ks : List ℕ) (es : List (ℕ × X)) → Above k es → part f (k ∷ ks) es ≡ part f ks es
+  part_above f k ks [] h = refl
+  part_above f k ks (e ∷ es) h =
+      λ i. cond (f (at_earlier e.0 k h.0 i || among ks e.0)) (e ∷ part_above f k ks es h.1 i) (part_above f k ks es h.1 i)
+
+  -- ---- the least of the keys first
+
+  first_at : (k : ℕ) (ks : List ℕ) (e : ℕ × X) (es : List (ℕ × X)) → Above k es → AllByRecursion (λ q. k < q) ks → k ≡ e.0
+      → values_of (at_keys (k ∷ ks) (e ∷ es)) ≡ found (lookup (is_at (nat_cmp k)) (e ∷ es)) ++ values_of (at_keys ks (e ∷ es))
+  first_at k ks e es up later same =
+      let head = cond-true (among (k ∷ ks) e.0) (e ∷ at_keys (k ∷ ks) es) (at_keys (k ∷ ks) es) (or_left (is_at (nat_cmp e.0) k) (among ks e.0) (at_same e.0 k (sym same))) in
+      let hit = cond-true (is_at (nat_cmp k) e.0) (Some e.1) (lookup (is_at (nat_cmp k)) es) (at_same k e.0 same) in
+      let rest = cond-false (among ks e.0) (e ∷ at_keys ks es) (at_keys ks es) (not_among e.0 ks (subst (λ (p : ℕ). AllByRecursion (λ q. p < q) ks) same later)) in
+      ap values_of head ∙ ap (λ (l : List (ℕ × X)). e.1 ∷ values_of l) (part_above (λ b. b) k ks es up)
+      ∙ sym (λ i. found (hit i) ++ values_of (rest i))
+
+  none_at : (k : ℕ) (ks : List ℕ) (es : List (ℕ × X)) → Above k es
+      → values_of (at_keys (k ∷ ks) es) ≡ found (lookup (is_at (nat_cmp k)) es) ++ values_of (at_keys ks es)
+  none_at k ks es up =
+      ap values_of (part_above (λ b. b) k ks es up) ∙ sym (ap (λ (o : Option X). found o ++ values_of (at_keys ks es)) (lookup_above k es up))
+
+  later_at : (k : ℕ) (ks : List ℕ) (e : ℕ × X) (es : List (ℕ × X)) → AllByRecursion (λ q. e.0 < q) (k ∷ ks)
+      → values_of (at_keys (k ∷ ks) es) ≡ found (lookup (is_at (nat_cmp k)) es) ++ values_of (at_keys ks es)
+      → values_of (at_keys (k ∷ ks) (e ∷ es)) ≡ found (lookup (is_at (nat_cmp k)) (e ∷ es)) ++ values_of (at_keys ks (e ∷ es))
+  later_at k ks e es up ih =
+      let head = cond-false (among (k ∷ ks) e.0) (e ∷ at_keys (k ∷ ks) es) (at_keys (k ∷ ks) es) (not_among e.0 (k ∷ ks) up) in
+      let miss = cond-false (is_at (nat_cmp k) e.0) (Some e.1) (lookup (is_at (nat_cmp k)) es) (at_earlier k e.0 up.0) in
+      let rest = cond-false (among ks e.0) (e ∷ at_keys ks es) (at_keys ks es) (not_among e.0 ks up.1) in
+      ap values_of head ∙ ih ∙ sym (λ i. found (miss i) ++ values_of (rest i))
+
+  pub at_keys-first : (k : ℕ) (ks : List ℕ) (es : List (ℕ × X)) → IsStrictlySortedBy nat_cmp (k ∷ ks) → IsStrictlySortedBy nat_cmp (keys_of es)
+      → values_of (at_keys (k ∷ ks) es) ≡ found (lookup (is_at (nat_cmp k)) es) ++ values_of (at_keys ks es)
+  at_keys-first k ks [] sk se = refl
+  at_keys-first k ks (e ∷ es) sk se = by_order (at_keys-first k ks es sk (sorted_tail nat_cmp e.0 (keys_of es) se)) (cases_order k e.0)
+    where
+      by_order : values_of (at_keys (k ∷ ks) es) ≡ found (lookup (is_at (nat_cmp k)) es) ++ values_of (at_keys ks es) → (k ≡ e.0) ⊎ ((k < e.0) ⊎ (e.0 < k))
+          → values_of (at_keys (k ∷ ks) (e ∷ es)) ≡ found (lookup (is_at (nat_cmp k)) (e ∷ es)) ++ values_of (at_keys ks (e ∷ es))
+      by_order ih (inl same) = first_at k ks e es (above_first k e.0 (keys_of es) (omega (arith, same)) se) (above_first k k ks (omega arith) sk) same
+      by_order ih (inr (inl l)) = none_at k ks (e ∷ es) (l, above_first k e.0 (keys_of es) (omega (arith, l)) se)
+      by_order ih (inr (inr g)) = later_at k ks e es (g, above_first e.0 k ks (omega (arith, g)) sk) ih
+
+  -- ---- what is left
+
+  first_left : (k : ℕ) (ks : List ℕ) (e : ℕ × X) (es : List (ℕ × X)) → Above k es → k ≡ e.0
+      → at_others (k ∷ ks) (e ∷ es) ≡ at_others ks (remove_entry (is_at (nat_cmp k)) (e ∷ es))
+  first_left k ks e es up same =
+      let t = or_left (is_at (nat_cmp e.0) k) (among ks e.0) (at_same e.0 k (sym same)) in
+      cond-false (not (among (k ∷ ks) e.0)) (e ∷ at_others (k ∷ ks) es) (at_others (k ∷ ks) es) (ap not t)
+      ∙ part_above not k ks es up
+      ∙ sym (ap (at_others ks) (cond-true (is_at (nat_cmp k) e.0) es (e ∷ remove_entry (is_at (nat_cmp k)) es) (at_same k e.0 same)))
+
+  later_left : (k : ℕ) (ks : List ℕ) (e : ℕ × X) (es : List (ℕ × X)) → AllByRecursion (λ q. e.0 < q) (k ∷ ks)
+      → at_others (k ∷ ks) es ≡ at_others ks (remove_entry (is_at (nat_cmp k)) es)
+      → at_others (k ∷ ks) (e ∷ es) ≡ at_others ks (remove_entry (is_at (nat_cmp k)) (e ∷ es))
+  later_left k ks e es up ih =
+      let gone = remove_entry (is_at (nat_cmp k)) es in
+      cond-true (not (among (k ∷ ks) e.0)) (e ∷ at_others (k ∷ ks) es) (at_others (k ∷ ks) es) (ap not (not_among e.0 (k ∷ ks) up))
+      ∙ ap (λ (l : List (ℕ × X)). e ∷ l) ih
+      ∙ sym (ap (at_others ks) (cond-false (is_at (nat_cmp k) e.0) es (e ∷ gone) (at_earlier k e.0 up.0))
+      ∙ cond-true (not (among ks e.0)) (e ∷ at_others ks gone) (at_others ks gone) (ap not (not_among e.0 ks up.1)))
+
+  pub at_others-first : (k : ℕ) (ks : List ℕ) (es : List (ℕ × X)) → IsStrictlySortedBy nat_cmp (k ∷ ks) → IsStrictlySortedBy nat_cmp (keys_of es)
+      → at_others (k ∷ ks) es ≡ at_others ks (remove_entry (is_at (nat_cmp k)) es)
+  at_others-first k ks [] sk se = refl
+  at_others-first k ks (e ∷ es) sk se = by_order (at_others-first k ks es sk (sorted_tail nat_cmp e.0 (keys_of es) se)) (cases_order k e.0)
+    where
+      by_order : at_others (k ∷ ks) es ≡ at_others ks (remove_entry (is_at (nat_cmp k)) es) → (k ≡ e.0) ⊎ ((k < e.0) ⊎ (e.0 < k))
+          → at_others (k ∷ ks) (e ∷ es) ≡ at_others ks (remove_entry (is_at (nat_cmp k)) (e ∷ es))
+      by_order ih (inl same) = first_left k ks e es (above_first k e.0 (keys_of es) (omega (arith, same)) se) same
+      by_order ih (inr (inl l)) =
+          let up : Above k (e ∷ es) = (l, above_first k e.0 (keys_of es) (omega (arith, l)) se) in
+          part_above not k ks (e ∷ es) up ∙ sym (ap (at_others ks) (remove_above k (e ∷ es) up))
+      by_order ih (inr (inr g)) = later_left k ks e es (g, above_first e.0 k ks (omega (arith, g)) sk) ih
+
+  -- an entry that is taken out at a key below the others isn't one of those
+  pub at_keys-removed : (k : ℕ) (ks : List ℕ) (es : List (ℕ × X)) → IsStrictlySortedBy nat_cmp (k ∷ ks)
+      → at_keys ks (remove_entry (is_at (nat_cmp k)) es) ≡ at_keys ks es
+  at_keys-removed k ks [] sk = refl
+  at_keys-removed k ks (e ∷ es) sk = by_case (at_keys-removed k ks es sk) (cases_eq k e.0)
+    where
+      gone : List (ℕ × X)
+      gone = remove_entry (is_at (nat_cmp k)) es
+
+      by_case : at_keys ks gone ≡ at_keys ks es → (k ≡ e.0) ⊎ (k ≡ e.0 → ⊥) → at_keys ks (remove_entry (is_at (nat_cmp k)) (e ∷ es)) ≡ at_keys ks (e ∷ es)
+      by_case ih (inl same) =
+          ap (at_keys ks) (cond-true (is_at (nat_cmp k) e.0) es (e ∷ gone) (at_same k e.0 same))
+          ∙ sym (cond-false (among ks e.0) (e ∷ at_keys ks es) (at_keys ks es) (not_among e.0 ks (above_first e.0 k ks (omega (arith, same)) sk)))
+      by_case ih (inr apart) =
+          ap (at_keys ks) (cond-false (is_at (nat_cmp k) e.0) es (e ∷ gone) (at_apart k e.0 apart))
+          ∙ ap (λ (l : List (ℕ × X)). cond (among ks e.0) (e ∷ l) l) ih
+
+  -- ---- a turn of a loop over the keys
+
+  module _ (keys ks : List ℕ) (k : ℕ) (es left : List (ℕ × X)) (cut : keys ≡ k ∷ ks) (sk : IsStrictlySortedBy nat_cmp keys) (se : IsStrictlySortedBy nat_cmp (keys_of es)) where
+    pub found_next : values_of (at_keys keys es) ≡ found (lookup (is_at (nat_cmp k)) es) ++ values_of (at_keys ks es)
+    found_next =
+        ap (λ (l : List ℕ). values_of (at_keys l es)) cut
+        ∙ at_keys-first k ks es (subst (IsStrictlySortedBy nat_cmp) cut sk) se
+
+    pub taken_next : (old new all : List X) (o : Option X) → o ≡ lookup (is_at (nat_cmp k)) es → left ≡ remove_entry (is_at (nat_cmp k)) es → new ≡ old ++ found o
+        → old ++ values_of (at_keys keys es) ≡ all → new ++ values_of (at_keys ks left) ≡ all
+    taken_next old new all o hit gone more so_far =
+        let rest : at_keys ks left ≡ at_keys ks es = ap (at_keys ks) gone ∙ at_keys-removed k ks es (subst (IsStrictlySortedBy nat_cmp) cut sk) in
+        let taken : new ≡ old ++ found (lookup (is_at (nat_cmp k)) es) = more ∙ ap (λ (x : Option X). old ++ found x) hit in
+        (λ i. taken i ++ values_of (rest i))
+        ∙ append_assoc old (found (lookup (is_at (nat_cmp k)) es)) (values_of (at_keys ks es))
+        ∙ ap (λ (l : List X). old ++ l) (sym found_next) ∙ so_far
+
+    pub left_next : (all : List (ℕ × X)) → left ≡ remove_entry (is_at (nat_cmp k)) es → at_others keys es ≡ all → at_others ks left ≡ all
+    left_next all gone so_far =
+        ap (at_others ks) gone ∙ sym (at_others-first k ks es (subst (IsStrictlySortedBy nat_cmp) cut sk) se)
+        ∙ ap (λ (l : List ℕ). at_others l es) (sym cut) ∙ so_far
+
+  -- ---- no key, and a new last one
+
+  pub at_keys-none : (es : List (ℕ × X)) → at_keys [] es ≡ []
+  at_keys-none [] = refl
+  at_keys-none (e ∷ es) = at_keys-none es
+
+  pub at_others-none : (es : List (ℕ × X)) → at_others [] es ≡ es
+  at_others-none [] = refl
+  at_others-none (e ∷ es) = ap (λ (l : List (ℕ × X)). e ∷ l) (at_others-none es)
+
+  pub insert_last : (es : List (ℕ × X)) (k : ℕ) (x : X) → AllByRecursion (λ e. e.0 < k) es → insert_entry nat_cmp es k x ≡ es ++ (k, x) ∷ []
+  insert_last [] k x h = refl
+  insert_last (e ∷ es) k x h =
+      ap (λ (o : Ordering). match_ordering o ((k, x) ∷ e ∷ es) ((e.0, x) ∷ es) (e ∷ insert_entry nat_cmp es k x)) (sym (nat_cmp_is k e.0 Greater h.0))
+      ∙ ap (λ (l : List (ℕ × X)). e ∷ l) (insert_last es k x h.1)
+
+  pub remove_last : (es : List (ℕ × X)) (k : ℕ) (x : X) → AllByRecursion (λ e. e.0 < k) es → remove_entry (is_at (nat_cmp k)) (es ++ (k, x) ∷ []) ≡ es
+  remove_last [] k x h = cond-true (is_at (nat_cmp k) k) [] ((k, x) ∷ []) (at_same k k refl)
+  remove_last (e ∷ es) k x h =
+      cond-false (is_at (nat_cmp k) e.0) (es ++ (k, x) ∷ []) (e ∷ remove_entry (is_at (nat_cmp k)) (es ++ (k, x) ∷ [])) (at_earlier k e.0 h.0)
+      ∙ ap (λ (l : List (ℕ × X)). e ∷ l) (remove_last es k x h.1)
+
+  pub lookup_past : (es : List (ℕ × X)) (k : ℕ) → AllByRecursion (λ e. e.0 < k) es → lookup (is_at (nat_cmp k)) es ≡ None
+  lookup_past [] k h = refl
+  lookup_past (e ∷ es) k h = cond-false (is_at (nat_cmp k) e.0) (Some e.1) (lookup (is_at (nat_cmp k)) es) (at_earlier k e.0 h.0) ∙ lookup_past es k h.1

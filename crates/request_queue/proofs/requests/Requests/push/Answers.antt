@@ -1,0 +1,63 @@
+use Rattle.std.proofs.Common.{◌≡◌, ◌<◌, ◌+◌, ◌∷◌, ◌++◌, [], ◌∙◌, ℕ, ap, sym, subst, List, arith, rules}
+use Rattle.std.specs.List.{All}
+use Rattle.std.specs.Ordering.{nat_cmp}
+use Rattle.std.specs.Map.{values_of, remove_entry}
+use Rattle.std.specs.BTreeMap.{is_at}
+use Rattle.std.proofs.lemmas.List.{map_push}
+use Rattle.std.proofs.lemmas.List.Elements.{recursion_from_All, All-weaker, All-push}
+use Rattle.request_queue.specs.declared.queue.Request.{Request}
+use Rattle.request_queue.specs.Kept.{has_waiting}
+use Rattle.request_queue.proofs.IndexLaws.{index_added, index_lacks, index_same}
+use Rattle.request_queue.proofs.PlaceLaws.{insert_last, remove_last, lookup_past}
+use Rattle.request_queue.proofs.requests.Requests.push.Goals as goal
+
+abbrev Entry : Type 0
+Entry = ℕ × Request
+
+pub invariant_of-self-in-Ok : goal.invariant_of-self-in-Ok
+invariant_of-self-in-Ok c =
+    let a = c.self.inside in
+    let r = c.args.request in
+    let before = c.self.invariant.earlier in
+    let earlier = recursion_from_All (λ (e : Entry). e.0 < a.next) a.by_place.entries before in
+    let entries = c.in_ok-insert.ensures.entries ∙ insert_last a.by_place.entries a.next r earlier in
+    let next : c.in_ok-next.next ≡ a.next + 1 = search rules in
+    let fresh = index_lacks a.places a.by_place c.self.invariant.ordered c.self.invariant.index r.id (ap (λ (w : List Request). has_waiting w r.id) c.self.view_is ∙ c.requires.fresh) in
+    record {
+      ordered = c.in_ok-insert.ensures.ordered;
+      earlier = subst (λ (es : List Entry). All (λ (e : Entry). e.0 < c.in_ok-next.next) es) (sym entries)
+          (All-push (λ (e : Entry). e.0 < c.in_ok-next.next) a.by_place.entries (a.next, r)
+          (All-weaker (λ (e : Entry). e.0 < a.next) (λ (e : Entry). e.0 < c.in_ok-next.next) (λ e h. omega (arith, h, next)) a.by_place.entries before) (omega (arith, next)));
+      index = index_added a.places c.insert-2.new.self a.by_place c.insert.new.self a.next r c.self.invariant.index (lookup_past a.by_place.entries a.next earlier) fresh
+          c.in_ok-insert.ensures.updates.0 c.in-Ok.ensures.updates.0;
+    }
+
+pub returns-in-Ok-clause-ok : goal.returns-in-Ok-clause-ok
+returns-in-Ok-clause-ok c =
+    let a = c.self.inside in
+    let r = c.args.request in
+    let earlier = recursion_from_All (λ (e : Entry). e.0 < a.next) a.by_place.entries c.self.invariant.earlier in
+    let entries = c.in_ok-insert.ensures.entries ∙ insert_last a.by_place.entries a.next r earlier in
+    ap values_of entries ∙ map_push (λ (e : Entry). e.1) a.by_place.entries (a.next, r) ∙ ap (λ (w : List Request). w ++ r ∷ []) c.self.view_is
+
+pub invariant_of-self-in-Err : goal.invariant_of-self-in-Err
+invariant_of-self-in-Err c =
+    let a = c.self.inside in
+    let r = c.args.request in
+    let earlier = recursion_from_All (λ (e : Entry). e.0 < a.next) a.by_place.entries c.self.invariant.earlier in
+    let entries = c.in_ok-insert.ensures.entries ∙ insert_last a.by_place.entries a.next r earlier in
+    let same = c.remove.ensures.entries ∙ ap (remove_entry (is_at (nat_cmp a.next))) entries ∙ remove_last a.by_place.entries a.next r earlier in
+    record {
+      ordered = c.remove.ensures.ordered;
+      earlier = subst (λ (es : List Entry). All (λ (e : Entry). e.0 < a.next) es) (sym same) c.self.invariant.earlier;
+      index = index_same a.places c.insert-2.new.self a.by_place c.remove.new.self c.in-Err.ensures.err same c.self.invariant.index;
+    }
+
+pub returns-in-Err-clause-err : goal.returns-in-Err-clause-err
+returns-in-Err-clause-err c =
+    let a = c.self.inside in
+    let r = c.args.request in
+    let earlier = recursion_from_All (λ (e : Entry). e.0 < a.next) a.by_place.entries c.self.invariant.earlier in
+    let entries = c.in_ok-insert.ensures.entries ∙ insert_last a.by_place.entries a.next r earlier in
+    let same = c.remove.ensures.entries ∙ ap (remove_entry (is_at (nat_cmp a.next))) entries ∙ remove_last a.by_place.entries a.next r earlier in
+    ap values_of same ∙ c.self.view_is

@@ -1,0 +1,41 @@
+use Rattle.std.proofs.Common.{◌<◌, ◌++◌, ◌∙◌, ℕ, ap, sym, subst, List, not}
+use Rattle.std.specs.Prelude.{filter}
+use Rattle.std.specs.List.{All}
+use Rattle.std.specs.Ordering.{nat_cmp}
+use Rattle.std.specs.Map.{values_of}
+use Rattle.std.specs.BTreeSet.{contains}
+use Rattle.std.proofs.lemmas.List.Elements.{All-filter}
+use Rattle.serial_spec.specs.RankMachine.{has_id}
+use Rattle.request_queue.specs.declared.queue.Request.{Request}
+use Rattle.request_queue.proofs.IndexLaws.{all_stand, filter_values}
+use Rattle.request_queue.proofs.requests.Requests.remove.Goals as goal
+
+pub invariant_of-self : goal.invariant_of-self
+invariant_of-self c =
+    let a = c.self.inside in
+    let earlier = λ (e : ℕ × Request). e.0 < a.next in
+    record {
+      ordered = c.take_all.ensures.ordered;
+      earlier = subst (λ (es : List (ℕ × Request)). All earlier es) (sym c.take_all.ensures.left)
+          (All-filter (λ (e : ℕ × Request). not (contains nat_cmp c.in_ok-listed.listed e.0)) earlier a.by_place.entries c.self.invariant.earlier);
+      index = c.take_all.ensures.index;
+    }
+
+pub returns-clause-taken : goal.returns-clause-taken
+returns-clause-taken c =
+    let a = c.self.inside in
+    let listed = contains nat_cmp c.in_ok-listed.listed in
+    let test = λ (r : Request). has_id c.args.ids.now r.id in
+    let stand = all_stand a.places a.by_place c.self.invariant.ordered c.self.invariant.index c.args.ids.now listed c.in_ok-listed.ensures in
+    c.take_all.ensures.taken
+    ∙ ap (λ (w : List Request). w ++ values_of (filter (λ (e : ℕ × Request). listed e.0) a.by_place.entries)) c.in_ok-taken.ensures.items
+    ∙ filter_values (λ b. b) listed test a.by_place.entries stand ∙ ap (filter test) c.self.view_is
+
+pub returns-clause-left : goal.returns-clause-left
+returns-clause-left c =
+    let a = c.self.inside in
+    let listed = contains nat_cmp c.in_ok-listed.listed in
+    let test = λ (r : Request). has_id c.args.ids.now r.id in
+    let stand = all_stand a.places a.by_place c.self.invariant.ordered c.self.invariant.index c.args.ids.now listed c.in_ok-listed.ensures in
+    ap values_of c.take_all.ensures.left
+    ∙ filter_values not listed test a.by_place.entries stand ∙ ap (filter (λ (r : Request). not (test r))) c.self.view_is

@@ -1,0 +1,62 @@
+use Rattle.std.proofs.Common.{ℕ, ◌++◌, ◌∙◌, ap, sym, subst, List, length, None, refl, arith, append-nil}
+use Rattle.std.specs.Prelude.{IfNone}
+use Rattle.std.specs.List.Sorted.{IsStrictlySortedBy}
+use Rattle.std.specs.Ordering.{nat_cmp}
+use Rattle.std.specs.Map.{values_of}
+use Rattle.std.specs.Map.Iter.{deref}
+use Rattle.std.specs.BTreeMap.{IsUnchanged}
+use Rattle.std.proofs.lemmas.Map.Iter.{rest_more, rest_all}
+use Rattle.std.proofs.lemmas.Map.Keys.{sorted_tail}
+use Rattle.request_queue.specs.declared.queue.Request.{Request}
+use Rattle.request_queue.proofs.IndexLaws.{index_removed, index_same}
+use Rattle.request_queue.proofs.PlaceLaws.{at_keys, at_others, at_keys-none, at_others-none, none_left, taken_next, left_next}
+use Rattle.request_queue.proofs.requests.take_all.Goals as goal
+
+pub loop-place-preserved-in-Some-remove : goal.loop-place-preserved-in-Some-remove
+loop-place-preserved-in-Some-remove c =
+    let k = c.in-Some.place.now in
+    let ks = c.next.new.self in
+    let es = c.loop-place.by_place.entries in
+    let cut = rest_more deref _ _ c.next.result c.in-Some.place c.in-Some.is c.next.ensures.steps in
+    let now = c.loop-place.invariant in
+    let hit = sym c.in-Some-remove.is ∙ c.remove.ensures.value in
+    let fewer = ap (λ (l : List ℕ). length l) cut in
+    record {
+      sorted = sorted_tail nat_cmp k ks (subst (IsStrictlySortedBy nat_cmp) cut now.sorted);
+      taken = taken_next _ ks k es _ cut now.sorted now.ordered _ _ _ _ hit c.remove.ensures.entries c.push_reserved.ensures.items now.taken;
+      left = left_next _ ks k es _ cut now.sorted now.ordered _ c.remove.ensures.entries now.left;
+      ordered = c.remove.ensures.ordered;
+      index = index_removed c.loop-place.places c.remove-in-Some-remove.new.self c.loop-place.by_place c.remove.new.self k c.in-Some-remove.request now.index (sym hit) c.remove.ensures.updates.0 c.remove-in-Some-remove.ensures.updates.0;
+      room = omega (arith, fewer, now.room, c.push_reserved.ensures.len, c.push_reserved.ensures.capacity);
+    }
+
+pub loop-place-preserved : goal.loop-place-preserved
+loop-place-preserved c =
+    let k = c.in-Some.place.now in
+    let ks = c.next.new.self in
+    let es = c.loop-place.by_place.entries in
+    let cut = rest_more deref _ _ c.next.result c.in-Some.place c.in-Some.is c.next.ensures.steps in
+    let now = c.loop-place.invariant in
+    let none = none_left c.remove.result c.in_default.not-Some in
+    let miss = sym none ∙ c.remove.ensures.value in
+    let same = subst (λ o. IfNone o (IsUnchanged c.loop-place.by_place c.remove.new.self)) none c.remove.ensures.unchanged in
+    let fewer = ap (λ (l : List ℕ). length l) cut in
+    record {
+      sorted = sorted_tail nat_cmp k ks (subst (IsStrictlySortedBy nat_cmp) cut now.sorted);
+      taken = taken_next _ ks k es _ cut now.sorted now.ordered _ _ _ None miss c.remove.ensures.entries (sym (append-nil c.loop-place.taken.items)) now.taken;
+      left = left_next _ ks k es _ cut now.sorted now.ordered _ c.remove.ensures.entries now.left;
+      ordered = c.remove.ensures.ordered;
+      index = index_same c.loop-place.places c.loop-place.places c.loop-place.by_place c.remove.new.self refl same now.index;
+      room = omega (arith, fewer, now.room);
+    }
+
+pub returns-clause-taken : goal.returns-clause-taken
+returns-clause-taken c =
+    let done = rest_all deref _ _ c.next.result c.in-None.is c.next.ensures.steps in
+    let none = ap (λ (l : List ℕ). values_of (at_keys l c.loop-place.by_place.entries)) done ∙ ap values_of (at_keys-none c.loop-place.by_place.entries) in
+    sym (append-nil c.loop-place.taken.items) ∙ ap (λ (l : List Request). c.loop-place.taken.items ++ l) (sym none) ∙ c.loop-place.invariant.taken
+
+pub returns-clause-left : goal.returns-clause-left
+returns-clause-left c =
+    let done = rest_all deref _ _ c.next.result c.in-None.is c.next.ensures.steps in
+    sym (ap (λ (l : List ℕ). at_others l c.loop-place.by_place.entries) done ∙ at_others-none c.loop-place.by_place.entries) ∙ c.loop-place.invariant.left
