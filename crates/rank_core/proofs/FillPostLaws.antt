@@ -186,7 +186,7 @@ later_once xs ys once i j a e f =
 
 -- ---- the indices of a box in a record
 
-shifted_is : (starts c : List ℕ) (k : ℕ) → length c ≤ k → index_at starts (replicate k 1) c ≡ shifted starts c
+pub shifted_is : (starts c : List ℕ) (k : ℕ) → length c ≤ k → index_at starts (replicate k 1) c ≡ shifted starts c
 shifted_is [] c k h = refl
 shifted_is (s ∷ starts) [] zero h = refl
 shifted_is (s ∷ starts) [] (suc k) h = refl

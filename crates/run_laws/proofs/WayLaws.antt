@@ -326,7 +326,7 @@ way_same script order order' r s held e f w = record {
 one_of : (q n : ℕ) → list_all (is_solo_of q) (Solo q n ∷ []) ≡ true
 one_of q n = and_from (q == q) true (eq-eqb q q refl) refl
 
-others_filter : (q r : ℕ) (more : List Mark) → q ≢ r → list_all (is_solo_of q) more ≡ true → filter (concerns r) more ≡ []
+pub others_filter : (q r : ℕ) (more : List Mark) → q ≢ r → list_all (is_solo_of q) more ≡ true → filter (concerns r) more ≡ []
 others_filter q r [] n h = refl
 others_filter q r (Meet k ∷ more) n h = cc
 others_filter q r (Solo p m ∷ more) n h =

@@ -29,6 +29,7 @@ use Rattle.serial_spec.specs.Torn.{Begins, HasAnswers}
 use Rattle.collective_round.specs.Rounds.{counted}
 use Rattle.run_laws.specs.Arrivals.{Arrived, Stand, solo_to, step_to}
 use Rattle.run_laws.specs.Standing.{is_solo_of}
+use Rattle.run_laws.proofs.WayLaws.{others_filter as solos_beside}
 use Rattle.turn_run.specs.Said.{HasSaid, SaysAt, AllSay, HasReached, AreAnswers, HaveAnswers, all_between}
 use Rattle.turn_run.specs.Seated.{between, calls_of, AreFree, HasArrived}
 use Rattle.turn_run.specs.Stages.{Stage, Leads, IsLed, HasGone, HasLed, IsGrownBy, arrived, arrived_all, stage}
@@ -198,18 +199,6 @@ goings_beside s r (Solo q n ∷ more) state e = by_test (q == r) refl e (λ next
         → slice_get (fold (after_mark s) (after_mark s state (Solo q n)) more).1 r ≡ slice_get state.1 r
     by_test true t h again = absurd cc
     by_test false t h again = again (after_mark s state (Solo q n)) h ∙ going_beside s q r state.0 state.1 (slice_get state.1 q) (not_equal q r t)
-
--- marks that another rank adds
-solos_beside : (q r : ℕ) (more : List Mark) → q ≢ r → list_all (is_solo_of q) more ≡ true → filter (concerns r) more ≡ []
-solos_beside q r [] n h = refl
-solos_beside q r (Meet k ∷ more) n h = cc
-solos_beside q r (Solo p m ∷ more) n h =
-    let same = eqb-true p q (and_first (p == q) _ h) in
-    by_test (p == r) refl (λ z. n (sym same ∙ eqb-true p r z)) ∙ solos_beside q r more n (and_second (p == q) _ h)
-  where
-    by_test : (t : Bool) → (p == r) ≡ t → ((p == r) ≡ true → ⊥) → cond t (Solo p m ∷ filter (concerns r) more) (filter (concerns r) more) ≡ filter (concerns r) more
-    by_test true e f = absurd (f e)
-    by_test false e f = refl
 
 none_added : (r : ℕ) (before now more : List Mark) → now ≡ before ++ more → filter (concerns r) now ≡ filter (concerns r) before → filter (concerns r) more ≡ []
 none_added r before now more e f =

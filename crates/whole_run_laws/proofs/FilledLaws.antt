@@ -49,6 +49,7 @@ use Rattle.var_layout.proofs.ElementPlaces.{same_len}
 use Rattle.var_layout.proofs.WrittenLengths.{canon_len}
 use Rattle.rank_core.proofs.FillLaws.{share_grows, share_within}
 use Rattle.rank_core.proofs.FillLookLaws.{found_long}
+use Rattle.rank_core.proofs.FillPostLaws.{shifted_is}
 use Rattle.whole_run_laws.specs.Completed.{completed, completed_puts, IsBesideCount, is_held, puts_met, unless_told}
 use Rattle.whole_run_laws.specs.Filling.{AllFill, filling, share_boxes}
 use Rattle.whole_run_laws.proofs.KeptLaws.{end_kept, meeting_said}
@@ -349,15 +350,6 @@ record_puts header k number r ranks v e =
     by true false f = posts_filled k v number (share_boxes (inner_lengths header v) r ranks)
 
 -- ---- what the puts of a filling say
-
-shifted_is : (starts c : List ℕ) (k : ℕ) → length c ≤ k → index_at starts (replicate k 1) c ≡ shifted starts c
-shifted_is [] c k h = refl
-shifted_is (s ∷ starts) [] zero h = refl
-shifted_is (s ∷ starts) [] (suc k) h = refl
-shifted_is (s ∷ starts) (i ∷ c) zero h = absurd (omega arith)
-shifted_is (s ∷ starts) (i ∷ c) (suc k) h =
-    let e : s + i * 1 ≡ s + i = omega arith in
-    (λ j. e j ∷ shifted_is starts c k (omega arith) j)
 
 map_each : {A B : Type 0} (f g : A → B) (xs : List A) → AllByRecursion (λ x. f x ≡ g x) xs → map f xs ≡ map g xs
 map_each f g [] h = refl
