@@ -6,3 +6,4 @@ pub mod Stages
 pub mod Steps
 pub mod Cuts
 pub mod Said
+pub mod Telling

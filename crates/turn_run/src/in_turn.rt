@@ -20,13 +20,14 @@ ghost use Rattle.turn_run.specs.Said.{all_between, HaveAnswers};
 ghost use Rattle.turn_run.specs.Seated.{calls_of, AreFree, AreSeats, HaveArrived, HaveMet};
 ghost use Rattle.run_laws.specs.Arrivals.{calls_over, step_to, all_calls_over, ended_from};
 ghost use Rattle.turn_run.specs.Stages.{arrived_all, stage, HasLed};
+ghost use Rattle.turn_run.specs.Telling.{HasTold, HasToldMore};
 ghost use Rattle.turn_run.specs.Steps.{first_seat};
 
 use crate::closing::{answers_of, close, pending_of};
 use crate::meeting::meet;
 use crate::seats::Seat;
 use nc_base::{AnswerTable, Header, MarkList, Memory, RunEnd, Script, SizeList, StepErr};
-use nc_outside::{Disk, Gate};
+use nc_outside::{Deaf, Disk, Gate, Told};
 use rank_core::Names;
 use std::alloc::Global;
 use std::sync::Wait;
@@ -51,6 +52,31 @@ pub fn run_in_turn<R: Wait, D: Disk, G: Gate>(
     requires long { end_of header.now (header_len header.now) header.now.records ≤ D.len disk.old }
     ensures run { IsRun script.now header.now (D.held disk.old) (D.calls disk.old) (D.faults disk.old) (D.held disk.new) (D.calls disk.new) (D.faults disk.new) records.new result }
 {
+    run_in_turn_told(rt, alloc, disk, header, records, script, gate, &mut Deaf)
+}
+
+/// Runs the ranks as `run_in_turn` does, and tells each step once it is done: its mark, with the file's record count after it. The
+/// close is not told.
+///
+/// Where there is no memory to tell a step, the run ends with that fault, and the order doesn't have that step either.
+pub fn run_in_turn_told<R: Wait, D: Disk, G: Gate, T: Told>(
+    rt: &R,
+    alloc: Global,
+    disk: &mut D,
+    header: &Header,
+    records: &mut u64,
+    script: &Script,
+    gate: &G,
+    told: &mut T,
+) -> RunEnd
+    requires sound { is_sound header.now ≡ true }
+    requires lawful { is_lawful script.now ≡ true }
+    requires records { records.old ≡ header.now.records }
+    requires from { D.from disk.old ≡ 0 }
+    requires long { end_of header.now (header_len header.now) header.now.records ≤ D.len disk.old }
+    ensures run { IsRun script.now header.now (D.held disk.old) (D.calls disk.old) (D.faults disk.old) (D.held disk.new) (D.calls disk.new) (D.faults disk.new) records.new result }
+    ensures told { HasTold script.now header.now (D.held disk.old) (T.heard told.old) (T.heard told.new) result.order }
+{
     let mut order = MarkList::new(alloc);
     let names = match Names::new(alloc, header) {
         Ok(names) => names,
@@ -61,7 +87,7 @@ pub fn run_in_turn<R: Wait, D: Disk, G: Gate>(
         Err(_) => return stopped(alloc, order, StepErr::Memory),
     };
     match make_calls(
-        rt, alloc, disk, header, records, script, gate, &mut seats, &mut order,
+        rt, alloc, disk, header, records, script, gate, &mut seats, &mut order, told,
     ) {
         Ok(()) => ended(alloc, order, seats),
         Err(cause) => cut_off(alloc, order, seats, cause),
@@ -88,7 +114,7 @@ fn seats_of<'a>(
 }
 
 /// Makes the calls of all ranks, and closes the file.
-fn make_calls<R: Wait, D: Disk, G: Gate>(
+fn make_calls<R: Wait, D: Disk, G: Gate, T: Told>(
     rt: &R,
     alloc: Global,
     disk: &mut D,
@@ -98,6 +124,7 @@ fn make_calls<R: Wait, D: Disk, G: Gate>(
     gate: &G,
     seats: &mut [Seat],
     order: &mut MarkList,
+    told: &mut T,
 ) -> Result<(), StepErr>
     requires sound { is_sound header.now ≡ true }
     requires lawful { is_lawful script.now ≡ true }
@@ -119,16 +146,19 @@ fn make_calls<R: Wait, D: Disk, G: Gate>(
         (fold (step_to (setting_of script.now header.now)) (counted file records.old, arrived_all header.now script.now.calls seats.old) order.new) order.new left records.new) }
     ensures answered { (e : Fault) → result ≡ Err e → HaveAnswers (setting_of script.now header.now) e order.old order.new
         (D.held disk.old) records.old (all_between script.now.calls seats.old) seats.new }
+    ensures told { HasToldMore (setting_of script.now header.now) (D.held disk.old) records.old (arrived_all header.now script.now.calls seats.old) order.old order.new (T.heard told.old) (T.heard told.new) }
     ensures begun { HasBegun script.now order.new }
     ensures cause { HasStepCause (D.faults disk.old) (D.faults disk.new) result }
 {
-    hold_meetings(rt, alloc, disk, header, records, script, gate, seats, order)?;
+    hold_meetings(
+        rt, alloc, disk, header, records, script, gate, seats, order, told,
+    )?;
     close(alloc, disk, header, records, seats)?;
     Ok(())
 }
 
 /// Holds the meetings of all ranks, one after another, until all calls are made.
-fn hold_meetings<R: Wait, D: Disk, G: Gate>(
+fn hold_meetings<R: Wait, D: Disk, G: Gate, T: Told>(
     rt: &R,
     alloc: Global,
     disk: &mut D,
@@ -138,6 +168,7 @@ fn hold_meetings<R: Wait, D: Disk, G: Gate>(
     gate: &G,
     seats: &mut [Seat],
     order: &mut MarkList,
+    told: &mut T,
 ) -> Result<(), StepErr>
     requires sound { is_sound header.now ≡ true }
     requires lawful { is_lawful script.now ≡ true }
@@ -156,6 +187,7 @@ fn hold_meetings<R: Wait, D: Disk, G: Gate>(
         (D.held disk.old) records.old (arrived_all header.now script.now.calls seats.old) (D.held disk.new) records.new }
     ensures answered { (e : Fault) → result ≡ Err e → HaveAnswers (setting_of script.now header.now) e order.old order.new
         (D.held disk.old) records.old (all_between script.now.calls seats.old) seats.new }
+    ensures told { HasToldMore (setting_of script.now header.now) (D.held disk.old) records.old (arrived_all header.now script.now.calls seats.old) order.old order.new (T.heard told.old) (T.heard told.new) }
     ensures records { OnOk result (IsCount header.now (D.len disk.new) records.new) }
     ensures begun { HasBegun script.now order.new }
     ensures from { D.from disk.new ≡ 0 }
@@ -163,27 +195,33 @@ fn hold_meetings<R: Wait, D: Disk, G: Gate>(
     ensures cause { HasStepCause (D.faults disk.old) (D.faults disk.new) result }
 {
     let mut meetings = 0;
-    arrive_all(rt, alloc, disk, header, script, gate, seats, order)?;
+    arrive_all(
+        rt, alloc, disk, header, *records, script, gate, seats, order, told,
+    )?;
     'meetings: while all_hold(seats) {
         meet(
-            rt, alloc, disk, header, records, script, gate, seats, meetings, order,
+            rt, alloc, disk, header, records, script, gate, seats, meetings, order, told,
         )?;
         meetings += 1;
-        arrive_all(rt, alloc, disk, header, script, gate, seats, order)?;
+        arrive_all(
+            rt, alloc, disk, header, *records, script, gate, seats, order, told,
+        )?;
     }
     Ok(())
 }
 
 /// Each rank goes on until it meets the others, or has made its calls.
-fn arrive_all<R: Wait, D: Disk, G: Gate>(
+fn arrive_all<R: Wait, D: Disk, G: Gate, T: Told>(
     rt: &R,
     alloc: Global,
     disk: &mut D,
     header: &Header,
+    records: u64,
     script: &Script,
     gate: &G,
     seats: &mut [Seat],
     order: &mut MarkList,
+    told: &mut T,
 ) -> Result<(), StepErr>
     requires sound { is_sound header.now ≡ true }
     requires lawful { is_lawful script.now ≡ true }
@@ -200,13 +238,25 @@ fn arrive_all<R: Wait, D: Disk, G: Gate>(
         (D.held disk.old) records (arrived_all header.now script.now.calls seats.old) (D.held disk.new) records }
     ensures answered { (e : Fault) → result ≡ Err e → (records : ℕ) → HaveAnswers (setting_of script.now header.now) e order.old order.new
         (D.held disk.old) records (all_between script.now.calls seats.old) seats.new }
+    ensures told { HasToldMore (setting_of script.now header.now) (D.held disk.old) records (arrived_all header.now script.now.calls seats.old) order.old order.new (T.heard told.old) (T.heard told.new) }
     ensures begun { HasBegun script.now order.new }
     ensures from { D.from disk.new ≡ 0 }
     ensures longer { D.len disk.old ≤ D.len disk.new }
     ensures cause { HasStepCause (D.faults disk.old) (D.faults disk.new) result }
 {
     for (number, seat) in seats.iter_mut().enumerate() {
-        seat.arrive(rt, alloc, disk, header, script, gate, number as u32, order)?;
+        seat.arrive(
+            rt,
+            alloc,
+            disk,
+            header,
+            records,
+            script,
+            gate,
+            number as u32,
+            order,
+            told,
+        )?;
     }
     Ok(())
 }

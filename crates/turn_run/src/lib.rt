@@ -5,10 +5,12 @@
 mod closing;
 mod in_turn;
 mod meeting;
+mod noting;
 mod seats;
 mod solo;
 
-pub use in_turn::{run_in_turn, stopped};
+pub use in_turn::{run_in_turn, run_in_turn_told, stopped};
 pub use meeting::{add_offer, meet_on_file};
+pub use noting::note_step;
 pub use seats::{Seat, own_calls};
 pub use solo::solo_reply;

@@ -21,8 +21,10 @@ ghost use Rattle.turn_run.specs.Cuts.{HasStopped, IsNext};
 ghost use Rattle.turn_run.specs.Said.{all_between, AllSay, HasReached, HaveHeardInPart, KeepAnswers};
 ghost use Rattle.turn_run.specs.Seated.{AreFree, AreFreed, IsFreed, AreHeard, AreSeats, AreToHear, HaveArrived, HaveMet};
 ghost use Rattle.turn_run.specs.Stages.{arrived_all, stage, HasLed};
+ghost use Rattle.turn_run.specs.Telling.{HasToldMore};
 ghost use Rattle.turn_run.specs.Steps.{batches_of, held_offers, known_of, met, met_calls, IsJob, IsOneRise};
 
+use crate::noting::note_step;
 use crate::seats::Seat;
 use crate::solo::told_pair;
 use collective_round::{get_all, put_all, raise_records};
@@ -30,12 +32,12 @@ use nc_base::{
     Batch, BatchList, GotTable, Header, Hints, Job, Mark, MarkList, MeetKind, Memory, Offer,
     OfferKind, Pair, Reply, Script, StepErr,
 };
-use nc_outside::{Disk, Gate};
+use nc_outside::{Disk, Gate, Told};
 use std::alloc::Global;
 use std::sync::Wait;
 
 /// Does the meeting whose offers the ranks hold, and lets each hear its reply.
-pub(crate) fn meet<R: Wait, D: Disk, G: Gate>(
+pub(crate) fn meet<R: Wait, D: Disk, G: Gate, T: Told>(
     rt: &R,
     alloc: Global,
     disk: &mut D,
@@ -46,6 +48,7 @@ pub(crate) fn meet<R: Wait, D: Disk, G: Gate>(
     seats: &mut [Seat],
     number: u32,
     order: &mut MarkList,
+    told: &mut T,
 ) -> Result<(), StepErr>
     requires sound { is_sound header.now ≡ true }
     requires lawful { is_lawful script.now ≡ true }
@@ -67,6 +70,7 @@ pub(crate) fn meet<R: Wait, D: Disk, G: Gate>(
         (D.held disk.old) records.old (arrived_all header.now script.now.calls seats.old) }
     ensures between { OnOk result ((goings : List Going) → map (advance header.now) goings ≡ arrived_all header.now script.now.calls seats.old
         → IfSome (D.held disk.old) (λ file. (after_mark (setting_of script.now header.now) (counted file records.old, goings) (mark.Meet (meetings order.old))).1 ≡ all_between script.now.calls seats.new)) }
+    ensures told { HasToldMore (setting_of script.now header.now) (D.held disk.old) records.old (arrived_all header.now script.now.calls seats.old) order.old order.new (T.heard told.old) (T.heard told.new) }
     ensures records { OnOk result (IsCount header.now (D.len disk.new) records.new) }
     ensures begun { HasBegun script.now order.new }
     ensures from { D.from disk.new ≡ 0 }
@@ -85,7 +89,7 @@ pub(crate) fn meet<R: Wait, D: Disk, G: Gate>(
         &job,
         known,
     )?;
-    order.push(Mark::Meet(number))?;
+    note_step(rt, alloc, order, told, Mark::Meet(number), *records)?;
     hear_all(seats, pair, *records, table)?;
     Ok(())
 }

@@ -21,13 +21,15 @@ ghost use Rattle.run_laws.specs.Arrivals.{Arrived};
 ghost use Rattle.turn_run.specs.Stages.{arrived, HasGone, IsGrownBy};
 ghost use Rattle.turn_run.specs.Cuts.{HasStopped, MayFollow};
 ghost use Rattle.turn_run.specs.Said.{HasReached, SaysAt};
+ghost use Rattle.turn_run.specs.Telling.{HasToldMore};
 
+use crate::noting::note_step;
 use crate::solo::solo_reply;
 use nc_base::{
     AnswerList, Call, Header, Mark, MarkList, Memory, Offer, OfferKind, Reply, Script, StepErr,
     Want,
 };
-use nc_outside::{Disk, Gate, Point};
+use nc_outside::{Disk, Gate, Point, Told};
 use rank_core::{Names, Rank};
 use std::alloc::Global;
 use std::sync::Wait;
@@ -55,17 +57,20 @@ impl<'a> Seat<'a> {
         }
     }
 
-    /// Goes on until the rank meets the others, or has made its calls. Its solo offers are done at once.
-    pub(crate) fn arrive<R: Wait, D: Disk, G: Gate>(
+    /// Goes on until the rank meets the others, or has made its calls. Its solo offers are done at once, and leave the file's count of
+    /// `records` as it is.
+    pub(crate) fn arrive<R: Wait, D: Disk, G: Gate, T: Told>(
         &mut self,
         rt: &R,
         alloc: Global,
         disk: &mut D,
         header: &Header,
+        records: u64,
         script: &Script,
         gate: &G,
         number: u32,
         order: &mut MarkList,
+        told: &mut T,
     ) -> Result<(), StepErr>
         requires sound { is_sound header.now ≡ true }
         requires lawful { is_lawful script.now ≡ true }
@@ -83,6 +88,8 @@ impl<'a> Seat<'a> {
             → HasStopped (MayFollow script.now number order.new) (setting_of script.now header.now) e order.old order.new (D.held disk.old) records ranks (D.held disk.new) records }
         ensures answered { (e : Fault) → result ≡ Err e → (records : ℕ) (ranks : List Arrived) → slice_get ranks number ≡ Some (arrived header.now (calls_of script.now number) self.old)
             → HasReached (SaysAt number e self.new.answers) (setting_of script.now header.now) order.old order.new (D.held disk.old) records ranks }
+        ensures told { (ranks : List Arrived) → slice_get ranks number ≡ Some (arrived header.now (calls_of script.now number) self.old)
+            → HasToldMore (setting_of script.now header.now) (D.held disk.old) records ranks order.old order.new (T.heard told.old) (T.heard told.new) }
         ensures grown { IsGrownBy number order.old order.new }
         ensures begun { OnErr result ((rest : List Mark) × (filter (concerns number) order.new ++ rest ≡ marks script.now.calls number)) }
         ensures from { D.from disk.new ≡ 0 }
@@ -92,7 +99,9 @@ impl<'a> Seat<'a> {
         let calls = own_calls(script, number);
         self.go_on(rt, gate, header, script, number, calls)?;
         'alone: while let Some(offer) = self.take_alone() {
-            self.do_alone(alloc, disk, header, script, number, order, offer)?;
+            self.do_alone(
+                rt, alloc, disk, header, records, script, number, order, told, offer,
+            )?;
             self.go_on(rt, gate, header, script, number, calls)?;
         }
         Ok(())
@@ -152,14 +161,17 @@ impl<'a> Seat<'a> {
     }
 
     /// Does an offer of its rank alone, and lets the rank hear the reply.
-    fn do_alone<D: Disk>(
+    fn do_alone<R: Wait, D: Disk, T: Told>(
         &mut self,
+        rt: &R,
         alloc: Global,
         disk: &mut D,
         header: &Header,
+        records: u64,
         script: &Script,
         number: u32,
         order: &mut MarkList,
+        told: &mut T,
         offer: Offer,
     ) -> Result<(), StepErr>
         requires sound { is_sound header.now ≡ true }
@@ -181,6 +193,8 @@ impl<'a> Seat<'a> {
             → HasStopped (MayFollow script.now number order.new) (setting_of script.now header.now) e order.old order.new (D.held disk.old) records ranks (D.held disk.new) records }
         ensures answered { (e : Fault) → result ≡ Err e → (records : ℕ) (ranks : List Arrived) → slice_get ranks number ≡ Some (asking (calls_of script.now number) self.old, Some offer)
             → HasReached (SaysAt number e self.new.answers) (setting_of script.now header.now) order.old order.new (D.held disk.old) records ranks }
+        ensures told { (ranks : List Arrived) → slice_get ranks number ≡ Some (asking (calls_of script.now number) self.old, Some offer)
+            → HasToldMore (setting_of script.now header.now) (D.held disk.old) records ranks order.old order.new (T.heard told.old) (T.heard told.new) }
         ensures grown { IsGrownBy number order.old order.new }
         ensures begun { OnErr result ((rest : List Mark) × (filter (concerns number) order.new ++ rest ≡ marks script.now.calls number)) }
         ensures from { D.from disk.new ≡ 0 }
@@ -188,7 +202,14 @@ impl<'a> Seat<'a> {
         ensures cause { HasStepCause (D.faults disk.old) (D.faults disk.new) result }
     {
         let reply = solo_reply(alloc, disk, header, &script.hints, number, &offer)?;
-        order.push(Mark::Solo(number, self.answers.len() as u32))?;
+        note_step(
+            rt,
+            alloc,
+            order,
+            told,
+            Mark::Solo(number, self.answers.len() as u32),
+            records,
+        )?;
         self.hear(reply)?;
         Ok(())
     }
