@@ -99,7 +99,7 @@ bytes_solo : (s : Setting) (r n : ℕ) (ranks : List Arrived) (t : Going) (o : O
     → covered s.header (puts_of (r, o)) ≡ bytes_at s ranks (Solo r n)
 bytes_solo s r n ranks t o e = sym (ap (λ (m : Option Arrived). bytes_some s r (offer_some m)) e)
 
-solo_at : (s : Setting) (r n : ℕ) (c : Counted) (ranks : List Arrived) (t : Going) (o : Offer) → slice_get ranks r ≡ Some (t, Some o)
+pub solo_at : (s : Setting) (r n : ℕ) (c : Counted) (ranks : List Arrived) (t : Going) (o : Offer) → slice_get ranks r ≡ Some (t, Some o)
     → (solo s r o c).0 ≡ (step_to s (c, ranks) (Solo r n)).0
 solo_at s r n c ranks t o e = sym (ap (λ (m : Option Arrived). (elim m as (λ m. Stand) [ None ↦ (c, ranks) | Some a ↦ solo_to s r c ranks a ]).0) e)
 

@@ -210,7 +210,7 @@ count_met s batches r n known (Some old) mid now one e k b =
 
 -- ---- the step of the seats
 
-meet_at : (s : Setting) (calls : List (List Call)) (seats : List Seat) (batches : List Batch) (known k : ℕ) (c : Counted) → length calls ≡ length seats → AllHold seats
+pub meet_at : (s : Setting) (calls : List (List Call)) (seats : List Seat) (batches : List Batch) (known k : ℕ) (c : Counted) → length calls ≡ length seats → AllHold seats
     → batches ≡ batches_of (held_offers seats) → known ≡ known_of (held_offers seats) → met s batches known c ≡ (step_to s (c, arrived_all s.header calls seats) (Meet k)).0
 meet_at s calls seats batches known k c l hold e f =
     sym (ap (λ (os : List Offer). (meeting s os c).0) (offers_are s.header calls seats l hold) ∙ met_is s (held_offers seats) batches known c e f)

@@ -26,3 +26,4 @@ pub mod CutEnds
 pub mod CutRuns
 pub mod SaidLaws
 pub mod SaidMeet
+pub mod TellLaws

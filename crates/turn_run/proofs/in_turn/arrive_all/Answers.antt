@@ -15,6 +15,7 @@ use Rattle.turn_run.proofs.CutLaws.{stopped_then, stopped_as, follows_next, same
 use Rattle.turn_run.proofs.TurnSteps.{calls_there, get_arrived}
 use Rattle.turn_run.proofs.MeetLists.{left_more}
 use Rattle.turn_run.proofs.SaidLaws.{answers_cut, grown_beside}
+use Rattle.turn_run.proofs.TellLaws.{told_none, told_then}
 use Rattle.turn_run.proofs.in_turn.arrive_all.Goals as goal
 
 pub loop-number-init : goal.loop-number-init
@@ -29,6 +30,7 @@ loop-number-init g c = record {
   same = λ r l. refl;
   others = λ r l. refl;
   led = λ records. has_led_none _ _ _ _;
+  told = told_none _ _ _ _ _ _ _ _ refl refl;
 }
 
 pub arrive-requires-clause-free : goal.arrive-requires-clause-free
@@ -61,6 +63,7 @@ loop-number-preserved g c =
     let before = c.loop-number.invariant in
     let done = c.in_ok-arrive.ensures in
     let there : slice_get seats n ≡ Some was = get_at seats n c.index-seats-number.result (omega arith) in
+    let long = (ranks_lawful c.args.script.now c.requires.lawful).one_each in
     record {
       from = done.from;
       longer = omega arith;
@@ -75,6 +78,9 @@ loop-number-preserved g c =
       others = λ r l. grown_beside n r c.loop-number.order c.arrive.new.order (λ e. absurd (omega arith)) done.grown ∙ before.others r (omega arith);
       led = λ records. has_led_then _ _ _ c.loop-number.order _ _ _ _ (before.led records)
           (gone_led c.args.script.now c.args.header.now seats n was seat c.loop-number.order c.arrive.new.order _ _ _ _ c.requires.lawful (omega arith) there done.gone records);
+      told = told_then _ _ _ _ _ _ _ _ _ _ before.told (before.led c.args.records)
+          (c.arrive.ensures.told (arrived_all c.args.header.now c.args.script.now.calls seats)
+          (get_arrived c.args.header.now c.args.script.now.calls seats n (calls_of c.args.script.now n) was (calls_there c.args.script.now n (omega arith)) there));
     }
 
 pub returns-clause-arrived : goal.returns-clause-arrived
@@ -121,4 +127,18 @@ returns-in_err-arrive-clause-answered g c e is records =
     (g.D.Disk.calls c.args.disk.now) (g.D.Disk.calls c.loop-number.disk) records (long ∙ sym before.seats.all) c.requires.free there (before.led records) c.arrive.ensures.grown before.others before.arrived
     before.same
     (c.in_err-arrive.ensures.answered e (same_err c.from_residual.result e _ p.0 is p.1 p.2) records (arrived_all header script.calls seats)
+    (get_arrived header script.calls seats n (calls_of script n) was (calls_there script n (omega arith)) there))
+
+pub returns-in_err-arrive-clause-told : goal.returns-in_err-arrive-clause-told
+returns-in_err-arrive-clause-told g c =
+    let script = c.args.script.now in
+    let header = c.args.header.now in
+    let n = c.loop-number.number in
+    let seats = c.loop-number.seats in
+    let before = c.loop-number.invariant in
+    let was = slice_index_or seats n c.index-seats-number.result in
+    let there : slice_get seats n ≡ Some was = get_at seats n c.index-seats-number.result (omega arith) in
+    let long = (ranks_lawful script c.requires.lawful).one_each in
+    told_then _ _ _ _ _ _ _ _ _ _ before.told (before.led c.args.records)
+    (c.arrive.ensures.told (arrived_all header script.calls seats)
     (get_arrived header script.calls seats n (calls_of script n) was (calls_there script n (omega arith)) there))

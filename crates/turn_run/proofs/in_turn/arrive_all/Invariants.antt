@@ -6,6 +6,7 @@ use Rattle.serial_spec.specs.SerialEnd.{setting_of}
 use Rattle.run_laws.specs.Ways.{meetings}
 use Rattle.turn_run.specs.Seated.{calls_of, AreSeats, HasArrived}
 use Rattle.turn_run.specs.Stages.{arrived_all, stage, HasLed}
+use Rattle.turn_run.specs.Telling.{HasToldMore}
 use Rattle.turn_run.specs.declared.seats.Seat.{Seat}
 use Rattle.turn_run.proofs.in_turn.arrive_all.Given as goal
 
@@ -23,4 +24,6 @@ invariant-loop-number g l = record {
   led : (records : ℕ) → HasLed l.script.hints (setting_of l.script l.header) l.fn.order l.order
       (stage (g.D.Disk.held l.fn.disk) (g.D.Disk.calls l.fn.disk) records (arrived_all l.header l.script.calls l.fn.seats))
       (stage (g.D.Disk.held l.disk) (g.D.Disk.calls l.disk) records (arrived_all l.header l.script.calls l.seats));
+  told : HasToldMore (setting_of l.script l.header) (g.D.Disk.held l.fn.disk) l.records (arrived_all l.header l.script.calls l.fn.seats) l.fn.order l.order
+      (g.T.Told.heard l.fn.told) (g.T.Told.heard l.told);
 }

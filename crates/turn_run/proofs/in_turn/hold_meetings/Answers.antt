@@ -15,6 +15,7 @@ use Rattle.turn_run.proofs.CutLaws.{stopped_then, same_err}
 use Rattle.turn_run.specs.Said.{all_between, AllSay}
 use Rattle.turn_run.proofs.SaidLaws.{between_up, have_reached, reached_then}
 use Rattle.turn_run.proofs.SaidMeet.{answers_after}
+use Rattle.turn_run.proofs.TellLaws.{told_then}
 use Rattle.turn_run.proofs.in_turn.hold_meetings.Goals as goal
 
 pub overflow_add-meetings : goal.overflow_add-meetings
@@ -47,6 +48,8 @@ meetings-preserved g c =
       arrived = arrived.arrived;
       records = count_longer c.args.header.now _ _ c.meet.new.records arrived.longer met.records;
       led = has_led_then _ _ _ c.meet.new.order _ _ _ _ (has_led_then _ _ _ c.meetings.order _ _ _ _ k.led met.led) (arrived.led c.meet.new.records);
+      told = told_then _ _ _ c.meet.new.order _ _ _ _ _ _ (told_then _ _ _ c.meetings.order _ _ _ _ _ _ c.meetings.invariant.told c.meetings.invariant.led c.meet.ensures.told)
+          (has_led_then _ _ _ c.meetings.order _ _ _ _ c.meetings.invariant.led c.in_ok-meet.ensures.led) c.arrive_all-in-meetings.ensures.told;
     }
 
 pub returns-in_err-arrive_all-2-clause-cause : goal.returns-in_err-arrive_all-2-clause-cause
@@ -129,3 +132,11 @@ returns-in_err-arrive_all-2-clause-answered g c e is =
     answers_after script.hints s e c.args.order.now c.meetings.order c.meet.new.order c.arrive_all-in-meetings.new.order (meetings c.meetings.order) a b d (all_between script.calls first)
     (all_between script.calls c.meet.new.seats) c.arrive_all-in-meetings.new.seats c.meetings.invariant.led c.in_ok-meet.ensures.led c.in_ok-meet.ensures.order (between_up header script.calls first c.requires.free)
     c.in_ok-meet.ensures.between (c.in_err-arrive_all-2.ensures.answered e (same_err c.from_residual-in_err-arrive_all-2.result e _ p.0 is p.1 p.2) c.meet.new.records)
+
+pub returns-in_err-meet-clause-told : goal.returns-in_err-meet-clause-told
+returns-in_err-meet-clause-told g c = told_then _ _ _ c.meetings.order _ _ _ _ _ _ c.meetings.invariant.told c.meetings.invariant.led c.meet.ensures.told
+
+pub returns-in_err-arrive_all-2-clause-told : goal.returns-in_err-arrive_all-2-clause-told
+returns-in_err-arrive_all-2-clause-told g c =
+    told_then _ _ _ c.meet.new.order _ _ _ _ _ _ (told_then _ _ _ c.meetings.order _ _ _ _ _ _ c.meetings.invariant.told c.meetings.invariant.led c.meet.ensures.told)
+    (has_led_then _ _ _ c.meetings.order _ _ _ _ c.meetings.invariant.led c.in_ok-meet.ensures.led) c.arrive_all-in-meetings.ensures.told

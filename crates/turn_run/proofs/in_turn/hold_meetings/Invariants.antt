@@ -6,6 +6,7 @@ use Rattle.run_laws.specs.Ways.{meetings}
 use Rattle.turn_run.specs.Counts.{IsCount}
 use Rattle.turn_run.specs.Seated.{AreSeats, HaveArrived}
 use Rattle.turn_run.specs.Stages.{arrived_all, stage, HasLed}
+use Rattle.turn_run.specs.Telling.{HasToldMore}
 use Rattle.turn_run.proofs.in_turn.hold_meetings.Given as goal
 
 abbrev pub invariant-meetings : goal.invariant-meetings
@@ -20,6 +21,8 @@ invariant-meetings g l = record {
   led : HasLed l.script.hints (setting_of l.script l.header) l.fn.order l.order
       (stage (g.D.Disk.held l.fn.disk) (g.D.Disk.calls l.fn.disk) l.fn.records (arrived_all l.header l.script.calls l.fn.seats))
       (stage (g.D.Disk.held l.disk) (g.D.Disk.calls l.disk) l.records (arrived_all l.header l.script.calls l.seats));
+  told : HasToldMore (setting_of l.script l.header) (g.D.Disk.held l.fn.disk) l.fn.records (arrived_all l.header l.script.calls l.fn.seats) l.fn.order l.order
+      (g.T.Told.heard l.fn.told) (g.T.Told.heard l.told);
 }
 
 abbrev pub decreases-meetings : goal.decreases-meetings

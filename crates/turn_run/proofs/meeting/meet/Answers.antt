@@ -17,6 +17,7 @@ use Rattle.turn_run.proofs.CutMeet.{stopped_meet, stopped_deaf, met_done, next_m
 use Rattle.turn_run.specs.Said.{AllSay}
 use Rattle.turn_run.proofs.SaidLaws.{reached_here}
 use Rattle.turn_run.proofs.SaidMeet.{all_say_here, meeting_between, part_of_freed, reached_deaf}
+use Rattle.turn_run.proofs.TellLaws.{told_meeting, told_none}
 use Rattle.turn_run.proofs.meeting.meet.Goals as goal
 
 pub returns-in_err-job-clause-begun : goal.returns-in_err-job-clause-begun
@@ -37,9 +38,9 @@ meet_on_file-requires-clause-known g c κs within =
 pub returns-in_err-pair-clause-begun : goal.returns-in_err-pair-clause-begun
 returns-in_err-pair-clause-begun g c = begun_before c.args.script.now c.args.header.now _ c.args.order.now c.args.seats.now c.requires.seats
 
-pub returns-in_err-push-clause-begun : goal.returns-in_err-push-clause-begun
-returns-in_err-push-clause-begun g c =
-    begun_still c.args.script.now c.args.header.now _ c.args.order.now c.push.new.self c.args.seats.now c.requires.seats c.in_err-push.ensures.err
+pub returns-in_err-note_step-clause-begun : goal.returns-in_err-note_step-clause-begun
+returns-in_err-note_step-clause-begun g c =
+    begun_still c.args.script.now c.args.header.now _ c.args.order.now c.note_step.new.order c.args.seats.now c.requires.seats c.in_err-note_step.ensures.kept
 
 pub hear_all-requires-clause-long : goal.hear_all-requires-clause-long
 hear_all-requires-clause-long g c =
@@ -52,15 +53,15 @@ hear_all-requires-clause-fit g c =
 
 pub returns-in_err-hear_all-clause-begun : goal.returns-in_err-hear_all-clause-begun
 returns-in_err-hear_all-clause-begun g c =
-    begun_after c.args.script.now c.args.header.now _ c.args.order.now c.push.new.self c.args.seats.now c.requires.seats c.requires.met c.requires.arrived
-    (order_at c.args.order.now c.push.new.self c.args.number c.requires.number c.in_ok-push.ensures.ok)
+    begun_after c.args.script.now c.args.header.now _ c.args.order.now c.note_step.new.order c.args.seats.now c.requires.seats c.requires.met c.requires.arrived
+    (order_at c.args.order.now c.note_step.new.order c.args.number c.requires.number c.in_ok-note_step.ensures.order)
 
 pub returns-clause-seats : goal.returns-clause-seats
 returns-clause-seats g c =
-    seats_after c.args.script.now c.args.header.now _ _ c.args.order.now c.push.new.self c.args.seats.now c.take_job.new.seats c.hear_all.new.seats c.in_ok-pair.pair
+    seats_after c.args.script.now c.args.header.now _ _ c.args.order.now c.note_step.new.order c.args.seats.now c.take_job.new.seats c.hear_all.new.seats c.in_ok-pair.pair
     c.meet_on_file.new.records c.in_ok-pair.table c.requires.seats c.requires.met c.requires.arrived c.in_ok-job.ensures.freed c.in_ok-hear_all.ensures.all
     (table_long c.args.header.now c.args.seats.now c.in_ok-job.job.batches c.in_ok-pair.table c.requires.met c.in_ok-job.ensures.batches c.in_ok-pair.ensures.fits)
-    c.in_ok-pair.ensures.longer c.in_ok-pair.ensures.count (order_at c.args.order.now c.push.new.self c.args.number c.requires.number c.in_ok-push.ensures.ok)
+    c.in_ok-pair.ensures.longer c.in_ok-pair.ensures.count (order_at c.args.order.now c.note_step.new.order c.args.number c.requires.number c.in_ok-note_step.ensures.order)
 
 pub returns-clause-free : goal.returns-clause-free
 returns-clause-free g c =
@@ -72,18 +73,18 @@ returns-clause-led g c =
     let s = setting c.args.header.now c.args.script.now.hints in
     let long = (ranks_lawful c.args.script.now c.requires.lawful).one_each ∙ sym c.requires.seats.all in
     let wide = table_long c.args.header.now c.args.seats.now c.in_ok-job.job.batches c.in_ok-pair.table c.requires.met c.in_ok-job.ensures.batches c.in_ok-pair.ensures.fits in
-    meeting_led c.args.script.now.hints s c.args.order.now c.push.new.self c.args.script.now.calls c.args.seats.now c.hear_all.new.seats c.in_ok-job.job.batches c.in_ok-job.known
+    meeting_led c.args.script.now.hints s c.args.order.now c.note_step.new.order c.args.script.now.calls c.args.seats.now c.hear_all.new.seats c.in_ok-job.job.batches c.in_ok-job.known
     c.args.records.now c.meet_on_file.new.records c.args.number _ _ _ _ c.in_ok-pair.pair c.in_ok-pair.table long (c.in_ok-hear_all.ensures.all.long ∙ c.in_ok-job.ensures.freed.long) wide c.requires.met
     (are_done c.args.script.now c.args.header.now _ c.args.order.now c.args.seats.now c.take_job.new.seats c.hear_all.new.seats c.in_ok-pair.pair c.meet_on_file.new.records c.in_ok-pair.table
     c.requires.seats c.requires.met c.requires.arrived c.in_ok-job.ensures.freed c.in_ok-hear_all.ensures.all)
     c.in_ok-job.ensures.batches c.in_ok-job.ensures.known c.in_ok-pair.ensures.told c.in_ok-pair.ensures.records c.in_ok-pair.ensures.bytes c.in_ok-pair.ensures.got
     (c.in_ok-pair.ensures.calls (meets_once c.args.script.now c.args.header.now _ c.args.order.now c.args.seats.now c.in_ok-job.known c.in_ok-job.job.batches c.requires.seats c.requires.met c.requires.arrived c.in_ok-job.ensures.known c.in_ok-job.ensures.batches))
-    c.in_ok-push.ensures.ok
+    c.in_ok-note_step.ensures.order
 
 pub returns-clause-begun : goal.returns-clause-begun
 returns-clause-begun g c =
-    begun_after c.args.script.now c.args.header.now _ c.args.order.now c.push.new.self c.args.seats.now c.requires.seats c.requires.met c.requires.arrived
-    (order_at c.args.order.now c.push.new.self c.args.number c.requires.number c.in_ok-push.ensures.ok)
+    begun_after c.args.script.now c.args.header.now _ c.args.order.now c.note_step.new.order c.args.seats.now c.requires.seats c.requires.met c.requires.arrived
+    (order_at c.args.order.now c.note_step.new.order c.args.number c.requires.number c.in_ok-note_step.ensures.order)
 
 pub returns-in_err-job-clause-cut : goal.returns-in_err-job-clause-cut
 returns-in_err-job-clause-cut g c e is =
@@ -103,15 +104,15 @@ returns-in_err-pair-clause-cut g c e is =
     (next_meets script c.args.header.now _ c.args.order.now c.args.order.now c.args.seats.now c.requires.lawful c.requires.seats c.requires.met c.requires.arrived refl)
     refl long c.requires.met c.in_ok-job.ensures.batches c.in_ok-job.ensures.known (c.in_err-pair.ensures.refused once) (c.in_err-pair.ensures.kept once)
 
-pub returns-in_err-push-clause-cut : goal.returns-in_err-push-clause-cut
-returns-in_err-push-clause-cut g c e is =
+pub returns-in_err-note_step-clause-cut : goal.returns-in_err-note_step-clause-cut
+returns-in_err-note_step-clause-cut g c e is =
     let script = c.args.script.now in
     let s = setting_of script c.args.header.now in
     let long = (ranks_lawful script c.requires.lawful).one_each ∙ sym c.requires.seats.all in
-    stopped_meet (IsNext script c.push.new.self) s e (meetings c.args.order.now) c.args.order.now c.push.new.self (g.D.Disk.held c.args.disk.now) (g.D.Disk.held c.meet_on_file.new.disk)
+    stopped_meet (IsNext script c.note_step.new.order) s e (meetings c.args.order.now) c.args.order.now c.note_step.new.order (g.D.Disk.held c.args.disk.now) (g.D.Disk.held c.meet_on_file.new.disk)
     script.calls c.args.seats.now c.in_ok-job.job.batches c.in_ok-job.known c.args.records.now c.meet_on_file.new.records
-    (next_meets script c.args.header.now _ c.args.order.now c.push.new.self c.args.seats.now c.requires.lawful c.requires.seats c.requires.met c.requires.arrived c.in_err-push.ensures.err)
-    c.in_err-push.ensures.err long c.requires.met c.in_ok-job.ensures.batches c.in_ok-job.ensures.known
+    (next_meets script c.args.header.now _ c.args.order.now c.note_step.new.order c.args.seats.now c.requires.lawful c.requires.seats c.requires.met c.requires.arrived c.in_err-note_step.ensures.kept)
+    c.in_err-note_step.ensures.kept long c.requires.met c.in_ok-job.ensures.batches c.in_ok-job.ensures.known
     (met_done s c.in_ok-job.job.batches c.args.records.now c.in_ok-job.known (g.D.Disk.held c.args.disk.now) (g.D.Disk.held c.meet_on_file.new.disk) c.in_ok-pair.ensures.bytes)
     (inr c.in_ok-pair.ensures.records)
 
@@ -121,9 +122,9 @@ returns-in_err-hear_all-clause-cut g c e is =
     let s = setting_of script c.args.header.now in
     let p = err_from_is_err_and c.from_residual-in_err-hear_all.result c.from_residual-in_err-hear_all.ensures.1 in
     let long = (ranks_lawful script c.requires.lawful).one_each ∙ sym c.requires.seats.all in
-    stopped_deaf (IsNext script c.push.new.self) s e c.args.number c.args.order.now c.push.new.self (g.D.Disk.held c.args.disk.now) (g.D.Disk.held c.meet_on_file.new.disk)
+    stopped_deaf (IsNext script c.note_step.new.order) s e c.args.number c.args.order.now c.note_step.new.order (g.D.Disk.held c.args.disk.now) (g.D.Disk.held c.meet_on_file.new.disk)
     script.calls c.args.seats.now c.in_ok-job.job.batches c.in_ok-job.known c.args.records.now c.meet_on_file.new.records
-    (memory_of c.from_residual-in_err-hear_all.result e p.0 is p.1 p.2) c.in_ok-push.ensures.ok long c.requires.met c.in_ok-job.ensures.batches c.in_ok-job.ensures.known
+    (memory_of c.from_residual-in_err-hear_all.result e p.0 is p.1 p.2) c.in_ok-note_step.ensures.order long c.requires.met c.in_ok-job.ensures.batches c.in_ok-job.ensures.known
     c.in_ok-pair.ensures.bytes c.in_ok-pair.ensures.records
 
 pub returns-in_err-job-clause-answered : goal.returns-in_err-job-clause-answered
@@ -144,13 +145,13 @@ returns-in_err-pair-clause-answered g c e is =
     (arrived_all header script.calls c.args.seats.now) refl
     (λ n. all_say_here script header e c.args.seats.now c.take_job.new.seats n long c.in_ok-job.ensures.freed.long c.requires.arrived c.take_job.ensures.kept)
 
-pub returns-in_err-push-clause-answered : goal.returns-in_err-push-clause-answered
-returns-in_err-push-clause-answered g c e is =
+pub returns-in_err-note_step-clause-answered : goal.returns-in_err-note_step-clause-answered
+returns-in_err-note_step-clause-answered g c e is =
     let script = c.args.script.now in
     let header = c.args.header.now in
     let long = (ranks_lawful script c.requires.lawful).one_each ∙ sym c.requires.seats.all in
-    reached_here (AllSay e c.take_job.new.seats) (setting_of script header) c.args.order.now c.push.new.self (g.D.Disk.held c.args.disk.now) c.args.records.now
-    (arrived_all header script.calls c.args.seats.now) c.in_err-push.ensures.err
+    reached_here (AllSay e c.take_job.new.seats) (setting_of script header) c.args.order.now c.note_step.new.order (g.D.Disk.held c.args.disk.now) c.args.records.now
+    (arrived_all header script.calls c.args.seats.now) c.in_err-note_step.ensures.kept
     (λ n. all_say_here script header e c.args.seats.now c.take_job.new.seats n long c.in_ok-job.ensures.freed.long c.requires.arrived c.take_job.ensures.kept)
 
 pub returns-in_err-hear_all-clause-answered : goal.returns-in_err-hear_all-clause-answered
@@ -162,9 +163,9 @@ returns-in_err-hear_all-clause-answered g c e is =
     let long = (ranks_lawful script c.requires.lawful).one_each ∙ sym c.requires.seats.all in
     let wide = table_long header c.args.seats.now c.in_ok-job.job.batches c.in_ok-pair.table c.requires.met c.in_ok-job.ensures.batches c.in_ok-pair.ensures.fits in
     let mid = c.in_ok-job.ensures.freed in
-    reached_deaf script header _ e c.args.order.now c.push.new.self c.args.seats.now c.hear_all.new.seats c.in_ok-job.job.batches c.in_ok-job.known c.args.records.now
+    reached_deaf script header _ e c.args.order.now c.note_step.new.order c.args.seats.now c.hear_all.new.seats c.in_ok-job.job.batches c.in_ok-job.known c.args.records.now
     c.meet_on_file.new.records c.args.number s (g.D.Disk.held c.args.disk.now) (g.D.Disk.held c.meet_on_file.new.disk) c.in_ok-pair.pair c.in_ok-pair.table refl
-    (memory_of c.from_residual-in_err-hear_all.result e p.0 is p.1 p.2) c.in_ok-push.ensures.ok long (c.hear_all.auto.seats ∙ mid.long) wide c.requires.seats c.requires.met c.requires.arrived
+    (memory_of c.from_residual-in_err-hear_all.result e p.0 is p.1 p.2) c.in_ok-note_step.ensures.order long (c.hear_all.auto.seats ∙ mid.long) wide c.requires.seats c.requires.met c.requires.arrived
     c.in_ok-job.ensures.batches c.in_ok-job.ensures.known c.in_ok-pair.ensures.told c.in_ok-pair.ensures.records c.in_ok-pair.ensures.bytes c.in_ok-pair.ensures.got
     (part_of_freed c.in_ok-pair.pair c.meet_on_file.new.records c.in_ok-pair.table c.args.seats.now c.take_job.new.seats c.hear_all.new.seats mid.long mid c.in_err-hear_all.ensures.part)
 
@@ -179,3 +180,32 @@ returns-clause-between g c =
     (are_done c.args.script.now c.args.header.now _ c.args.order.now c.args.seats.now c.take_job.new.seats c.hear_all.new.seats c.in_ok-pair.pair c.meet_on_file.new.records c.in_ok-pair.table
     c.requires.seats c.requires.met c.requires.arrived c.in_ok-job.ensures.freed c.in_ok-hear_all.ensures.all)
     c.in_ok-job.ensures.batches c.in_ok-job.ensures.known c.in_ok-pair.ensures.told c.in_ok-pair.ensures.records c.in_ok-pair.ensures.bytes c.in_ok-pair.ensures.got
+
+pub returns-in_err-job-clause-told : goal.returns-in_err-job-clause-told
+returns-in_err-job-clause-told g c =
+    told_none (setting_of c.args.script.now c.args.header.now) (g.D.Disk.held c.args.disk.now) c.args.records.now (arrived_all c.args.header.now c.args.script.now.calls c.args.seats.now)
+    c.args.order.now c.args.order.now (g.T.Told.heard c.args.told.now) (g.T.Told.heard c.args.told.now) refl refl
+
+pub returns-in_err-pair-clause-told : goal.returns-in_err-pair-clause-told
+returns-in_err-pair-clause-told g c =
+    told_none (setting_of c.args.script.now c.args.header.now) (g.D.Disk.held c.args.disk.now) c.args.records.now (arrived_all c.args.header.now c.args.script.now.calls c.args.seats.now)
+    c.args.order.now c.args.order.now (g.T.Told.heard c.args.told.now) (g.T.Told.heard c.args.told.now) refl refl
+
+pub returns-in_err-note_step-clause-told : goal.returns-in_err-note_step-clause-told
+returns-in_err-note_step-clause-told g c =
+    told_none (setting_of c.args.script.now c.args.header.now) (g.D.Disk.held c.args.disk.now) c.args.records.now (arrived_all c.args.header.now c.args.script.now.calls c.args.seats.now)
+    c.args.order.now c.note_step.new.order (g.T.Told.heard c.args.told.now) (g.T.Told.heard c.note_step.new.told) c.in_err-note_step.ensures.kept c.in_err-note_step.ensures.untold
+
+pub returns-in_err-hear_all-clause-told : goal.returns-in_err-hear_all-clause-told
+returns-in_err-hear_all-clause-told g c =
+    let long = (ranks_lawful c.args.script.now c.requires.lawful).one_each ∙ sym c.requires.seats.all in
+    told_meeting (setting_of c.args.script.now c.args.header.now) c.args.number (g.D.Disk.held c.args.disk.now) c.args.script.now.calls c.args.seats.now c.in_ok-job.job.batches
+    c.in_ok-job.known c.args.records.now c.meet_on_file.new.records c.args.order.now c.note_step.new.order (g.T.Told.heard c.args.told.now) (g.T.Told.heard c.note_step.new.told)
+    c.in_ok-note_step.ensures.order c.in_ok-note_step.ensures.heard long c.requires.met c.in_ok-job.ensures.batches c.in_ok-job.ensures.known c.in_ok-pair.ensures.records
+
+pub returns-clause-told : goal.returns-clause-told
+returns-clause-told g c =
+    let long = (ranks_lawful c.args.script.now c.requires.lawful).one_each ∙ sym c.requires.seats.all in
+    told_meeting (setting_of c.args.script.now c.args.header.now) c.args.number (g.D.Disk.held c.args.disk.now) c.args.script.now.calls c.args.seats.now c.in_ok-job.job.batches
+    c.in_ok-job.known c.args.records.now c.meet_on_file.new.records c.args.order.now c.note_step.new.order (g.T.Told.heard c.args.told.now) (g.T.Told.heard c.note_step.new.told)
+    c.in_ok-note_step.ensures.order c.in_ok-note_step.ensures.heard long c.requires.met c.in_ok-job.ensures.batches c.in_ok-job.ensures.known c.in_ok-pair.ensures.records

@@ -5,7 +5,7 @@ use Rattle.serial_spec.specs.SerialEnd.{setting_of}
 use Rattle.run_laws.specs.Ways.{IsOnWay}
 use Rattle.run_laws.proofs.LawfulLaws.{ranks_lawful}
 use Rattle.turn_run.specs.Counts.{IsCount}
-use Rattle.turn_run.specs.Seated.{between, calls_of}
+use Rattle.turn_run.specs.Seated.{asking, between, calls_of}
 use Rattle.run_laws.specs.Arrivals.{Arrived}
 use Rattle.turn_run.specs.Stages.{arrived, HasGone}
 use Rattle.nc_base.specs.declared.answer.Answer.{Answer}
@@ -19,6 +19,7 @@ use Rattle.turn_run.specs.Cuts.{MayFollow}
 use Rattle.turn_run.proofs.CutLaws.{gone_stopped, stopped_between, memory_of, same_err}
 use Rattle.turn_run.specs.Said.{SaysAt}
 use Rattle.turn_run.proofs.SaidLaws.{gone_reached, part_arrived, reached_here, said_part, says_here}
+use Rattle.turn_run.proofs.TellLaws.{told_gone, told_none}
 use Rattle.turn_run.proofs.seats.Seat.arrive.Goals as goal
 
 pub own_calls-calls-requires : goal.own_calls-calls-requires
@@ -45,6 +46,8 @@ alone-init g c =
       known = subst (λ (n : ℕ). IsCount c.args.header.now (g.D.Disk.len c.args.disk.now) n) (sym c.in_ok-go_on.ensures.known) c.requires.known;
       gone = went_gone c.args.script.now.hints (setting_of c.args.script.now c.args.header.now) c.args.number c.args.order.now (g.D.Disk.held c.args.disk.now) (g.D.Disk.calls c.args.disk.now)
           c.args.header.now own all c.args.self.now c.go_on.new.self e c.requires.free c.in_ok-go_on.ensures.advanced c.in_ok-go_on.ensures.ended;
+      told = λ ranks at. told_none (setting_of c.args.script.now c.args.header.now) (g.D.Disk.held c.args.disk.now) c.args.records ranks c.args.order.now c.args.order.now
+          (g.T.Told.heard c.args.told.now) (g.T.Told.heard c.args.told.now) refl refl;
     }
 
 pub returns-in_err-do_alone-clause-grown : goal.returns-in_err-do_alone-clause-grown
@@ -97,6 +100,10 @@ alone-preserved g c =
           (taken_asks header all c.alone.self c.take_alone.new.self c.in-Some.offer taken.0 c.take_alone.ensures.rank c.take_alone.ensures.answers) c.in_ok-do_alone.ensures.gone)
           (went_gone hints s r order (g.D.Disk.held c.do_alone.new.disk) (g.D.Disk.calls c.do_alone.new.disk) header own all mid new e c.do_alone.ensures.free
           c.in_ok-go_on-2.ensures.advanced c.in_ok-go_on-2.ensures.ended));
+      told = told_gone hints s r c.args.records c.args.order.now c.alone.order order (g.D.Disk.held c.args.disk.now) (g.D.Disk.held c.alone.disk)
+          (g.D.Disk.calls c.args.disk.now) (g.D.Disk.calls c.alone.disk) (arrived header all c.args.self.now) (arrived header all c.alone.self) (asking all c.take_alone.new.self, Some c.in-Some.offer)
+          (g.T.Told.heard c.args.told.now) (g.T.Told.heard c.alone.told) (g.T.Told.heard c.do_alone.new.told) c.alone.invariant.gone c.alone.invariant.told
+          (taken_asks header all c.alone.self c.take_alone.new.self c.in-Some.offer taken.0 c.take_alone.ensures.rank c.take_alone.ensures.answers) c.do_alone.ensures.told;
     }
 
 pub returns-in_err-go_on-2-clause-grown : goal.returns-in_err-go_on-2-clause-grown
@@ -214,3 +221,39 @@ returns-in_err-go_on-2-clause-answered g c e is records ranks at =
     (λ m. says_here r e answers from m others there
     (said_part e from answers memory (part_arrived header c.own_calls-calls.result.now all mid answers c.own_calls-calls.ensures c.do_alone.ensures.free c.in_err-go_on-2.ensures.some)))))
     records ranks at
+
+pub returns-in_err-go_on-clause-told : goal.returns-in_err-go_on-clause-told
+returns-in_err-go_on-clause-told g c ranks at =
+    told_none (setting_of c.args.script.now c.args.header.now) (g.D.Disk.held c.args.disk.now) c.args.records ranks c.args.order.now c.args.order.now
+    (g.T.Told.heard c.args.told.now) (g.T.Told.heard c.args.told.now) refl refl
+
+pub returns-in_err-do_alone-clause-told : goal.returns-in_err-do_alone-clause-told
+returns-in_err-do_alone-clause-told g c =
+    let script = c.args.script.now in
+    let header = c.args.header.now in
+    let r = c.args.number in
+    let hints = script.hints in
+    let s = setting_of script header in
+    let all = calls_of script r in
+    let taken = c.in-Some.ensures.taken in
+    told_gone hints s r c.args.records c.args.order.now c.alone.order c.do_alone.new.order (g.D.Disk.held c.args.disk.now) (g.D.Disk.held c.alone.disk)
+    (g.D.Disk.calls c.args.disk.now) (g.D.Disk.calls c.alone.disk) (arrived header all c.args.self.now) (arrived header all c.alone.self) (asking all c.take_alone.new.self, Some c.in-Some.offer)
+    (g.T.Told.heard c.args.told.now) (g.T.Told.heard c.alone.told) (g.T.Told.heard c.do_alone.new.told) c.alone.invariant.gone c.alone.invariant.told
+    (taken_asks header all c.alone.self c.take_alone.new.self c.in-Some.offer taken.0 c.take_alone.ensures.rank c.take_alone.ensures.answers) c.do_alone.ensures.told
+
+pub returns-in_err-go_on-2-clause-told : goal.returns-in_err-go_on-2-clause-told
+returns-in_err-go_on-2-clause-told g c =
+    let script = c.args.script.now in
+    let header = c.args.header.now in
+    let r = c.args.number in
+    let hints = script.hints in
+    let s = setting_of script header in
+    let all = calls_of script r in
+    let taken = c.in-Some.ensures.taken in
+    told_gone hints s r c.args.records c.args.order.now c.alone.order c.do_alone.new.order (g.D.Disk.held c.args.disk.now) (g.D.Disk.held c.alone.disk)
+    (g.D.Disk.calls c.args.disk.now) (g.D.Disk.calls c.alone.disk) (arrived header all c.args.self.now) (arrived header all c.alone.self) (asking all c.take_alone.new.self, Some c.in-Some.offer)
+    (g.T.Told.heard c.args.told.now) (g.T.Told.heard c.alone.told) (g.T.Told.heard c.do_alone.new.told) c.alone.invariant.gone c.alone.invariant.told
+    (taken_asks header all c.alone.self c.take_alone.new.self c.in-Some.offer taken.0 c.take_alone.ensures.rank c.take_alone.ensures.answers) c.do_alone.ensures.told
+
+pub returns-clause-told : goal.returns-clause-told
+returns-clause-told g c = c.alone.invariant.told

@@ -1,10 +1,13 @@
 -- The rank stands at its next offer, or at its end.
-use Rattle.std.proofs.Common.{◌≡◌, ◌-◌, ◌≤◌, drop, length, [], None}
+use Rattle.std.proofs.Common.{◌≡◌, ◌-◌, ◌≤◌, drop, length, List, [], None, Some}
+use Rattle.std.specs.Prelude.{slice_get}
 use Rattle.serial_spec.specs.Lawful.{most_calls}
 use Rattle.serial_spec.specs.SerialEnd.{setting_of}
 use Rattle.turn_run.specs.Counts.{IsCount}
 use Rattle.turn_run.specs.Seated.{calls_of, IsSeat}
+use Rattle.run_laws.specs.Arrivals.{Arrived}
 use Rattle.turn_run.specs.Stages.{arrived, HasGone}
+use Rattle.turn_run.specs.Telling.{HasToldMore}
 use Rattle.turn_run.proofs.seats.Seat.arrive.Given as goal
 
 abbrev pub invariant-alone : goal.invariant-alone
@@ -17,6 +20,8 @@ invariant-alone g l = record {
   known : IsCount l.header (g.D.Disk.len l.disk) l.self.rank.state.known;
   gone : HasGone l.script.hints (setting_of l.script l.header) l.number l.fn.order l.order (g.D.Disk.held l.fn.disk) (g.D.Disk.calls l.fn.disk)
       (g.D.Disk.held l.disk) (g.D.Disk.calls l.disk) (arrived l.header (calls_of l.script l.number) l.fn.self) (arrived l.header (calls_of l.script l.number) l.self);
+  told : (ranks : List Arrived) → slice_get ranks l.number ≡ Some (arrived l.header (calls_of l.script l.number) l.fn.self)
+      → HasToldMore (setting_of l.script l.header) (g.D.Disk.held l.fn.disk) l.records ranks l.fn.order l.order (g.T.Told.heard l.fn.told) (g.T.Told.heard l.told);
 }
 
 abbrev pub decreases-alone : goal.decreases-alone

@@ -1,0 +1,200 @@
+-- What is told of steps, one after another, and of a whole run.
+use Rattle.std.proofs.Common.{◌≡◌, ◌+◌, ℕ, suc, refl, sym, ◌∙◌, ap, subst, List, [], ◌∷◌, ◌++◌, length, map, max, replicate, set, take, true, Option, Some, None, append_assoc, length-append, arith}
+use Rattle.std.proofs.lemmas.List.{append-nil, append_cancel_left, map-append}
+use Rattle.std.proofs.lemmas.Grind.{fold-append}
+use Rattle.std.specs.Prelude.{slice_get, fold, IfSome}
+use Rattle.std.specs.List.{enumerate_from}
+use Rattle.nc_base.specs.declared.header.Header.{Header}
+use Rattle.nc_base.specs.declared.plan.Batch.{Batch}
+use Rattle.nc_base.specs.declared.request.Call.{Call}
+use Rattle.nc_base.specs.declared.script.Hints.{Hints}
+use Rattle.nc_base.specs.declared.script.Script.{Script}
+use Rattle.nc_base.specs.declared.step.DiskCall.{DiskCall}
+use Rattle.nc_base.specs.declared.step.Mark.{Mark}
+use Rattle.nc_base.specs.declared.step.Mark.TheVariants.{Meet, Solo}
+use Rattle.nc_base.specs.declared.step.Offer.{Offer}
+use Rattle.nc_outside.specs.Told.{with_end}
+use Rattle.serial_spec.specs.Desk.{needed_now}
+use Rattle.serial_spec.specs.FileStep.{Counted, Setting}
+use Rattle.serial_spec.specs.Lawful.{is_lawful}
+use Rattle.serial_spec.specs.Reading.{told_of}
+use Rattle.serial_spec.specs.SerialEnd.{Going, after_mark, first_state, setting_of}
+use Rattle.collective_round.specs.Rounds.{counted, puts_in}
+use Rattle.run_laws.specs.Arrivals.{step_to, Arrived, Stand}
+use Rattle.turn_run.specs.Stages.{arrived_all, stage, stand_of, HasGone, HasLed, IsLed, Stage}
+use Rattle.turn_run.specs.Steps.{batches_of, first_seat, held_offers, known_of}
+use Rattle.turn_run.specs.Telling.{counts_along, told_marks, told_over, HasTold, HasToldMore}
+use Rattle.turn_run.specs.declared.seats.Seat.{Seat}
+use Rattle.turn_run.proofs.CutLaws.{solo_at}
+use Rattle.turn_run.proofs.CutMeet.{meet_at, met_count}
+use Rattle.turn_run.proofs.ListLaws.{get_set}
+use Rattle.turn_run.proofs.MeetOffers.{AllHold}
+use Rattle.turn_run.proofs.StageLaws.{ended_by_none, ended_twice, gone_up, mark_up}
+use Rattle.turn_run.proofs.TurnRuns.{first_stage}
+
+-- ---- nothing, and one step
+
+pub told_none : (s : Setting) (held : Option (List ℕ)) (records : ℕ) (ranks : List Arrived) (before now : List Mark) (told heard : Option (List (Mark × ℕ)))
+    → now ≡ before → heard ≡ told → HasToldMore s held records ranks before now told heard
+told_none s held records ranks before now told heard e f = record {
+  more = [];
+  grown = e ∙ sym (append-nil before);
+  marks = ap told_marks f ∙ sym (ended_by_none (told_marks told));
+  counts = by_held held;
+}
+  where
+    by_held : (m : Option (List ℕ)) → IfSome m (λ file. heard ≡ with_end told (told_over s (counted file records, ranks) []))
+    by_held None = tt
+    by_held (Some file) = f ∙ sym (ended_by_none told)
+
+marks_ended : (told : Option (List (Mark × ℕ))) (more : List (Mark × ℕ)) → told_marks (with_end told more) ≡ with_end (told_marks told) (map (λ t. t.0) more)
+marks_ended None more = refl
+marks_ended (Some front) more = ap (λ (ms : List Mark). Some ms) (map-append (λ t. t.0) front more)
+
+told_one : (s : Setting) (m : Mark) (count : ℕ) (held : Option (List ℕ)) (records : ℕ) (ranks : List Arrived) (before now : List Mark) (told heard : Option (List (Mark × ℕ)))
+    → now ≡ before ++ m ∷ [] → heard ≡ with_end told ((m, count) ∷ []) → ((file : List ℕ) → (step_to s (counted file records, ranks) m).0.records ≡ count)
+    → HasToldMore s held records ranks before now told heard
+told_one s m count held records ranks before now told heard e f after = record {
+  more = m ∷ [];
+  grown = e;
+  marks = ap told_marks f ∙ marks_ended told ((m, count) ∷ []);
+  counts = by_held held;
+}
+  where
+    by_held : (h : Option (List ℕ)) → IfSome h (λ file. heard ≡ with_end told (told_over s (counted file records, ranks) (m ∷ [])))
+    by_held None = tt
+    by_held (Some file) = f ∙ ap (λ (n : ℕ). with_end told ((m, n) ∷ [])) (sym (after file))
+
+-- a solo step, which leaves the count of the file
+pub told_alone : (s : Setting) (r n : ℕ) (held : Option (List ℕ)) (records : ℕ) (before now : List Mark) (told heard : Option (List (Mark × ℕ))) (t : Going) (o : Offer)
+    → now ≡ before ++ Solo r n ∷ [] → heard ≡ with_end told ((Solo r n, records) ∷ [])
+    → (ranks : List Arrived) → slice_get ranks r ≡ Some (t, Some o) → HasToldMore s held records ranks before now told heard
+told_alone s r n held records before now told heard t o e f ranks at =
+    told_one s (Solo r n) records held records ranks before now told heard e f
+    (λ file. ap (λ (c : Counted). c.records) (sym (solo_at s r n (counted file records) ranks t o at)))
+
+pub told_meeting : (s : Setting) (k : ℕ) (held : Option (List ℕ)) (calls : List (List Call)) (seats : List Seat) (batches : List Batch) (known r n : ℕ) (before now : List Mark)
+    (told heard : Option (List (Mark × ℕ))) → now ≡ before ++ Meet k ∷ [] → heard ≡ with_end told ((Meet k, n) ∷ []) → length calls ≡ length seats → AllHold seats
+    → batches ≡ batches_of (held_offers seats) → known ≡ known_of (held_offers seats) → n ≡ max r (max (needed_now s (puts_in batches)) known)
+    → HasToldMore s held r (arrived_all s.header calls seats) before now told heard
+told_meeting s k held calls seats batches known r n before now told heard e f l hold b m count =
+    told_one s (Meet k) n held r (arrived_all s.header calls seats) before now told heard e f
+    (λ file. sym (count ∙ sym (met_count s batches known file r) ∙ ap (λ (c : Counted). c.records) (meet_at s calls seats batches known k (counted file r) l hold b m)))
+
+-- ---- steps one after another
+
+told_split : (s : Setting) (stand : Stand) (marks more : List Mark) → told_over s stand (marks ++ more) ≡ told_over s stand marks ++ told_over s (fold (step_to s) stand marks) more
+told_split s stand [] more = refl
+told_split s stand (m ∷ marks) more =
+    ap (λ (ts : List (Mark × ℕ)). (m, (step_to s stand m).0.records) ∷ ts) (told_split s (step_to s stand m) marks more)
+
+pub told_then : (hints : Hints) (s : Setting) (before now later : List Mark) (a b : Stage) (told heard last : Option (List (Mark × ℕ)))
+    → HasToldMore s a.held a.records a.ranks before now told heard → HasLed hints s before now a b → HasToldMore s b.held b.records b.ranks now later heard last
+    → HasToldMore s a.held a.records a.ranks before later told last
+told_then hints s before now later a b told heard last first led second = record {
+  more = first.more ++ second.more;
+  grown = second.grown ∙ ap (λ (ms : List Mark). ms ++ second.more) first.grown ∙ append_assoc before first.more second.more;
+  marks = second.marks ∙ ap (λ (ms : Option (List Mark)). with_end ms second.more) first.marks ∙ ended_twice (told_marks told) first.more second.more;
+  counts = by_held a.held first.counts led.led;
+}
+  where
+    same : led.more ≡ first.more
+    same = append_cancel_left before led.more first.more (sym led.grown ∙ first.grown)
+
+    by_held : (m : Option (List ℕ)) → IfSome m (λ file. heard ≡ with_end told (told_over s (stand_of file a) first.more)) → IfSome m (λ file. IsLed hints s led.more file a b)
+        → IfSome m (λ file. last ≡ with_end told (told_over s (stand_of file a) (first.more ++ second.more)))
+    by_held None f l = tt
+    by_held (Some file) f l =
+        let front = told_over s (stand_of file a) first.more in
+        let state : fold (step_to s) (stand_of file a) first.more ≡ stand_of l.left b = subst (λ (ms : List Mark). fold (step_to s) (stand_of file a) ms ≡ stand_of l.left b) same l.state in
+        let on : last ≡ with_end heard (told_over s (stand_of l.left b) second.more) =
+        subst (λ (m : Option (List ℕ)). IfSome m (λ bytes. last ≡ with_end heard (told_over s (stand_of bytes b) second.more))) l.told second.counts in
+        on ∙ ap (λ (h : Option (List (Mark × ℕ))). with_end h (told_over s (stand_of l.left b) second.more)) f
+        ∙ ended_twice told front (told_over s (stand_of l.left b) second.more)
+        ∙ ap (λ (stand : Stand). with_end told (front ++ told_over s stand second.more)) (sym state)
+        ∙ ap (λ (ts : List (Mark × ℕ)). with_end told ts) (sym (told_split s (stand_of file a) first.more second.more))
+
+-- one rank's steps, and then others of it
+pub told_gone : (hints : Hints) (s : Setting) (r records : ℕ) (before now later : List Mark) (held left : Option (List ℕ)) (calls made : Option (List DiskCall)) (from to asks : Arrived)
+    (told heard last : Option (List (Mark × ℕ))) → HasGone hints s r before now held calls left made from to
+    → ((ranks : List Arrived) → slice_get ranks r ≡ Some from → HasToldMore s held records ranks before now told heard) → asks ≡ to
+    → ((ranks : List Arrived) → slice_get ranks r ≡ Some asks → HasToldMore s left records ranks now later heard last)
+    → (ranks : List Arrived) → slice_get ranks r ≡ Some from → HasToldMore s held records ranks before later told last
+told_gone hints s r records before now later held left calls made from to asks told heard last gone first e second ranks at =
+    told_then hints s before now later (stage held calls records ranks) (stage left made records (set ranks r to)) told heard last (first ranks at)
+    (record { more = gone.more; grown = gone.grown; led = gone.led records ranks at })
+    (second (set ranks r to) (get_set ranks r from to at ∙ ap (λ (a : Arrived). Some a) (sym e)))
+
+-- ---- a whole run
+
+module _ {M : Type 0} where
+  take_through : (first : List M) (m : M) (rest : List M) (k : ℕ) → k ≡ length first + 1 → take k (first ++ (m ∷ rest)) ≡ first ++ m ∷ []
+  take_through [] m rest k e = let one : k ≡ 1 = omega (arith, e) in subst (λ (z : ℕ). take z (m ∷ rest) ≡ m ∷ []) (sym one) refl
+  take_through (x ∷ xs) m rest k e =
+      let j : ℕ = length xs + 1 in
+      let next : k ≡ suc j = omega (arith, e) in
+      subst (λ (z : ℕ). take z (x ∷ (xs ++ (m ∷ rest))) ≡ x ∷ (xs ++ m ∷ [])) (sym next) (ap (λ (l : List M). x ∷ l) (take_through xs m rest j refl))
+
+-- each mark of a list with the count after it, by its place and by steps
+along : {U : Type 0} (step : U → Mark → U) (count : U → ℕ) (u : U) (first rest : List Mark) (n : ℕ) → n ≡ length first
+    → map (λ (p : ℕ × Mark). (p.1, count (fold step u (take (p.0 + 1) (first ++ rest))))) (enumerate_from n rest) ≡ counts_along step count (fold step u first) rest
+along step count u first [] n e = refl
+along {U} step count u first (m ∷ rest) n e =
+    let on : fold step u (first ++ m ∷ []) ≡ step (fold step u first) m = fold-append step u first (m ∷ []) in
+    let head : take (n + 1) (first ++ (m ∷ rest)) ≡ first ++ m ∷ [] = take_through first m rest (n + 1) (omega (arith, e)) in
+    let here : count (fold step u (take (n + 1) (first ++ (m ∷ rest)))) ≡ count (step (fold step u first) m) = ap (λ (l : List Mark). count (fold step u l)) head ∙ ap count on in
+    let long : n + 1 ≡ length (first ++ m ∷ []) = omega (arith, e, length-append first (m ∷ [])) in
+    let later : map (λ (p : ℕ × Mark). (p.1, count (fold step u (take (p.0 + 1) (first ++ (m ∷ rest)))))) (enumerate_from (n + 1) rest) ≡ counts_along step count (step (fold step u first) m) rest =
+    ap (λ (l : List Mark). map (λ (p : ℕ × Mark). (p.1, count (fold step u (take (p.0 + 1) l)))) (enumerate_from (n + 1) rest)) (sym (append_assoc first (m ∷ []) rest))
+    ∙ along step count u (first ++ m ∷ []) rest (n + 1) long ∙ ap (λ (v : U). counts_along step count v rest) on in
+    λ i. (m, here i) ∷ later i
+
+-- by the steps of the serial run
+pub told_along : (script : Script) (header : Header) (file : List ℕ) (order : List Mark)
+    → told_of script header file order ≡ counts_along (after_mark (setting_of script header)) (λ u. u.0.records) (first_state header file script.calls) order
+told_along script header file order = along (after_mark (setting_of script header)) (λ u. u.0.records) (first_state header file script.calls) [] order 0 refl
+
+counts_up : (s : Setting) (state : Counted × List Going) (order : List Mark) → counts_along (after_mark s) (λ u. u.0.records) state order ≡ told_over s (gone_up s state) order
+counts_up s state [] = refl
+counts_up s state (m ∷ order) =
+    let up = mark_up s state m in
+    let first : (after_mark s state m).0.records ≡ (step_to s (gone_up s state) m).0.records = ap (λ (stand : Stand). stand.0.records) up in
+    let others = counts_up s (after_mark s state m) order ∙ ap (λ (stand : Stand). told_over s stand order) up in
+    λ i. (m, first i) ∷ others i
+
+told_from_first : (script : Script) (header : Header) (file : List ℕ) (records : ℕ) (seats : List Seat) (order : List Mark) → is_lawful script ≡ true
+    → records ≡ header.records → seats ≡ replicate script.ranks (first_seat header records)
+    → told_over (setting_of script header) (counted file records, arrived_all header script.calls seats) order ≡ told_of script header file order
+told_from_first script header file records seats order lawful e first =
+    ap (λ (stand : Stand). told_over (setting_of script header) stand order) (first_stage script header file records seats lawful e first)
+    ∙ sym (told_along script header file order ∙ counts_up (setting_of script header) (first_state header file script.calls) order)
+
+-- before the first step
+pub told_nothing : (script : Script) (header : Header) (held : Option (List ℕ)) (told : Option (List (Mark × ℕ))) (order : List Mark) → order ≡ [] → HasTold script header held told told order
+told_nothing script header held told order e = subst (λ (ms : List Mark). HasTold script header held told told ms) (sym e) (record {
+  marks = sym (ended_by_none (told_marks told));
+  counts = by_held held;
+})
+  where
+    by_held : (m : Option (List ℕ)) → IfSome m (λ file. told ≡ with_end told (told_of script header file []))
+    by_held None = tt
+    by_held (Some file) = sym (ended_by_none told)
+
+pub told_whole : (script : Script) (header : Header) (held : Option (List ℕ)) (records : ℕ) (seats : List Seat) (none made order : List Mark) (told heard : Option (List (Mark × ℕ)))
+    → is_lawful script ≡ true → records ≡ header.records → seats ≡ replicate script.ranks (first_seat header records) → none ≡ [] → order ≡ made
+    → HasToldMore (setting_of script header) held records (arrived_all header script.calls seats) none made told heard → HasTold script header held told heard order
+told_whole script header held records seats none made order told heard lawful e first n o h = record {
+  marks = h.marks ∙ ap (λ (ms : List Mark). with_end (told_marks told) ms) same;
+  counts = by_held held h.counts;
+}
+  where
+    same : h.more ≡ order
+    same = sym (o ∙ h.grown ∙ ap (λ (ms : List Mark). ms ++ h.more) n)
+
+    by_held : (m : Option (List ℕ)) → IfSome m (λ file. heard ≡ with_end told (told_over (setting_of script header) (counted file records, arrived_all header script.calls seats) h.more))
+        → IfSome m (λ file. heard ≡ with_end told (told_of script header file order))
+    by_held None k = tt
+    by_held (Some file) k =
+        k ∙ ap (λ (ts : List (Mark × ℕ)). with_end told ts)
+        (ap (λ (ms : List Mark). told_over (setting_of script header) (counted file records, arrived_all header script.calls seats) ms) same
+        ∙ told_from_first script header file records seats order lawful e first)
