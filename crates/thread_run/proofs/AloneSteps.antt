@@ -38,6 +38,7 @@ pub record CameAlone (s : Setting) (hints : Hints) (r c : ℕ) (o : Offer) (b n 
   pub bytes : n.told ≡ after (λ file. (solo s r o (counted file 0)).0.file) b.told
   pub calls : IfSome b.told (λ file. n.calls ≡ with_end b.calls (solo_calls hints s r o (counted file 0)))
   pub order : n.order ≡ b.order ++ Solo r c ∷ []
+  pub heard : n.heard ≡ with_end b.heard ((Solo r c, b.records) ∷ [])
   pub seats : n.seats ≡ b.seats
   pub same_met : n.met ≡ b.met
   pub same_records : n.records ≡ b.records
@@ -51,6 +52,7 @@ alone s hints r c o b n y h = record {
   alike = λ file. record {
     desk = λ i. record { seats = sym h.seats i; met = sym h.same_met i; state = counted (solo s r o (counted file b.records)).0.file (sym h.same_records i); reached = reached_is i };
     marks = h.order;
+    heard = h.heard;
     given = λ q l.
         one_alike r y (solo s r o (counted file b.records)).1 q
         (record { pair = h.pair; records = h.records; lengths = h.fits ∙ sym (gots_long s (solo s r o (counted file b.records)).0.file o.batch.gets) });

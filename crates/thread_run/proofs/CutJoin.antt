@@ -48,7 +48,10 @@ use Rattle.turn_run.specs.Seated.{calls_of}
 use Rattle.turn_run.proofs.ListLaws.{get_mapped, get_replicate}
 use Rattle.join_laws.proofs.StrangeLaws.{event_is, strange_alone}
 use Rattle.join_laws.proofs.JoinLaws.{stranger_on, served_on, ServedOn}
+use Rattle.turn_run.specs.Telling.{counts_along}
+use Rattle.thread_run.specs.Owned.{desk_told}
 use Rattle.thread_run.proofs.DeskRuns.{given_on, seat_ended, seat_held}
+use Rattle.thread_run.proofs.TellLaws.{count_of, tells_more}
 
 -- ---- a beginning of what a rank puts
 
@@ -505,6 +508,7 @@ arrival_stands s d goings r (item.Offer c o) rest x g given end a b fit t =
 pub record Ran (s : Setting) (d : Desk) (goings : List Going) (first later : List Arrival) (n : ℕ → ℕ) (end : ℕ → Going) : Type 0 where
   pub last : List Going
   pub folded : fold (after_mark s) (d.state, goings) (served s d first).marks ≡ ((served s d first).desk.state, last)
+  pub told : desk_told s d first ≡ counts_along (after_mark s) count_of (d.state, goings) (served s d first).marks
   pub long : length last ≡ length d.seats
   pub stands : Stands s (served s d first).desk last (λ q. own_items q later) (λ q. replicate (n q) Stop) end
 
@@ -518,6 +522,7 @@ pub ran : (s : Setting) (first later : List Arrival) (d : Desk) (goings : List G
 ran s [] later d goings n end none low t = record {
   last = goings;
   folded = refl;
+  told = refl;
   long = sym t.long;
   stands = t;
 }
@@ -534,6 +539,7 @@ ran s ((r, i) ∷ first) later d goings n end none low t = by (is_strange s d (r
           ∙ fold_two s (d.state, goings) (event s d (r, i)).marks (served s (event s d (r, i)).desk first).marks
           ∙ ap (λ (st : Counted × List Going). fold (after_mark s) st (served s (event s d (r, i)).desk first).marks) step.folded ∙ after.folded
           ∙ ap (λ (e : Desk). (e.state, after.last)) (sym on.desk);
+      told = tells_more s d goings step.after (r, i) first f step.folded after.told;
       long = after.long ∙ step.ranks;
       stands = subst (λ (e : Desk). Stands s e after.last (λ q. own_items q later) (λ q. replicate (n q) Stop) end) (sym on.desk) after.stands;
     }

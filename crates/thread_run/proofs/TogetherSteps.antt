@@ -75,6 +75,7 @@ pub record Came (s : Setting) (hints : Hints) (b n : Standing) (batches : List B
   pub calls : IsOneRise known batches → IfSome b.told (λ file. n.calls ≡ with_end b.calls (met_calls hints s batches known (counted file b.records)))
   pub once : HoldSingle b.seats → IsOneRise (known_of (offers_held b.seats)) (batches_of (offers_held b.seats))
   pub order : n.order ≡ b.order ++ Meet b.met ∷ []
+  pub heard : n.heard ≡ with_end b.heard ((Meet b.met, n.records) ∷ [])
   pub seats : n.seats ≡ map freed b.seats
   pub met_more : n.met ≡ b.met + 1
   pub reached : n.reached ≡ max b.reached n.records
@@ -89,6 +90,7 @@ together s hints b n batches known pair table h = record {
   alike = λ file. record {
     desk = λ i. record { seats = sym h.seats i; met = met_is_more i; state = counted (meeting s offers (counted file b.records)).0.file (count file i); reached = reached_is i };
     marks = h.order;
+    heard = h.heard ∙ ap (λ (k : ℕ). with_end b.heard ((Meet b.met, k) ∷ [])) (sym (count file));
     given = λ q l. each_alike s pair (told s (flat_map puts_of (enumerate_from 0 offers))) n.records (meeting s offers (counted file b.records)).0 table offers q same_pair (sym (count file)) fits;
   };
   exact = exact b.told refl;

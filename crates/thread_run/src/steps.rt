@@ -224,6 +224,7 @@ impl Desk {
         ensures freed { OnOk result (self.new.seats.items ≡ map freed self.old.seats.items) }
         ensures met { self.new.met ≡ self.old.met }
         ensures reached { self.new.reached ≡ self.old.reached }
+        ensures order { self.new.order ≡ self.old.order }
     {
         take_all(alloc, &mut self.seats)
     }
