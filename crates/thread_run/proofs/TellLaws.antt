@@ -9,7 +9,7 @@ use Rattle.nc_base.specs.declared.step.OfferKind.{OfferKind}
 use Rattle.nc_base.specs.declared.step.OfferKind.TheVariants as offer
 use Rattle.nc_base.specs.declared.step.RankItem.{RankItem}
 use Rattle.nc_base.specs.declared.step.RankItem.TheVariants as item
-use Rattle.serial_spec.specs.Desk.{Desk, Event, Seat, at_item, at_offer, event, event_at, holds, is_strange, meets_if, served}
+use Rattle.serial_spec.specs.Desk.{Desk, Ending, Event, Seat, at_item, at_offer, event, event_at, holds, is_strange, meets_if, served}
 use Rattle.serial_spec.specs.FileStep.{Counted, Setting}
 use Rattle.serial_spec.specs.History.{Arrival}
 use Rattle.serial_spec.specs.SerialEnd.{Going, after_mark}
@@ -68,9 +68,9 @@ same_told s (a ∷ first) later (b ∷ more) rest d e none free marks = by (is_s
         let as_a = ap (λ (c : Arrival). served s d (c ∷ more)) same in
         told_on s d a first f
         ∙ ap (λ (told : List (Mark × ℕ)). each_told (event s d a) ++ told)
-        (again others (sym one.stranger ∙ none) (sym other.stranger ∙ ap (λ (ending : _). ending.stranger) as_a ∙ free)
+        (again others (sym one.stranger ∙ none) (sym other.stranger ∙ ap (λ (x : Ending). x.stranger) as_a ∙ free)
         (append_cancel_left (event s d a).marks (served s (event s d a).desk first).marks (served s (event s d a).desk more).marks
-        (sym one.marks ∙ marks ∙ sym (ap (λ (ending : _). ending.marks) as_a) ∙ other.marks)))
+        (sym one.marks ∙ marks ∙ sym (ap (λ (x : Ending). x.marks) as_a) ∙ other.marks)))
         ∙ sym (told_on s d a more f) ∙ ap (λ (c : Arrival). desk_told s d (c ∷ more)) same
 
 -- ---- the counts, by the steps of the serial run

@@ -36,9 +36,6 @@ module _ (script : Script) (header : Header) (arrivals : List Arrival) (given : 
       → heard ≡ with_end told (told_of script header file before.order)
   run_counts file along done so cut = by_service (by_fault before.fault refl)
     where
-      desk : Desk
-      desk = opening_desk script header file
-
       is : opening script.ranks (counted file header.records) ≡ opening_desk script header file
       is = desk_is script header arrivals given ends sound lawful t file
 

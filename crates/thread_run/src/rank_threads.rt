@@ -270,7 +270,15 @@ fn run_in_scope<'s, 'd, E, R: Threads + Wait + Sync, D: Disk, G: Gate, T: Told>(
     };
     let mut records = records;
     let end = run_started(
-        rt, alloc, disk, header, &mut records, script, gate, told, crew,
+        rt,
+        alloc,
+        disk,
+        header,
+        &mut records,
+        script,
+        gate,
+        told,
+        crew,
     );
     Scoped {
         disk,

@@ -16,8 +16,8 @@ ghost use Rattle.thread_run.specs.Stopping.{held_stops, stop_each, stops_for};
 use crate::desk::{Desk, all_hold, take_all};
 use crate::stopping::{stop_arrival, stop_each, stop_held};
 use nc_base::{
-    GotTable, Header, Hints, Job, Mark, Memory, Offer, OfferKind, OwnerItem, Pair,
-    RankItem, Reply, StepErr,
+    GotTable, Header, Hints, Job, Mark, Memory, Offer, OfferKind, OwnerItem, Pair, RankItem, Reply,
+    StepErr,
 };
 use nc_outside::{Disk, Gate, Told};
 use ruled_line::LinePutList;

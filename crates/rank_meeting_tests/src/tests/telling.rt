@@ -84,7 +84,10 @@ fn a_step_that_cannot_be_told_is_not_in_the_order(rt: HostRuntime) -> Result<(),
     let mut listener = Listener::new(rt.alloc(), 2);
     let end = told_of_two(&rt, rt.alloc(), &mut listener)?;
     assert_eq!(rt; end.fault, Some(StepErr::Memory));
-    assert_eq!(rt; end.order.as_slice(), [Mark::Meet(0), Mark::Solo(1, 1)].as_slice());
+    assert_eq!(rt;
+        end.order.as_slice(),
+        [Mark::Meet(0), Mark::Solo(1, 1)].as_slice()
+    );
     assert_eq!(rt; listener.told.len(), 2);
     Ok(())
 }
@@ -98,7 +101,14 @@ fn a_run_on_threads_tells_its_meeting(rt: HostRuntime) -> Result<(), Fail> {
     let mut disk = disk_of_zeros(alloc)?;
     let mut listener = Listener::new(alloc, 8);
     let end = run_ranks_told(
-        &rt, alloc, &mut disk, &header, &mut records, &script, &OpenGate, &mut listener,
+        &rt,
+        alloc,
+        &mut disk,
+        &header,
+        &mut records,
+        &script,
+        &OpenGate,
+        &mut listener,
     );
     assert_eq!(rt; end.fault, None);
     assert_eq!(rt; listener.told.as_slice(), [(Mark::Meet(0), 0)].as_slice());
