@@ -103,10 +103,10 @@ pub(crate) struct Crew {
 }
 
 /// What a scope of threads gives back: what was lent to it, and the end of the run, if all threads were started.
-pub(crate) struct Scoped<'d, D, T> {
+pub(crate) struct Scoped<'d, 't, D, T> {
     pub disk: &'d mut D,
     pub records: u64,
-    pub told: &'d mut T,
+    pub told: &'t mut T,
     pub end: Option<RunEnd>,
 }
 
@@ -217,7 +217,7 @@ fn make_rooms(alloc: Global, ranks: u32) -> Result<Rooms, Memory>
 }
 
 /// Starts a thread for each rank, and does the run where all were started. Else those that were started are told to stop.
-fn run_in_scope<'s, 'd, E, R: Threads + Wait + Sync, D: Disk, G: Gate, T: Told>(
+fn run_in_scope<'s, 'd, 't, E, R: Threads + Wait + Sync, D: Disk, G: Gate, T: Told>(
     scope: &'s Scope<'s, E>,
     rt: &'s R,
     alloc: Global,
@@ -227,9 +227,9 @@ fn run_in_scope<'s, 'd, E, R: Threads + Wait + Sync, D: Disk, G: Gate, T: Told>(
     script: &'s Script,
     names: &'s Names,
     gate: &'s G,
-    told: &'d mut T,
+    told: &'t mut T,
     rooms: Rooms,
-) -> Scoped<'d, D, T>
+) -> Scoped<'d, 't, D, T>
     requires sound { is_sound header.now ≡ true }
     requires lawful { is_lawful script.now ≡ true }
     requires names { IsIndexOf header.now names.now }

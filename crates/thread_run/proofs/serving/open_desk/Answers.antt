@@ -9,8 +9,8 @@ use Rattle.thread_run.proofs.serving.open_desk.Goals as goal
 
 pub returns-in-Err-clause-halted : goal.returns-in-Err-clause-halted
 returns-in-Err-clause-halted g c =
-    halt_none c.args.hints.now (setting c.args.header.now c.args.hints.now) c.args.inbox.now c.args.door.now.ended fault.Memory c.args.inbox.now.senders c.args.records.now (g.D.Disk.held c.args.disk.now) (g.D.Disk.calls c.args.disk.now) c.new.result (g.T.Told.heard c.args.told.now) c.args.back.now
-    c.requires.ended refl c.new.ensures
+    halt_none c.args.hints.now (setting c.args.header.now c.args.hints.now) c.args.inbox.now c.args.door.now.ended fault.Memory c.args.inbox.now.senders c.args.records.now (g.D.Disk.held c.args.disk.now) (g.D.Disk.calls c.args.disk.now) c.new-in-Err.result (g.T.Told.heard c.args.told.now) c.args.back.now
+    c.requires.ended refl c.new-in-Err.ensures
 
 pub serve_all-halt-requires-clause-steady : goal.serve_all-halt-requires-clause-steady
 serve_all-halt-requires-clause-steady g c κs within =
