@@ -1,5 +1,5 @@
 -- The run of a script, from its first stage to its end.
-use Rattle.std.proofs.Common.{◌≡◌, ℕ, sym, ◌∙◌, ap, subst, List, [], Some, Err, rules, map, refl, inl}
+use Rattle.std.proofs.Common.{◌≡◌, ℕ, sym, ◌∙◌, ap, subst, List, Some, Err, rules, map, refl, inl}
 use Rattle.std.proofs.lemmas.List.{with_items_is}
 use Rattle.nc_base.specs.declared.step.Mark.{Mark}
 use Rattle.nc_base.specs.declared.step.DiskCall.{DiskCall}
