@@ -29,16 +29,16 @@ use Rattle.rank_items.specs.Own.{HasOwnElements, HasOwnPuts}
 use Rattle.join_laws.specs.Alike.{AreAlike}
 use Rattle.turn_run.specs.Counts.{IsCount, IsFit}
 use Rattle.join_laws.proofs.StrangeLaws.{event_is}
-use Rattle.thread_run.specs.Owned.{calls_at, calls_at_offer, calls_if, desk_at, each_told, event_calls, AreOfOneKind, GoesAlike, GoesSo, Grows, HasDone, HasMovedOnce, HoldAll, HoldSingle, IsAlone, IsHeld, IsSingle, IsSteady, IsTogether, Standing, IsSingleOffer}
+use Rattle.thread_run.specs.Owned.{calls_at, calls_at_offer, calls_if, desk_at, each_told, event_calls, GoesSo, Grows, HasDone, HasMovedOnce, HoldSingle, IsAlone, IsHeld, IsSingle, IsSteady, IsTogether, Standing, IsSingleOffer}
 use Rattle.thread_run.specs.Stopping.{held_stops, put_one, stop_each, stops_for}
 use Rattle.thread_run.proofs.AlikeLaws.{lines_as, lines_none, lines_twice}
 use Rattle.turn_run.proofs.CountLaws.{count_less, count_longer}
-use Rattle.thread_run.proofs.DeskRuns.{other_number, seat_ended, seat_held}
+use Rattle.thread_run.proofs.DeskRuns.{seat_ended, seat_held}
 use Rattle.turn_run.proofs.ListLaws.{get_set, get_set_other, get_there}
 use Rattle.turn_run.proofs.MeetLists.{got_or}
 use Rattle.thread_run.proofs.PutLaws.{put_here, put_other, stop_for_offer}
 use Rattle.turn_run.proofs.StageLaws.{ended_by_none}
-use Rattle.thread_run.proofs.StrangeLaws.{fits, kind_is, passes, Passes}
+use Rattle.thread_run.proofs.StrangeLaws.{fits, kind_is, passes}
 
 abbrev pub with_seats : Standing → List Seat → Standing
 with_seats b seats =

@@ -1,12 +1,12 @@
 -- The owner's run along arrivals of which none was strange, wherever it was cut off: it is the serial run of its order, and each rank
 -- ended where that run's rank goes up to.
-use Rattle.std.proofs.Common.{◌≡◌, ℕ, zero, suc, ◌+◌, ◌<◌, ◌≤◌, refl, sym, ◌∙◌, ap, subst, inl, inr, ◌⊎◌, List, [], ◌∷◌, ◌++◌, length, map, max, set, replicate, Bool, true, false, ◌&&◌, ◌||◌, Option, Some, None, append_assoc, arith}
+use Rattle.std.proofs.Common.{◌≡◌, ℕ, zero, suc, ◌+◌, ◌<◌, ◌≤◌, refl, sym, ◌∙◌, ap, subst, inl, inr, ◌⊎◌, List, [], ◌∷◌, ◌++◌, length, map, max, set, replicate, Bool, true, false, Option, Some, None, append_assoc, arith}
 use Rattle.std.proofs.lemmas.Bool.{ltb-false, or_from}
 use Rattle.std.proofs.lemmas.Bool.Decides.{eqb_tells, nat_tests}
 use Rattle.std.proofs.lemmas.List.{length-map, length-replicate, length-set}
 use Rattle.std.proofs.lemmas.List.Folds.{list_all-append}
 use Rattle.std.proofs.lemmas.Option.{slice_get-map, slice_get_within, same_Some}
-use Rattle.std.specs.Prelude.{slice_get, filter, flat_map, fold, is_some, nat_lt, ◌==◌}
+use Rattle.std.specs.Prelude.{slice_get, flat_map, fold, is_some, nat_lt, ◌==◌}
 use Rattle.std.specs.List.{enumerate_from, list_all}
 use borrow.Author.Tests.{ltb-true}
 use Rattle.list_laws.proofs.Each.{passes_at}
@@ -18,7 +18,6 @@ use Rattle.nc_base.specs.declared.header.Header.{Header}
 use Rattle.nc_base.specs.declared.request.Call.{Call}
 use Rattle.nc_base.specs.declared.script.Script.{Script}
 use Rattle.nc_base.specs.declared.step.Mark.{Mark}
-use Rattle.nc_base.specs.declared.step.MeetKind.{MeetKind}
 use Rattle.nc_base.specs.declared.step.Offer.{Offer}
 use Rattle.nc_base.specs.declared.step.OfferKind.{OfferKind}
 use Rattle.nc_base.specs.declared.step.OfferKind.TheVariants as offer
@@ -27,9 +26,9 @@ use Rattle.nc_base.specs.declared.step.OwnerItem.TheVariants.{Reply, Stop}
 use Rattle.nc_base.specs.declared.step.RankItem.{RankItem}
 use Rattle.nc_base.specs.declared.step.RankItem.TheVariants as item
 use Rattle.nc_base.specs.declared.step.Reply as reply
-use Rattle.serial_spec.specs.Desk.{Desk, Event, Seat, at_offer, does_meeting, does_solo, event, free_seat, freed, given_along, holds, is_strange, keeps, left_behind, meets_if, needed_now, offers_held, offers_in, own_items, served, some_true, strange_offer, to_each, differs, kind_held, has_ended, has_held}
+use Rattle.serial_spec.specs.Desk.{Desk, Event, Seat, at_offer, does_meeting, does_solo, event, free_seat, freed, given_along, holds, is_strange, keeps, left_behind, meets_if, needed_now, offers_held, offers_in, own_items, served, some_true, strange_offer, to_each, has_ended, has_held}
 use Rattle.serial_spec.specs.FileStep.{Setting, Counted, meeting, puts_of, solo}
-use Rattle.serial_spec.specs.History.{Arrival, is_offer, meeting_kind, offer_of}
+use Rattle.serial_spec.specs.History.{Arrival, is_offer}
 use Rattle.serial_spec.specs.Limits.{record_limit}
 use Rattle.serial_spec.specs.HeaderGrammar.{is_sound}
 use Rattle.serial_spec.specs.Joined.{opening_desk, run_of}

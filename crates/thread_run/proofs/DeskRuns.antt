@@ -9,7 +9,7 @@ use Rattle.nc_base.specs.declared.step.Offer.{Offer}
 use Rattle.nc_base.specs.declared.step.OwnerItem.{OwnerItem}
 use Rattle.serial_spec.specs.FileStep.{Setting}
 use Rattle.serial_spec.specs.History.{Arrival}
-use Rattle.serial_spec.specs.Desk.{Seat, Desk, event, given_along, is_strange, owed, served, stops}
+use Rattle.serial_spec.specs.Desk.{Seat, Desk, event, given_along, is_strange, owed, served}
 use Rattle.join_laws.proofs.JoinLaws.{owed_on, served_on, stranger_on, ServedOn}
 use Rattle.thread_run.specs.Owned.{desk_calls, desk_told, each_told, event_calls}
 

@@ -1,5 +1,5 @@
 -- What the owner's ends tell when it is done.
-use Rattle.std.proofs.Common.{◌≡◌, ℕ, zero, suc, ◌+◌, ◌<◌, ◌≤◌, refl, sym, ◌∙◌, ap, subst, inl, inr, List, [], ◌∷◌, ◌++◌, length, map, replicate, drop, Bool, true, false, ◌&&◌, Option, Some, None, append_assoc, arith}
+use Rattle.std.proofs.Common.{◌≡◌, ℕ, zero, suc, ◌+◌, ◌<◌, refl, sym, ◌∙◌, ap, subst, inl, inr, List, [], ◌∷◌, ◌++◌, length, map, replicate, drop, Bool, true, false, ◌&&◌, Option, Some, None, append_assoc, arith}
 use Rattle.std.proofs.Math.Seq.{drop-append_seam}
 use Rattle.std.proofs.lemmas.List.{append-nil, length-append, length-map, length-replicate}
 use Rattle.std.proofs.lemmas.Option.{same_Some}
@@ -20,11 +20,10 @@ use Rattle.serial_spec.specs.Desk.{Desk, Seat, free_seat, given_along, is_strang
 use Rattle.serial_spec.specs.FileStep.{Setting}
 use Rattle.serial_spec.specs.History.{Arrival, is_offer}
 use Rattle.serial_spec.specs.Joined.{HasEnd}
-use Rattle.serial_spec.specs.Torn.{IsCutService, OwnerStoodAt}
+use Rattle.serial_spec.specs.Torn.{OwnerStoodAt}
 use Rattle.collective_round.specs.Rounds.{counted}
-use Rattle.join_laws.specs.Alike.{AreAlike}
 use Rattle.join_laws.proofs.JoinLaws.{owed_stop}
-use Rattle.thread_run.specs.Halted.{of_fault, of_stranger, HasFinished, HasHalted, HasSeenAll, IsHaltAt, IsLeft, IsNoMore, IsStrangeAt}
+use Rattle.thread_run.specs.Halted.{of_fault, of_stranger, HasFinished, HasHalted, HasSeenAll, IsHaltAt, IsLeft, IsNoMore}
 use Rattle.thread_run.specs.Owned.{desk_at, desk_calls, opening_standing, run, AreSingle, GoesSo, Grows, HasRun, HoldSingle, Standing}
 use Rattle.thread_run.specs.Refused.{HasCutService}
 use Rattle.thread_run.specs.Serving.{arrived, gained, more_on, opening, HasFailed, HasTaken, HasToldAlong, HavePut, IsCutOff, IsDone, IsDoneSo}

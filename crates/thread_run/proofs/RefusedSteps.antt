@@ -1,14 +1,13 @@
 -- What a refused step leaves, as the owner's event has it.
-use Rattle.std.proofs.Common.{◌≡◌, ℕ, ◌+◌, ◌<◌, ◌≤◌, refl, sym, ◌∙◌, ap, subst, inl, inr, ◌⊎◌, List, [], ◌∷◌, ◌++◌, length, max, set, true, false, Option, Some, None, Result, Ok, Err, arith}
+use Rattle.std.proofs.Common.{◌≡◌, ℕ, refl, sym, ◌∙◌, ap, subst, inl, inr, ◌⊎◌, List, [], ◌∷◌, ◌++◌, max, set, true, false, Option, Some, None, arith}
 use Rattle.std.proofs.lemmas.List.{append-nil}
 use Rattle.std.proofs.lemmas.Option.{same_Some}
-use Rattle.std.specs.Prelude.{slice_get, flat_map, IfSome, OnErr}
+use Rattle.std.specs.Prelude.{slice_get, flat_map, IfSome}
 use Rattle.std.specs.List.{enumerate_from, list_all}
 use Rattle.std.specs.Int.{byte_len}
 use Rattle.nc_base.specs.declared.plan.Batch.{Batch}
 use Rattle.nc_base.specs.declared.step.MeetKind.{MeetKind}
 use Rattle.nc_base.specs.declared.step.Offer.{Offer}
-use Rattle.nc_base.specs.declared.step.OfferKind.{OfferKind}
 use Rattle.nc_base.specs.declared.step.OfferKind.TheVariants as offer
 use Rattle.nc_base.specs.declared.step.RankItem.{RankItem}
 use Rattle.nc_base.specs.declared.step.RankItem.TheVariants as item
@@ -16,7 +15,7 @@ use Rattle.nc_base.specs.declared.step.StepErr.{StepErr}
 use Rattle.nc_base.specs.declared.step.StepErr.TheVariants.{Memory}
 use Rattle.nc_outside.specs.Told.{after, BothTold}
 use Rattle.serial_spec.specs.Desk.{Desk, Event, Seat, does_meeting, does_solo, event, holds, is_strange, meets_if, needed_now, offers_at, offers_held, offers_met, step_offers}
-use Rattle.serial_spec.specs.FileStep.{Setting, Counted, after_puts, meeting, puts_of, solo, told}
+use Rattle.serial_spec.specs.FileStep.{Setting, Counted, meeting, puts_of, solo}
 use Rattle.serial_spec.specs.HeaderGrammar.{count_width}
 use Rattle.serial_spec.specs.History.{Arrival}
 use Rattle.serial_spec.specs.SharedByte.{Puts, covered}
@@ -27,8 +26,8 @@ use Rattle.collective_round.proofs.TornLaws.{torn_by, torn_wider}
 use Rattle.turn_run.specs.Steps.{batches_of, known_of, met, IsOneRise}
 use Rattle.turn_run.proofs.CutMeet.{met_count, met_done, met_torn}
 use Rattle.turn_run.proofs.MeetStep.{met_is, puts_same}
-use Rattle.thread_run.specs.Owned.{desk_at, AreSingle, HoldSingle, IsSingle, IsSingleOffer, Standing}
-use Rattle.thread_run.specs.Refused.{IsFaultAt, IsRefused, IsRefusedAlone, IsRefusedArrival, IsRefusedTogether}
+use Rattle.thread_run.specs.Owned.{desk_at, HoldSingle, IsSingle, IsSingleOffer, Standing}
+use Rattle.thread_run.specs.Refused.{IsFaultAt, IsRefusedAlone, IsRefusedArrival, IsRefusedTogether}
 use Rattle.thread_run.proofs.ArriveSteps.{offer_event, single_set, with_seats}
 use Rattle.thread_run.proofs.DeskRuns.{seat_held}
 

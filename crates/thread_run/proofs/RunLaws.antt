@@ -1,22 +1,20 @@
 -- What can be seen of an owner, arrival after arrival.
-use Rattle.std.proofs.Common.{◌≡◌, ℕ, ◌<◌, ◌≤◌, refl, sym, ◌∙◌, ap, subst, inl, inr, List, [], ◌∷◌, ◌++◌, length, replicate, Bool, true, false, Option, Some, None, append_assoc, arith}
+use Rattle.std.proofs.Common.{◌≡◌, ℕ, refl, sym, ◌∙◌, ap, subst, inl, inr, List, [], ◌∷◌, ◌++◌, length, false, Option, Some, None, append_assoc, arith}
 use Rattle.std.proofs.lemmas.List.{append-nil}
-use Rattle.std.specs.Prelude.{IfSome, slice_get, ◌⊎◌}
+use Rattle.std.specs.Prelude.{IfSome}
 use Rattle.nc_base.specs.declared.script.Hints.{Hints}
 use Rattle.nc_base.specs.declared.step.DiskCall.{DiskCall}
 use Rattle.nc_base.specs.declared.step.Mark.{Mark}
 use Rattle.nc_base.specs.declared.step.OwnerItem.{OwnerItem}
 use Rattle.nc_outside.specs.Told.{with_end}
 use Rattle.overlay_laws.specs.Entries.{In}
-use Rattle.overlay_laws.proofs.HullLaws.{in_either}
 use Rattle.serial_spec.specs.FileStep.{Setting}
 use Rattle.serial_spec.specs.History.{Arrival}
 use Rattle.serial_spec.specs.Desk.{Desk, Event, event, given_along, is_strange, served}
-use Rattle.join_laws.specs.Alike.{AreAlike}
 use Rattle.join_laws.proofs.JoinLaws.{served_on}
-use Rattle.thread_run.specs.Owned.{desk_at, desk_calls, desk_told, each_told, event_calls, run, AreSingle, GoesAlike, GoesSo, HasDone, HasMoved, HasRun, HoldSingle, IsSingle, Standing}
+use Rattle.thread_run.specs.Owned.{desk_at, desk_calls, desk_told, each_told, event_calls, run, AreSingle, GoesAlike, GoesSo, HasDone, HasRun, HoldSingle, IsSingle, Standing}
 use Rattle.thread_run.proofs.AlikeLaws.{alike_by, alike_two, lines_none, lines_twice}
-use Rattle.thread_run.proofs.DeskRuns.{goes_on, told_on, GoesOn}
+use Rattle.thread_run.proofs.DeskRuns.{goes_on, told_on}
 use Rattle.turn_run.proofs.StageLaws.{ended_by_none, ended_twice}
 
 pub run_none : (hints : Hints) (s : Setting) (x : Standing) → HasRun hints s [] x x

@@ -1,19 +1,17 @@
 -- A run on threads that a fault cut off, from what the owner tells and what the close tells.
-use Rattle.std.proofs.Common.{◌≡◌, ℕ, zero, suc, ◌+◌, ◌-◌, ◌<◌, ◌≤◌, refl, sym, ◌∙◌, ap, subst, inl, inr, ◌⊎◌, List, [], ◌∷◌, ◌++◌, length, map, max, replicate, Bool, true, false, cond, ◌&&◌, Option, Some, None, append_assoc, arith}
+use Rattle.std.proofs.Common.{◌≡◌, ℕ, suc, ◌-◌, ◌<◌, ◌≤◌, refl, sym, ◌∙◌, ap, subst, inl, inr, ◌⊎◌, List, [], ◌∷◌, ◌++◌, length, map, max, replicate, Bool, true, false, cond, Option, Some, None, append_assoc, arith}
 use Rattle.std.proofs.lemmas.List.{append-nil, length-append, length-map, length-replicate}
 use Rattle.std.proofs.lemmas.List.Folds.{list_all-append}
 use Rattle.std.proofs.lemmas.Option.{slice_get_within, same_Some}
-use mathlib.Core.List.{IsPrefix}
 use Rattle.std.specs.Prelude.{slice_get, nat_lt, filter, IfSome}
 use Rattle.std.specs.Int.{byte_len}
 use Rattle.std.specs.List.{list_all}
 use Rattle.list_laws.proofs.Places.{entry_below}
-use Rattle.list_laws.proofs.Truth.{and_first, and_second}
+use Rattle.list_laws.proofs.Truth.{and_second}
 use Rattle.nc_base.specs.declared.answer.Answer.{Answer}
 use Rattle.nc_base.specs.declared.header.Header.{Header}
 use Rattle.nc_base.specs.declared.request.Call.{Call}
 use Rattle.nc_base.specs.declared.run.RankEnd.{RankEnd}
-use Rattle.nc_base.specs.declared.run.RankStop.{RankStop}
 use Rattle.nc_base.specs.declared.run.RankStop.TheVariants as stop
 use Rattle.nc_base.specs.declared.run.RunEnd.{RunEnd}
 use Rattle.nc_base.specs.declared.run.ServeEnd.{ServeEnd}
@@ -35,7 +33,7 @@ use Rattle.serial_spec.specs.Joined.{opening_desk, run_of}
 use Rattle.serial_spec.specs.Lawful.{is_lawful}
 use Rattle.serial_spec.specs.RankSide.{rank_end}
 use Rattle.serial_spec.specs.Reading.{told_of}
-use Rattle.serial_spec.specs.SerialEnd.{Going, advance, after_mark, closed, first_going, first_state, serial_from, setting_of, state_after}
+use Rattle.serial_spec.specs.SerialEnd.{Going, advance, after_mark, first_going, first_state, serial_from, setting_of, state_after}
 use Rattle.serial_spec.specs.Torn.{Begins, HasAnswers, HasAnswersOfEach, IsCutRun, IsLeft, IsTorn, OwnerStoodAt, StoodAt}
 use Rattle.serial_spec.specs.Torn.StoodAt.{in_step, in_close, between}
 use Rattle.collective_round.specs.Rounds.{as_setting, counted}
@@ -49,7 +47,6 @@ use Rattle.turn_run.proofs.CutRuns.{no_answers}
 use Rattle.turn_run.proofs.ListLaws.{get_mapped}
 use Rattle.turn_run.proofs.SaidLaws.{said_here, said_part, said_up}
 use Rattle.turn_run.proofs.TellLaws.{told_along}
-use Rattle.thread_run.specs.Attending.{HasAttended, HasBroken, HasFinished}
 use Rattle.turn_run.specs.Telling.{counts_along}
 use Rattle.thread_run.specs.Owned.{desk_told, AreSingle}
 use Rattle.thread_run.specs.Refused.{HasCutService}
@@ -57,12 +54,12 @@ use Rattle.thread_run.specs.Serving.{IsDone, IsDoneSo, opening}
 use Rattle.turn_run.specs.Run.{HasCut}
 use Rattle.thread_run.specs.Threads.{EndedAt, NoneBroke, most_known_of}
 use Rattle.thread_run.specs.Threads.EndedAt.{as_left, in_close as in_closing}
-use Rattle.thread_run.proofs.CutJoin.{Ran, Stands, cut_run, end_of_rank, last_end, Sits}
+use Rattle.thread_run.proofs.CutJoin.{Ran, cut_run, end_of_rank, last_end}
 use Rattle.thread_run.proofs.CutStood.{single_begun, stood_run}
-use Rattle.join_laws.proofs.JoinLaws.{stranger_on, owed_stop, served_on}
-use Rattle.thread_run.proofs.DeskRuns.{GoesOn, goes_on, stops_at}
+use Rattle.join_laws.proofs.JoinLaws.{owed_stop, served_on}
+use Rattle.thread_run.proofs.DeskRuns.{goes_on, stops_at}
 use Rattle.thread_run.proofs.TellLaws.{count_of}
-use Rattle.thread_run.proofs.ThreadRuns.{Finished, FinishedSo, finished, finished_so}
+use Rattle.thread_run.proofs.ThreadRuns.{FinishedSo, finished, finished_so}
 use Rattle.thread_run.proofs.ThreadTies.{Own, Told, begun, broke_or_not, offered_all, own_of, puts, takes}
 
 -- ---- the part of a run that was done

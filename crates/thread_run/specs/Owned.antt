@@ -25,7 +25,6 @@ use Rattle.nc_base.specs.declared.step.OwnerItem.TheVariants.{Reply}
 use Rattle.nc_base.specs.declared.step.RankItem.{RankItem}
 use Rattle.nc_base.specs.declared.step.RankItem.TheVariants as item
 use Rattle.nc_outside.specs.Told.{with_end}
-use Rattle.overlay_laws.specs.Entries.{In}
 use Rattle.ruled_line.specs.Ends.{End}
 use Rattle.serial_spec.specs.Desk.{Desk, Event, Seat, does_meeting, does_solo, event, free_seat, given_along, holds, is_strange, offers_held, served}
 use Rattle.serial_spec.specs.DeviceCalls.{meeting_calls, solo_calls}

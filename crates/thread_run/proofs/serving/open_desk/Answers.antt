@@ -3,7 +3,7 @@ use Rattle.std.proofs.Common.{refl, sym, ◌∙◌, subst}
 use Rattle.nc_base.specs.declared.step.StepErr.TheVariants as fault
 use Rattle.collective_round.specs.Rounds.{setting}
 use Rattle.thread_run.specs.Halted.{HasHalted}
-use Rattle.thread_run.specs.Owned.{opening_standing, standing, IsSteady, Standing}
+use Rattle.thread_run.specs.Owned.{IsSteady, Standing}
 use Rattle.thread_run.proofs.HaltLaws.{halt_none, opened_is, opening_steady}
 use Rattle.thread_run.proofs.serving.open_desk.Goals as goal
 

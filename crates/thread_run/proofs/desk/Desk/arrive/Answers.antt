@@ -1,5 +1,5 @@
 -- An end, an offer that a number makes alone, a meeting, and an offer that is held.
-use Rattle.std.proofs.Common.{◌≡◌, ℕ, [], true, false, sym, refl, ◌∙◌, ap}
+use Rattle.std.proofs.Common.{[], sym, refl, ◌∙◌, ap}
 use Rattle.std.proofs.lemmas.Result.{on_err_weaker, on_ok_weaker}
 use Rattle.std.specs.List.{list_all}
 use Rattle.nc_base.specs.declared.step.RankItem.TheVariants as item

@@ -5,7 +5,7 @@ use Rattle.collective_round.specs.Rounds.{setting}
 use Rattle.turn_run.specs.Counts.{IsCount}
 use Rattle.thread_run.specs.Owned.{standing}
 use Rattle.thread_run.proofs.AloneSteps.{alone}
-use Rattle.turn_run.proofs.CountLaws.{count_longer, count_max, count_still}
+use Rattle.turn_run.proofs.CountLaws.{count_longer, count_max}
 use Rattle.thread_run.proofs.PutLaws.{one_put}
 use Rattle.serial_spec.specs.FileStep.{puts_of, told}
 use Rattle.collective_round.proofs.TornLaws.{done_torn}
