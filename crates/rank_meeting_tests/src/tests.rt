@@ -2,3 +2,4 @@
 mod attending;
 mod scripts;
 mod serving;
+mod telling;

@@ -1,22 +1,19 @@
 -- A number's own step, as the disk, the order and the lines show it.
-use Rattle.std.proofs.Common.{◌≡◌, ℕ, ◌+◌, ◌<◌, ◌≤◌, refl, sym, ◌∙◌, ap, subst, inl, inr, ◌⊎◌, List, [], ◌∷◌, ◌++◌, length, map, max, Bool, true, false, Option, Some, None, arith}
-use Rattle.std.proofs.lemmas.Bool.{cases_eq}
-use Rattle.std.specs.Prelude.{IfSome, slice_get, ◌==◌}
+use Rattle.std.proofs.Common.{◌≡◌, ℕ, ◌≤◌, refl, sym, ◌∙◌, ap, subst, List, [], ◌∷◌, ◌++◌, length, map, max, Bool, true, false, Option, Some, None, arith}
+use Rattle.std.specs.Prelude.{IfSome, ◌==◌}
 use Rattle.nc_base.specs.declared.script.Hints.{Hints}
-use Rattle.nc_base.specs.declared.step.DiskCall.{DiskCall}
 use Rattle.nc_base.specs.declared.step.Mark.TheVariants.{Solo}
 use Rattle.nc_base.specs.declared.step.Offer.{Offer}
-use Rattle.nc_base.specs.declared.step.OwnerItem.{OwnerItem}
 use Rattle.nc_base.specs.declared.step.OwnerItem.TheVariants.{Reply}
 use Rattle.nc_base.specs.declared.step.Reply as reply
 use Rattle.nc_outside.specs.Told.{after, with_end}
-use Rattle.serial_spec.specs.Desk.{Desk, does_solo, needed_now, to_one}
+use Rattle.serial_spec.specs.Desk.{does_solo, needed_now, to_one}
 use Rattle.serial_spec.specs.DeviceCalls.{solo_calls}
-use Rattle.serial_spec.specs.FileStep.{Setting, after_puts, get_post, puts_of, solo, told}
+use Rattle.serial_spec.specs.FileStep.{Setting, puts_of, solo, told}
 use Rattle.serial_spec.specs.RankSide.{wanted}
 use Rattle.collective_round.specs.Rounds.{counted}
 use Rattle.join_laws.specs.Alike.{AreAlike, TellAlike}
-use Rattle.thread_run.specs.Owned.{desk_at, GoesAlike, GoesSo, Grows, HoldSingle, IsAlone, Standing}
+use Rattle.thread_run.specs.Owned.{desk_at, GoesSo, Grows, HoldSingle, IsAlone, Standing}
 use Rattle.thread_run.specs.Stopping.{put_one}
 use Rattle.join_laws.proofs.ReplyLaws.{gots_long}
 use Rattle.turn_run.proofs.MeetSolo.{told_at}
@@ -38,6 +35,7 @@ pub record CameAlone (s : Setting) (hints : Hints) (r c : ℕ) (o : Offer) (b n 
   pub bytes : n.told ≡ after (λ file. (solo s r o (counted file 0)).0.file) b.told
   pub calls : IfSome b.told (λ file. n.calls ≡ with_end b.calls (solo_calls hints s r o (counted file 0)))
   pub order : n.order ≡ b.order ++ Solo r c ∷ []
+  pub heard : n.heard ≡ with_end b.heard ((Solo r c, b.records) ∷ [])
   pub seats : n.seats ≡ b.seats
   pub same_met : n.met ≡ b.met
   pub same_records : n.records ≡ b.records
@@ -51,6 +49,7 @@ alone s hints r c o b n y h = record {
   alike = λ file. record {
     desk = λ i. record { seats = sym h.seats i; met = sym h.same_met i; state = counted (solo s r o (counted file b.records)).0.file (sym h.same_records i); reached = reached_is i };
     marks = h.order;
+    heard = h.heard;
     given = λ q l.
         one_alike r y (solo s r o (counted file b.records)).1 q
         (record { pair = h.pair; records = h.records; lengths = h.fits ∙ sym (gots_long s (solo s r o (counted file b.records)).0.file o.batch.gets) });

@@ -29,20 +29,20 @@ use Rattle.rank_items.specs.Own.{HasOwnElements, HasOwnPuts}
 use Rattle.join_laws.specs.Alike.{AreAlike}
 use Rattle.turn_run.specs.Counts.{IsCount, IsFit}
 use Rattle.join_laws.proofs.StrangeLaws.{event_is}
-use Rattle.thread_run.specs.Owned.{calls_at, calls_at_offer, calls_if, desk_at, event_calls, AreOfOneKind, GoesAlike, GoesSo, Grows, HasDone, HasMoved, HoldAll, HoldSingle, IsAlone, IsHeld, IsSingle, IsSteady, IsTogether, Standing, IsSingleOffer}
+use Rattle.thread_run.specs.Owned.{calls_at, calls_at_offer, calls_if, desk_at, each_told, event_calls, GoesSo, Grows, HasDone, HasMovedOnce, HoldSingle, IsAlone, IsHeld, IsSingle, IsSteady, IsTogether, Standing, IsSingleOffer}
 use Rattle.thread_run.specs.Stopping.{held_stops, put_one, stop_each, stops_for}
 use Rattle.thread_run.proofs.AlikeLaws.{lines_as, lines_none, lines_twice}
 use Rattle.turn_run.proofs.CountLaws.{count_less, count_longer}
-use Rattle.thread_run.proofs.DeskRuns.{other_number, seat_ended, seat_held}
+use Rattle.thread_run.proofs.DeskRuns.{seat_ended, seat_held}
 use Rattle.turn_run.proofs.ListLaws.{get_set, get_set_other, get_there}
 use Rattle.turn_run.proofs.MeetLists.{got_or}
 use Rattle.thread_run.proofs.PutLaws.{put_here, put_other, stop_for_offer}
 use Rattle.turn_run.proofs.StageLaws.{ended_by_none}
-use Rattle.thread_run.proofs.StrangeLaws.{fits, kind_is, passes, Passes}
+use Rattle.thread_run.proofs.StrangeLaws.{fits, kind_is, passes}
 
 abbrev pub with_seats : Standing → List Seat → Standing
 with_seats b seats =
-    record { seats = seats; met = b.met; reached = b.reached; records = b.records; told = b.told; calls = b.calls; order = b.order; lines = b.lines }
+    record { seats = seats; met = b.met; reached = b.reached; records = b.records; told = b.told; calls = b.calls; order = b.order; heard = b.heard; lines = b.lines }
 
 -- ---- the event, by what arrives
 
@@ -58,6 +58,7 @@ done_kept hints s b a seats e c alone = record {
   alike = λ file. record {
     desk = ap (λ (ev : Event). ev.desk) (e file) ∙ ap (λ (ev : Event). desk_at (with_seats b seats) ev.desk.state.file) (sym (e file));
     marks = sym (ap (λ (ev : Event). b.order ++ ev.marks) (e file) ∙ append-nil b.order);
+    heard = sym (ap (λ (ev : Event). with_end b.heard (each_told ev)) (e file) ∙ ended_by_none b.heard);
     given = λ q l. subst (λ (ev : Event). AreAlike [] (ev.given q)) (sym (e file)) tt;
   };
   exact = exact b.told refl;
@@ -110,9 +111,9 @@ done_held hints s b r c o x y kind e f k some =
 
 -- a step that was done is the arrival's
 as_event : (hints : Hints) (s : Setting) (b m n : Standing) (a : Arrival) (once : Type 0) (to : List ℕ → Event) (made : List ℕ → List DiskCall) → m.told ≡ b.told → m.calls ≡ b.calls → m.order ≡ b.order
-    → m.lines ≡ b.lines → ((file : List ℕ) → event s (desk_at b file) a ≡ to file) → ((file : List ℕ) → event_calls hints s (desk_at b file) a ≡ made file)
-    → (HoldSingle b.seats × IsSingle a.1 → once) → HasMoved once to made m n → HasDone hints s a b n
-as_event hints s b m n a once to made told calls order lines e c alone h = record {
+    → m.heard ≡ b.heard → m.lines ≡ b.lines → ((file : List ℕ) → event s (desk_at b file) a ≡ to file) → ((file : List ℕ) → event_calls hints s (desk_at b file) a ≡ made file)
+    → (HoldSingle b.seats × IsSingle a.1 → once) → HasMovedOnce once to made m n → HasDone hints s a b n
+as_event hints s b m n a once to made told calls order heard lines e c alone h = record {
   more = h.more;
   lines = subst (λ (l : List (End OwnerItem)). Grows l h.more n.lines) lines h.lines;
   alike = λ file.
@@ -120,6 +121,7 @@ as_event hints s b m n a once to made told calls order lines e c alone h = recor
       record {
         desk = ap (λ (ev : Event). ev.desk) (e file) ∙ g.desk ∙ ap (λ (ev : Event). desk_at n ev.desk.state.file) (sym (e file));
         marks = g.marks ∙ (λ i. order i ++ (sym (e file) i).marks);
+        heard = g.heard ∙ (λ i. with_end (heard i) (each_told (sym (e file) i)));
         given = λ q l. subst (λ (ev : Event). AreAlike (h.more q) (ev.given q)) (sym (e file)) (g.given q (low q l));
       };
   exact = exact b.told m.told told h.exact;
@@ -145,14 +147,14 @@ as_event hints s b m n a once to made told calls order lines e c alone h = recor
 pub done_alone : (hints : Hints) (s : Setting) (b n : Standing) (r c : ℕ) (o : Offer) (x : Seat) → slice_get b.seats r ≡ Some x → o.kind ≡ offer.Solo → IsAlone hints s r c o b n
     → HasDone hints s (r, item.Offer c o) b n
 done_alone hints s b n r c o x e k h =
-    as_event hints s b b n (r, item.Offer c o) (HoldSingle b.seats) (λ file. does_solo s (desk_at b file) r c o) (λ file. solo_calls hints s r o (counted file b.records)) refl refl refl refl
+    as_event hints s b b n (r, item.Offer c o) (HoldSingle b.seats) (λ file. does_solo s (desk_at b file) r c o) (λ file. solo_calls hints s r o (counted file b.records)) refl refl refl refl refl
     (λ file. offer_event s (desk_at b file) r c o x offer.Solo e k) (λ file. offer_calls hints s (desk_at b file) r c o x offer.Solo e k) (λ o. o.0) h
 
 pub done_together : (hints : Hints) (s : Setting) (b n : Standing) (r c : ℕ) (o : Offer) (x y : Seat) (kind : MeetKind) → slice_get b.seats r ≡ Some x → y ≡ seat_held x o → o.kind ≡ offer.Meet kind
     → list_all holds (set b.seats r y) ≡ true → IsTogether hints s (with_seats b (set b.seats r y)) n → HasDone hints s (r, item.Offer c o) b n
 done_together hints s b n r c o x y kind e f k all h =
     as_event hints s b (with_seats b (set b.seats r (seat_held x o))) n (r, item.Offer c o) (HoldSingle (set b.seats r (seat_held x o)))
-    (λ file. does_meeting s (desk_at b file) (set b.seats r (seat_held x o))) (λ file. meeting_calls hints s (offers_held (set b.seats r (seat_held x o))) (counted file b.records)) refl refl refl refl
+    (λ file. does_meeting s (desk_at b file) (set b.seats r (seat_held x o))) (λ file. meeting_calls hints s (offers_held (set b.seats r (seat_held x o))) (counted file b.records)) refl refl refl refl refl
     (λ file. offer_event s (desk_at b file) r c o x (offer.Meet kind) e k ∙ ap (meets_if s (desk_at b file) (set b.seats r (seat_held x o))) every)
     (λ file. offer_calls hints s (desk_at b file) r c o x (offer.Meet kind) e k ∙ ap (calls_if hints s (desk_at b file) (set b.seats r (seat_held x o))) every)
     (λ g. single_set b.seats r x (seat_held x o) e g.0 (λ p w. subst IsSingleOffer (same_Some o p w) g.1))

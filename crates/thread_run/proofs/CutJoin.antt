@@ -1,12 +1,12 @@
 -- The owner's run along arrivals of which none was strange, wherever it was cut off: it is the serial run of its order, and each rank
 -- ended where that run's rank goes up to.
-use Rattle.std.proofs.Common.{◌≡◌, ℕ, zero, suc, ◌+◌, ◌<◌, ◌≤◌, refl, sym, ◌∙◌, ap, subst, inl, inr, ◌⊎◌, List, [], ◌∷◌, ◌++◌, length, map, max, set, replicate, Bool, true, false, ◌&&◌, ◌||◌, Option, Some, None, append_assoc, arith}
+use Rattle.std.proofs.Common.{◌≡◌, ℕ, zero, suc, ◌+◌, ◌<◌, ◌≤◌, refl, sym, ◌∙◌, ap, subst, inl, inr, ◌⊎◌, List, [], ◌∷◌, ◌++◌, length, map, max, set, replicate, Bool, true, false, Option, Some, None, append_assoc, arith}
 use Rattle.std.proofs.lemmas.Bool.{ltb-false, or_from}
 use Rattle.std.proofs.lemmas.Bool.Decides.{eqb_tells, nat_tests}
 use Rattle.std.proofs.lemmas.List.{length-map, length-replicate, length-set}
 use Rattle.std.proofs.lemmas.List.Folds.{list_all-append}
 use Rattle.std.proofs.lemmas.Option.{slice_get-map, slice_get_within, same_Some}
-use Rattle.std.specs.Prelude.{slice_get, filter, flat_map, fold, is_some, nat_lt, ◌==◌}
+use Rattle.std.specs.Prelude.{slice_get, flat_map, fold, is_some, nat_lt, ◌==◌}
 use Rattle.std.specs.List.{enumerate_from, list_all}
 use borrow.Author.Tests.{ltb-true}
 use Rattle.list_laws.proofs.Each.{passes_at}
@@ -18,7 +18,6 @@ use Rattle.nc_base.specs.declared.header.Header.{Header}
 use Rattle.nc_base.specs.declared.request.Call.{Call}
 use Rattle.nc_base.specs.declared.script.Script.{Script}
 use Rattle.nc_base.specs.declared.step.Mark.{Mark}
-use Rattle.nc_base.specs.declared.step.MeetKind.{MeetKind}
 use Rattle.nc_base.specs.declared.step.Offer.{Offer}
 use Rattle.nc_base.specs.declared.step.OfferKind.{OfferKind}
 use Rattle.nc_base.specs.declared.step.OfferKind.TheVariants as offer
@@ -27,9 +26,9 @@ use Rattle.nc_base.specs.declared.step.OwnerItem.TheVariants.{Reply, Stop}
 use Rattle.nc_base.specs.declared.step.RankItem.{RankItem}
 use Rattle.nc_base.specs.declared.step.RankItem.TheVariants as item
 use Rattle.nc_base.specs.declared.step.Reply as reply
-use Rattle.serial_spec.specs.Desk.{Desk, Event, Seat, at_offer, does_meeting, does_solo, event, free_seat, freed, given_along, holds, is_strange, keeps, left_behind, meets_if, needed_now, offers_held, offers_in, own_items, served, some_true, strange_offer, to_each, differs, kind_held, has_ended, has_held}
+use Rattle.serial_spec.specs.Desk.{Desk, Event, Seat, at_offer, does_meeting, does_solo, event, free_seat, freed, given_along, holds, is_strange, keeps, left_behind, meets_if, needed_now, offers_held, offers_in, own_items, served, some_true, strange_offer, to_each, has_ended, has_held}
 use Rattle.serial_spec.specs.FileStep.{Setting, Counted, meeting, puts_of, solo}
-use Rattle.serial_spec.specs.History.{Arrival, is_offer, meeting_kind, offer_of}
+use Rattle.serial_spec.specs.History.{Arrival, is_offer}
 use Rattle.serial_spec.specs.Limits.{record_limit}
 use Rattle.serial_spec.specs.HeaderGrammar.{is_sound}
 use Rattle.serial_spec.specs.Joined.{opening_desk, run_of}
@@ -48,7 +47,11 @@ use Rattle.turn_run.specs.Seated.{calls_of}
 use Rattle.turn_run.proofs.ListLaws.{get_mapped, get_replicate}
 use Rattle.join_laws.proofs.StrangeLaws.{event_is, strange_alone}
 use Rattle.join_laws.proofs.JoinLaws.{stranger_on, served_on, ServedOn, fold_two}
-use Rattle.thread_run.proofs.DeskRuns.{given_on, seat_ended, seat_held}
+use Rattle.turn_run.specs.Telling.{counts_along}
+use Rattle.thread_run.specs.Owned.{desk_told}
+use Rattle.join_laws.proofs.GoingOnLaws.{given_on}
+use Rattle.thread_run.proofs.DeskRuns.{seat_ended, seat_held}
+use Rattle.thread_run.proofs.TellLaws.{count_of, tells_more}
 
 -- ---- a beginning of what a rank puts
 
@@ -505,6 +508,7 @@ arrival_stands s d goings r (item.Offer c o) rest x g given end a b fit t =
 pub record Ran (s : Setting) (d : Desk) (goings : List Going) (first later : List Arrival) (n : ℕ → ℕ) (end : ℕ → Going) : Type 0 where
   pub last : List Going
   pub folded : fold (after_mark s) (d.state, goings) (served s d first).marks ≡ ((served s d first).desk.state, last)
+  pub told : desk_told s d first ≡ counts_along (after_mark s) count_of (d.state, goings) (served s d first).marks
   pub long : length last ≡ length d.seats
   pub stands : Stands s (served s d first).desk last (λ q. own_items q later) (λ q. replicate (n q) Stop) end
 
@@ -514,6 +518,7 @@ pub ran : (s : Setting) (first later : List Arrival) (d : Desk) (goings : List G
 ran s [] later d goings n end none low t = record {
   last = goings;
   folded = refl;
+  told = refl;
   long = sym t.long;
   stands = t;
 }
@@ -530,6 +535,7 @@ ran s ((r, i) ∷ first) later d goings n end none low t = by (is_strange s d (r
           ∙ fold_two s (d.state, goings) (event s d (r, i)).marks (served s (event s d (r, i)).desk first).marks
           ∙ ap (λ (st : Counted × List Going). fold (after_mark s) st (served s (event s d (r, i)).desk first).marks) step.folded ∙ after.folded
           ∙ ap (λ (e : Desk). (e.state, after.last)) (sym on.desk);
+      told = tells_more s d goings step.after (r, i) first f step.folded after.told;
       long = after.long ∙ step.ranks;
       stands = subst (λ (e : Desk). Stands s e after.last (λ q. own_items q later) (λ q. replicate (n q) Stop) end) (sym on.desk) after.stands;
     }

@@ -9,10 +9,10 @@ use Rattle.nc_base.specs.declared.step.Offer.{Offer}
 use Rattle.nc_base.specs.declared.step.OwnerItem.{OwnerItem}
 use Rattle.serial_spec.specs.FileStep.{Setting}
 use Rattle.serial_spec.specs.History.{Arrival}
-use Rattle.serial_spec.specs.Desk.{Seat, Desk, event, given_along, is_strange, owed, served, stops}
+use Rattle.serial_spec.specs.Desk.{Seat, Desk, event, given_along, is_strange, owed, served}
 use Rattle.join_laws.proofs.JoinLaws.{owed_on, served_on, stranger_on, ServedOn}
 use Rattle.join_laws.proofs.GoingOnLaws.{given_on}
-use Rattle.thread_run.specs.Owned.{desk_calls, event_calls}
+use Rattle.thread_run.specs.Owned.{desk_calls, desk_told, each_told, event_calls}
 
 -- ---- one arrival
 
@@ -45,6 +45,12 @@ stops_at s d a rest e = record { desk = rw (e, served) refl; marks = rw (e, serv
 pub calls_stop : (hints : Hints) (s : Setting) (d : Desk) (a : Arrival) (rest : List Arrival) → is_strange s d a ≡ true → desk_calls hints s d (a ∷ rest) ≡ []
 calls_stop hints s d a rest e = rw (e, desk_calls) refl
 
+pub told_on : (s : Setting) (d : Desk) (a : Arrival) (rest : List Arrival) → is_strange s d a ≡ false → desk_told s d (a ∷ rest) ≡ each_told (event s d a) ++ desk_told s (event s d a).desk rest
+told_on s d a rest e = rw (e, desk_told) refl
+
+pub told_stop : (s : Setting) (d : Desk) (a : Arrival) (rest : List Arrival) → is_strange s d a ≡ true → desk_told s d (a ∷ rest) ≡ []
+told_stop s d a rest e = rw (e, desk_told) refl
+
 calls_on : (hints : Hints) (s : Setting) (d : Desk) (a : Arrival) (rest : List Arrival) → is_strange s d a ≡ false
     → desk_calls hints s d (a ∷ rest) ≡ event_calls hints s d a ++ desk_calls hints s (event s d a).desk rest
 calls_on hints s d a rest e = rw (e, desk_calls) refl
@@ -58,9 +64,10 @@ pub record GoesOn (hints : Hints) (s : Setting) (d : Desk) (first later : List A
   pub owed_items : (q : ℕ) → owed s d (first ++ later) q ≡ given_along s d first q ++ owed s (served s d first).desk later q
   pub given : (q : ℕ) → given_along s d (first ++ later) q ≡ given_along s d first q ++ given_along s (served s d first).desk later q
   pub calls : desk_calls hints s d (first ++ later) ≡ desk_calls hints s d first ++ desk_calls hints s (served s d first).desk later
+  pub told : desk_told s d (first ++ later) ≡ desk_told s d first ++ desk_told s (served s d first).desk later
 
 pub goes_on : (hints : Hints) (s : Setting) (d : Desk) (first later : List Arrival) → (served s d first).stranger ≡ None → GoesOn hints s d first later
-goes_on hints s d [] later e = record { desk = refl; marks = refl; stranger = refl; owed_items = λ q. refl; given = λ q. refl; calls = refl }
+goes_on hints s d [] later e = record { desk = refl; marks = refl; stranger = refl; owed_items = λ q. refl; given = λ q. refl; calls = refl; told = refl }
 goes_on hints s d (a ∷ first) later e = by (is_strange s d a) refl (λ f. goes_on hints s (event s d a).desk first later f)
   where
     by : (t : Bool) → is_strange s d a ≡ t → ((served s (event s d a).desk first).stranger ≡ None → GoesOn hints s (event s d a).desk first later) → GoesOn hints s d (a ∷ first) later
@@ -86,6 +93,11 @@ goes_on hints s d (a ∷ first) later e = by (is_strange s d a) refl (λ f. goes
           ∙ sym (append_assoc (event_calls hints s d a) (desk_calls hints s next first) (desk_calls hints s (served s next first).desk later))
           ∙ ap (λ (m : List DiskCall). m ++ desk_calls hints s (served s next first).desk later) (sym (calls_on hints s d a first f))
           ∙ ap (λ (x : Desk). desk_calls hints s d (a ∷ first) ++ desk_calls hints s x later) (sym short.desk);
+      told =
+          told_on s d a (first ++ later) f ∙ ap (λ (m : List (Mark × ℕ)). each_told (event s d a) ++ m) g.told
+          ∙ sym (append_assoc (each_told (event s d a)) (desk_told s next first) (desk_told s (served s next first).desk later))
+          ∙ ap (λ (m : List (Mark × ℕ)). m ++ desk_told s (served s next first).desk later) (sym (told_on s d a first f))
+          ∙ ap (λ (x : Desk). desk_told s d (a ∷ first) ++ desk_told s x later) (sym short.desk);
     }
       where
         next : Desk

@@ -1,5 +1,5 @@
 -- What the owner's ends tell when it is done.
-use Rattle.std.proofs.Common.{◌≡◌, ℕ, zero, suc, ◌+◌, ◌<◌, ◌≤◌, refl, sym, ◌∙◌, ap, subst, inl, inr, List, [], ◌∷◌, ◌++◌, length, map, replicate, drop, Bool, true, false, ◌&&◌, Option, Some, None, append_assoc, arith}
+use Rattle.std.proofs.Common.{◌≡◌, ℕ, zero, suc, ◌+◌, ◌<◌, refl, sym, ◌∙◌, ap, subst, inl, inr, List, [], ◌∷◌, ◌++◌, length, map, replicate, drop, Bool, true, false, ◌&&◌, Option, Some, None, append_assoc, arith}
 use Rattle.std.proofs.Math.Seq.{drop-append_seam}
 use Rattle.std.proofs.lemmas.List.{append-nil, length-append, length-map, length-replicate}
 use Rattle.std.proofs.lemmas.Option.{same_Some}
@@ -20,14 +20,13 @@ use Rattle.serial_spec.specs.Desk.{Desk, Seat, free_seat, given_along, is_strang
 use Rattle.serial_spec.specs.FileStep.{Setting}
 use Rattle.serial_spec.specs.History.{Arrival, is_offer}
 use Rattle.serial_spec.specs.Joined.{HasEnd}
-use Rattle.serial_spec.specs.Torn.{IsCutService, OwnerStoodAt}
+use Rattle.serial_spec.specs.Torn.{OwnerStoodAt}
 use Rattle.collective_round.specs.Rounds.{counted}
-use Rattle.join_laws.specs.Alike.{AreAlike}
 use Rattle.join_laws.proofs.JoinLaws.{owed_stop}
-use Rattle.thread_run.specs.Halted.{of_fault, of_stranger, HasFinished, HasHalted, HasSeenAll, IsHaltAt, IsLeft, IsNoMore, IsStrangeAt}
+use Rattle.thread_run.specs.Halted.{of_fault, of_stranger, HasFinished, HasHalted, HasSeenAll, IsHaltAt, IsLeft, IsNoMore}
 use Rattle.thread_run.specs.Owned.{desk_at, desk_calls, opening_standing, run, AreSingle, GoesSo, Grows, HasRun, HoldSingle, Standing}
 use Rattle.thread_run.specs.Refused.{HasCutService}
-use Rattle.thread_run.specs.Serving.{arrived, gained, more_on, opening, HasFailed, HasTaken, HavePut, IsCutOff, IsDone, IsDoneSo}
+use Rattle.thread_run.specs.Serving.{arrived, gained, more_on, opening, HasFailed, HasTaken, HasToldAlong, HavePut, IsCutOff, IsDone, IsDoneSo}
 use Rattle.thread_run.specs.Stopping.{stops_for, AllHaveEnded, HaveEnded, IsMore}
 use Rattle.thread_run.specs.declared.serving.Halt.{Halt}
 use Rattle.thread_run.specs.declared.serving.Halt.TheVariants as halt
@@ -64,7 +63,7 @@ arrived_is old now more h = ap (drop (length old.items)) h.items ∙ drop-append
 -- ---- all that was taken
 
 pub record Outcome (hints : Hints) (s : Setting) (old now : Receiver RankItem) (left : List Bool) (before : Standing) (n : ℕ) (held : Option (List ℕ)) (made : Option (List DiskCall)) (marks : List Mark)
-    (lines : List (End OwnerItem)) (halt : Halt) : Type 0 where
+    (heard : Option (List (Mark × ℕ))) (lines : List (End OwnerItem)) (halt : Halt) : Type 0 where
   pub first : List Arrival
   pub last : List Arrival
   pub middle : Standing
@@ -73,6 +72,7 @@ pub record Outcome (hints : Hints) (s : Setting) (old now : Receiver RankItem) (
   pub all : AllHaveEnded old.senders left
   pub run : HasRun hints s first before middle
   pub order : marks ≡ middle.order
+  pub heard_all : heard ≡ middle.heard
   pub stopped : Grows middle.lines (stops (desk_at middle []) last) lines
   pub later : List Arrival
   pub more : List Arrival
@@ -98,9 +98,9 @@ more_twice old mid now first more h g = record {
 }
 
 pub outcome : (hints : Hints) (s : Setting) (old mid now : Receiver RankItem) (flags left : List Bool) (before : Standing) (n : ℕ) (held : Option (List ℕ)) (made : Option (List DiskCall)) (marks : List Mark)
-    (mid_lines lines : List (End OwnerItem)) (h : Halt) → HasHalted hints s old mid flags before n held made marks mid_lines h → HasFinished mid now mid_lines lines flags left h
-    → Outcome hints s old now left before n held made marks lines h
-outcome hints s old mid now flags left before n held made marks mid_lines lines h a b = record {
+    (heard : Option (List (Mark × ℕ))) (mid_lines lines : List (End OwnerItem)) (h : Halt) → HasHalted hints s old mid flags before n held made marks heard mid_lines h
+    → HasFinished mid now mid_lines lines flags left h → Outcome hints s old now left before n held made marks heard lines h
+outcome hints s old mid now flags left before n held made marks heard mid_lines lines h a b = record {
   first = a.first;
   last = a.later ++ b.more;
   middle = a.middle;
@@ -109,6 +109,7 @@ outcome hints s old mid now flags left before n held made marks mid_lines lines 
   all = subst (λ (k : ℕ). AllHaveEnded k left) a.taken.senders b.all;
   run = a.run;
   order = a.order;
+  heard_all = a.heard_all;
   stopped = lines_as a.middle.lines lines (λ q. stops (desk_at a.middle []) a.later q ++ stops_for b.more q) (stops (desk_at a.middle []) (a.later ++ b.more)) (λ q l. joined q)
       (lines_twice a.middle.lines mid_lines lines (stops (desk_at a.middle []) a.later) (stops_for b.more) a.stopped b.stopped);
   later = a.later;
@@ -164,8 +165,8 @@ left_at s middle later n held made (halt.Fault e) at f = no_fault e f
 
 -- ---- the clauses
 
-module _ (hints : Hints) (s : Setting) (old now : Receiver RankItem) (left : List Bool) (before : Standing) (n : ℕ) (held : Option (List ℕ)) (made : Option (List DiskCall)) (marks : List Mark) (lines : List (End OwnerItem))
-    (h : Halt) (o : Outcome hints s old now left before n held made marks lines h) where
+module _ (hints : Hints) (s : Setting) (old now : Receiver RankItem) (left : List Bool) (before : Standing) (n : ℕ) (held : Option (List ℕ)) (made : Option (List DiskCall)) (marks : List Mark)
+    (heard : Option (List (Mark × ℕ))) (lines : List (End OwnerItem)) (h : Halt) (o : Outcome hints s old now left before n held made marks heard lines h) where
   all_lines : Grows before.lines (λ q. o.run.moved.more q ++ stops (desk_at o.middle []) o.last q) lines
   all_lines = lines_twice before.lines o.middle.lines lines o.run.moved.more (stops (desk_at o.middle []) o.last) o.run.moved.lines o.stopped
 
@@ -214,6 +215,17 @@ module _ (hints : Hints) (s : Setting) (old now : Receiver RankItem) (left : Lis
         (alike_two (o.run.moved.more q) (given_along s (desk_at before file) o.first q) (stops (desk_at o.middle []) o.last q) (stops (desk_at o.middle []) o.last q)
         ((o.run.moved.alike file).given q l) (alike_same (stops (desk_at o.middle []) o.last q)));
   })
+
+  -- each step was told
+  pub out_told : before.order ≡ [] → (file : List ℕ) → HasToldAlong s (desk_at before file) (arrived old now) marks before.heard heard
+  out_told none file = record {
+    first = o.first;
+    later = o.last;
+    all = arrivals_are;
+    none_strange = o.run.none_strange file;
+    order = o.order ∙ (o.run.moved.alike file).marks ∙ ap (λ (ms : List Mark). ms ++ (served s (desk_at before file) o.first).marks) none;
+    heard = o.heard_all ∙ (o.run.moved.alike file).heard;
+  }
 
   told_so : (m : Option (List ℕ)) → before.told ≡ m → IfSome m (λ file. GoesSo (HoldSingle before.seats × AreSingle o.first) (run s (desk_at before file) o.first) (desk_calls hints s (desk_at before file) o.first) o.run.moved.more before o.middle)
   told_so m e = subst (λ (t : Option (List ℕ)). IfSome t (λ file. GoesSo (HoldSingle before.seats × AreSingle o.first) (run s (desk_at before file) o.first) (desk_calls hints s (desk_at before file) o.first) o.run.moved.more before o.middle)) e o.run.moved.exact
@@ -417,27 +429,33 @@ module _ (hints : Hints) (s : Setting) (old now : Receiver RankItem) (left : Lis
 
 -- ---- from the opening
 
-pub halted_lines : (hints : Hints) (s : Setting) (old now : Receiver RankItem) (flags : List Bool) (before : Standing) (n : ℕ) (held : Option (List ℕ)) (made : Option (List DiskCall)) (marks : List Mark) (lines : List (End OwnerItem))
-    (h : Halt) → HasHalted hints s old now flags before n held made marks lines h → length before.lines ≡ old.senders → length lines ≡ now.senders
-halted_lines hints s old now flags before n held made marks lines h a l = a.stopped.long ∙ a.run.moved.lines.long ∙ l ∙ sym a.taken.senders
+pub halted_lines : (hints : Hints) (s : Setting) (old now : Receiver RankItem) (flags : List Bool) (before : Standing) (n : ℕ) (held : Option (List ℕ)) (made : Option (List DiskCall)) (marks : List Mark)
+    (heard : Option (List (Mark × ℕ))) (lines : List (End OwnerItem)) (h : Halt) → HasHalted hints s old now flags before n held made marks heard lines h → length before.lines ≡ old.senders
+    → length lines ≡ now.senders
+halted_lines hints s old now flags before n held made marks heard lines h a l = a.stopped.long ∙ a.run.moved.lines.long ∙ l ∙ sym a.taken.senders
 
 pub seen_all : (k m : ℕ) (flags : List Bool) (h : Halt) → k ≡ m → HasSeenAll k flags h → HasSeenAll m flags h
 seen_all k m flags h e a = subst (λ (j : ℕ). HasSeenAll j flags h) e a
 
-module _ (hints : Hints) (s : Setting) (old now : Receiver RankItem) (left : List Bool) (n0 : ℕ) (held0 : Option (List ℕ)) (made0 : Option (List DiskCall)) (order0 : List Mark) (back0 : List (End OwnerItem))
-    (n : ℕ) (held : Option (List ℕ)) (made : Option (List DiskCall)) (marks : List Mark) (lines : List (End OwnerItem)) (h : Halt)
-    (o : Outcome hints s old now left (opening_standing old.senders n0 held0 made0 order0 back0) n held made marks lines h) (none : order0 ≡ []) (k : ℕ) (same : n0 ≡ k) (long : length back0 ≡ old.senders) where
+module _ (hints : Hints) (s : Setting) (old now : Receiver RankItem) (left : List Bool) (n0 : ℕ) (held0 : Option (List ℕ)) (made0 : Option (List DiskCall)) (heard0 : Option (List (Mark × ℕ))) (back0 : List (End OwnerItem))
+    (n : ℕ) (held : Option (List ℕ)) (made : Option (List DiskCall)) (marks : List Mark) (heard : Option (List (Mark × ℕ))) (lines : List (End OwnerItem)) (h : Halt)
+    (o : Outcome hints s old now left (opening_standing old.senders n0 held0 made0 heard0 back0) n held made marks heard lines h) (k : ℕ) (same : n0 ≡ k) (long : length back0 ≡ old.senders) where
   first_standing : Standing
-  first_standing = opening_standing old.senders n0 held0 made0 order0 back0
+  first_standing = opening_standing old.senders n0 held0 made0 heard0 back0
 
-  opened : (file : List ℕ) → desk_at (opening_standing old.senders n0 held0 made0 order0 back0) file ≡ opening old.senders (counted file k)
+  opened : (file : List ℕ) → desk_at (opening_standing old.senders n0 held0 made0 heard0 back0) file ≡ opening old.senders (counted file k)
   opened file = ap (λ (m : ℕ). opening old.senders (counted file m)) same
 
   pub end_taken : HasTaken old now
-  end_taken = out_taken hints s old now left (opening_standing old.senders n0 held0 made0 order0 back0) n held made marks lines h o
+  end_taken = out_taken hints s old now left (opening_standing old.senders n0 held0 made0 heard0 back0) n held made marks heard lines h o
 
   pub end_put : HavePut back0 lines
-  end_put = out_put hints s old now left (opening_standing old.senders n0 held0 made0 order0 back0) n held made marks lines h o
+  end_put = out_put hints s old now left (opening_standing old.senders n0 held0 made0 heard0 back0) n held made marks heard lines h o
+
+  pub end_told : (file : List ℕ) → HasToldAlong s (opening old.senders (counted file k)) (arrived old now) marks heard0 heard
+  end_told file =
+      subst (λ (d : Desk). HasToldAlong s d (arrived old now) marks heard0 heard) (opened file)
+      (out_told hints s old now left (opening_standing old.senders n0 held0 made0 heard0 back0) n held made marks heard lines h o refl file)
 
   pub end_done : (fault : Option StepErr) (number : Option ℕ) → fault ≡ of_fault h → number ≡ of_stranger h → fault ≡ None → (file : List ℕ)
       → IsDone s (opening old.senders (counted file k)) (arrived old now) old.senders (gained back0 lines) marks number
@@ -445,13 +463,13 @@ module _ (hints : Hints) (s : Setting) (old now : Receiver RankItem) (left : Lis
       subst (λ (m : Option ℕ). IsDone s (opening old.senders (counted file k)) (arrived old now) old.senders (gained back0 lines) marks m) (sym f)
       (subst (λ (l : ℕ). IsDone s (opening old.senders (counted file k)) (arrived old now) l (gained back0 lines) marks (of_stranger h)) long
       (subst (λ (d : Desk). IsDone s d (arrived old now) (length back0) (gained back0 lines) marks (of_stranger h)) (opened file)
-      (out_done hints s old now left (opening_standing old.senders n0 held0 made0 order0 back0) n held made marks lines h o none (sym e ∙ g) file)))
+      (out_done hints s old now left (opening_standing old.senders n0 held0 made0 heard0 back0) n held made marks heard lines h o refl (sym e ∙ g) file)))
 
   pub end_bytes : (fault : Option StepErr) → fault ≡ of_fault h → fault ≡ None
       → IfSome held0 (λ file. IsDoneSo s (opening old.senders (counted file k)) (arrived old now) old.senders (gained back0 lines) held n)
-  end_bytes fault e g = by held0 (out_bytes hints s old now left (opening_standing old.senders n0 held0 made0 order0 back0) n held made marks lines h o (sym e ∙ g) held0 refl)
+  end_bytes fault e g = by held0 (out_bytes hints s old now left (opening_standing old.senders n0 held0 made0 heard0 back0) n held made marks heard lines h o (sym e ∙ g) held0 refl)
     where
-      by : (m : Option (List ℕ)) → IfSome m (λ file. IsDoneSo s (desk_at (opening_standing old.senders n0 held0 made0 order0 back0) file) (arrived old now) (length back0) (gained back0 lines) held n)
+      by : (m : Option (List ℕ)) → IfSome m (λ file. IsDoneSo s (desk_at (opening_standing old.senders n0 held0 made0 heard0 back0) file) (arrived old now) (length back0) (gained back0 lines) held n)
           → IfSome m (λ file. IsDoneSo s (opening old.senders (counted file k)) (arrived old now) old.senders (gained back0 lines) held n)
       by None i = tt
       by (Some file) i =
@@ -463,9 +481,9 @@ module _ (hints : Hints) (s : Setting) (old now : Receiver RankItem) (left : Lis
 
   pub end_calls : (fault : Option StepErr) → fault ≡ of_fault h → fault ≡ None → AreSingle (arrived old now)
       → IfSome held0 (λ file. made ≡ with_end made0 (desk_calls hints s (opening old.senders (counted file k)) (arrived old now)))
-  end_calls fault e g alone = by held0 (out_calls hints s old now left (opening_standing old.senders n0 held0 made0 order0 back0) n held made marks lines h o (sym e ∙ g) none_single alone held0 refl)
+  end_calls fault e g alone = by held0 (out_calls hints s old now left (opening_standing old.senders n0 held0 made0 heard0 back0) n held made marks heard lines h o (sym e ∙ g) none_single alone held0 refl)
     where
-      by : (m : Option (List ℕ)) → IfSome m (λ file. made ≡ with_end made0 (desk_calls hints s (desk_at (opening_standing old.senders n0 held0 made0 order0 back0) file) (arrived old now)))
+      by : (m : Option (List ℕ)) → IfSome m (λ file. made ≡ with_end made0 (desk_calls hints s (desk_at (opening_standing old.senders n0 held0 made0 heard0 back0) file) (arrived old now)))
           → IfSome m (λ file. made ≡ with_end made0 (desk_calls hints s (opening old.senders (counted file k)) (arrived old now)))
       by None i = tt
       by (Some file) i = i ∙ ap (λ (d : Desk). with_end made0 (desk_calls hints s d (arrived old now))) (opened file)
@@ -480,7 +498,7 @@ module _ (hints : Hints) (s : Setting) (old now : Receiver RankItem) (left : Lis
   end_failed fault number e f g is =
       subst (λ (m : Option ℕ). HasFailed s (opening old.senders) k (arrived old now) old.senders (gained back0 lines) marks m) (sym g)
       (subst (λ (l : ℕ). HasFailed s (opening old.senders) k (arrived old now) l (gained back0 lines) marks (of_stranger h)) long
-      (out_failed hints s old now left (opening_standing old.senders n0 held0 made0 order0 back0) n held made marks lines h o old.senders k opened none refl long refl (strangers_none h e (sym is ∙ f))))
+      (out_failed hints s old now left (opening_standing old.senders n0 held0 made0 heard0 back0) n held made marks heard lines h o old.senders k opened refl refl long refl (strangers_none h e (sym is ∙ f))))
 
   fault_is : (g : Halt) (e : StepErr) → Some e ≡ of_fault g → g ≡ halt.Fault e
   fault_is halt.Ended e f = absurd cc
@@ -490,4 +508,4 @@ module _ (hints : Hints) (s : Setting) (old now : Receiver RankItem) (left : Lis
   pub end_cut : (fault : Option StepErr) (e : StepErr) → fault ≡ of_fault h → fault ≡ Some e
       → IfSome held0 (λ file. HasCutService s e (opening old.senders (counted file k)) (arrived old now) marks held n (gained back0 lines))
   end_cut fault e f is =
-      out_cut hints s old now left (opening_standing old.senders n0 held0 made0 order0 back0) n held made marks lines h o old.senders k e (fault_is h e (sym is ∙ f)) opened none refl none_single long refl held0 refl
+      out_cut hints s old now left (opening_standing old.senders n0 held0 made0 heard0 back0) n held made marks heard lines h o old.senders k e (fault_is h e (sym is ∙ f)) opened refl refl none_single long refl held0 refl

@@ -1,5 +1,5 @@
 -- The owner takes one item after another, and stops at last.
-use Rattle.std.proofs.Common.{◌≡◌, ℕ, zero, suc, ◌-◌, ◌<◌, ◌≤◌, refl, sym, ◌∙◌, ap, subst, List, [], ◌∷◌, ◌++◌, length, replicate, Bool, true, false, Option, None, arith}
+use Rattle.std.proofs.Common.{◌≡◌, ℕ, zero, suc, ◌<◌, ◌≤◌, refl, sym, ◌∙◌, ap, subst, List, [], ◌∷◌, ◌++◌, length, replicate, Bool, true, false, Option, None, arith}
 use Rattle.std.proofs.lemmas.List.{append-nil, length-replicate}
 use Rattle.std.specs.Prelude.{slice_get}
 use Rattle.std.proofs.lemmas.Option.{same_Some}
@@ -53,7 +53,7 @@ served_more hints s old mid now left end before x y a h t fit done = record {
 -- ---- where it stops
 
 pub halt_ended : (hints : Hints) (s : Setting) (old mid : Receiver RankItem) (left : List Bool) (before x : Standing) (lines : List (End OwnerItem)) → HasServed hints s old mid left before x
-    → Grows x.lines (held_stops x.seats) lines → AllHaveEnded old.senders left → HasHalted hints s old mid left before x.records x.told x.calls x.order lines halt.Ended
+    → Grows x.lines (held_stops x.seats) lines → AllHaveEnded old.senders left → HasHalted hints s old mid left before x.records x.told x.calls x.order x.heard lines halt.Ended
 halt_ended hints s old mid left before x lines h g all = record {
   first = h.more;
   later = [];
@@ -62,6 +62,7 @@ halt_ended hints s old mid left before x lines h g all = record {
   ended = subst (λ (more : List Arrival). HaveEnded left more) (sym (append-nil h.more)) h.ended;
   run = h.run;
   order = refl;
+  heard_all = refl;
   stopped = lines_as x.lines lines (held_stops x.seats) (stops (desk_at x []) []) (λ q l. append-nil (stop_held (slice_get x.seats q))) g;
   halted = (refl, record { records = refl; told = refl; calls = refl });
   seen = all;
@@ -70,7 +71,7 @@ halt_ended hints s old mid left before x lines h g all = record {
 pub halt_strange : (hints : Hints) (s : Setting) (old mid now : Receiver RankItem) (left end : List Bool) (before x : Standing) (number : ℕ) (item : RankItem) (first last : List (End OwnerItem))
     → HasServed hints s old mid left before x → HasTakenOne mid now left end (number, item) → ((file : List ℕ) → is_strange s (desk_at x file) (number, item) ≡ true)
     → Grows x.lines (held_stops x.seats) first → Grows first (stops_for ((number, item) ∷ [])) last
-    → HasHalted hints s old now end before x.records x.told x.calls x.order last (halt.Stranger number)
+    → HasHalted hints s old now end before x.records x.told x.calls x.order x.heard last (halt.Stranger number)
 halt_strange hints s old mid now left end before x number item first last h t strange g k = record {
   first = h.more;
   later = (number, item) ∷ [];
@@ -79,15 +80,16 @@ halt_strange hints s old mid now left end before x number item first last h t st
   ended = t.noted h.more h.ended;
   run = h.run;
   order = refl;
+  heard_all = refl;
   stopped = lines_twice x.lines first last (held_stops x.seats) (stops_for ((number, item) ∷ [])) g k;
   halted = (record { item = item; last = refl; strange = strange }, record { records = refl; told = refl; calls = refl });
   seen = tt;
 }
 
 pub halt_fault : (hints : Hints) (s : Setting) (old mid now : Receiver RankItem) (left end : List Bool) (before x : Standing) (a : Arrival) (e : StepErr) (n : ℕ) (held : Option (List ℕ)) (made : Option (List DiskCall))
-    (marks : List Mark) (last : List (End OwnerItem)) → HasServed hints s old mid left before x → HasTakenOne mid now left end a → marks ≡ x.order → Grows x.lines (stops (desk_at x []) (a ∷ [])) last
-    → IsFaultAt s e x (a ∷ []) n held → HasHalted hints s old now end before n held made marks last (halt.Fault e)
-halt_fault hints s old mid now left end before x a e n held made marks last h t m g at = record {
+    (marks : List Mark) (heard : Option (List (Mark × ℕ))) (last : List (End OwnerItem)) → HasServed hints s old mid left before x → HasTakenOne mid now left end a → marks ≡ x.order → heard ≡ x.heard → Grows x.lines (stops (desk_at x []) (a ∷ [])) last
+    → IsFaultAt s e x (a ∷ []) n held → HasHalted hints s old now end before n held made marks heard last (halt.Fault e)
+halt_fault hints s old mid now left end before x a e n held made marks heard last h t m k g at = record {
   first = h.more;
   later = a ∷ [];
   middle = x;
@@ -95,6 +97,7 @@ halt_fault hints s old mid now left end before x a e n held made marks last h t 
   ended = t.noted h.more h.ended;
   run = h.run;
   order = m;
+  heard_all = k;
   stopped = g;
   halted = at;
   seen = tt;
@@ -107,24 +110,26 @@ none_held zero q = refl
 none_held (suc n) zero = refl
 none_held (suc n) (suc q) = none_held n q
 
-pub halt_none : (hints : Hints) (s : Setting) (old : Receiver RankItem) (flags : List Bool) (e : StepErr) (senders n : ℕ) (held : Option (List ℕ)) (made : Option (List DiskCall)) (marks : List Mark) (lines : List (End OwnerItem))
-    → HaveEnded flags [] → e ≡ fault.Memory → HasHalted hints s old old flags (opening_standing senders n held made marks lines) n held made marks lines (halt.Fault e)
-halt_none hints s old flags e senders n held made marks lines h memory = record {
+pub halt_none : (hints : Hints) (s : Setting) (old : Receiver RankItem) (flags : List Bool) (e : StepErr) (senders n : ℕ) (held : Option (List ℕ)) (made : Option (List DiskCall)) (marks : List Mark)
+    (heard : Option (List (Mark × ℕ))) (lines : List (End OwnerItem)) → HaveEnded flags [] → e ≡ fault.Memory → marks ≡ []
+    → HasHalted hints s old old flags (opening_standing senders n held made heard lines) n held made marks heard lines (halt.Fault e)
+halt_none hints s old flags e senders n held made marks heard lines h memory none = record {
   first = [];
   later = [];
-  middle = opening_standing senders n held made marks lines;
+  middle = opening_standing senders n held made heard lines;
   taken = more_none old;
   ended = h;
-  run = run_none hints s (opening_standing senders n held made marks lines);
-  order = refl;
-  stopped = lines_as lines lines (λ q. []) (stops (desk_at (opening_standing senders n held made marks lines) []) []) (λ q l. append-nil (stop_held (slice_get (replicate senders free_seat) q)) ∙ none_held senders q) (lines_none lines lines refl);
-  halted = fault_none s e (opening_standing senders n held made marks lines) n held memory refl refl;
+  run = run_none hints s (opening_standing senders n held made heard lines);
+  order = none;
+  heard_all = refl;
+  stopped = lines_as lines lines (λ q. []) (stops (desk_at (opening_standing senders n held made heard lines) []) []) (λ q l. append-nil (stop_held (slice_get (replicate senders free_seat) q)) ∙ none_held senders q) (lines_none lines lines refl);
+  halted = fault_none s e (opening_standing senders n held made heard lines) n held memory refl refl;
   seen = tt;
 }
 
-pub opening_steady : (header : Header) (len senders n : ℕ) (held : Option (List ℕ)) (made : Option (List DiskCall)) (marks : List Mark) (lines : List (End OwnerItem)) → senders ≤ 64 → length lines ≡ senders
-    → IsCount header len n → IsSteady header len (opening_standing senders n held made marks lines)
-opening_steady header len senders n held made marks lines few long count = record {
+pub opening_steady : (header : Header) (len senders n : ℕ) (held : Option (List ℕ)) (made : Option (List DiskCall)) (heard : Option (List (Mark × ℕ))) (lines : List (End OwnerItem)) → senders ≤ 64 → length lines ≡ senders
+    → IsCount header len n → IsSteady header len (opening_standing senders n held made heard lines)
+opening_steady header len senders n held made heard lines few long count = record {
   few = subst (λ (k : ℕ). k ≤ 64) (sym (length-replicate senders free_seat)) few;
   one_each = long ∙ sym (length-replicate senders free_seat);
   count = count;
@@ -165,10 +170,10 @@ fault_cause before mid now e l k h = record { later = omega arith; failed = λ f
 
 -- ---- a new desk
 
-pub opened_is : (d : Held) (senders k n : ℕ) (held : Option (List ℕ)) (made : Option (List DiskCall)) (marks : List Mark) (lines : List (End OwnerItem)) → d.seats.items ≡ replicate k free_seat → k ≡ senders → d.met ≡ 0
-    → d.reached ≡ n → standing d n held made marks lines ≡ opening_standing senders n held made marks lines
-opened_is d senders k n held made marks lines seats count met reached =
-    λ i. record { seats = (seats ∙ ap (λ (j : ℕ). replicate j free_seat) count) i; met = met i; reached = reached i; records = n; told = held; calls = made; order = marks; lines = lines }
+pub opened_is : (d : Held) (senders k n : ℕ) (held : Option (List ℕ)) (made : Option (List DiskCall)) (heard : Option (List (Mark × ℕ))) (lines : List (End OwnerItem)) → d.seats.items ≡ replicate k free_seat
+    → k ≡ senders → d.met ≡ 0 → d.reached ≡ n → d.order ≡ [] → standing d n held made heard lines ≡ opening_standing senders n held made heard lines
+opened_is d senders k n held made heard lines seats count met reached order =
+    λ i. record { seats = (seats ∙ ap (λ (j : ℕ). replicate j free_seat) count) i; met = met i; reached = reached i; records = n; told = held; calls = made; order = order i; heard = heard; lines = lines }
 
 pub finish_rest : (old now : Receiver RankItem) (before after : List (End OwnerItem)) (flags left : List Bool) (h : Halt) → ((more : List Arrival) → IsNoMore more h) → HasMetAll old now before after flags left
     → HasFinished old now before after flags left h

@@ -11,6 +11,7 @@ pub mod StrangeLaws
 pub mod AlikeLaws
 pub mod DeskRuns
 pub mod RunLaws
+pub mod TellLaws
 pub mod CutJoin
 pub mod CutStood
 pub mod AttendLaws
@@ -24,6 +25,7 @@ mod ThreadStarts
 mod ThreadJoins
 mod ThreadAll
 mod ThreadCut
+mod ThreadTold
 mod EndedLaws
 mod ThreadSettles
 mod ThreadLists

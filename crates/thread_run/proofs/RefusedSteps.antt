@@ -1,26 +1,21 @@
 -- What a refused step leaves, as the owner's event has it.
-use Rattle.std.proofs.Common.{◌≡◌, ℕ, ◌+◌, ◌<◌, ◌≤◌, refl, sym, ◌∙◌, ap, subst, inl, inr, ◌⊎◌, List, [], ◌∷◌, ◌++◌, length, max, set, true, false, Option, Some, None, Result, Ok, Err, arith}
+use Rattle.std.proofs.Common.{◌≡◌, ℕ, refl, sym, ◌∙◌, ap, subst, inl, inr, ◌⊎◌, List, [], ◌∷◌, ◌++◌, max, set, true, false, Option, Some, None, arith}
 use Rattle.std.proofs.lemmas.List.{append-nil}
 use Rattle.std.proofs.lemmas.Option.{same_Some}
-use Rattle.std.specs.Prelude.{slice_get, flat_map, IfSome, OnErr}
+use Rattle.std.specs.Prelude.{slice_get, flat_map, IfSome}
 use Rattle.std.specs.List.{enumerate_from, list_all}
 use Rattle.std.specs.Int.{byte_len}
 use Rattle.nc_base.specs.declared.plan.Batch.{Batch}
-use Rattle.nc_base.specs.declared.step.DiskCall.{DiskCall}
-use Rattle.nc_base.specs.declared.step.Mark.{Mark}
 use Rattle.nc_base.specs.declared.step.MeetKind.{MeetKind}
 use Rattle.nc_base.specs.declared.step.Offer.{Offer}
-use Rattle.nc_base.specs.declared.step.OfferKind.{OfferKind}
 use Rattle.nc_base.specs.declared.step.OfferKind.TheVariants as offer
-use Rattle.nc_base.specs.declared.step.OwnerItem.{OwnerItem}
 use Rattle.nc_base.specs.declared.step.RankItem.{RankItem}
 use Rattle.nc_base.specs.declared.step.RankItem.TheVariants as item
 use Rattle.nc_base.specs.declared.step.StepErr.{StepErr}
 use Rattle.nc_base.specs.declared.step.StepErr.TheVariants.{Memory}
 use Rattle.nc_outside.specs.Told.{after, BothTold}
-use Rattle.ruled_line.specs.Ends.{End}
 use Rattle.serial_spec.specs.Desk.{Desk, Event, Seat, does_meeting, does_solo, event, holds, is_strange, meets_if, needed_now, offers_at, offers_held, offers_met, step_offers}
-use Rattle.serial_spec.specs.FileStep.{Setting, Counted, after_puts, meeting, puts_of, solo, told}
+use Rattle.serial_spec.specs.FileStep.{Setting, Counted, meeting, puts_of, solo}
 use Rattle.serial_spec.specs.HeaderGrammar.{count_width}
 use Rattle.serial_spec.specs.History.{Arrival}
 use Rattle.serial_spec.specs.SharedByte.{Puts, covered}
@@ -31,9 +26,8 @@ use Rattle.collective_round.proofs.TornLaws.{torn_by, torn_wider}
 use Rattle.turn_run.specs.Steps.{batches_of, known_of, met, IsOneRise}
 use Rattle.turn_run.proofs.CutMeet.{met_count, met_done, met_torn}
 use Rattle.turn_run.proofs.MeetStep.{met_is, puts_same}
-use Rattle.thread_run.specs.Owned.{desk_at, standing, AreSingle, HoldSingle, IsSingle, IsSingleOffer, Standing}
-use Rattle.thread_run.specs.Refused.{IsFaultAt, IsRefused, IsRefusedAlone, IsRefusedArrival, IsRefusedTogether}
-use Rattle.thread_run.specs.declared.desk.Desk.{Desk as Held}
+use Rattle.thread_run.specs.Owned.{desk_at, HoldSingle, IsSingle, IsSingleOffer, Standing}
+use Rattle.thread_run.specs.Refused.{IsFaultAt, IsRefusedAlone, IsRefusedArrival, IsRefusedTogether}
 use Rattle.thread_run.proofs.ArriveSteps.{offer_event, single_set, with_seats}
 use Rattle.thread_run.proofs.DeskRuns.{seat_held}
 
@@ -104,11 +98,6 @@ none_together s b n left same count =
         )
 
 -- by the steps of the call
-pub refused_each : (s : Setting) (r c : ℕ) (o : Offer) (d : Held) (held left : Option (List ℕ)) (calls : Option (List DiskCall)) (order : List Mark) (lines : List (End OwnerItem))
-    → BothTold (λ old left. IsTorn (covered s.header (puts_of (r, o))) 0 old (solo s r o (counted old 0)).0.file left) held left
-    → (records : ℕ) → IsRefusedAlone s r c o (standing d records held calls order lines) left records
-refused_each s r c o d held left calls order lines torn records = refused_alone s r c o (standing d records held calls order lines) left torn
-
 pub none_once : (s : Setting) (b : Standing) (n : ℕ) (left : Option (List ℕ)) → left ≡ b.told → n ≡ b.records → HoldSingle b.seats → IsRefusedTogether s b left n
 none_once s b n left same count single = none_together s b n left same count
 

@@ -1,45 +1,39 @@
 -- What can be seen of an owner, arrival after arrival.
-use Rattle.std.proofs.Common.{◌≡◌, ℕ, ◌<◌, ◌≤◌, refl, sym, ◌∙◌, ap, subst, inl, inr, List, [], ◌∷◌, ◌++◌, length, replicate, Bool, true, false, Option, Some, None, append_assoc, arith}
+use Rattle.std.proofs.Common.{◌≡◌, ℕ, refl, sym, ◌∙◌, ap, subst, inl, inr, List, [], ◌∷◌, ◌++◌, length, false, Option, Some, None, append_assoc, arith}
 use Rattle.std.proofs.lemmas.List.{append-nil}
-use Rattle.std.specs.Prelude.{IfSome, slice_get, ◌⊎◌}
+use Rattle.std.specs.Prelude.{IfSome}
 use Rattle.nc_base.specs.declared.script.Hints.{Hints}
 use Rattle.nc_base.specs.declared.step.DiskCall.{DiskCall}
 use Rattle.nc_base.specs.declared.step.Mark.{Mark}
 use Rattle.nc_base.specs.declared.step.OwnerItem.{OwnerItem}
 use Rattle.nc_outside.specs.Told.{with_end}
 use Rattle.overlay_laws.specs.Entries.{In}
-use Rattle.overlay_laws.proofs.HullLaws.{in_either}
 use Rattle.serial_spec.specs.FileStep.{Setting}
 use Rattle.serial_spec.specs.History.{Arrival}
 use Rattle.serial_spec.specs.Desk.{Desk, Event, event, given_along, is_strange, served}
-use Rattle.join_laws.specs.Alike.{AreAlike}
 use Rattle.join_laws.proofs.JoinLaws.{served_on}
 use Rattle.join_laws.proofs.OwnerAlikeLaws.{alike_two}
-use Rattle.thread_run.specs.Owned.{desk_at, desk_calls, event_calls, run, AreSingle, GoesAlike, GoesSo, HasDone, HasMoved, HasRun, HoldSingle, IsSingle, Standing}
+use Rattle.thread_run.specs.Owned.{desk_at, desk_calls, desk_told, each_told, event_calls, run, AreSingle, GoesAlike, GoesSo, HasDone, HasRun, HoldSingle, IsSingle, Standing}
 use Rattle.thread_run.proofs.AlikeLaws.{alike_by, lines_none, lines_twice}
-use Rattle.thread_run.proofs.DeskRuns.{goes_on, GoesOn}
-use Rattle.turn_run.proofs.StageLaws.{ended_twice}
+use Rattle.thread_run.proofs.DeskRuns.{goes_on, told_on}
+use Rattle.turn_run.proofs.StageLaws.{ended_by_none, ended_twice}
 
 pub run_none : (hints : Hints) (s : Setting) (x : Standing) → HasRun hints s [] x x
 run_none hints s x = record {
   moved = record {
     more = λ q. [];
     lines = lines_none x.lines x.lines refl;
-    alike = λ file. record { desk = refl; marks = sym (append-nil x.order); given = λ q l. tt };
+    alike = λ file. record { desk = refl; marks = sym (append-nil x.order); heard = sym (ended_by_none x.heard); given = λ q l. tt };
     exact = by_told x.told refl;
     single = λ h. h.0;
   };
   none_strange = λ file. refl;
 }
   where
-    same_calls : (calls : Option (List DiskCall)) → calls ≡ with_end calls []
-    same_calls None = refl
-    same_calls (Some calls) = ap (λ (cs : List DiskCall). Some cs) (sym (append-nil calls))
-
     by_told : (m : Option (List ℕ)) → x.told ≡ m
         → IfSome m (λ file. GoesSo (HoldSingle x.seats × AreSingle []) (run s (desk_at x file) []) (desk_calls hints s (desk_at x file) []) (λ q. []) x x)
     by_told None e = tt
-    by_told (Some file) e = record { told = e; given = λ q l. refl; calls = λ h. same_calls x.calls }
+    by_told (Some file) e = record { told = e; given = λ q l. refl; calls = λ h. sym (ended_by_none x.calls) }
 
 -- ---- one arrival more
 
@@ -65,6 +59,7 @@ record GoesOnBy (hints : Hints) (s : Setting) (d : Desk) (first : List Arrival) 
   stranger : (served s d (first ++ a ∷ [])).stranger ≡ None
   given : (q : ℕ) → given_along s d (first ++ a ∷ []) q ≡ given_along s d first q ++ (event s (served s d first).desk a).given q
   calls : desk_calls hints s d (first ++ a ∷ []) ≡ desk_calls hints s d first ++ event_calls hints s (served s d first).desk a
+  told : desk_told s d (first ++ a ∷ []) ≡ desk_told s d first ++ each_told (event s (served s d first).desk a)
 
 goes_by : (hints : Hints) (s : Setting) (d : Desk) (first : List Arrival) (a : Arrival) → (served s d first).stranger ≡ None → is_strange s (served s d first).desk a ≡ false
     → GoesOnBy hints s d first a
@@ -78,6 +73,7 @@ goes_by hints s d first a none fit =
       stranger = g.stranger ∙ one.stranger;
       given = λ q. g.given q ∙ ap (λ (m : List OwnerItem). given_along s d first q ++ m) (given_one last q fit);
       calls = g.calls ∙ ap (λ (m : List DiskCall). desk_calls hints s d first ++ m) (calls_one last fit);
+      told = g.told ∙ ap (λ (m : List (Mark × ℕ)). desk_told s d first ++ m) (told_on s last a [] fit ∙ append-nil (each_told (event s last a)));
     }
   where
     given_one : (last : Desk) (q : ℕ) → is_strange s last a ≡ false → given_along s last (a ∷ []) q ≡ (event s last a).given q
@@ -116,7 +112,7 @@ run_more hints s before mid now first a r fit m = record {
     same_long : length mid.lines ≡ length before.lines
     same_long = r.moved.lines.long
 
-    alike : (file : List ℕ) → GoesAlike (run s (desk_at before file) (first ++ a ∷ [])) (λ q. r.moved.more q ++ m.more q) before now
+    alike : (file : List ℕ) → GoesAlike (run s (desk_at before file) (first ++ a ∷ [])) (desk_told s (desk_at before file) (first ++ a ∷ [])) (λ q. r.moved.more q ++ m.more q) before now
     alike file =
         let f = r.moved.alike file in
         let b = (served s (desk_at before file) first).desk.state.file in
@@ -129,6 +125,9 @@ run_more hints s before mid now first a r fit m = record {
           marks = g.marks ∙ ap (λ (ms : List Mark). ms ++ (event s (desk_at mid b) a).marks) f.marks
               ∙ append_assoc before.order (served s (desk_at before file) first).marks (event s (desk_at mid b) a).marks
               ∙ ap (λ (ms : List Mark). before.order ++ ms) (ap (λ (e : Event). (served s (desk_at before file) first).marks ++ e.marks) (sym to) ∙ sym on.marks);
+          heard = g.heard ∙ ap (λ (told : Option (List (Mark × ℕ))). with_end told (each_told (event s (desk_at mid b) a))) f.heard
+              ∙ ended_twice before.heard (desk_told s (desk_at before file) first) (each_told (event s (desk_at mid b) a))
+              ∙ ap (λ (told : List (Mark × ℕ)). with_end before.heard told) (ap (λ (e : Event). desk_told s (desk_at before file) first ++ each_told e) (sym to) ∙ sym on.told);
           given = λ q l.
               alike_by (r.moved.more q ++ m.more q) (r.moved.more q ++ m.more q) (given_along s (desk_at before file) first q ++ (event s (desk_at mid b) a).given q)
               (given_along s (desk_at before file) (first ++ a ∷ []) q) refl

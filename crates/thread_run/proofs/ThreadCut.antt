@@ -1,19 +1,17 @@
 -- A run on threads that a fault cut off, from what the owner tells and what the close tells.
-use Rattle.std.proofs.Common.{◌≡◌, ℕ, zero, suc, ◌+◌, ◌-◌, ◌<◌, ◌≤◌, refl, sym, ◌∙◌, ap, subst, inl, inr, ◌⊎◌, List, [], ◌∷◌, ◌++◌, length, map, max, replicate, Bool, true, false, cond, ◌&&◌, Option, Some, None, append_assoc, arith}
+use Rattle.std.proofs.Common.{◌≡◌, ℕ, suc, ◌-◌, ◌<◌, ◌≤◌, refl, sym, ◌∙◌, ap, subst, inl, inr, ◌⊎◌, List, [], ◌∷◌, ◌++◌, length, map, max, replicate, Bool, true, false, cond, Option, Some, None, append_assoc, arith}
 use Rattle.std.proofs.lemmas.List.{append-nil, length-append, length-map, length-replicate}
 use Rattle.std.proofs.lemmas.List.Folds.{list_all-append}
 use Rattle.std.proofs.lemmas.Option.{slice_get_within, same_Some}
-use mathlib.Core.List.{IsPrefix}
 use Rattle.std.specs.Prelude.{slice_get, nat_lt, filter, IfSome}
 use Rattle.std.specs.Int.{byte_len}
 use Rattle.std.specs.List.{list_all}
 use Rattle.list_laws.proofs.Places.{entry_below}
-use Rattle.list_laws.proofs.Truth.{and_first, and_second}
+use Rattle.list_laws.proofs.Truth.{and_second}
 use Rattle.nc_base.specs.declared.answer.Answer.{Answer}
 use Rattle.nc_base.specs.declared.header.Header.{Header}
 use Rattle.nc_base.specs.declared.request.Call.{Call}
 use Rattle.nc_base.specs.declared.run.RankEnd.{RankEnd}
-use Rattle.nc_base.specs.declared.run.RankStop.{RankStop}
 use Rattle.nc_base.specs.declared.run.RankStop.TheVariants as stop
 use Rattle.nc_base.specs.declared.run.RunEnd.{RunEnd}
 use Rattle.nc_base.specs.declared.run.ServeEnd.{ServeEnd}
@@ -34,7 +32,8 @@ use Rattle.serial_spec.specs.History.{Arrival, IsLegal, is_offer}
 use Rattle.serial_spec.specs.Joined.{opening_desk, run_of}
 use Rattle.serial_spec.specs.Lawful.{is_lawful}
 use Rattle.serial_spec.specs.RankSide.{rank_end}
-use Rattle.serial_spec.specs.SerialEnd.{Going, advance, closed, first_going, first_state, serial_from, setting_of, state_after}
+use Rattle.serial_spec.specs.Reading.{told_of}
+use Rattle.serial_spec.specs.SerialEnd.{Going, advance, after_mark, first_going, first_state, serial_from, setting_of, state_after}
 use Rattle.serial_spec.specs.Torn.{Begins, HasAnswers, HasAnswersOfEach, IsCutRun, IsLeft, IsTorn, OwnerStoodAt, StoodAt}
 use Rattle.serial_spec.specs.Torn.StoodAt.{in_step, in_close, between}
 use Rattle.collective_round.specs.Rounds.{as_setting, counted}
@@ -47,18 +46,20 @@ use Rattle.turn_run.specs.Seated.{calls_of}
 use Rattle.turn_run.proofs.CutRuns.{no_answers}
 use Rattle.turn_run.proofs.ListLaws.{get_mapped}
 use Rattle.turn_run.proofs.SaidLaws.{said_here, said_part, said_up}
-use Rattle.thread_run.specs.Attending.{HasAttended, HasBroken, HasFinished}
-use Rattle.thread_run.specs.Owned.{AreSingle}
+use Rattle.turn_run.proofs.TellLaws.{told_along}
+use Rattle.turn_run.specs.Telling.{counts_along}
+use Rattle.thread_run.specs.Owned.{desk_told, AreSingle}
 use Rattle.thread_run.specs.Refused.{HasCutService}
 use Rattle.thread_run.specs.Serving.{IsDone, IsDoneSo, opening}
 use Rattle.turn_run.specs.Run.{HasCut}
 use Rattle.thread_run.specs.Threads.{EndedAt, NoneBroke, most_known_of}
 use Rattle.thread_run.specs.Threads.EndedAt.{as_left, in_close as in_closing}
-use Rattle.thread_run.proofs.CutJoin.{Ran, Stands, cut_run, end_of_rank, last_end, Sits}
+use Rattle.thread_run.proofs.CutJoin.{Ran, cut_run, end_of_rank, last_end}
 use Rattle.thread_run.proofs.CutStood.{single_begun, stood_run}
-use Rattle.join_laws.proofs.JoinLaws.{stranger_on, owed_stop, served_on}
-use Rattle.thread_run.proofs.DeskRuns.{GoesOn, goes_on, stops_at}
-use Rattle.thread_run.proofs.ThreadRuns.{Finished, FinishedSo, finished, finished_so}
+use Rattle.join_laws.proofs.JoinLaws.{owed_stop, served_on}
+use Rattle.thread_run.proofs.DeskRuns.{goes_on, stops_at}
+use Rattle.thread_run.proofs.TellLaws.{count_of}
+use Rattle.thread_run.proofs.ThreadRuns.{FinishedSo, finished, finished_so}
 use Rattle.thread_run.proofs.ThreadTies.{Own, Told, begun, broke_or_not, offered_all, own_of, puts, takes}
 
 -- ---- the part of a run that was done
@@ -215,6 +216,13 @@ module _ (script : Script) (header : Header) (arrivals : List Arrival) (given : 
   state_is : state_after script header file order ≡ ((run_of script header file h.first).desk.state, run.last)
   state_is = ap (λ (ms : List Mark). state_after script header file ms) h.order_is ∙ run.folded
 
+  -- each step of the order was told with the count that the serial run has after it
+  pub told_is : desk_told (setting_of script header) (opening_desk script header file) h.first ≡ told_of script header file order
+  told_is =
+      run.told
+      ∙ ap (λ (ms : List Mark). counts_along (after_mark (setting_of script header)) count_of (first_state header file script.calls) ms) (sym h.order_is)
+      ∙ sym (told_along script header file order)
+
   -- ---- its answers
 
   own_answers : (e : StepErr) → (e ≡ fault.Disk → NoneBroke ends) → (r : ℕ) (g : Going) (end : RankEnd) → slice_get run.last r ≡ Some g → slice_get ends r ≡ Some end → HasAnswers header e g end.answers
@@ -304,10 +312,10 @@ module _ (script : Script) (header : Header) (arrivals : List Arrival) (given : 
   abbrev desk : Desk
   desk = opening_desk script header file
 
-  desk_is : opening script.ranks (counted file header.records) ≡ opening_desk script header file
+  pub desk_is : opening script.ranks (counted file header.records) ≡ opening_desk script header file
   desk_is = ap (λ (n : ℕ). first_desk (replicate n free_seat) (counted file header.records)) (sym t.calls)
 
-  ranks_are : script.ranks ≡ length (opening_desk script header file).seats
+  pub ranks_are : script.ranks ≡ length (opening_desk script header file).seats
   ranks_are = sym t.calls ∙ sym (length-replicate (length script.calls) free_seat)
 
   as_run : (e : StepErr) (before : ServeEnd) (held : Option (List ℕ)) (count : ℕ) (left : Option (List ℕ)) (records : ℕ) (end : RunEnd) → EndOfCut header ends before e held count left records end

@@ -1,25 +1,22 @@
 -- The meeting of what is held, as the disk, the order and the lines show it.
-use Rattle.std.proofs.Common.{◌≡◌, ℕ, zero, suc, ◌+◌, ◌<◌, ◌≤◌, refl, sym, ◌∙◌, ap, subst, List, [], ◌∷◌, ◌++◌, length, map, max, Option, Some, None, arith}
+use Rattle.std.proofs.Common.{◌≡◌, ℕ, zero, suc, ◌+◌, ◌≤◌, refl, sym, ◌∙◌, ap, subst, List, [], ◌∷◌, ◌++◌, length, map, max, Option, Some, None, arith}
 use Rattle.std.specs.Prelude.{slice_get, flat_map, IfSome}
 use Rattle.std.specs.List.{enumerate_from}
 use Rattle.nc_base.specs.declared.answer.Pair.{Pair}
 use Rattle.nc_base.specs.declared.plan.Batch.{Batch}
 use Rattle.nc_base.specs.declared.script.Hints.{Hints}
-use Rattle.nc_base.specs.declared.step.DiskCall.{DiskCall}
 use Rattle.nc_base.specs.declared.step.Mark.TheVariants.{Meet}
 use Rattle.nc_base.specs.declared.step.Offer.{Offer}
-use Rattle.nc_base.specs.declared.step.OwnerItem.{OwnerItem}
-use Rattle.nc_base.specs.declared.step.OwnerItem.TheVariants.{Reply}
 use Rattle.nc_base.specs.declared.step.Reply as reply
 use Rattle.nc_outside.specs.Told.{after, with_end}
-use Rattle.serial_spec.specs.Desk.{Desk, Seat, does_meeting, freed, needed_now, offers_held, to_each}
+use Rattle.serial_spec.specs.Desk.{Seat, does_meeting, freed, needed_now, offers_held, to_each}
 use Rattle.serial_spec.specs.DeviceCalls.{meeting_calls}
 use Rattle.serial_spec.specs.FileStep.{Counted, Setting, after_puts, get_post, meeting, puts_of, told}
 use Rattle.serial_spec.specs.RankSide.{wanted}
 use Rattle.serial_spec.specs.SharedByte.{Puts}
 use Rattle.collective_round.specs.Rounds.{counted, puts_in}
 use Rattle.join_laws.specs.Alike.{AreAlike}
-use Rattle.thread_run.specs.Owned.{desk_at, replies, GoesAlike, GoesSo, Grows, HoldSingle, IsTogether, Standing}
+use Rattle.thread_run.specs.Owned.{desk_at, replies, GoesSo, Grows, HoldSingle, IsTogether, Standing}
 use Rattle.turn_run.specs.Seated.{reply_of}
 use Rattle.turn_run.specs.Steps.{batches_of, known_of, met, met_calls, IsOneRise}
 use Rattle.join_laws.proofs.ReplyLaws.{gots_long}
@@ -75,6 +72,7 @@ pub record Came (s : Setting) (hints : Hints) (b n : Standing) (batches : List B
   pub calls : IsOneRise known batches → IfSome b.told (λ file. n.calls ≡ with_end b.calls (met_calls hints s batches known (counted file b.records)))
   pub once : HoldSingle b.seats → IsOneRise (known_of (offers_held b.seats)) (batches_of (offers_held b.seats))
   pub order : n.order ≡ b.order ++ Meet b.met ∷ []
+  pub heard : n.heard ≡ with_end b.heard ((Meet b.met, n.records) ∷ [])
   pub seats : n.seats ≡ map freed b.seats
   pub met_more : n.met ≡ b.met + 1
   pub reached : n.reached ≡ max b.reached n.records
@@ -89,6 +87,7 @@ together s hints b n batches known pair table h = record {
   alike = λ file. record {
     desk = λ i. record { seats = sym h.seats i; met = met_is_more i; state = counted (meeting s offers (counted file b.records)).0.file (count file i); reached = reached_is i };
     marks = h.order;
+    heard = h.heard ∙ ap (λ (k : ℕ). with_end b.heard ((Meet b.met, k) ∷ [])) (sym (count file));
     given = λ q l. each_alike s pair (told s (flat_map puts_of (enumerate_from 0 offers))) n.records (meeting s offers (counted file b.records)).0 table offers q same_pair (sym (count file)) fits;
   };
   exact = exact b.told refl;

@@ -54,7 +54,7 @@ IsHaltAt s middle later n held made (halt.Stranger number) = IsStrangeAt s middl
 IsHaltAt s middle later n held made (halt.Fault e) = IsFaultAt s e middle later n held
 
 pub record HasHalted (hints : Hints) (s : Setting) (old now : Receiver RankItem) (flags : List Bool) (before : Standing) (n : ℕ) (held : Option (List ℕ))
-    (made : Option (List DiskCall)) (marks : List Mark) (lines : List (End OwnerItem)) (halt : Halt) : Type 0 where
+    (made : Option (List DiskCall)) (marks : List Mark) (heard : Option (List (Mark × ℕ))) (lines : List (End OwnerItem)) (halt : Halt) : Type 0 where
   pub first : List Arrival
   pub later : List Arrival
   pub middle : Standing
@@ -62,6 +62,7 @@ pub record HasHalted (hints : Hints) (s : Setting) (old now : Receiver RankItem)
   pub ended : HaveEnded flags (first ++ later)
   pub run : HasRun hints s first before middle
   pub order : marks ≡ middle.order
+  pub heard_all : heard ≡ middle.heard
   pub stopped : Grows middle.lines (stops (desk_at middle []) later) lines
   pub halted : IsHaltAt s middle later n held made halt
   pub seen : HasSeenAll old.senders flags halt

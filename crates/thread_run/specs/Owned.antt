@@ -2,12 +2,14 @@
 --     desk_of d file records     the desk that stands for what is held of each number, with a file and its count
 --     run s d arrivals           what the owner does along arrivals, the stops at the end left out
 --     event_calls, desk_calls    the device calls of an arrival, and of arrivals
+--     each_told e                the marks of an event, each with the record count after it
+--     desk_told s d arrivals     the same of all that the owner does along arrivals
 --     Grows old more now         lines on which so much was put
 --     Standing                   what can be seen of an owner
 --     HasDone hints s a b n      what can be seen went from one to the other by the arrival
 --     HasRun hints s as b n      the same by arrivals, none of them strange
 --     IsSteady header len x      what is held is fit to be done
-use Rattle.std.specs.Prelude.{◌≡◌, ℕ, ◌<◌, ◌≤◌, List, [], ◌∷◌, ◌++◌, length, replicate, set, Bool, true, false, Option, Some, None, IfSome, slice_get}
+use Rattle.std.specs.Prelude.{◌≡◌, ℕ, ◌<◌, ◌≤◌, List, [], ◌∷◌, ◌++◌, length, map, replicate, set, Bool, true, false, Option, Some, None, IfSome, slice_get}
 use Rattle.std.specs.List.{list_all}
 use Rattle.nc_base.specs.declared.answer.Pair.{Pair}
 use Rattle.nc_base.specs.declared.header.Header.{Header}
@@ -23,7 +25,6 @@ use Rattle.nc_base.specs.declared.step.OwnerItem.TheVariants.{Reply}
 use Rattle.nc_base.specs.declared.step.RankItem.{RankItem}
 use Rattle.nc_base.specs.declared.step.RankItem.TheVariants as item
 use Rattle.nc_outside.specs.Told.{with_end}
-use Rattle.overlay_laws.specs.Entries.{In}
 use Rattle.ruled_line.specs.Ends.{End}
 use Rattle.serial_spec.specs.Desk.{Desk, Event, Seat, does_meeting, does_solo, event, free_seat, given_along, holds, is_strange, offers_held, served}
 use Rattle.serial_spec.specs.DeviceCalls.{meeting_calls, solo_calls}
@@ -63,6 +64,13 @@ desk_calls hints s d [] = []
 desk_calls hints s d (a ∷ arrivals) =
     elim (is_strange s d a) [ true ↦ [] | false ↦ event_calls hints s d a ++ desk_calls hints s (event s d a).desk arrivals ]
 
+abbrev pub each_told : Event → List (Mark × ℕ)
+each_told e = map (λ m. (m, e.desk.state.records)) e.marks
+
+abbrev pub desk_told : Setting → Desk → List Arrival → List (Mark × ℕ)
+desk_told s d [] = []
+desk_told s d (a ∷ arrivals) = elim (is_strange s d a) [ true ↦ [] | false ↦ each_told (event s d a) ++ desk_told s (event s d a).desk arrivals ]
+
 -- ---- offers that are held
 
 abbrev pub HoldAll : (Offer → Type 0) → List Seat → Type 0
@@ -82,7 +90,7 @@ pub record Grows (old : List (End OwnerItem)) (more : ℕ → List OwnerItem) (n
 abbrev pub replies : Option Pair → ℕ → List (List (List ℕ)) → ℕ → List OwnerItem
 replies pair records table q = elim (slice_get table q) [ None ↦ [] | Some got ↦ Reply (reply_of pair records got) ∷ [] ]
 
--- what is held of each number, the meetings done and the greatest count needed; the disk and its count; the order and the lines
+-- what is held of each number, the meetings done and the greatest count needed; the disk and its count; the order, what was told of it, and the lines
 pub record Standing : Type 0 where
   pub seats : List Seat
   pub met : ℕ
@@ -91,17 +99,18 @@ pub record Standing : Type 0 where
   pub told : Option (List ℕ)
   pub calls : Option (List DiskCall)
   pub order : List Mark
+  pub heard : Option (List (Mark × ℕ))
   pub lines : List (End OwnerItem)
 
 -- what stands beside a desk
-abbrev pub standing : Held → ℕ → Option (List ℕ) → Option (List DiskCall) → List Mark → List (End OwnerItem) → Standing
-standing d records told calls order lines =
-    record { seats = d.seats.items; met = d.met; reached = d.reached; records = records; told = told; calls = calls; order = order; lines = lines }
+abbrev pub standing : Held → ℕ → Option (List ℕ) → Option (List DiskCall) → Option (List (Mark × ℕ)) → List (End OwnerItem) → Standing
+standing d records told calls heard lines =
+    record { seats = d.seats.items; met = d.met; reached = d.reached; records = records; told = told; calls = calls; order = d.order; heard = heard; lines = lines }
 
 -- before anything arrived
-abbrev pub opening_standing : ℕ → ℕ → Option (List ℕ) → Option (List DiskCall) → List Mark → List (End OwnerItem) → Standing
-opening_standing senders records told calls order lines =
-    record { seats = replicate senders free_seat; met = 0; reached = records; records = records; told = told; calls = calls; order = order; lines = lines }
+abbrev pub opening_standing : ℕ → ℕ → Option (List ℕ) → Option (List DiskCall) → Option (List (Mark × ℕ)) → List (End OwnerItem) → Standing
+opening_standing senders records told calls heard lines =
+    record { seats = replicate senders free_seat; met = 0; reached = records; records = records; told = told; calls = calls; order = []; heard = heard; lines = lines }
 
 abbrev pub desk_of : Held → List ℕ → ℕ → Desk
 desk_of d file records = record { seats = d.seats.items; met = d.met; state = counted file records; reached = d.reached }
@@ -110,9 +119,10 @@ abbrev pub desk_at : Standing → List ℕ → Desk
 desk_at x file = record { seats = x.seats; met = x.met; state = counted file x.records; reached = x.reached }
 
 -- whatever bytes the file has, the event leads from one to the other, up to the bytes that were given
-pub record GoesAlike (e : Event) (more : ℕ → List OwnerItem) (before now : Standing) : Type 0 where
+pub record GoesAlike (e : Event) (told : List (Mark × ℕ)) (more : ℕ → List OwnerItem) (before now : Standing) : Type 0 where
   pub desk : e.desk ≡ desk_at now e.desk.state.file
   pub marks : now.order ≡ before.order ++ e.marks
+  pub heard : now.heard ≡ with_end before.heard told
   pub given : (q : ℕ) → q < length before.lines → AreAlike (more q) (e.given q)
 
 -- The bytes are told. The device calls are these where `once` holds.
@@ -121,30 +131,35 @@ pub record GoesSo (once : Type 0) (e : Event) (made : List DiskCall) (more : ℕ
   pub given : (q : ℕ) → q < length before.lines → more q ≡ e.given q
   pub calls : once → now.calls ≡ with_end before.calls made
 
-pub record HasMoved (once : Type 0) (to : List ℕ → Event) (made : List ℕ → List DiskCall) (before now : Standing) : Type 0 where
+pub record HasMoved (once : Type 0) (to : List ℕ → Event) (told : List ℕ → List (Mark × ℕ)) (made : List ℕ → List DiskCall) (before now : Standing) : Type 0 where
   pub more : ℕ → List OwnerItem
   pub lines : Grows before.lines more now.lines
-  pub alike : (file : List ℕ) → GoesAlike (to file) more before now
+  pub alike : (file : List ℕ) → GoesAlike (to file) (told file) more before now
   pub exact : IfSome before.told (λ file. GoesSo once (to file) (made file) more before now)
   pub single : once → HoldSingle now.seats
 
 -- ---- an arrival, and arrivals
 
+-- one event, whose marks are told with the count after it
+abbrev pub HasMovedOnce : Type 0 → (List ℕ → Event) → (List ℕ → List DiskCall) → Standing → Standing → Type 0
+HasMovedOnce once to made before now = HasMoved once to (λ file. each_told (to file)) made before now
+
 abbrev pub HasDone : Hints → Setting → Arrival → Standing → Standing → Type 0
 HasDone hints s a before now =
-    HasMoved (HoldSingle before.seats × IsSingle a.1) (λ file. event s (desk_at before file) a) (λ file. event_calls hints s (desk_at before file) a) before now
+    HasMovedOnce (HoldSingle before.seats × IsSingle a.1) (λ file. event s (desk_at before file) a) (λ file. event_calls hints s (desk_at before file) a) before now
 
 -- an offer that a number makes alone, and a meeting of all
 abbrev pub IsAlone : Hints → Setting → ℕ → ℕ → Offer → Standing → Standing → Type 0
 IsAlone hints s r c o before now =
-    HasMoved (HoldSingle before.seats) (λ file. does_solo s (desk_at before file) r c o) (λ file. solo_calls hints s r o (counted file before.records)) before now
+    HasMovedOnce (HoldSingle before.seats) (λ file. does_solo s (desk_at before file) r c o) (λ file. solo_calls hints s r o (counted file before.records)) before now
 
 abbrev pub IsTogether : Hints → Setting → Standing → Standing → Type 0
 IsTogether hints s before now =
-    HasMoved (HoldSingle before.seats) (λ file. does_meeting s (desk_at before file) before.seats) (λ file. meeting_calls hints s (offers_held before.seats) (counted file before.records)) before now
+    HasMovedOnce (HoldSingle before.seats) (λ file. does_meeting s (desk_at before file) before.seats) (λ file. meeting_calls hints s (offers_held before.seats) (counted file before.records)) before now
 
 pub record HasRun (hints : Hints) (s : Setting) (arrivals : List Arrival) (before now : Standing) : Type 0 where
-  pub moved : HasMoved (HoldSingle before.seats × AreSingle arrivals) (λ file. run s (desk_at before file) arrivals) (λ file. desk_calls hints s (desk_at before file) arrivals) before now
+  pub moved : HasMoved (HoldSingle before.seats × AreSingle arrivals) (λ file. run s (desk_at before file) arrivals) (λ file. desk_told s (desk_at before file) arrivals)
+      (λ file. desk_calls hints s (desk_at before file) arrivals) before now
   pub none_strange : (file : List ℕ) → (served s (desk_at before file) arrivals).stranger ≡ None
 
 -- ---- what is held

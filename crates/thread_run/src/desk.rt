@@ -4,7 +4,7 @@ ghost use Rattle.std.specs.List.{list_all, list_any};
 ghost use Rattle.serial_spec.specs.Desk.{free_seat, freed, has_left, holds, kind_held, offers_held};
 ghost use Rattle.turn_run.specs.Steps.{batches_of, known_of};
 
-use nc_base::{Batch, BatchList, Job, MeetKind, Memory, Offer, OfferKind};
+use nc_base::{Batch, BatchList, Job, MarkList, MeetKind, Memory, Offer, OfferKind};
 use std::alloc::Global;
 use std::marker::Model;
 use turn_run::add_offer;
@@ -93,12 +93,13 @@ impl DeskSeat {
     }
 }
 
-/// What is held of each number, the meetings done, and the greatest record count that a step has needed.
+/// What is held of each number, the meetings done, the greatest record count that a step has needed, and the order of all steps done.
 #[derive(Drop)]
 pub(crate) struct Desk {
     pub(crate) seats: Vec<DeskSeat>,
     pub(crate) met: u32,
     pub(crate) reached: u64,
+    pub(crate) order: MarkList,
 }
 
 impl Desk {
@@ -108,6 +109,7 @@ impl Desk {
         ensures seats { IfOk result (λ desk. desk.seats.items ≡ replicate senders free_seat) }
         ensures met { IfOk result (λ desk. desk.met ≡ 0) }
         ensures reached { IfOk result (λ desk. desk.reached ≡ records) }
+        ensures order { IfOk result (λ desk. desk.order ≡ []) }
     {
         let mut seats = Vec::new(alloc);
         for _ in 0..senders {
@@ -117,6 +119,7 @@ impl Desk {
             seats,
             met: 0,
             reached: records,
+            order: MarkList::new(alloc),
         })
     }
 }

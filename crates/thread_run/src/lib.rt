@@ -13,5 +13,5 @@ mod stopping;
 mod strange;
 
 pub use attending::attend;
-pub use rank_threads::run_ranks;
+pub use rank_threads::{run_ranks, run_ranks_told};
 pub use serving::serve;

@@ -11,6 +11,7 @@ ghost use Rattle.nc_base.specs.declared.step.RankItem.{RankItem};
 ghost use Rattle.rank_core.specs.Indexed.{IsIndexOf};
 ghost use Rattle.ruled_line.specs.Ends.{End, Line};
 ghost use Rattle.turn_run.specs.Run.{IsRun};
+ghost use Rattle.turn_run.specs.Telling.{HasTold};
 ghost use Rattle.thread_run.specs.Resident.{AreOf, AreResidents, IsToldToGo};
 ghost use Rattle.thread_run.specs.Threads.{HasRooms};
 ghost use Rattle.thread_run.specs.declared.resident.Resident.{Resident};
@@ -20,7 +21,7 @@ use crate::resident::{Resident, Word, start};
 use crate::returned::join_all;
 use crate::serving::serve;
 use nc_base::{Header, Memory, OwnerItem, RankEnd, RunEnd, Script};
-use nc_outside::{Disk, Gate};
+use nc_outside::{Deaf, Disk, Gate, Told};
 use rank_core::Names;
 use rank_items::SentItem;
 use ruled_line::{InPut, InTake, LinePut, LinePutList, inbox};
@@ -28,7 +29,7 @@ use std::alloc::Global;
 use std::sync::Wait;
 use std::thread;
 use std::thread::{Scope, Threads};
-use turn_run::run_in_turn;
+use turn_run::run_in_turn_told;
 
 /// Runs the ranks of a script, each on a thread of its own, whose offers this thread takes as they come. Where the threads are off, or
 /// one can't be started, the ranks run in turn.
@@ -50,12 +51,35 @@ pub fn run_ranks<R: Threads + Wait + Sync, D: Disk, G: Gate>(
     requires long { end_of header.now (header_len header.now) header.now.records ≤ D.len disk.old }
     ensures run { IsRun script.now header.now (D.held disk.old) (D.calls disk.old) (D.faults disk.old) (D.held disk.new) (D.calls disk.new) (D.faults disk.new) records.new result }
 {
+    run_ranks_told(rt, alloc, disk, header, records, script, gate, &mut Deaf)
+}
+
+/// The same run, of which `told` is told each step as it is finished, before any rank has its reply. Where `told` has no memory, the
+/// run ends with that fault, and the step is not in the order. The close is no step, and is not told.
+pub fn run_ranks_told<R: Threads + Wait + Sync, D: Disk, G: Gate, T: Told>(
+    rt: &R,
+    alloc: Global,
+    disk: &mut D,
+    header: &Header,
+    records: &mut u64,
+    script: &Script,
+    gate: &G,
+    told: &mut T,
+) -> RunEnd
+    requires sound { is_sound header.now ≡ true }
+    requires lawful { is_lawful script.now ≡ true }
+    requires records { records.old ≡ header.now.records }
+    requires from { D.from disk.old ≡ 0 }
+    requires long { end_of header.now (header_len header.now) header.now.records ≤ D.len disk.old }
+    ensures run { IsRun script.now header.now (D.held disk.old) (D.calls disk.old) (D.faults disk.old) (D.held disk.new) (D.calls disk.new) (D.faults disk.new) records.new result }
+    ensures told { HasTold script.now header.now (D.held disk.old) (T.heard told.old) (T.heard told.new) result.order }
+{
     if !script.hints.threads {
-        return run_in_turn(rt, alloc, disk, header, records, script, gate);
+        return run_in_turn_told(rt, alloc, disk, header, records, script, gate, told);
     }
-    match run_on_threads(rt, alloc, disk, header, records, script, gate) {
+    match run_on_threads(rt, alloc, disk, header, records, script, gate, told) {
         Some(end) => end,
-        None => run_in_turn(rt, alloc, disk, header, records, script, gate),
+        None => run_in_turn_told(rt, alloc, disk, header, records, script, gate, told),
     }
 }
 
@@ -69,15 +93,25 @@ pub(crate) struct Rooms {
     pub ends: Vec<RankEnd>,
 }
 
+/// The threads of a run that were all started, and this thread's ends of their lines.
+#[derive(Drop)]
+pub(crate) struct Crew {
+    pub inbox: InTake<SentItem>,
+    pub ones: Vec<Resident>,
+    pub lines: Vec<LinePut<OwnerItem>>,
+    pub ends: Vec<RankEnd>,
+}
+
 /// What a scope of threads gives back: what was lent to it, and the end of the run, if all threads were started.
-pub(crate) struct Scoped<'d, D> {
+pub(crate) struct Scoped<'d, 't, D, T> {
     pub disk: &'d mut D,
     pub records: u64,
+    pub told: &'t mut T,
     pub end: Option<RunEnd>,
 }
 
 /// The run on threads. None where one can't be started: then nothing was done.
-fn run_on_threads<R: Threads + Wait + Sync, D: Disk, G: Gate>(
+fn run_on_threads<R: Threads + Wait + Sync, D: Disk, G: Gate, T: Told>(
     rt: &R,
     alloc: Global,
     disk: &mut D,
@@ -85,6 +119,7 @@ fn run_on_threads<R: Threads + Wait + Sync, D: Disk, G: Gate>(
     records: &mut u64,
     script: &Script,
     gate: &G,
+    told: &mut T,
 ) -> Option<RunEnd>
     requires sound { is_sound header.now ≡ true }
     requires lawful { is_lawful script.now ≡ true }
@@ -92,7 +127,8 @@ fn run_on_threads<R: Threads + Wait + Sync, D: Disk, G: Gate>(
     requires from { D.from disk.old ≡ 0 }
     requires long { end_of header.now (header_len header.now) header.now.records ≤ D.len disk.old }
     ensures run { IfSome result (IsRun script.now header.now (D.held disk.old) (D.calls disk.old) (D.faults disk.old) (D.held disk.new) (D.calls disk.new) (D.faults disk.new) records.new) }
-    ensures kept { result ≡ None → (disk.new ≡ disk.old) × (records.new ≡ records.old) }
+    ensures told { IfSome result (λ end. HasTold script.now header.now (D.held disk.old) (T.heard told.old) (T.heard told.new) end.order) }
+    ensures kept { result ≡ None → (disk.new ≡ disk.old) × (records.new ≡ records.old) × (told.new ≡ told.old) }
 {
     let Ok(names) = Names::new(alloc, header) else {
         return None;
@@ -101,12 +137,12 @@ fn run_on_threads<R: Threads + Wait + Sync, D: Disk, G: Gate>(
         return None;
     };
     run_scoped(
-        rt, alloc, disk, header, records, script, &names, gate, rooms,
+        rt, alloc, disk, header, records, script, &names, gate, told, rooms,
     )
 }
 
 /// The run in a scope of threads.
-fn run_scoped<R: Threads + Wait + Sync, D: Disk, G: Gate>(
+fn run_scoped<R: Threads + Wait + Sync, D: Disk, G: Gate, T: Told>(
     rt: &R,
     alloc: Global,
     disk: &mut D,
@@ -115,6 +151,7 @@ fn run_scoped<R: Threads + Wait + Sync, D: Disk, G: Gate>(
     script: &Script,
     names: &Names,
     gate: &G,
+    told: &mut T,
     rooms: Rooms,
 ) -> Option<RunEnd>
     requires sound { is_sound header.now ≡ true }
@@ -125,30 +162,35 @@ fn run_scoped<R: Threads + Wait + Sync, D: Disk, G: Gate>(
     requires long { end_of header.now (header_len header.now) header.now.records ≤ D.len disk.old }
     requires rooms { HasRooms script.now.ranks rooms }
     ensures run { IfSome result (IsRun script.now header.now (D.held disk.old) (D.calls disk.old) (D.faults disk.old) (D.held disk.new) (D.calls disk.new) (D.faults disk.new) records.new) }
-    ensures kept { result ≡ None → (disk.new ≡ disk.old) × (records.new ≡ records.old) }
+    ensures told { IfSome result (λ end. HasTold script.now header.now (D.held disk.old) (T.heard told.old) (T.heard told.new) end.order) }
+    ensures kept { result ≡ None → (disk.new ≡ disk.old) × (records.new ≡ records.old) × (told.new ≡ told.old) }
 {
     let count = *records;
     let Scoped {
         disk: back,
         records: last,
+        told: ear,
         end,
     } = thread::scope(
         thread::scope_env(),
         rt,
-        |scope| -> Scoped<D>
+        |scope| -> Scoped<D, T>
             requires { (is_sound header.now ≡ true) × (is_lawful script.now ≡ true) × IsIndexOf header.now names.now × (count ≡ header.now.records) × (D.from disk.now ≡ 0)
                 × (end_of header.now (header_len header.now) header.now.records ≤ D.len disk.now) × HasRooms script.now.ranks rooms }
             ensures run { IfSome result.end (IsRun script.entry.now header.entry.now (D.held disk.entry.now) (D.calls disk.entry.now) (D.faults disk.entry.now)
                 (D.held result.disk.now) (D.calls result.disk.now) (D.faults result.disk.now) result.records) }
-            ensures kept { result.end ≡ None → (result.disk.now ≡ disk.entry.now) × (result.records ≡ count) }
-            ensures same { result.disk.ghost_name ≡ disk.entry.ghost_name }
+            ensures told { IfSome result.end (λ end. HasTold script.entry.now header.entry.now (D.held disk.entry.now) (T.heard told.entry.now) (T.heard result.told.now) end.order) }
+            ensures kept { result.end ≡ None → (result.disk.now ≡ disk.entry.now) × (result.records ≡ count) × (result.told.now ≡ told.entry.now) }
+            ensures same_disk { result.disk.ghost_name ≡ disk.entry.ghost_name }
+            ensures same_told { result.told.ghost_name ≡ told.entry.ghost_name }
         {
             run_in_scope(
-                scope, rt, alloc, disk, header, count, script, names, gate, rooms,
+                scope, rt, alloc, disk, header, count, script, names, gate, told, rooms,
             )
         },
     );
     take_back(back);
+    take_back(ear);
     *records = last;
     end
 }
@@ -175,7 +217,7 @@ fn make_rooms(alloc: Global, ranks: u32) -> Result<Rooms, Memory>
 }
 
 /// Starts a thread for each rank, and does the run where all were started. Else those that were started are told to stop.
-fn run_in_scope<'s, 'd, E, R: Threads + Wait + Sync, D: Disk, G: Gate>(
+fn run_in_scope<'s, 'd, 't, E, R: Threads + Wait + Sync, D: Disk, G: Gate, T: Told>(
     scope: &'s Scope<'s, E>,
     rt: &'s R,
     alloc: Global,
@@ -185,8 +227,9 @@ fn run_in_scope<'s, 'd, E, R: Threads + Wait + Sync, D: Disk, G: Gate>(
     script: &'s Script,
     names: &'s Names,
     gate: &'s G,
+    told: &'t mut T,
     rooms: Rooms,
-) -> Scoped<'d, D>
+) -> Scoped<'d, 't, D, T>
     requires sound { is_sound header.now ≡ true }
     requires lawful { is_lawful script.now ≡ true }
     requires names { IsIndexOf header.now names.now }
@@ -196,8 +239,10 @@ fn run_in_scope<'s, 'd, E, R: Threads + Wait + Sync, D: Disk, G: Gate>(
     requires rooms { HasRooms script.now.ranks rooms }
     ensures run { IfSome result.end (IsRun script.now header.now (D.held disk.old) (D.calls disk.old) (D.faults disk.old)
         (D.held result.disk.now) (D.calls result.disk.now) (D.faults result.disk.now) result.records) }
-    ensures kept { result.end ≡ None → (result.disk.now ≡ disk.old) × (result.records ≡ records) }
-    ensures same { result.disk.ghost_name ≡ disk.entry.ghost_name }
+    ensures told { IfSome result.end (λ end. HasTold script.now header.now (D.held disk.old) (T.heard told.old) (T.heard result.told.now) end.order) }
+    ensures kept { result.end ≡ None → (result.disk.now ≡ disk.old) × (result.records ≡ records) × (result.told.now ≡ told.old) }
+    ensures same_disk { result.disk.ghost_name ≡ disk.entry.ghost_name }
+    ensures same_told { result.told.ghost_name ≡ told.entry.ghost_name }
 {
     let Rooms {
         senders,
@@ -213,9 +258,16 @@ fn run_in_scope<'s, 'd, E, R: Threads + Wait + Sync, D: Disk, G: Gate>(
         return Scoped {
             disk,
             records,
+            told,
             end: None,
         };
     }
+    let crew = Crew {
+        inbox,
+        ones,
+        lines,
+        ends,
+    };
     let mut records = records;
     let end = run_started(
         rt,
@@ -225,14 +277,13 @@ fn run_in_scope<'s, 'd, E, R: Threads + Wait + Sync, D: Disk, G: Gate>(
         &mut records,
         script,
         gate,
-        ones,
-        lines,
-        inbox,
-        ends,
+        told,
+        crew,
     );
     Scoped {
         disk,
         records,
+        told,
         end: Some(end),
     }
 }
@@ -299,7 +350,7 @@ fn tell_all<R: Wait>(rt: &R, ones: &mut [Resident])
 }
 
 /// Lets the threads go, serves them, and ends the run by what they came to.
-fn run_started<R: Threads + Wait, D: Disk, G: Gate>(
+fn run_started<R: Threads + Wait, D: Disk, G: Gate, T: Told>(
     rt: &R,
     alloc: Global,
     disk: &mut D,
@@ -307,29 +358,31 @@ fn run_started<R: Threads + Wait, D: Disk, G: Gate>(
     records: &mut u64,
     script: &Script,
     gate: &G,
-    ones: Vec<Resident>,
-    lines: Vec<LinePut<OwnerItem>>,
-    inbox: InTake<SentItem>,
-    ends: Vec<RankEnd>,
+    told: &mut T,
+    crew: Crew,
 ) -> RunEnd
     requires sound { is_sound header.now ≡ true }
     requires lawful { is_lawful script.now ≡ true }
     requires records { records.old ≡ header.now.records }
     requires from { D.from disk.old ≡ 0 }
     requires long { end_of header.now (header_len header.now) header.now.records ≤ D.len disk.old }
-    requires of { AreOf header.now script.now ones.items }
-    requires residents { AreResidents inbox.of [] ones.items lines.items }
-    requires all { length ones.items ≡ script.now.ranks }
-    requires empty { All (λ line. line.items ≡ []) lines.items }
-    requires taken { inbox.items ≡ [] }
-    requires senders { inbox.senders ≡ script.now.ranks }
-    requires none { ends.items ≡ [] }
-    requires room { script.now.ranks ≤ vec_capacity ends }
-    ensures { IsRun script.now header.now (D.held disk.old) (D.calls disk.old) (D.faults disk.old) (D.held disk.new) (D.calls disk.new) (D.faults disk.new) records.new result }
+    requires of { AreOf header.now script.now crew.ones.items }
+    requires residents { AreResidents crew.inbox.of [] crew.ones.items crew.lines.items }
+    requires all { length crew.ones.items ≡ script.now.ranks }
+    requires empty { All (λ line. line.items ≡ []) crew.lines.items }
+    requires taken { crew.inbox.items ≡ [] }
+    requires senders { crew.inbox.senders ≡ script.now.ranks }
+    requires none { crew.ends.items ≡ [] }
+    requires room { script.now.ranks ≤ vec_capacity crew.ends }
+    ensures run { IsRun script.now header.now (D.held disk.old) (D.calls disk.old) (D.faults disk.old) (D.held disk.new) (D.calls disk.new) (D.faults disk.new) records.new result }
+    ensures told { HasTold script.now header.now (D.held disk.old) (T.heard told.old) (T.heard told.new) result.order }
 {
-    let mut ones = ones;
-    let mut inbox = inbox;
-    let mut ends = ends;
+    let Crew {
+        mut inbox,
+        mut ones,
+        lines,
+        mut ends,
+    } = crew;
     let mut back = LinePutList::from_vec(lines);
     tell_all(rt, &mut ones);
     let served = serve(
@@ -342,6 +395,7 @@ fn run_started<R: Threads + Wait, D: Disk, G: Gate>(
         &mut inbox,
         &mut back,
         gate,
+        told,
     );
     join_all(rt, ones, back.into_vec(), inbox, &mut ends);
     end_run(alloc, disk, header, records, served, ends)

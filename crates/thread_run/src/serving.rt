@@ -14,13 +14,13 @@ ghost use Rattle.turn_run.specs.Counts.{IsCount};
 ghost use Rattle.thread_run.specs.Halted.{of_fault, of_stranger, HasFinished, HasHalted, HasHaltCause, HasSeenAll};
 ghost use Rattle.thread_run.specs.Owned.{desk_calls, opening_standing, standing, AreSingle, IsSteady};
 ghost use Rattle.thread_run.specs.Refused.{HasCutService};
-ghost use Rattle.thread_run.specs.Serving.{arrived, gained, opening, HasFailed, HasTaken, HavePut, IsDone, IsDoneSo};
+ghost use Rattle.thread_run.specs.Serving.{arrived, gained, opening, HasFailed, HasTaken, HasToldAlong, HavePut, IsDone, IsDoneSo};
 ghost use Rattle.thread_run.specs.Stopping.{HaveEnded};
 
 use crate::desk::Desk;
 use crate::stopping::{Door, stop_arrival, stop_held, stop_rest};
 use nc_base::{Header, Hints, MarkList, OwnerItem, ServeEnd, StepErr};
-use nc_outside::{Disk, Gate};
+use nc_outside::{Disk, Gate, Told};
 use rank_items::SentItem;
 use ruled_line::{InTake, LinePutList};
 use std::alloc::Global;
@@ -38,8 +38,9 @@ enum Halt {
 
 /// Owns the file of a run: does what arrives, one step after another, until each sender has put its end. A solo offer is done as it
 /// arrives, a meeting as the last of its offers arrives, and each offer gets one item on the line of its number. After a fault, or
-/// an arrival that no rank of a script makes, nothing more is done, and each offer without a reply gets a stop.
-pub fn serve<R: Wait, D: Disk, G: Gate>(
+/// an arrival that no rank of a script makes, nothing more is done, and each offer without a reply gets a stop. `told` is told of each
+/// step before any of its replies is put; want of memory there is that of the step.
+pub fn serve<R: Wait, D: Disk, G: Gate, T: Told>(
     rt: &R,
     alloc: Global,
     disk: &mut D,
@@ -49,6 +50,7 @@ pub fn serve<R: Wait, D: Disk, G: Gate>(
     inbox: &mut InTake<SentItem>,
     back: &mut LinePutList<OwnerItem>,
     gate: &G,
+    told: &mut T,
 ) -> ServeEnd
     requires sound { is_sound header.now ≡ true }
     requires hints { are_lawful_hints hints.now ≡ true }
@@ -60,6 +62,10 @@ pub fn serve<R: Wait, D: Disk, G: Gate>(
 
     ensures taken { HasTaken inbox.old inbox.new }
     ensures put { HavePut back.old back.new }
+
+    // Each step was told with the record count after it.
+    ensures told { (file : List ℕ) → HasToldAlong (setting header.now hints.now) (opening inbox.old.senders (counted file header.now.records))
+        (arrived inbox.old inbox.new) result.order (T.heard told.old) (T.heard told.new) }
 
     // Without a fault, by the bytes of the file where they are told, and else up to those of gets.
     ensures done { result.fault ≡ None → (file : List ℕ) → IsDone (setting header.now hints.now) (opening inbox.old.senders (counted file header.now.records))
@@ -81,10 +87,9 @@ pub fn serve<R: Wait, D: Disk, G: Gate>(
     ensures longer { D.len disk.old ≤ D.len disk.new }
     ensures later { D.faults disk.old ≤ D.faults disk.new }
 {
-    let mut order = MarkList::new(alloc);
     let mut door = Door::new();
-    let halt = open_desk(
-        rt, alloc, disk, header, records, hints, &mut door, inbox, back, &mut order, gate,
+    let (order, halt) = open_desk(
+        rt, alloc, disk, header, records, hints, &mut door, inbox, back, gate, told,
     );
     finish(rt, halt, &mut door, inbox, back, gate);
     ServeEnd {
@@ -133,7 +138,7 @@ fn stranger_of(halt: Halt) -> Option<u32>
 }
 
 /// Serves from a desk at which nothing arrived.
-fn open_desk<R: Wait, D: Disk, G: Gate>(
+fn open_desk<R: Wait, D: Disk, G: Gate, T: Told>(
     rt: &R,
     alloc: Global,
     disk: &mut D,
@@ -143,9 +148,9 @@ fn open_desk<R: Wait, D: Disk, G: Gate>(
     door: &mut Door,
     inbox: &mut InTake<SentItem>,
     back: &mut LinePutList<OwnerItem>,
-    order: &mut MarkList,
     gate: &G,
-) -> Halt
+    told: &mut T,
+) -> (MarkList, Halt)
     requires sound { is_sound header.now ≡ true }
     requires hints { are_lawful_hints hints.now ≡ true }
     requires count { IsCount header.now (D.len disk.old) records.old }
@@ -154,23 +159,26 @@ fn open_desk<R: Wait, D: Disk, G: Gate>(
     requires few { inbox.old.senders ≤ 64 }
     requires ended { HaveEnded door.old.ended [] }
     ensures halted { HasHalted hints.now (setting header.now hints.now) inbox.old inbox.new door.new.ended
-        (opening_standing inbox.old.senders records.old (D.held disk.old) (D.calls disk.old) order.old back.old)
-        records.new (D.held disk.new) (D.calls disk.new) order.new back.new result }
+        (opening_standing inbox.old.senders records.old (D.held disk.old) (D.calls disk.old) (T.heard told.old) back.old)
+        records.new (D.held disk.new) (D.calls disk.new) result.0 (T.heard told.new) back.new result.1 }
     ensures count { IsCount header.now (D.len disk.new) records.new }
     ensures from { D.from disk.new ≡ 0 }
     ensures longer { D.len disk.old ≤ D.len disk.new }
-    ensures cause { HasHaltCause (D.faults disk.old) (D.faults disk.new) result }
+    ensures cause { HasHaltCause (D.faults disk.old) (D.faults disk.new) result.1 }
 {
     match Desk::new(alloc, back.len(), *records) {
-        Err(_) => Halt::Fault(StepErr::Memory),
-        Ok(mut desk) => serve_all(
-            rt, alloc, disk, header, records, hints, &mut desk, door, inbox, back, order, gate,
-        ),
+        Err(_) => (MarkList::new(alloc), Halt::Fault(StepErr::Memory)),
+        Ok(mut desk) => {
+            let halt = serve_all(
+                rt, alloc, disk, header, records, hints, &mut desk, door, inbox, back, gate, told,
+            );
+            (desk.order, halt)
+        }
     }
 }
 
 /// Does what arrives until each number has ended, or a fault or a strange arrival. Each offer that is held then has a stop.
-fn serve_all<R: Wait, D: Disk, G: Gate>(
+fn serve_all<R: Wait, D: Disk, G: Gate, T: Told>(
     rt: &R,
     alloc: Global,
     disk: &mut D,
@@ -181,8 +189,8 @@ fn serve_all<R: Wait, D: Disk, G: Gate>(
     door: &mut Door,
     inbox: &mut InTake<SentItem>,
     back: &mut LinePutList<OwnerItem>,
-    order: &mut MarkList,
     gate: &G,
+    told: &mut T,
 ) -> Halt
     requires sound { is_sound header.now ≡ true }
     requires hints { are_lawful_hints hints.now ≡ true }
@@ -190,10 +198,10 @@ fn serve_all<R: Wait, D: Disk, G: Gate>(
     requires lines { length back.old ≡ inbox.old.senders }
     requires few { inbox.old.senders ≤ 64 }
     requires ended { HaveEnded door.old.ended [] }
-    requires steady { IsSteady header.now (D.len disk.old) (standing desk.old records.old (D.held disk.old) (D.calls disk.old) order.old back.old) }
+    requires steady { IsSteady header.now (D.len disk.old) (standing desk.old records.old (D.held disk.old) (D.calls disk.old) (T.heard told.old) back.old) }
     ensures halted { HasHalted hints.now (setting header.now hints.now) inbox.old inbox.new door.new.ended
-        (standing desk.old records.old (D.held disk.old) (D.calls disk.old) order.old back.old)
-        records.new (D.held disk.new) (D.calls disk.new) order.new back.new result }
+        (standing desk.old records.old (D.held disk.old) (D.calls disk.old) (T.heard told.old) back.old)
+        records.new (D.held disk.new) (D.calls disk.new) desk.new.order (T.heard told.new) back.new result }
     ensures count { IsCount header.now (D.len disk.new) records.new }
     ensures from { D.from disk.new ≡ 0 }
     ensures longer { D.len disk.old ≤ D.len disk.new }
@@ -211,7 +219,7 @@ fn serve_all<R: Wait, D: Disk, G: Gate>(
             return Halt::Stranger(number);
         }
         let done = desk.arrive(
-            rt, alloc, disk, header, records, hints, order, back, gate, number, item,
+            rt, alloc, disk, header, records, hints, back, gate, told, number, item,
         );
         if let Err(fault) = done {
             return Halt::Fault(fault);

@@ -16,18 +16,18 @@ ghost use Rattle.thread_run.specs.Stopping.{held_stops, stop_each, stops_for};
 use crate::desk::{Desk, all_hold, take_all};
 use crate::stopping::{stop_arrival, stop_each, stop_held};
 use nc_base::{
-    GotTable, Header, Hints, Job, Mark, MarkList, Memory, Offer, OfferKind, OwnerItem, Pair,
-    RankItem, Reply, StepErr,
+    GotTable, Header, Hints, Job, Mark, Memory, Offer, OfferKind, OwnerItem, Pair, RankItem, Reply,
+    StepErr,
 };
-use nc_outside::{Disk, Gate};
+use nc_outside::{Disk, Gate, Told};
 use ruled_line::LinePutList;
 use std::alloc::Global;
 use std::sync::Wait;
-use turn_run::{meet_on_file, solo_reply};
+use turn_run::{meet_on_file, note_step, solo_reply};
 
 impl Desk {
     /// Does what an arrival brings that is not strange. After an error each offer that is held, and the one that arrived, has a stop.
-    pub(crate) fn arrive<R: Wait, D: Disk, G: Gate>(
+    pub(crate) fn arrive<R: Wait, D: Disk, G: Gate, T: Told>(
         &mut self,
         rt: &R,
         alloc: Global,
@@ -35,9 +35,9 @@ impl Desk {
         header: &Header,
         records: &mut u64,
         hints: &Hints,
-        order: &mut MarkList,
         back: &mut LinePutList<OwnerItem>,
         gate: &G,
+        told: &mut T,
         number: u32,
         item: RankItem,
     ) -> Result<(), StepErr>
@@ -46,16 +46,17 @@ impl Desk {
         requires number { number < length self.old.seats.items }
         requires own { HasOwnPuts item }
         requires fit { (file : List ℕ) → is_strange (setting header.now hints.now) (desk_of self.old file records.old) (number, item) ≡ false }
-        requires steady { IsSteady header.now (D.len disk.old) (standing self.old records.old (D.held disk.old) (D.calls disk.old) order.old back.old) }
+        requires steady { IsSteady header.now (D.len disk.old) (standing self.old records.old (D.held disk.old) (D.calls disk.old) (T.heard told.old) back.old) }
         requires from { D.from disk.old ≡ 0 }
         ensures done { OnOk result (HasDone hints.now (setting header.now hints.now) (number, item)
-            (standing self.old records.old (D.held disk.old) (D.calls disk.old) order.old back.old)
-            (standing self.new records.new (D.held disk.new) (D.calls disk.new) order.new back.new)) }
-        ensures steady { OnOk result (IsSteady header.now (D.len disk.new) (standing self.new records.new (D.held disk.new) (D.calls disk.new) order.new back.new)) }
-        ensures order { OnErr result (order.new ≡ order.old) }
+            (standing self.old records.old (D.held disk.old) (D.calls disk.old) (T.heard told.old) back.old)
+            (standing self.new records.new (D.held disk.new) (D.calls disk.new) (T.heard told.new) back.new)) }
+        ensures steady { OnOk result (IsSteady header.now (D.len disk.new) (standing self.new records.new (D.held disk.new) (D.calls disk.new) (T.heard told.new) back.new)) }
+        ensures order { OnErr result (self.new.order ≡ self.old.order) }
+        ensures untold { OnErr result (T.heard told.new ≡ T.heard told.old) }
         ensures stopped { OnErr result (Grows back.old (stops (desk_of self.old [] 0) ((number, item) ∷ [])) back.new) }
         ensures refused { OnErr result (HoldSingle self.old.seats.items → IsSingle item → IsRefusedArrival (setting header.now hints.now) (number, item)
-            (standing self.old records.old (D.held disk.old) (D.calls disk.old) order.old back.old) (D.held disk.new) records.new) }
+            (standing self.old records.old (D.held disk.old) (D.calls disk.old) (T.heard told.old) back.old) (D.held disk.new) records.new) }
         ensures count { IsCount header.now (D.len disk.new) records.new }
         ensures from { D.from disk.new ≡ 0 }
         ensures longer { D.len disk.old ≤ D.len disk.new }
@@ -68,12 +69,12 @@ impl Desk {
             }
             RankItem::Offer(call, offer) => match offer.kind {
                 OfferKind::Solo => self.do_alone(
-                    rt, alloc, disk, header, hints, order, back, number, call, &offer,
+                    rt, alloc, disk, header, *records, hints, back, told, number, call, &offer,
                 ),
                 OfferKind::Meet(_) => {
                     self.seats[number as usize].hold(offer);
                     if all_hold(&self.seats) {
-                        self.do_together(rt, alloc, disk, header, records, hints, order, back, gate)
+                        self.do_together(rt, alloc, disk, header, records, hints, back, gate, told)
                     } else {
                         Ok(())
                     }
@@ -83,15 +84,16 @@ impl Desk {
     }
 
     /// Does an offer of a number alone. After an error each offer that is held, and this one, has a stop.
-    fn do_alone<R: Wait, D: Disk>(
+    fn do_alone<R: Wait, D: Disk, T: Told>(
         &mut self,
         rt: &R,
         alloc: Global,
         disk: &mut D,
         header: &Header,
+        records: u64,
         hints: &Hints,
-        order: &mut MarkList,
         back: &mut LinePutList<OwnerItem>,
+        told: &mut T,
         number: u32,
         call: u32,
         offer: &Offer,
@@ -104,21 +106,22 @@ impl Desk {
         requires known { offer.now.known ≤ self.old.reached }
         requires from { D.from disk.old ≡ 0 }
         ensures seats { self.new.seats ≡ self.old.seats }
-        ensures done { OnOk result ((records : ℕ) → IsAlone hints.now (setting header.now hints.now) number call offer.now
-            (standing self.old records (D.held disk.old) (D.calls disk.old) order.old back.old)
-            (standing self.new records (D.held disk.new) (D.calls disk.new) order.new back.new)) }
+        ensures done { OnOk result (IsAlone hints.now (setting header.now hints.now) number call offer.now
+            (standing self.old records (D.held disk.old) (D.calls disk.old) (T.heard told.old) back.old)
+            (standing self.new records (D.held disk.new) (D.calls disk.new) (T.heard told.new) back.new)) }
         ensures reached { OnOk result (IsCount header.now (D.len disk.old) self.old.reached → IsCount header.now (D.len disk.new) self.new.reached) }
         ensures more { OnOk result (self.old.reached ≤ self.new.reached) }
-        ensures order { OnErr result (order.new ≡ order.old) }
+        ensures order { OnErr result (self.new.order ≡ self.old.order) }
+        ensures untold { OnErr result (T.heard told.new ≡ T.heard told.old) }
         ensures stopped { OnErr result (Grows back.old (λ q. held_stops self.old.seats.items q ++ stops_for ((number, item.Offer call offer.now) ∷ []) q) back.new) }
-        ensures refused { OnErr result ((records : ℕ) → IsRefusedAlone (setting header.now hints.now) number call offer.now
-            (standing self.old records (D.held disk.old) (D.calls disk.old) order.old back.old) (D.held disk.new) records) }
+        ensures refused { OnErr result (IsRefusedAlone (setting header.now hints.now) number call offer.now
+            (standing self.old records (D.held disk.old) (D.calls disk.old) (T.heard told.old) back.old) (D.held disk.new) records) }
         ensures from { D.from disk.new ≡ 0 }
         ensures longer { D.len disk.old ≤ D.len disk.new }
         ensures cause { HasStepCause (D.faults disk.old) (D.faults disk.new) result }
     {
         match self.reply_alone(
-            rt, alloc, disk, header, hints, order, back, number, call, offer,
+            rt, alloc, disk, header, records, hints, back, told, number, call, offer,
         ) {
             Ok(()) => Ok(()),
             Err(fault) => {
@@ -130,15 +133,16 @@ impl Desk {
     }
 
     /// Does an offer of a number alone, and puts its reply.
-    fn reply_alone<R: Wait, D: Disk>(
+    fn reply_alone<R: Wait, D: Disk, T: Told>(
         &mut self,
         rt: &R,
         alloc: Global,
         disk: &mut D,
         header: &Header,
+        records: u64,
         hints: &Hints,
-        order: &mut MarkList,
         back: &mut LinePutList<OwnerItem>,
+        told: &mut T,
         number: u32,
         call: u32,
         offer: &Offer,
@@ -150,28 +154,30 @@ impl Desk {
         requires known { offer.now.known ≤ self.old.reached }
         requires from { D.from disk.old ≡ 0 }
         ensures seats { self.new.seats ≡ self.old.seats }
-        ensures done { OnOk result ((records : ℕ) → IsAlone hints.now (setting header.now hints.now) number call offer.now
-            (standing self.old records (D.held disk.old) (D.calls disk.old) order.old back.old)
-            (standing self.new records (D.held disk.new) (D.calls disk.new) order.new back.new)) }
+        ensures done { OnOk result (IsAlone hints.now (setting header.now hints.now) number call offer.now
+            (standing self.old records (D.held disk.old) (D.calls disk.old) (T.heard told.old) back.old)
+            (standing self.new records (D.held disk.new) (D.calls disk.new) (T.heard told.new) back.new)) }
         ensures reached { OnOk result (IsCount header.now (D.len disk.old) self.old.reached → IsCount header.now (D.len disk.new) self.new.reached) }
         ensures more { OnOk result (self.old.reached ≤ self.new.reached) }
-        ensures order { OnErr result (order.new ≡ order.old) }
+        ensures order { OnErr result (self.new.order ≡ self.old.order) }
+        ensures untold { OnErr result (T.heard told.new ≡ T.heard told.old) }
         ensures lines { OnErr result (back.new ≡ back.old) }
-        ensures refused { OnErr result ((records : ℕ) → IsRefusedAlone (setting header.now hints.now) number call offer.now
-            (standing self.old records (D.held disk.old) (D.calls disk.old) order.old back.old) (D.held disk.new) records) }
+        ensures refused { OnErr result (IsRefusedAlone (setting header.now hints.now) number call offer.now
+            (standing self.old records (D.held disk.old) (D.calls disk.old) (T.heard told.old) back.old) (D.held disk.new) records) }
         ensures from { D.from disk.new ≡ 0 }
         ensures longer { D.len disk.old ≤ D.len disk.new }
         ensures cause { HasStepCause (D.faults disk.old) (D.faults disk.new) result }
     {
         let reply = solo_reply(alloc, disk, header, hints, number, offer)?;
-        order.push(Mark::Solo(number, call))?;
+        let mark = Mark::Solo(number, call);
+        note_step(rt, alloc, &mut self.order, told, mark, records)?;
         self.reached = self.reached.max(reply.records);
         back.put_on(rt, number as usize, OwnerItem::Reply(reply));
         Ok(())
     }
 
     /// Does the meeting whose offers are held. After an error each of them has a stop.
-    fn do_together<R: Wait, D: Disk, G: Gate>(
+    fn do_together<R: Wait, D: Disk, G: Gate, T: Told>(
         &mut self,
         rt: &R,
         alloc: Global,
@@ -179,29 +185,30 @@ impl Desk {
         header: &Header,
         records: &mut u64,
         hints: &Hints,
-        order: &mut MarkList,
         back: &mut LinePutList<OwnerItem>,
         gate: &G,
+        told: &mut T,
     ) -> Result<(), StepErr>
         requires sound { is_sound header.now ≡ true }
         requires hints { are_lawful_hints hints.now ≡ true }
         requires all { list_all holds self.old.seats.items ≡ true }
-        requires steady { IsSteady header.now (D.len disk.old) (standing self.old records.old (D.held disk.old) (D.calls disk.old) order.old back.old) }
+        requires steady { IsSteady header.now (D.len disk.old) (standing self.old records.old (D.held disk.old) (D.calls disk.old) (T.heard told.old) back.old) }
         requires from { D.from disk.old ≡ 0 }
         ensures done { OnOk result (IsTogether hints.now (setting header.now hints.now)
-            (standing self.old records.old (D.held disk.old) (D.calls disk.old) order.old back.old)
-            (standing self.new records.new (D.held disk.new) (D.calls disk.new) order.new back.new)) }
-        ensures steady { OnOk result (IsSteady header.now (D.len disk.new) (standing self.new records.new (D.held disk.new) (D.calls disk.new) order.new back.new)) }
-        ensures order { OnErr result (order.new ≡ order.old) }
+            (standing self.old records.old (D.held disk.old) (D.calls disk.old) (T.heard told.old) back.old)
+            (standing self.new records.new (D.held disk.new) (D.calls disk.new) (T.heard told.new) back.new)) }
+        ensures steady { OnOk result (IsSteady header.now (D.len disk.new) (standing self.new records.new (D.held disk.new) (D.calls disk.new) (T.heard told.new) back.new)) }
+        ensures order { OnErr result (self.new.order ≡ self.old.order) }
+        ensures untold { OnErr result (T.heard told.new ≡ T.heard told.old) }
         ensures stopped { OnErr result (Grows back.old stop_each back.new) }
         ensures refused { OnErr result (HoldSingle self.old.seats.items → IsRefusedTogether (setting header.now hints.now)
-            (standing self.old records.old (D.held disk.old) (D.calls disk.old) order.old back.old) (D.held disk.new) records.new) }
+            (standing self.old records.old (D.held disk.old) (D.calls disk.old) (T.heard told.old) back.old) (D.held disk.new) records.new) }
         ensures count { IsCount header.now (D.len disk.new) records.new }
         ensures from { D.from disk.new ≡ 0 }
         ensures longer { D.len disk.old ≤ D.len disk.new }
         ensures cause { HasStepCause (D.faults disk.old) (D.faults disk.new) result }
     {
-        match self.reply_together(rt, alloc, disk, header, records, hints, order, back, gate) {
+        match self.reply_together(rt, alloc, disk, header, records, hints, back, gate, told) {
             Ok(()) => Ok(()),
             Err(fault) => {
                 stop_each(rt, back);
@@ -217,12 +224,13 @@ impl Desk {
         ensures freed { OnOk result (self.new.seats.items ≡ map freed self.old.seats.items) }
         ensures met { self.new.met ≡ self.old.met }
         ensures reached { self.new.reached ≡ self.old.reached }
+        ensures order { self.new.order ≡ self.old.order }
     {
         take_all(alloc, &mut self.seats)
     }
 
     /// Does the meeting whose offers are held, and puts their replies.
-    fn reply_together<R: Wait, D: Disk, G: Gate>(
+    fn reply_together<R: Wait, D: Disk, G: Gate, T: Told>(
         &mut self,
         rt: &R,
         alloc: Global,
@@ -230,23 +238,24 @@ impl Desk {
         header: &Header,
         records: &mut u64,
         hints: &Hints,
-        order: &mut MarkList,
         back: &mut LinePutList<OwnerItem>,
         gate: &G,
+        told: &mut T,
     ) -> Result<(), StepErr>
         requires sound { is_sound header.now ≡ true }
         requires hints { are_lawful_hints hints.now ≡ true }
         requires all { list_all holds self.old.seats.items ≡ true }
-        requires steady { IsSteady header.now (D.len disk.old) (standing self.old records.old (D.held disk.old) (D.calls disk.old) order.old back.old) }
+        requires steady { IsSteady header.now (D.len disk.old) (standing self.old records.old (D.held disk.old) (D.calls disk.old) (T.heard told.old) back.old) }
         requires from { D.from disk.old ≡ 0 }
         ensures done { OnOk result (IsTogether hints.now (setting header.now hints.now)
-            (standing self.old records.old (D.held disk.old) (D.calls disk.old) order.old back.old)
-            (standing self.new records.new (D.held disk.new) (D.calls disk.new) order.new back.new)) }
-        ensures steady { OnOk result (IsSteady header.now (D.len disk.new) (standing self.new records.new (D.held disk.new) (D.calls disk.new) order.new back.new)) }
-        ensures order { OnErr result (order.new ≡ order.old) }
+            (standing self.old records.old (D.held disk.old) (D.calls disk.old) (T.heard told.old) back.old)
+            (standing self.new records.new (D.held disk.new) (D.calls disk.new) (T.heard told.new) back.new)) }
+        ensures steady { OnOk result (IsSteady header.now (D.len disk.new) (standing self.new records.new (D.held disk.new) (D.calls disk.new) (T.heard told.new) back.new)) }
+        ensures order { OnErr result (self.new.order ≡ self.old.order) }
+        ensures untold { OnErr result (T.heard told.new ≡ T.heard told.old) }
         ensures lines { OnErr result (back.new ≡ back.old) }
         ensures refused { OnErr result (HoldSingle self.old.seats.items → IsRefusedTogether (setting header.now hints.now)
-            (standing self.old records.old (D.held disk.old) (D.calls disk.old) order.old back.old) (D.held disk.new) records.new) }
+            (standing self.old records.old (D.held disk.old) (D.calls disk.old) (T.heard told.old) back.old) (D.held disk.new) records.new) }
         ensures count { IsCount header.now (D.len disk.new) records.new }
         ensures from { D.from disk.new ≡ 0 }
         ensures longer { D.len disk.old ≤ D.len disk.new }
@@ -257,7 +266,8 @@ impl Desk {
             rt, alloc, disk, header, records, hints, gate, &job, known,
         )?;
         let met = next_number(self.met)?;
-        order.push(Mark::Meet(self.met))?;
+        let mark = Mark::Meet(self.met);
+        note_step(rt, alloc, &mut self.order, told, mark, *records)?;
         self.met = met;
         self.reached = self.reached.max(*records);
         reply_all(rt, back, pair, *records, table);

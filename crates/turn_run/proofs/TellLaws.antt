@@ -47,7 +47,7 @@ told_none s held records ranks before now told heard e f = record {
     by_held None = tt
     by_held (Some file) = f ∙ sym (ended_by_none told)
 
-marks_ended : (told : Option (List (Mark × ℕ))) (more : List (Mark × ℕ)) → told_marks (with_end told more) ≡ with_end (told_marks told) (map (λ t. t.0) more)
+pub marks_ended : (told : Option (List (Mark × ℕ))) (more : List (Mark × ℕ)) → told_marks (with_end told more) ≡ with_end (told_marks told) (map (λ t. t.0) more)
 marks_ended None more = refl
 marks_ended (Some front) more = ap (λ (ms : List Mark). Some ms) (map-append (λ t. t.0) front more)
 

@@ -8,7 +8,7 @@ use nc_base::{
     Batch, Blob, BlobList, Items, Mark, MeetKind, Offer, OfferKind, OwnerItem, PostList, RankStop,
     Script, ServeEnd,
 };
-use nc_outside::{MemDisk, OpenGate};
+use nc_outside::{Deaf, MemDisk, OpenGate, Told};
 use rank_core::Names;
 use rank_items::SentItem;
 use rank_meeting::{attend, serve};
@@ -19,12 +19,13 @@ use std::sync::Wait;
 use std::test::*;
 
 /// Serves two senders, on a file of 96 zeros.
-fn served<R: Wait>(
+pub(crate) fn served<R: Wait, T: Told>(
     rt: &R,
     alloc: Global,
     disk: &mut MemDisk,
     taken: &mut InTake<SentItem>,
     lines: &mut LinePutList<OwnerItem>,
+    told: &mut T,
 ) -> Result<ServeEnd, Fail>
     requires from { disk.old.from ≡ 0 }
     requires whole { length disk.old.bytes ≡ 96 }
@@ -44,6 +45,7 @@ fn served<R: Wait>(
         taken,
         lines,
         &OpenGate,
+        told,
     ))
 }
 
@@ -63,7 +65,7 @@ fn strange(alloc: Global) -> SentItem {
     )
 }
 
-fn disk_of_zeros(alloc: Global) -> Result<MemDisk, Fail>
+pub(crate) fn disk_of_zeros(alloc: Global) -> Result<MemDisk, Fail>
     ensures from { IfOk result (λ disk. disk.from ≡ 0) }
     ensures whole { IfOk result (λ disk. length disk.bytes ≡ 96) }
 {
@@ -85,7 +87,7 @@ fn a_count_that_nobody_reached_is_strange(rt: HostRuntime) -> Result<(), Fail> {
         sender.put(&rt, SentItem::ended(false));
     }
     let mut disk = disk_of_zeros(alloc)?;
-    let end = served(&rt, alloc, &mut disk, &mut taken, &mut lines)?;
+    let end = served(&rt, alloc, &mut disk, &mut taken, &mut lines, &mut Deaf)?;
     assert!(rt; end.order.is_empty());
     assert_eq!(rt; end.fault, None);
     assert_eq!(rt; end.stranger, Some(0));
@@ -146,7 +148,7 @@ fn items_of_both<R: Abort + Wait>(
 }
 
 /// The items of both ranks arrive by turns; the second one makes its call first.
-fn arrive<R: Abort + Wait>(
+pub(crate) fn arrive<R: Abort + Wait>(
     rt: &R,
     alloc: Global,
     senders: Vec<InPut<SentItem>>,
@@ -178,7 +180,7 @@ fn calls_are_done_as_they_arrive(rt: HostRuntime) -> Result<(), Fail> {
     let mut lines = LinePutList::from_vec(vec![in alloc; first, second]?);
     arrive(&rt, alloc, senders.into_vec())?;
     let mut disk = disk_of_zeros(alloc)?;
-    let end = served(&rt, alloc, &mut disk, &mut taken, &mut lines)?;
+    let end = served(&rt, alloc, &mut disk, &mut taken, &mut lines, &mut Deaf)?;
     let order = [
         Mark::Meet(0),
         Mark::Solo(1, 1),

@@ -1,5 +1,5 @@
 -- The threads, the owner and the close together.
-use Rattle.std.proofs.Common.{◌≡◌, ℕ, List, [], ◌∷◌, All, sym, ◌∙◌, ap, subst, length, rules, Some}
+use Rattle.std.proofs.Common.{◌≡◌, List, [], ◌∷◌, All, sym, ◌∙◌, ap, subst, length, rules, Some}
 use Rattle.std.proofs.lemmas.List.{with_items_is}
 use Rattle.nc_base.specs.declared.step.OwnerItem.{OwnerItem}
 use Rattle.ruled_line.specs.Ends.{End}
@@ -11,6 +11,7 @@ use Rattle.turn_run.proofs.HintLaws.{lawful_hints}
 use Rattle.thread_run.proofs.ThreadAll.{known_sound, owner_of, run_all}
 use Rattle.nc_base.specs.declared.step.StepErr.{StepErr}
 use Rattle.thread_run.proofs.ThreadCut.{run_cut}
+use Rattle.thread_run.proofs.ThreadTold.{run_told}
 use Rattle.thread_run.proofs.ThreadSettles.{AreTold, residents_told, told_all}
 use Rattle.thread_run.proofs.rank_threads.run_started.Goals as goal
 
@@ -22,23 +23,23 @@ join_all-requires-clause-residents g c =
     let now = c.tell_all.new.ones in
     let lines = c.from_vec-back.result in
     let back = c.serve-served.new.back in
-    let ones_now = with_items_is c.args.ones now (search rules) in
-    let told : AreTold c.args.ones.items now = subst (λ (v : List Resident). AreTold v now) c.deref_mut.ensures.value c.tell_all.ensures.told in
-    let long : length now ≡ length c.args.ones.items = c.tell_all.ensures.long ∙ ap (λ (v : List Resident). length v) c.deref_mut.ensures.value in
-    let residents : AreResidents c.args.inbox.of [] c.args.ones.items lines = subst (λ (v : List (End OwnerItem)). AreResidents c.args.inbox.of [] c.args.ones.items v) (sym c.from_vec-back.ensures) c.requires.residents in
+    let ones_now = with_items_is c.args.crew.ones now (search rules) in
+    let told : AreTold c.args.crew.ones.items now = subst (λ (v : List Resident). AreTold v now) c.deref_mut.ensures.value c.tell_all.ensures.told in
+    let long : length now ≡ length c.args.crew.ones.items = c.tell_all.ensures.long ∙ ap (λ (v : List Resident). length v) c.deref_mut.ensures.value in
+    let residents : AreResidents c.args.crew.inbox.of [] c.args.crew.ones.items lines = subst (λ (v : List (End OwnerItem)). AreResidents c.args.crew.inbox.of [] c.args.crew.ones.items v) (sym c.from_vec-back.ensures) c.requires.residents in
     subst (λ (v : List Resident). AreResidents c.serve-served.new.inbox.of (Go ∷ []) v c.into_vec.result.items) (sym ones_now)
     (subst (λ (v : List (End OwnerItem)). AreResidents c.serve-served.new.inbox.of (Go ∷ []) now v) (sym c.into_vec.ensures)
-    (residents_told c.args.inbox.of c.serve-served.new.inbox.of c.args.ones.items now lines back c.serve-served.ensures.taken.of long told c.serve-served.ensures.put residents))
+    (residents_told c.args.crew.inbox.of c.serve-served.new.inbox.of c.args.crew.ones.items now lines back c.serve-served.ensures.taken.of long told c.serve-served.ensures.put residents))
 
 pub end_run-requires-clause-known : goal.end_run-requires-clause-known
 end_run-requires-clause-known g c κs within =
     let now = c.tell_all.new.ones in
     let lines = c.from_vec-back.result in
     let back = c.serve-served.new.back in
-    let ones_now = with_items_is c.args.ones now (search rules) in
-    let told : AreTold c.args.ones.items now = subst (λ (v : List Resident). AreTold v now) c.deref_mut.ensures.value c.tell_all.ensures.told in
-    let long : length now ≡ length c.args.ones.items = c.tell_all.ensures.long ∙ ap (λ (v : List Resident). length v) c.deref_mut.ensures.value in
-    let residents : AreResidents c.args.inbox.of [] c.args.ones.items lines = subst (λ (v : List (End OwnerItem)). AreResidents c.args.inbox.of [] c.args.ones.items v) (sym c.from_vec-back.ensures) c.requires.residents in
+    let ones_now = with_items_is c.args.crew.ones now (search rules) in
+    let told : AreTold c.args.crew.ones.items now = subst (λ (v : List Resident). AreTold v now) c.deref_mut.ensures.value c.tell_all.ensures.told in
+    let long : length now ≡ length c.args.crew.ones.items = c.tell_all.ensures.long ∙ ap (λ (v : List Resident). length v) c.deref_mut.ensures.value in
+    let residents : AreResidents c.args.crew.inbox.of [] c.args.crew.ones.items lines = subst (λ (v : List (End OwnerItem)). AreResidents c.args.crew.inbox.of [] c.args.crew.ones.items v) (sym c.from_vec-back.ensures) c.requires.residents in
     let empty : All (λ l. l.items ≡ []) lines = subst (λ (v : List (End OwnerItem)). All (λ l. l.items ≡ []) v) (sym c.from_vec-back.ensures) c.requires.empty in
     let ends = c.join_all.new.ends.items in
     let settled : AreSettled c.serve-served.new.inbox.items now back ends =
@@ -46,24 +47,24 @@ end_run-requires-clause-known g c κs within =
     (subst (λ (v : List Resident). AreSettled c.serve-served.new.inbox.items v c.into_vec.result.items ends) ones_now c.join_all.ensures) in
     let script = c.args.script.now in
     let header = c.args.header.now in
-    let arrivals = arrived c.args.inbox c.serve-served.new.inbox in
+    let arrivals = arrived c.args.crew.inbox c.serve-served.new.inbox in
     let given = gained lines back in
-    let all = told_all script header c.args.inbox c.serve-served.new.inbox c.args.ones.items now lines back ends c.requires.lawful c.requires.taken c.requires.senders c.requires.all empty c.requires.of told long
+    let all = told_all script header c.args.crew.inbox c.serve-served.new.inbox c.args.crew.ones.items now lines back ends c.requires.lawful c.requires.taken c.requires.senders c.requires.all empty c.requires.of told long
     residents c.serve-served.ensures.taken c.serve-served.ensures.put settled in
     let owner = owner_of script header arrivals given (g.D.Disk.held c.args.disk.now) (g.D.Disk.calls c.args.disk.now) (g.D.Disk.faults c.args.disk.now)
     (g.D.Disk.held c.serve-served.new.disk) (g.D.Disk.calls c.serve-served.new.disk) (g.D.Disk.faults c.serve-served.new.disk) c.serve-served.new.records c.serve-served.result
-    c.args.inbox.senders c.requires.senders c.serve-served.ensures.done c.serve-served.ensures.bytes c.serve-served.ensures.calls c.serve-served.ensures.failed c.serve-served.ensures.cause c.serve-served.ensures.later in
+    c.args.crew.inbox.senders c.requires.senders c.serve-served.ensures.done c.serve-served.ensures.bytes c.serve-served.ensures.calls c.serve-served.ensures.failed c.serve-served.ensures.cause c.serve-served.ensures.later in
     λ none whole. known_sound script header arrivals given ends c.requires.sound c.requires.lawful all c.serve-served.result (owner.done none) whole
 
-pub returns : goal.returns
-returns g c =
+pub returns-clause-run : goal.returns-clause-run
+returns-clause-run g c =
     let now = c.tell_all.new.ones in
     let lines = c.from_vec-back.result in
     let back = c.serve-served.new.back in
-    let ones_now = with_items_is c.args.ones now (search rules) in
-    let told : AreTold c.args.ones.items now = subst (λ (v : List Resident). AreTold v now) c.deref_mut.ensures.value c.tell_all.ensures.told in
-    let long : length now ≡ length c.args.ones.items = c.tell_all.ensures.long ∙ ap (λ (v : List Resident). length v) c.deref_mut.ensures.value in
-    let residents : AreResidents c.args.inbox.of [] c.args.ones.items lines = subst (λ (v : List (End OwnerItem)). AreResidents c.args.inbox.of [] c.args.ones.items v) (sym c.from_vec-back.ensures) c.requires.residents in
+    let ones_now = with_items_is c.args.crew.ones now (search rules) in
+    let told : AreTold c.args.crew.ones.items now = subst (λ (v : List Resident). AreTold v now) c.deref_mut.ensures.value c.tell_all.ensures.told in
+    let long : length now ≡ length c.args.crew.ones.items = c.tell_all.ensures.long ∙ ap (λ (v : List Resident). length v) c.deref_mut.ensures.value in
+    let residents : AreResidents c.args.crew.inbox.of [] c.args.crew.ones.items lines = subst (λ (v : List (End OwnerItem)). AreResidents c.args.crew.inbox.of [] c.args.crew.ones.items v) (sym c.from_vec-back.ensures) c.requires.residents in
     let empty : All (λ l. l.items ≡ []) lines = subst (λ (v : List (End OwnerItem)). All (λ l. l.items ≡ []) v) (sym c.from_vec-back.ensures) c.requires.empty in
     let ends = c.join_all.new.ends.items in
     let settled : AreSettled c.serve-served.new.inbox.items now back ends =
@@ -71,13 +72,13 @@ returns g c =
     (subst (λ (v : List Resident). AreSettled c.serve-served.new.inbox.items v c.into_vec.result.items ends) ones_now c.join_all.ensures) in
     let script = c.args.script.now in
     let header = c.args.header.now in
-    let arrivals = arrived c.args.inbox c.serve-served.new.inbox in
+    let arrivals = arrived c.args.crew.inbox c.serve-served.new.inbox in
     let given = gained lines back in
-    let all = told_all script header c.args.inbox c.serve-served.new.inbox c.args.ones.items now lines back ends c.requires.lawful c.requires.taken c.requires.senders c.requires.all empty c.requires.of told long
+    let all = told_all script header c.args.crew.inbox c.serve-served.new.inbox c.args.crew.ones.items now lines back ends c.requires.lawful c.requires.taken c.requires.senders c.requires.all empty c.requires.of told long
     residents c.serve-served.ensures.taken c.serve-served.ensures.put settled in
     let owner = owner_of script header arrivals given (g.D.Disk.held c.args.disk.now) (g.D.Disk.calls c.args.disk.now) (g.D.Disk.faults c.args.disk.now)
     (g.D.Disk.held c.serve-served.new.disk) (g.D.Disk.calls c.serve-served.new.disk) (g.D.Disk.faults c.serve-served.new.disk) c.serve-served.new.records c.serve-served.result
-    c.args.inbox.senders c.requires.senders c.serve-served.ensures.done c.serve-served.ensures.bytes c.serve-served.ensures.calls c.serve-served.ensures.failed c.serve-served.ensures.cause c.serve-served.ensures.later in
+    c.args.crew.inbox.senders c.requires.senders c.serve-served.ensures.done c.serve-served.ensures.bytes c.serve-served.ensures.calls c.serve-served.ensures.failed c.serve-served.ensures.cause c.serve-served.ensures.later in
     run_all script header arrivals given ends c.requires.sound c.requires.lawful all (g.D.Disk.held c.args.disk.now) (g.D.Disk.calls c.args.disk.now) (g.D.Disk.faults c.args.disk.now)
     (g.D.Disk.held c.serve-served.new.disk) (g.D.Disk.calls c.serve-served.new.disk) (g.D.Disk.faults c.serve-served.new.disk) c.serve-served.new.records c.serve-served.result
     (g.D.Disk.held c.end_run.new.disk) (g.D.Disk.calls c.end_run.new.disk) (g.D.Disk.faults c.end_run.new.disk) c.end_run.new.records c.end_run.result owner
@@ -93,7 +94,7 @@ returns g c =
       later = c.end_run.ensures.later;
     })
     (run_cut script header arrivals given ends c.requires.sound c.requires.lawful all (g.D.Disk.held c.args.disk.now) (g.D.Disk.held c.serve-served.new.disk) c.serve-served.new.records c.serve-served.result
-    (g.D.Disk.held c.end_run.new.disk) c.end_run.new.records c.end_run.result c.args.inbox.senders c.requires.senders c.serve-served.ensures.done c.serve-served.ensures.bytes c.serve-served.ensures.cut
+    (g.D.Disk.held c.end_run.new.disk) c.end_run.new.records c.end_run.result c.args.crew.inbox.senders c.requires.senders c.serve-served.ensures.done c.serve-served.ensures.bytes c.serve-served.ensures.cut
     (λ e is. record {
       order = c.end_run.ensures.order;
       at = c.end_run.ensures.at e is;
@@ -101,3 +102,27 @@ returns g c =
       whole = λ disk. c.end_run.ensures.broke (is ∙ ap (λ (x : StepErr). Some x) disk);
       kept = λ disk. c.end_run.ensures.kept (is ∙ ap (λ (x : StepErr). Some x) disk);
     }))
+
+pub returns-clause-told : goal.returns-clause-told
+returns-clause-told g c =
+    let now = c.tell_all.new.ones in
+    let lines = c.from_vec-back.result in
+    let back = c.serve-served.new.back in
+    let ones_now = with_items_is c.args.crew.ones now (search rules) in
+    let told : AreTold c.args.crew.ones.items now = subst (λ (v : List Resident). AreTold v now) c.deref_mut.ensures.value c.tell_all.ensures.told in
+    let long : length now ≡ length c.args.crew.ones.items = c.tell_all.ensures.long ∙ ap (λ (v : List Resident). length v) c.deref_mut.ensures.value in
+    let residents : AreResidents c.args.crew.inbox.of [] c.args.crew.ones.items lines = subst (λ (v : List (End OwnerItem)). AreResidents c.args.crew.inbox.of [] c.args.crew.ones.items v) (sym c.from_vec-back.ensures) c.requires.residents in
+    let empty : All (λ l. l.items ≡ []) lines = subst (λ (v : List (End OwnerItem)). All (λ l. l.items ≡ []) v) (sym c.from_vec-back.ensures) c.requires.empty in
+    let ends = c.join_all.new.ends.items in
+    let settled : AreSettled c.serve-served.new.inbox.items now back ends =
+    subst (λ (v : List (End OwnerItem)). AreSettled c.serve-served.new.inbox.items now v ends) c.into_vec.ensures
+    (subst (λ (v : List Resident). AreSettled c.serve-served.new.inbox.items v c.into_vec.result.items ends) ones_now c.join_all.ensures) in
+    let script = c.args.script.now in
+    let header = c.args.header.now in
+    let arrivals = arrived c.args.crew.inbox c.serve-served.new.inbox in
+    let given = gained lines back in
+    let all = told_all script header c.args.crew.inbox c.serve-served.new.inbox c.args.crew.ones.items now lines back ends c.requires.lawful c.requires.taken c.requires.senders c.requires.all empty c.requires.of told long
+    residents c.serve-served.ensures.taken c.serve-served.ensures.put settled in
+    run_told script header arrivals given ends c.requires.sound c.requires.lawful all (g.D.Disk.held c.serve-served.new.disk) c.serve-served.new.records c.serve-served.result
+    (g.T.Told.heard c.args.told.now) (g.T.Told.heard c.serve-served.new.told) (g.D.Disk.held c.args.disk.now) c.args.crew.inbox.senders c.requires.senders
+    c.serve-served.ensures.told c.serve-served.ensures.done c.serve-served.ensures.bytes c.serve-served.ensures.cut c.end_run.result.order c.end_run.ensures.order

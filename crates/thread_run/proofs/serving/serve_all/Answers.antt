@@ -10,7 +10,7 @@ use Rattle.thread_run.proofs.serving.serve_all.Goals as goal
 pub loop-init : goal.loop-init
 loop-init g c = record {
   served = served_none c.args.hints.now (setting c.args.header.now c.args.hints.now) c.args.inbox.now c.args.door.now.ended
-      (standing c.args.desk.now c.args.records.now (g.D.Disk.held c.args.disk.now) (g.D.Disk.calls c.args.disk.now) c.args.order.now c.args.back.now) c.requires.ended;
+      (standing c.args.desk.now c.args.records.now (g.D.Disk.held c.args.disk.now) (g.D.Disk.calls c.args.disk.now) (g.T.Told.heard c.args.told.now) c.args.back.now) c.requires.ended;
   steady = c.requires.steady;
   lines = refl;
   senders = refl;
@@ -22,8 +22,8 @@ loop-init g c = record {
 pub returns-then-all_ended-clause-halted : goal.returns-then-all_ended-clause-halted
 returns-then-all_ended-clause-halted g c =
     halt_ended c.args.hints.now (setting c.args.header.now c.args.hints.now) c.args.inbox.now c.loop.inbox c.loop.door.ended
-    (standing c.args.desk.now c.args.records.now (g.D.Disk.held c.args.disk.now) (g.D.Disk.calls c.args.disk.now) c.args.order.now c.args.back.now)
-    (standing c.loop.desk c.loop.records (g.D.Disk.held c.loop.disk) (g.D.Disk.calls c.loop.disk) c.loop.order c.loop.back) c.stop_held.new.back c.loop.invariant.served
+    (standing c.args.desk.now c.args.records.now (g.D.Disk.held c.args.disk.now) (g.D.Disk.calls c.args.disk.now) (g.T.Told.heard c.args.told.now) c.args.back.now)
+    (standing c.loop.desk c.loop.records (g.D.Disk.held c.loop.disk) (g.D.Disk.calls c.loop.disk) (g.T.Told.heard c.loop.told) c.loop.back) c.stop_held.new.back c.loop.invariant.served
     (subst (λ seats. Grows c.loop.back (held_stops seats) c.stop_held.new.back) c.deref.ensures.value c.stop_held.ensures)
     (subst (λ (k : ℕ). AllHaveEnded k c.loop.door.ended) (c.len.ensures ∙ c.loop.invariant.lines ∙ c.requires.lines) (c.all_ended.ensures c.if-all_ended.true))
 
@@ -33,8 +33,8 @@ returns-then-all_ended-clause-cause g c = no_cause (g.D.Disk.faults c.args.disk.
 pub returns-then-is_strange-clause-halted : goal.returns-then-is_strange-clause-halted
 returns-then-is_strange-clause-halted g c =
     halt_strange c.args.hints.now (setting c.args.header.now c.args.hints.now) c.args.inbox.now c.loop.inbox c.take-number.new.inbox c.loop.door.ended c.take-number.new.self.ended
-    (standing c.args.desk.now c.args.records.now (g.D.Disk.held c.args.disk.now) (g.D.Disk.calls c.args.disk.now) c.args.order.now c.args.back.now)
-    (standing c.loop.desk c.loop.records (g.D.Disk.held c.loop.disk) (g.D.Disk.calls c.loop.disk) c.loop.order c.loop.back) c.take-number.result.0 c.take-number.result.1 c.stop_held-then-is_strange.new.back c.stop_arrival.new.back c.loop.invariant.served
+    (standing c.args.desk.now c.args.records.now (g.D.Disk.held c.args.disk.now) (g.D.Disk.calls c.args.disk.now) (g.T.Told.heard c.args.told.now) c.args.back.now)
+    (standing c.loop.desk c.loop.records (g.D.Disk.held c.loop.disk) (g.D.Disk.calls c.loop.disk) (g.T.Told.heard c.loop.told) c.loop.back) c.take-number.result.0 c.take-number.result.1 c.stop_held-then-is_strange.new.back c.stop_arrival.new.back c.loop.invariant.served
     (record { items = c.take-number.ensures.items; senders = c.take-number.ensures.senders; of = c.take-number.ensures.of; low = c.take-number.ensures.number; noted = c.take-number.ensures.noted })
     (λ file. c.is_strange.ensures (setting c.args.header.now c.args.hints.now) file c.loop.records refl ∙ c.if-is_strange.true)
     (subst (λ seats. Grows c.loop.back (held_stops seats) c.stop_held-then-is_strange.new.back) c.deref-then-is_strange.ensures.value c.stop_held-then-is_strange.ensures) c.stop_arrival.ensures
@@ -45,12 +45,12 @@ returns-then-is_strange-clause-cause g c = stranger_cause (g.D.Disk.faults c.arg
 pub returns-in-Err-clause-halted : goal.returns-in-Err-clause-halted
 returns-in-Err-clause-halted g c =
     halt_fault c.args.hints.now (setting c.args.header.now c.args.hints.now) c.args.inbox.now c.loop.inbox c.take-number.new.inbox c.loop.door.ended c.take-number.new.self.ended
-    (standing c.args.desk.now c.args.records.now (g.D.Disk.held c.args.disk.now) (g.D.Disk.calls c.args.disk.now) c.args.order.now c.args.back.now)
-    (standing c.loop.desk c.loop.records (g.D.Disk.held c.loop.disk) (g.D.Disk.calls c.loop.disk) c.loop.order c.loop.back) c.take-number.result c.in-Err.fault c.arrive-done.new.records (g.D.Disk.held c.arrive-done.new.disk) (g.D.Disk.calls c.arrive-done.new.disk) c.arrive-done.new.order c.arrive-done.new.back
+    (standing c.args.desk.now c.args.records.now (g.D.Disk.held c.args.disk.now) (g.D.Disk.calls c.args.disk.now) (g.T.Told.heard c.args.told.now) c.args.back.now)
+    (standing c.loop.desk c.loop.records (g.D.Disk.held c.loop.disk) (g.D.Disk.calls c.loop.disk) (g.T.Told.heard c.loop.told) c.loop.back) c.take-number.result c.in-Err.fault c.arrive-done.new.records (g.D.Disk.held c.arrive-done.new.disk) (g.D.Disk.calls c.arrive-done.new.disk) c.arrive-done.new.self.order (g.T.Told.heard c.arrive-done.new.told) c.arrive-done.new.back
     c.loop.invariant.served
     (record { items = c.take-number.ensures.items; senders = c.take-number.ensures.senders; of = c.take-number.ensures.of; low = c.take-number.ensures.number; noted = c.take-number.ensures.noted })
-    c.in-Err.ensures.order c.in-Err.ensures.stopped
-    (fault_at (setting c.args.header.now c.args.hints.now) c.in-Err.fault (standing c.loop.desk c.loop.records (g.D.Disk.held c.loop.disk) (g.D.Disk.calls c.loop.disk) c.loop.order c.loop.back) c.take-number.result
+    c.in-Err.ensures.order c.in-Err.ensures.untold c.in-Err.ensures.stopped
+    (fault_at (setting c.args.header.now c.args.hints.now) c.in-Err.fault (standing c.loop.desk c.loop.records (g.D.Disk.held c.loop.disk) (g.D.Disk.calls c.loop.disk) (g.T.Told.heard c.loop.told) c.loop.back) c.take-number.result
     c.arrive-done.new.records (g.D.Disk.held c.arrive-done.new.disk)
     (λ file. c.is_strange.ensures (setting c.args.header.now c.args.hints.now) file c.loop.records refl ∙ c.if-is_strange.false) c.in-Err.ensures.refused)
 
@@ -66,9 +66,9 @@ loop-preserved g c =
     let rest = c.in_default.ensures.cause.later in
     record {
       served = served_more c.args.hints.now (setting c.args.header.now c.args.hints.now) c.args.inbox.now c.loop.inbox c.take-number.new.inbox c.loop.door.ended c.take-number.new.self.ended
-          (standing c.args.desk.now c.args.records.now (g.D.Disk.held c.args.disk.now) (g.D.Disk.calls c.args.disk.now) c.args.order.now c.args.back.now)
-          (standing c.loop.desk c.loop.records (g.D.Disk.held c.loop.disk) (g.D.Disk.calls c.loop.disk) c.loop.order c.loop.back)
-          (standing c.arrive-done.new.self c.arrive-done.new.records (g.D.Disk.held c.arrive-done.new.disk) (g.D.Disk.calls c.arrive-done.new.disk) c.arrive-done.new.order c.arrive-done.new.back) c.take-number.result c.loop.invariant.served
+          (standing c.args.desk.now c.args.records.now (g.D.Disk.held c.args.disk.now) (g.D.Disk.calls c.args.disk.now) (g.T.Told.heard c.args.told.now) c.args.back.now)
+          (standing c.loop.desk c.loop.records (g.D.Disk.held c.loop.disk) (g.D.Disk.calls c.loop.disk) (g.T.Told.heard c.loop.told) c.loop.back)
+          (standing c.arrive-done.new.self c.arrive-done.new.records (g.D.Disk.held c.arrive-done.new.disk) (g.D.Disk.calls c.arrive-done.new.disk) (g.T.Told.heard c.arrive-done.new.told) c.arrive-done.new.back) c.take-number.result c.loop.invariant.served
           (record { items = c.take-number.ensures.items; senders = c.take-number.ensures.senders; of = c.take-number.ensures.of; low = c.take-number.ensures.number; noted = c.take-number.ensures.noted })
           (λ file. c.is_strange.ensures (setting c.args.header.now c.args.hints.now) file c.loop.records refl ∙ c.if-is_strange.false) c.in_default.ensures.done;
       steady = c.in_default.ensures.steady;

@@ -1,5 +1,5 @@
 -- An end, an offer that a number makes alone, a meeting, and an offer that is held.
-use Rattle.std.proofs.Common.{◌≡◌, ℕ, [], true, false, sym, refl, ◌∙◌, ap}
+use Rattle.std.proofs.Common.{[], sym, refl, ◌∙◌, ap}
 use Rattle.std.proofs.lemmas.Result.{on_err_weaker, on_ok_weaker}
 use Rattle.std.specs.List.{list_all}
 use Rattle.nc_base.specs.declared.step.RankItem.TheVariants as item
@@ -13,19 +13,19 @@ use Rattle.thread_run.proofs.desk.Desk.arrive.Goals as goal
 
 pub do_alone-requires-clause-fit : goal.do_alone-requires-clause-fit
 do_alone-requires-clause-fit g c κs within =
-    let b = standing c.args.self.now c.args.records.now (g.D.Disk.held c.args.disk.now) (g.D.Disk.calls c.args.disk.now) c.args.order.now c.args.back.now in
+    let b = standing c.args.self.now c.args.records.now (g.D.Disk.held c.args.disk.now) (g.D.Disk.calls c.args.disk.now) (g.T.Told.heard c.args.told.now) c.args.back.now in
     (good_at (setting c.args.header.now c.args.hints.now) (g.D.Disk.len c.args.disk.now) b c.args.number c.in-Offer.call c.args.item c.in-Offer.offer c.requires.sound c.requires.steady c.requires.number c.requires.own
     c.requires.fit c.in-Offer.is).fit
 
 pub do_alone-requires-clause-known : goal.do_alone-requires-clause-known
 do_alone-requires-clause-known g c κs within =
-    let b = standing c.args.self.now c.args.records.now (g.D.Disk.held c.args.disk.now) (g.D.Disk.calls c.args.disk.now) c.args.order.now c.args.back.now in
+    let b = standing c.args.self.now c.args.records.now (g.D.Disk.held c.args.disk.now) (g.D.Disk.calls c.args.disk.now) (g.T.Told.heard c.args.told.now) c.args.back.now in
     (good_at (setting c.args.header.now c.args.hints.now) (g.D.Disk.len c.args.disk.now) b c.args.number c.in-Offer.call c.args.item c.in-Offer.offer c.requires.sound c.requires.steady c.requires.number c.requires.own
     c.requires.fit c.in-Offer.is).known
 
 pub do_together-requires-clause-steady : goal.do_together-requires-clause-steady
 do_together-requires-clause-steady g c κs within =
-    let b = standing c.args.self.now c.args.records.now (g.D.Disk.held c.args.disk.now) (g.D.Disk.calls c.args.disk.now) c.args.order.now c.args.back.now in
+    let b = standing c.args.self.now c.args.records.now (g.D.Disk.held c.args.disk.now) (g.D.Disk.calls c.args.disk.now) (g.T.Told.heard c.args.told.now) c.args.back.now in
     let good = good_at (setting c.args.header.now c.args.hints.now) (g.D.Disk.len c.args.disk.now) b c.args.number c.in-Offer.call c.args.item c.in-Offer.offer c.requires.sound c.requires.steady c.requires.number
     c.requires.own c.requires.fit c.in-Offer.is in
     steady_held c.args.header.now (g.D.Disk.len c.args.disk.now) b c.args.number c.in-Offer.call c.in-Offer.offer c.hold.new.self c.in-Meet.field-0 c.requires.steady good
@@ -34,44 +34,44 @@ do_together-requires-clause-steady g c κs within =
 
 pub returns-in-Ended-clause-done : goal.returns-in-Ended-clause-done
 returns-in-Ended-clause-done g c =
-    let b = standing c.args.self.now c.args.records.now (g.D.Disk.held c.args.disk.now) (g.D.Disk.calls c.args.disk.now) c.args.order.now c.args.back.now in
+    let b = standing c.args.self.now c.args.records.now (g.D.Disk.held c.args.disk.now) (g.D.Disk.calls c.args.disk.now) (g.T.Told.heard c.args.told.now) c.args.back.now in
     as_item c.args.hints.now (setting c.args.header.now c.args.hints.now) c.args.number c.args.item (item.Ended c.in-Ended.memory) b _ c.in-Ended.is
     (done_ended c.args.hints.now (setting c.args.header.now c.args.hints.now) b c.args.number c.index_mut.result.now c.end.new.self c.in-Ended.memory
     (get_read c.args.self.now.seats.items c.args.number c.index_mut.result.now c.requires.number c.index_mut.ensures.value) c.end.ensures)
 
 pub returns-in-Ended-clause-steady : goal.returns-in-Ended-clause-steady
 returns-in-Ended-clause-steady g c =
-    let b = standing c.args.self.now c.args.records.now (g.D.Disk.held c.args.disk.now) (g.D.Disk.calls c.args.disk.now) c.args.order.now c.args.back.now in
+    let b = standing c.args.self.now c.args.records.now (g.D.Disk.held c.args.disk.now) (g.D.Disk.calls c.args.disk.now) (g.T.Told.heard c.args.told.now) c.args.back.now in
     steady_ended c.args.header.now (g.D.Disk.len c.args.disk.now) b c.args.number c.index_mut.result.now c.end.new.self c.in-Ended.memory c.requires.steady
     (get_read c.args.self.now.seats.items c.args.number c.index_mut.result.now c.requires.number c.index_mut.ensures.value) c.end.ensures
 
 pub returns-in-Solo-clause-done : goal.returns-in-Solo-clause-done
 returns-in-Solo-clause-done g c =
-    let b = standing c.args.self.now c.args.records.now (g.D.Disk.held c.args.disk.now) (g.D.Disk.calls c.args.disk.now) c.args.order.now c.args.back.now in
+    let b = standing c.args.self.now c.args.records.now (g.D.Disk.held c.args.disk.now) (g.D.Disk.calls c.args.disk.now) (g.T.Told.heard c.args.told.now) c.args.back.now in
     let good = good_at (setting c.args.header.now c.args.hints.now) (g.D.Disk.len c.args.disk.now) b c.args.number c.in-Offer.call c.args.item c.in-Offer.offer c.requires.sound c.requires.steady c.requires.number
     c.requires.own c.requires.fit c.in-Offer.is in
     on_ok_weaker c.do_alone.result (λ h.
     as_item c.args.hints.now (setting c.args.header.now c.args.hints.now) c.args.number c.args.item (item.Offer c.in-Offer.call c.in-Offer.offer) b
-    (standing c.do_alone.new.self c.args.records.now (g.D.Disk.held c.do_alone.new.disk) (g.D.Disk.calls c.do_alone.new.disk) c.do_alone.new.order c.do_alone.new.back) c.in-Offer.is
+    (standing c.do_alone.new.self c.args.records.now (g.D.Disk.held c.do_alone.new.disk) (g.D.Disk.calls c.do_alone.new.disk) (g.T.Told.heard c.do_alone.new.told) c.do_alone.new.back) c.in-Offer.is
     (done_alone c.args.hints.now (setting c.args.header.now c.args.hints.now) b
-    (standing c.do_alone.new.self c.args.records.now (g.D.Disk.held c.do_alone.new.disk) (g.D.Disk.calls c.do_alone.new.disk) c.do_alone.new.order c.do_alone.new.back) c.args.number c.in-Offer.call c.in-Offer.offer good.seat good.there
-    c.in-Solo.is (h c.args.records.now))) c.do_alone.ensures.done
+    (standing c.do_alone.new.self c.args.records.now (g.D.Disk.held c.do_alone.new.disk) (g.D.Disk.calls c.do_alone.new.disk) (g.T.Told.heard c.do_alone.new.told) c.do_alone.new.back) c.args.number c.in-Offer.call c.in-Offer.offer good.seat good.there
+    c.in-Solo.is h)) c.do_alone.ensures.done
 
 pub returns-in-Solo-clause-steady : goal.returns-in-Solo-clause-steady
 returns-in-Solo-clause-steady g c =
-    let b = standing c.args.self.now c.args.records.now (g.D.Disk.held c.args.disk.now) (g.D.Disk.calls c.args.disk.now) c.args.order.now c.args.back.now in
+    let b = standing c.args.self.now c.args.records.now (g.D.Disk.held c.args.disk.now) (g.D.Disk.calls c.args.disk.now) (g.T.Told.heard c.args.told.now) c.args.back.now in
     on_ok_three c.do_alone.result (λ done reached more.
     steady_alone c.args.header.now (g.D.Disk.len c.args.disk.now) (g.D.Disk.len c.do_alone.new.disk) b
-    (standing c.do_alone.new.self c.args.records.now (g.D.Disk.held c.do_alone.new.disk) (g.D.Disk.calls c.do_alone.new.disk) c.do_alone.new.order c.do_alone.new.back) c.requires.steady
-    (ap (λ v. v.items) c.do_alone.ensures.seats) (done c.args.records.now).lines.long refl c.do_alone.ensures.longer more (reached c.requires.steady.reached))
+    (standing c.do_alone.new.self c.args.records.now (g.D.Disk.held c.do_alone.new.disk) (g.D.Disk.calls c.do_alone.new.disk) (g.T.Told.heard c.do_alone.new.told) c.do_alone.new.back) c.requires.steady
+    (ap (λ v. v.items) c.do_alone.ensures.seats) done.lines.long refl c.do_alone.ensures.longer more (reached c.requires.steady.reached))
     c.do_alone.ensures.done c.do_alone.ensures.reached c.do_alone.ensures.more
 
 pub returns-then-all_hold-clause-done : goal.returns-then-all_hold-clause-done
 returns-then-all_hold-clause-done g c =
-    let b = standing c.args.self.now c.args.records.now (g.D.Disk.held c.args.disk.now) (g.D.Disk.calls c.args.disk.now) c.args.order.now c.args.back.now in
+    let b = standing c.args.self.now c.args.records.now (g.D.Disk.held c.args.disk.now) (g.D.Disk.calls c.args.disk.now) (g.T.Told.heard c.args.told.now) c.args.back.now in
     let good = good_at (setting c.args.header.now c.args.hints.now) (g.D.Disk.len c.args.disk.now) b c.args.number c.in-Offer.call c.args.item c.in-Offer.offer c.requires.sound c.requires.steady c.requires.number
     c.requires.own c.requires.fit c.in-Offer.is in
-    let now = standing c.do_together.new.self c.do_together.new.records (g.D.Disk.held c.do_together.new.disk) (g.D.Disk.calls c.do_together.new.disk) c.do_together.new.order c.do_together.new.back in
+    let now = standing c.do_together.new.self c.do_together.new.records (g.D.Disk.held c.do_together.new.disk) (g.D.Disk.calls c.do_together.new.disk) (g.T.Told.heard c.do_together.new.told) c.do_together.new.back in
     on_ok_weaker c.do_together.result (λ h.
     as_item c.args.hints.now (setting c.args.header.now c.args.hints.now) c.args.number c.args.item (item.Offer c.in-Offer.call c.in-Offer.offer) b now c.in-Offer.is
     (done_together c.args.hints.now (setting c.args.header.now c.args.hints.now) b now c.args.number c.in-Offer.call c.in-Offer.offer good.seat c.hold.new.self c.in-Meet.field-0 good.there
@@ -80,7 +80,7 @@ returns-then-all_hold-clause-done g c =
 
 pub returns-then-all_hold-clause-stopped : goal.returns-then-all_hold-clause-stopped
 returns-then-all_hold-clause-stopped g c =
-    let b = standing c.args.self.now c.args.records.now (g.D.Disk.held c.args.disk.now) (g.D.Disk.calls c.args.disk.now) c.args.order.now c.args.back.now in
+    let b = standing c.args.self.now c.args.records.now (g.D.Disk.held c.args.disk.now) (g.D.Disk.calls c.args.disk.now) (g.T.Told.heard c.args.told.now) c.args.back.now in
     let good = good_at (setting c.args.header.now c.args.hints.now) (g.D.Disk.len c.args.disk.now) b c.args.number c.in-Offer.call c.args.item c.in-Offer.offer c.requires.sound c.requires.steady c.requires.number
     c.requires.own c.requires.fit c.in-Offer.is in
     on_err_weaker c.do_together.result (λ h.
@@ -90,7 +90,7 @@ returns-then-all_hold-clause-stopped g c =
 
 pub returns-else-all_hold-clause-done : goal.returns-else-all_hold-clause-done
 returns-else-all_hold-clause-done g c =
-    let b = standing c.args.self.now c.args.records.now (g.D.Disk.held c.args.disk.now) (g.D.Disk.calls c.args.disk.now) c.args.order.now c.args.back.now in
+    let b = standing c.args.self.now c.args.records.now (g.D.Disk.held c.args.disk.now) (g.D.Disk.calls c.args.disk.now) (g.T.Told.heard c.args.told.now) c.args.back.now in
     let good = good_at (setting c.args.header.now c.args.hints.now) (g.D.Disk.len c.args.disk.now) b c.args.number c.in-Offer.call c.args.item c.in-Offer.offer c.requires.sound c.requires.steady c.requires.number
     c.requires.own c.requires.fit c.in-Offer.is in
     as_item c.args.hints.now (setting c.args.header.now c.args.hints.now) c.args.number c.args.item (item.Offer c.in-Offer.call c.in-Offer.offer) b _ c.in-Offer.is
@@ -100,7 +100,7 @@ returns-else-all_hold-clause-done g c =
 
 pub returns-else-all_hold-clause-steady : goal.returns-else-all_hold-clause-steady
 returns-else-all_hold-clause-steady g c =
-    let b = standing c.args.self.now c.args.records.now (g.D.Disk.held c.args.disk.now) (g.D.Disk.calls c.args.disk.now) c.args.order.now c.args.back.now in
+    let b = standing c.args.self.now c.args.records.now (g.D.Disk.held c.args.disk.now) (g.D.Disk.calls c.args.disk.now) (g.T.Told.heard c.args.told.now) c.args.back.now in
     let good = good_at (setting c.args.header.now c.args.hints.now) (g.D.Disk.len c.args.disk.now) b c.args.number c.in-Offer.call c.args.item c.in-Offer.offer c.requires.sound c.requires.steady c.requires.number
     c.requires.own c.requires.fit c.in-Offer.is in
     steady_held c.args.header.now (g.D.Disk.len c.args.disk.now) b c.args.number c.in-Offer.call c.in-Offer.offer c.hold.new.self c.in-Meet.field-0 c.requires.steady good
@@ -109,16 +109,16 @@ returns-else-all_hold-clause-steady g c =
 
 pub returns-in-Solo-clause-refused : goal.returns-in-Solo-clause-refused
 returns-in-Solo-clause-refused g c =
-    let b = standing c.args.self.now c.args.records.now (g.D.Disk.held c.args.disk.now) (g.D.Disk.calls c.args.disk.now) c.args.order.now c.args.back.now in
+    let b = standing c.args.self.now c.args.records.now (g.D.Disk.held c.args.disk.now) (g.D.Disk.calls c.args.disk.now) (g.T.Told.heard c.args.told.now) c.args.back.now in
     let good = good_at (setting c.args.header.now c.args.hints.now) (g.D.Disk.len c.args.disk.now) b c.args.number c.in-Offer.call c.args.item c.in-Offer.offer c.requires.sound c.requires.steady c.requires.number
     c.requires.own c.requires.fit c.in-Offer.is in
     on_err_weaker c.do_alone.result (λ h held single.
     arrival_alone (setting c.args.header.now c.args.hints.now) b c.args.number c.in-Offer.call c.args.records.now c.args.item c.in-Offer.offer good.seat (g.D.Disk.held c.do_alone.new.disk) c.in-Offer.is good.there
-    c.in-Solo.is (h c.args.records.now)) c.do_alone.ensures.refused
+    c.in-Solo.is h) c.do_alone.ensures.refused
 
 pub returns-then-all_hold-clause-refused : goal.returns-then-all_hold-clause-refused
 returns-then-all_hold-clause-refused g c =
-    let b = standing c.args.self.now c.args.records.now (g.D.Disk.held c.args.disk.now) (g.D.Disk.calls c.args.disk.now) c.args.order.now c.args.back.now in
+    let b = standing c.args.self.now c.args.records.now (g.D.Disk.held c.args.disk.now) (g.D.Disk.calls c.args.disk.now) (g.T.Told.heard c.args.told.now) c.args.back.now in
     let good = good_at (setting c.args.header.now c.args.hints.now) (g.D.Disk.len c.args.disk.now) b c.args.number c.in-Offer.call c.args.item c.in-Offer.offer c.requires.sound c.requires.steady c.requires.number
     c.requires.own c.requires.fit c.in-Offer.is in
     on_err_weaker c.do_together.result (λ h.

@@ -5,18 +5,18 @@ use Rattle.collective_round.specs.Rounds.{setting}
 use Rattle.turn_run.specs.Counts.{IsCount}
 use Rattle.thread_run.specs.Owned.{standing}
 use Rattle.thread_run.proofs.AloneSteps.{alone}
-use Rattle.turn_run.proofs.CountLaws.{count_longer, count_max, count_still}
+use Rattle.turn_run.proofs.CountLaws.{count_longer, count_max}
 use Rattle.thread_run.proofs.PutLaws.{one_put}
 use Rattle.serial_spec.specs.FileStep.{puts_of, told}
 use Rattle.collective_round.proofs.TornLaws.{done_torn}
 use Rattle.turn_run.proofs.HintLaws.{on_err}
-use Rattle.thread_run.proofs.RefusedSteps.{refused_each}
+use Rattle.thread_run.proofs.RefusedSteps.{refused_alone}
 use Rattle.thread_run.proofs.desk.Desk.reply_alone.Goals as goal
 
 pub returns-clause-done : goal.returns-clause-done
-returns-clause-done g c records =
+returns-clause-done g c =
     alone (setting c.args.header.now c.args.hints.now) c.args.hints.now c.args.number c.args.call c.args.offer.now
-    (standing c.args.self.now records (g.D.Disk.held c.args.disk.now) (g.D.Disk.calls c.args.disk.now) c.args.order.now c.args.back.now) _ c.in_ok-reply.reply (record {
+    (standing c.args.self.now c.args.records (g.D.Disk.held c.args.disk.now) (g.D.Disk.calls c.args.disk.now) (g.T.Told.heard c.args.told.now) c.args.back.now) _ c.in_ok-reply.reply (record {
       known_low = c.requires.known;
       pair = c.in_ok-reply.ensures.told;
       records = c.in_ok-reply.ensures.records;
@@ -24,7 +24,8 @@ returns-clause-done g c records =
       reply = c.in_ok-reply.ensures.reply;
       bytes = c.in_ok-reply.ensures.bytes;
       calls = c.in_ok-reply.ensures.calls;
-      order = c.in_ok-push.ensures.ok;
+      order = c.in_ok-note_step.ensures.order;
+      heard = c.in_ok-note_step.ensures.heard;
       seats = refl;
       same_met = refl;
       same_records = refl;
@@ -40,13 +41,15 @@ returns-clause-reached g c h =
 
 pub returns-in_err-reply-clause-refused : goal.returns-in_err-reply-clause-refused
 returns-in_err-reply-clause-refused g c =
-    on_err _ (refused_each (setting c.args.header.now c.args.hints.now) c.args.number c.args.call c.args.offer.now c.args.self.now (g.D.Disk.held c.args.disk.now) (g.D.Disk.held c.solo_reply.new.disk)
-    (g.D.Disk.calls c.args.disk.now) c.args.order.now c.args.back.now c.in_err-reply.ensures.refused)
+    on_err _ (refused_alone (setting c.args.header.now c.args.hints.now) c.args.number c.args.call c.args.offer.now
+    (standing c.args.self.now c.args.records (g.D.Disk.held c.args.disk.now) (g.D.Disk.calls c.args.disk.now) (g.T.Told.heard c.args.told.now) c.args.back.now)
+    (g.D.Disk.held c.solo_reply.new.disk) c.in_err-reply.ensures.refused)
 
-pub returns-in_err-push-clause-refused : goal.returns-in_err-push-clause-refused
-returns-in_err-push-clause-refused g c =
+pub returns-in_err-note_step-clause-refused : goal.returns-in_err-note_step-clause-refused
+returns-in_err-note_step-clause-refused g c =
     let s = setting c.args.header.now c.args.hints.now in
     let puts = puts_of (c.args.number, c.args.offer.now) in
-    on_err _ (refused_each s c.args.number c.args.call c.args.offer.now c.args.self.now (g.D.Disk.held c.args.disk.now) (g.D.Disk.held c.solo_reply.new.disk)
-    (g.D.Disk.calls c.args.disk.now) c.args.order.now c.args.back.now
+    on_err _ (refused_alone s c.args.number c.args.call c.args.offer.now
+    (standing c.args.self.now c.args.records (g.D.Disk.held c.args.disk.now) (g.D.Disk.calls c.args.disk.now) (g.T.Told.heard c.args.told.now) c.args.back.now)
+    (g.D.Disk.held c.solo_reply.new.disk)
     (done_torn s puts (told s puts) (g.D.Disk.held c.args.disk.now) (g.D.Disk.held c.solo_reply.new.disk) c.in_ok-reply.ensures.bytes))

@@ -1,0 +1,91 @@
+-- What a run on threads told, from what the owner tells.
+use Rattle.std.proofs.Common.{◌≡◌, ℕ, refl, sym, ◌∙◌, ap, subst, List, [], true, Option, Some, None}
+use Rattle.std.specs.Prelude.{IfSome}
+use Rattle.nc_base.specs.declared.header.Header.{Header}
+use Rattle.nc_base.specs.declared.run.RankEnd.{RankEnd}
+use Rattle.nc_base.specs.declared.run.ServeEnd.{ServeEnd}
+use Rattle.nc_base.specs.declared.script.Script.{Script}
+use Rattle.nc_base.specs.declared.step.Mark.{Mark}
+use Rattle.nc_base.specs.declared.step.OwnerItem.{OwnerItem}
+use Rattle.nc_base.specs.declared.step.StepErr.{StepErr}
+use Rattle.nc_outside.specs.Told.{with_end}
+use Rattle.serial_spec.specs.Desk.{Desk}
+use Rattle.serial_spec.specs.HeaderGrammar.{is_sound}
+use Rattle.serial_spec.specs.History.{Arrival}
+use Rattle.serial_spec.specs.Joined.{opening_desk}
+use Rattle.serial_spec.specs.Lawful.{is_lawful}
+use Rattle.serial_spec.specs.Reading.{told_of}
+use Rattle.serial_spec.specs.SerialEnd.{setting_of}
+use Rattle.collective_round.specs.Rounds.{counted}
+use Rattle.turn_run.specs.Telling.{told_marks, HasTold}
+use Rattle.thread_run.specs.Owned.{desk_told}
+use Rattle.thread_run.specs.Refused.{HasCutService}
+use Rattle.thread_run.specs.Serving.{opening, HasToldAlong, IsDone, IsDoneSo}
+use Rattle.turn_run.proofs.TellLaws.{marks_ended}
+use Rattle.thread_run.proofs.TellLaws.{marks_along, same_told}
+use Rattle.thread_run.proofs.ThreadCut.{desk_is, ranks_are, service_cut, service_done, told_is, Service}
+use Rattle.thread_run.proofs.ThreadTies.{Told}
+
+module _ (script : Script) (header : Header) (arrivals : List Arrival) (given : ℕ → List OwnerItem) (ends : List RankEnd) (sound : is_sound header ≡ true) (lawful : is_lawful script ≡ true)
+    (t : Told script header arrivals given ends) (held : Option (List ℕ)) (count : ℕ) (before : ServeEnd) (told heard : Option (List (Mark × ℕ))) where
+  -- with the counts, where the bytes are told
+  run_counts : (file : List ℕ) → ((f : List ℕ) → HasToldAlong (setting_of script header) (opening script.ranks (counted f header.records)) arrivals before.order told heard)
+      → (before.fault ≡ None → (f : List ℕ) → IsDone (setting_of script header) (opening script.ranks (counted f header.records)) arrivals script.ranks given before.order before.stranger)
+      → (before.fault ≡ None → IsDoneSo (setting_of script header) (opening script.ranks (counted file header.records)) arrivals script.ranks given held count)
+      → ((x : StepErr) → before.fault ≡ Some x → HasCutService (setting_of script header) x (opening script.ranks (counted file header.records)) arrivals before.order held count given)
+      → heard ≡ with_end told (told_of script header file before.order)
+  run_counts file along done so cut = by_service (by_fault before.fault refl)
+    where
+      is : opening script.ranks (counted file header.records) ≡ opening_desk script header file
+      is = desk_is script header arrivals given ends sound lawful t file
+
+      by_fault : (m : Option StepErr) → before.fault ≡ m → Service (setting_of script header) (opening_desk script header file) script.ranks arrivals given before.order
+      by_fault None none =
+          (service_done script.hints (setting_of script header) (opening_desk script header file) script.ranks arrivals given before.order
+          (subst (λ (d : Desk). IsDone (setting_of script header) d arrivals script.ranks given before.order before.stranger) is (done none file)).order
+          (subst (λ (d : Desk). IsDoneSo (setting_of script header) d arrivals script.ranks given held count) is (so none)).given).0
+      by_fault (Some x) some =
+          service_cut (setting_of script header) (opening_desk script header file) script.ranks count x arrivals given before.order held (ranks_are script header arrivals given ends sound lawful t file)
+          (subst (λ (d : Desk). HasCutService (setting_of script header) x d arrivals before.order held count given) is (cut x some))
+
+      by_service : Service (setting_of script header) (opening_desk script header file) script.ranks arrivals given before.order → heard ≡ with_end told (told_of script header file before.order)
+      by_service h =
+          let a = subst (λ (d : Desk). HasToldAlong (setting_of script header) d arrivals before.order told heard) is (along file) in
+          a.heard
+          ∙ ap (λ (more : List (Mark × ℕ)). with_end told more)
+          (same_told (setting_of script header) a.first a.later h.first h.later (opening_desk script header file) (sym a.all ∙ h.all) a.none_strange h.none (sym a.order ∙ h.order_is)
+          ∙ told_is script header arrivals given ends sound lawful t file before.order h)
+
+  by_ranks : (found : Option (List ℕ)) → ((file : List ℕ) → HasToldAlong (setting_of script header) (opening script.ranks (counted file header.records)) arrivals before.order told heard)
+      → (before.fault ≡ None → (file : List ℕ) → IsDone (setting_of script header) (opening script.ranks (counted file header.records)) arrivals script.ranks given before.order before.stranger)
+      → (before.fault ≡ None → IfSome found (λ file. IsDoneSo (setting_of script header) (opening script.ranks (counted file header.records)) arrivals script.ranks given held count))
+      → ((x : StepErr) → before.fault ≡ Some x → IfSome found (λ file. HasCutService (setting_of script header) x (opening script.ranks (counted file header.records)) arrivals before.order held count given))
+      → HasTold script header found told heard before.order
+  by_ranks found along done so cut = record {
+    marks = ap told_marks (along []).heard ∙ marks_ended told (desk_told (setting_of script header) (opening script.ranks (counted [] header.records)) (along []).first)
+        ∙ ap (λ (ms : List Mark). with_end (told_marks told) ms)
+        (marks_along (setting_of script header) (along []).first (opening script.ranks (counted [] header.records)) ∙ sym (along []).order);
+    counts = by_told found so cut;
+  }
+    where
+      by_told : (m : Option (List ℕ))
+          → (before.fault ≡ None → IfSome m (λ file. IsDoneSo (setting_of script header) (opening script.ranks (counted file header.records)) arrivals script.ranks given held count))
+          → ((x : StepErr) → before.fault ≡ Some x → IfSome m (λ file. HasCutService (setting_of script header) x (opening script.ranks (counted file header.records)) arrivals before.order held count given))
+          → IfSome m (λ file. heard ≡ with_end told (told_of script header file before.order))
+      by_told None so cut = tt
+      by_told (Some file) so cut = run_counts file along done so cut
+
+  -- by as many senders as there are ranks
+  pub run_told : (found : Option (List ℕ)) (n : ℕ) → n ≡ script.ranks
+      → ((file : List ℕ) → HasToldAlong (setting_of script header) (opening n (counted file header.records)) arrivals before.order told heard)
+      → (before.fault ≡ None → (file : List ℕ) → IsDone (setting_of script header) (opening n (counted file header.records)) arrivals n given before.order before.stranger)
+      → (before.fault ≡ None → IfSome found (λ file. IsDoneSo (setting_of script header) (opening n (counted file header.records)) arrivals n given held count))
+      → ((x : StepErr) → before.fault ≡ Some x → IfSome found (λ file. HasCutService (setting_of script header) x (opening n (counted file header.records)) arrivals before.order held count given))
+      → (order : List Mark) → order ≡ before.order → HasTold script header found told heard order
+  run_told found n e along done so cut order same =
+      subst (λ (ms : List Mark). HasTold script header found told heard ms) (sym same)
+      (by_ranks found
+      (λ file. subst (λ (m : ℕ). HasToldAlong (setting_of script header) (opening m (counted file header.records)) arrivals before.order told heard) e (along file))
+      (λ none file. subst (λ (m : ℕ). IsDone (setting_of script header) (opening m (counted file header.records)) arrivals m given before.order before.stranger) e (done none file))
+      (λ none. subst (λ (m : ℕ). IfSome found (λ file. IsDoneSo (setting_of script header) (opening m (counted file header.records)) arrivals m given held count)) e (so none))
+      (λ x some. subst (λ (m : ℕ). IfSome found (λ file. HasCutService (setting_of script header) x (opening m (counted file header.records)) arrivals before.order held count given)) e (cut x some)))
