@@ -1,0 +1,42 @@
+-- The order of a run step by step, and its end.
+use Rattle.std.proofs.Common.{◌≡◌, ℕ, zero, suc, ◌+◌, ◌<◌, refl, sym, ◌∙◌, ap, subst, List, [], ◌∷◌, ◌++◌, length, map, max, drop, take, fold, get_or, Bool, true, false, cond, Some, arith}
+use Rattle.std.proofs.lemmas.Bool.Decides.{nat_tests}
+use Rattle.std.proofs.lemmas.List.{take-append-drop, take_more, drop_more}
+use Rattle.std.specs.Prelude.{slice_get, nat_lt}
+use Rattle.list_laws.proofs.Maps.{map_map}
+use Rattle.nc_base.specs.declared.answer.Answer.{Answer}
+use Rattle.nc_base.specs.declared.header.Header.{Header}
+use Rattle.nc_base.specs.declared.script.Script.{Script}
+use Rattle.nc_base.specs.declared.step.Mark.{Mark}
+use Rattle.serial_spec.specs.FileStep.{Counted, Setting, raised}
+use Rattle.serial_spec.specs.Layout.{greatest}
+use Rattle.serial_spec.specs.Limits.{record_limit}
+use Rattle.serial_spec.specs.RankMachine as machine
+use Rattle.serial_spec.specs.Records.{with_records}
+use Rattle.serial_spec.specs.SerialEnd.{End, Going}
+use Rattle.element_steps.specs.Requests.{counted}
+use Rattle.element_steps.proofs.MeetSteps.{some_limit}
+use Rattle.join_laws.proofs.CountLaws.{less_max}
+use Rattle.run_laws.specs.Standing.{close_by}
+use Rattle.serial_run.specs.Ended.{most_known, AreLow}
+use Rattle.serial_run.specs.Seated.{going_of}
+use Rattle.serial_run.specs.declared.seats.Seat.{Seat}
+
+-- ---- the order
+
+pub order_split : (order : List Mark) (n : ℕ) (m : Mark) → n < length order → m ≡ get_or order n m → take n order ++ m ∷ drop (n + 1) order ≡ order
+order_split order n m l e = ?
+
+-- ---- the close
+
+pub known_low : (header : Header) (seats : List Seat) → AreLow header seats → most_known seats < record_limit header.version
+known_low header [] all = some_limit header.version
+known_low header (seat ∷ seats) all =
+    less_max seat.rank.state.known (most_known seats) (record_limit header.version) (all 0 seat refl) (known_low header seats (λ r x e. all (suc r) x e))
+
+-- the file and the count after the count was raised
+pub closed_is : (s : Setting) (seats : List Seat) (old file : List ℕ) (was records known : ℕ) (answers : List (List Answer)) (pending : List ℕ)
+    → known ≡ most_known seats → file ≡ cond (nat_lt was known) (with_records s.header.version old known) old → records ≡ max was known
+    → answers ≡ map (λ seat. seat.answers) seats → pending ≡ map (λ seat. machine.pending seat.rank.state) seats
+    → record { bytes = file; records = records; answers = answers; pending = pending } ≡ close_by s (counted old was) (map going_of seats)
+closed_is s seats old file was records known answers pending k f r a p = ?

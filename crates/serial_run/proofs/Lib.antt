@@ -1,0 +1,4 @@
+pub mod SeatLaws
+pub mod NextLaws
+pub mod StepLaws
+pub mod EndLaws
