@@ -25,7 +25,11 @@ use Rattle.serial_run.specs.declared.seats.Seat.{Seat}
 -- ---- the order
 
 pub order_split : (order : List Mark) (n : ℕ) (m : Mark) → n < length order → m ≡ get_or order n m → take n order ++ m ∷ drop (n + 1) order ≡ order
-order_split order n m l e = ?
+order_split order n m l e =
+    ap (λ (x : Mark). take n order ++ x ∷ drop (n + 1) order) e ∙ ap (λ (ms : List Mark). take n order ++ ms) (sym (drop_more order n m l)) ∙ take-append-drop n order
+
+pub order_more : (order : List Mark) (n : ℕ) (m : Mark) → n < length order → m ≡ get_or order n m → take (n + 1) order ≡ take n order ++ m ∷ []
+order_more order n m l e = take_more order n m l ∙ ap (λ (x : Mark). take n order ++ x ∷ []) (sym e)
 
 -- ---- the close
 
@@ -34,9 +38,25 @@ known_low header [] all = some_limit header.version
 known_low header (seat ∷ seats) all =
     less_max seat.rank.state.known (most_known seats) (record_limit header.version) (all 0 seat refl) (known_low header seats (λ r x e. all (suc r) x e))
 
--- the file and the count after the count was raised
+raised_is : (s : Setting) (old file : List ℕ) (was records known : ℕ) → file ≡ cond (nat_lt was known) (with_records s.header.version old known) old → records ≡ max was known
+    → counted file records ≡ raised s (counted old was) known
+raised_is s old file was records known f r = by (nat_lt was known) refl f
+  where
+    by : (t : Bool) → nat_lt was known ≡ t → file ≡ cond t (with_records s.header.version old known) old
+        → counted file records ≡ cond t (counted (with_records s.header.version old known) known) (counted old was)
+    by true e g = let n : records ≡ known = grind (arith, nat_tests) in λ i. counted (g i) (n i)
+    by false e g = let n : records ≡ was = grind (arith, nat_tests) in λ i. counted (g i) (n i)
+
+abbrev end_by : Counted → List (List Answer) → List ℕ → End
+end_by c answers pending = record { bytes = c.file; records = c.records; answers = answers; pending = pending }
+
 pub closed_is : (s : Setting) (seats : List Seat) (old file : List ℕ) (was records known : ℕ) (answers : List (List Answer)) (pending : List ℕ)
     → known ≡ most_known seats → file ≡ cond (nat_lt was known) (with_records s.header.version old known) old → records ≡ max was known
     → answers ≡ map (λ seat. seat.answers) seats → pending ≡ map (λ seat. machine.pending seat.rank.state) seats
     → record { bytes = file; records = records; answers = answers; pending = pending } ≡ close_by s (counted old was) (map going_of seats)
-closed_is s seats old file was records known answers pending k f r a p = ?
+closed_is s seats old file was records known answers pending k f r a p =
+    let most = k ∙ sym (ap greatest (map_map (λ (g : Going). g.rank.known) going_of seats)) in
+    let last = raised_is s old file was records known f r ∙ ap (λ (n : ℕ). raised s (counted old was) n) most in
+    let told = a ∙ sym (map_map (λ (g : Going). g.answers) going_of seats) in
+    let left = p ∙ sym (map_map (λ (g : Going). machine.pending g.rank) going_of seats) in
+    λ i. end_by (last i) (told i) (left i)
