@@ -1,7 +1,7 @@
 -- The order of a run step by step, and its end.
-use Rattle.std.proofs.Common.{◌≡◌, ℕ, zero, suc, ◌+◌, ◌<◌, refl, sym, ◌∙◌, ap, subst, List, [], ◌∷◌, ◌++◌, length, map, max, drop, take, fold, get_or, Bool, true, false, cond, Some, arith}
+use Rattle.std.proofs.Common.{◌≡◌, ℕ, zero, suc, ◌+◌, ◌<◌, ◌≤◌, refl, sym, ◌∙◌, ap, subst, List, [], ◌∷◌, ◌++◌, length, map, max, drop, take, fold, get_or, Bool, true, false, cond, Some, arith}
 use Rattle.std.proofs.lemmas.Bool.Decides.{nat_tests}
-use Rattle.std.proofs.lemmas.List.{take-append-drop, take_more, drop_more}
+use Rattle.std.proofs.lemmas.List.{drop_all, drop_more, take-append-drop, take_more}
 use Rattle.std.specs.Prelude.{slice_get, nat_lt}
 use Rattle.list_laws.proofs.Maps.{map_map}
 use Rattle.nc_base.specs.declared.answer.Answer.{Answer}
@@ -32,6 +32,19 @@ pub order_more : (order : List Mark) (n : ℕ) (m : Mark) → n < length order �
 order_more order n m l e = take_more order n m l ∙ ap (λ (x : Mark). take n order ++ x ∷ []) (sym e)
 
 -- ---- the close
+
+-- the count that one rank more knows
+pub known_step : (seats : List Seat) (i : ℕ) (seat : Seat) (known own more : ℕ) → i < length seats → seat ≡ get_or seats i seat → own ≡ seat.rank.state.known
+    → more ≡ max known own → max known (most_known (drop i seats)) ≡ most_known seats → max more (most_known (drop (i + 1) seats)) ≡ most_known seats
+known_step seats i seat known own more l e k m h =
+    let left : most_known (drop i seats) ≡ max (get_or seats i seat).rank.state.known (most_known (drop (i + 1) seats)) = ap most_known (drop_more seats i seat l) in
+    let own' : own ≡ (get_or seats i seat).rank.state.known = k ∙ ap (λ (x : Seat). x.rank.state.known) e in
+    omega (arith, left, own', m, h)
+
+pub known_end : (seats : List Seat) (i known : ℕ) → length seats ≤ i → max known (most_known (drop i seats)) ≡ most_known seats → known ≡ most_known seats
+known_end seats i known l h =
+    let none : most_known (drop i seats) ≡ 0 = ap most_known (drop_all i seats l) in
+    omega (arith, none, h)
 
 pub known_low : (header : Header) (seats : List Seat) → AreLow header seats → most_known seats < record_limit header.version
 known_low header [] all = some_limit header.version

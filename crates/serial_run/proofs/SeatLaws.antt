@@ -1,5 +1,6 @@
 -- A rank that goes through its calls, up to its next offer or to its end.
-use Rattle.std.proofs.Common.{◌≡◌, ℕ, ◌+◌, ◌≤◌, refl, sym, ◌∙◌, ap, subst, inl, inr, ◌⊎◌, List, [], ◌∷◌, true, None, Some}
+use Rattle.std.proofs.Common.{◌≡◌, ℕ, ◌+◌, ◌-◌, ◌<◌, ◌≤◌, refl, sym, ◌∙◌, ap, subst, inl, inr, ◌⊎◌, List, [], ◌∷◌, ◌++◌, length, take, drop, get_or, true, Option, None, Some, arith}
+use Rattle.std.proofs.lemmas.List.{take_rest}
 use Rattle.nc_base.specs.declared.header.Header.{Header}
 use Rattle.nc_base.specs.declared.answer.Answer.{Answer}
 use Rattle.nc_base.specs.declared.request.Call.{Call}
@@ -34,25 +35,43 @@ pub record Comes (header : Header) (s t : Going) : Type 0 where
 abbrev pub KeepsFew : machine.Rank → machine.Rank → Call → Type 0
 KeepsFew rank next c = (ranks r : ℕ) → is_lawful_call ranks r c ≡ true → posts_held next ≤ posts_held rank + most_parts
 
+-- what the rank wants at its next call, under the same header
+said_at : (header same : Header) (rank next : machine.Rank) (c : Call) (w v : Want) → same ≡ header → (next, w) ≡ machine.step same rank c → w ≡ v → (next, v) ≡ machine.step header rank c
+said_at header same rank next c w v e f g = ap (λ (x : Want). (next, x)) (sym g) ∙ f ∙ ap (λ (k : Header). machine.step k rank c) e
+
+-- the calls that are left when the first of some is taken
+pub first_call : (calls : List Call) (c : Call) → 1 ≤ length calls → c ≡ get_or calls 0 c → calls ≡ c ∷ take (length calls - 1) (drop 1 calls)
+first_call [] c l e = absurd (omega arith)
+first_call (x ∷ calls) c l e = λ i. sym e i ∷ sym (take_rest (x ∷ calls) 1) i
+
+pub no_call : (calls : List Call) → length calls < 1 → calls ≡ []
+no_call [] l = refl
+no_call (c ∷ calls) l = absurd (omega arith)
+
 pub comes_first : (header : Header) (s : Going) → MayGoOn s → Comes header s s
 comes_first header s ready = record { known = refl; ready = ready; kept = λ script order r way. way; advanced = refl }
 
-pub comes_answered : (header : Header) (s t : Going) (next : machine.Rank) (a : Answer) (c : Call) (calls : List Call) → Comes header s t → t.calls ≡ c ∷ calls
-    → (next, want.Answered a) ≡ machine.step header t.rank c → KeepsFew t.rank next c → Comes header s (answered t next a calls)
-comes_answered header s t next a c calls h e f few = record {
-  known = (alone_keeps header t.rank next c a f).0 ∙ h.known;
-  ready = record {
-    script = h.ready.script;
-    order = h.ready.order;
-    r = h.ready.r;
-    lawful = h.ready.lawful;
-    one_of = h.ready.one_of;
-    way = on h.ready.script h.ready.order h.ready.r h.ready.way;
-  };
-  kept = λ script order r way. on script order r (h.kept script order r way);
-  advanced = comes_on header s t next a c calls h.advanced e f;
-}
+pub comes_answered : (header same : Header) (s t : Going) (next : machine.Rank) (w : Want) (a : Answer) (more : List Answer) (c : Call) (calls : List Call) → Comes header s t
+    → t.calls ≡ c ∷ calls → same ≡ header → (next, w) ≡ machine.step same t.rank c → w ≡ want.Answered a → KeepsFew t.rank next c → more ≡ t.answers ++ a ∷ []
+    → Comes header s (record { rank = next; answers = more; calls = calls })
+comes_answered header same s t next w a more c calls h e as_one step is few pushed =
+    subst (λ (answers : List Answer). Comes header s (record { rank = next; answers = answers; calls = calls })) (sym pushed) (record {
+      known = (alone_keeps header t.rank next c a f).0 ∙ h.known;
+      ready = record {
+        script = h.ready.script;
+        order = h.ready.order;
+        r = h.ready.r;
+        lawful = h.ready.lawful;
+        one_of = h.ready.one_of;
+        way = on h.ready.script h.ready.order h.ready.r h.ready.way;
+      };
+      kept = λ script order r way. on script order r (h.kept script order r way);
+      advanced = comes_on header s t next a c calls h.advanced e f;
+    })
   where
+    f : (next, want.Answered a) ≡ machine.step header t.rank c
+    f = said_at header same t.rank next c w (want.Answered a) as_one step is
+
     on : (script : Script) (order : List Mark) (r : ℕ) → IsOnWay script order r t None → IsOnWay script order r (answered t next a calls) None
     on script order r way = way_answers script order r header t next a c calls way e f (few script.ranks r (call_lawful script order r t c calls way e))
 
@@ -106,10 +125,18 @@ gone_alone header s t next o c calls h e f few sound =
       few = few script.ranks r (call_lawful script order r t c calls way e);
     }
 
-pub gone_offer : (header : Header) (s t : Going) (next : machine.Rank) (o : Offer) (w : Want) (c : Call) (calls : List Call) → Comes header s t → t.calls ≡ c ∷ calls
-    → (next, w) ≡ machine.step header t.rank c → KeepsFew t.rank next c → IsSoundWant header w → (w ≡ want.Meet o) ⊎ (w ≡ want.Solo o)
+pub gone_offer : (header same : Header) (s t : Going) (next : machine.Rank) (o : Offer) (w : Want) (c : Call) (calls : List Call) → Comes header s t → t.calls ≡ c ∷ calls
+    → same ≡ header → (next, w) ≡ machine.step same t.rank c → KeepsFew t.rank next c → IsSoundWant same w → (w ≡ want.Meet o) ⊎ (w ≡ want.Solo o)
     → HasGone header s (asking t next calls) (Some o)
-gone_offer header s t next o w c calls h e f few sound (inl is) =
-    gone_meeting header s t next o c calls h e (ap (λ (x : Want). (next, x)) (sym is) ∙ f) few (subst (λ (x : Want). IsSoundWant header x) is sound)
-gone_offer header s t next o w c calls h e f few sound (inr is) =
-    gone_alone header s t next o c calls h e (ap (λ (x : Want). (next, x)) (sym is) ∙ f) few (subst (λ (x : Want). IsSoundWant header x) is sound)
+gone_offer header same s t next o w c calls h e as_one step few sound kind = by kind
+  where
+    sound_at : (v : Want) → w ≡ v → IsSoundWant header v
+    sound_at v is = subst (λ (k : Header). IsSoundWant k v) as_one (subst (λ (x : Want). IsSoundWant same x) is sound)
+
+    by : (w ≡ want.Meet o) ⊎ (w ≡ want.Solo o) → HasGone header s (asking t next calls) (Some o)
+    by (inl is) = gone_meeting header s t next o c calls h e (said_at header same t.rank next c w (want.Meet o) as_one step is) few (sound_at (want.Meet o) is)
+    by (inr is) = gone_alone header s t next o c calls h e (said_at header same t.rank next c w (want.Solo o) as_one step is) few (sound_at (want.Solo o) is)
+
+-- a rank that holds no offer has made its calls
+pub gone_over : (header : Header) (s t : Going) (held : Option Offer) → Comes header s t → length t.calls < 1 → held ≡ None → HasGone header s t held
+gone_over header s t held h l e = subst (λ (m : Option Offer). HasGone header s t m) (sym e) (gone_ended header s t h (no_call t.calls l))

@@ -1,9 +1,10 @@
 -- The steps of a run: the offers of its ranks, the replies to them, and the ranks that have heard.
-use Rattle.std.proofs.Common.{◌≡◌, ◌≢◌, ℕ, zero, suc, ◌+◌, ◌-◌, ◌<◌, ◌≤◌, refl, sym, ◌∙◌, ap, subst, inl, inr, List, [], ◌∷◌, length, map, max, set, Option, None, Some, arith}
-use Rattle.std.proofs.lemmas.List.{length-map, map-set}
+use Rattle.std.proofs.Common.{◌≡◌, ◌≢◌, ℕ, zero, suc, ◌+◌, ◌-◌, ◌<◌, ◌≤◌, refl, sym, ◌∙◌, ap, subst, inl, inr, List, [], ◌∷◌, ◌++◌, length, map, max, set, drop, get_or, Option, None, Some, append_assoc, append-nil, length-set, arith}
+use Rattle.std.proofs.lemmas.List.{drop_all, drop_more, length-map, map-set}
 use Rattle.std.proofs.lemmas.Option.{same_Some, slice_get-map, slice_get_within}
 use Rattle.std.specs.Prelude.{slice_get, zip, flat_map, is_some, IfSome, IsSomeAnd}
 use Rattle.std.specs.List.{enumerate_from}
+use Rattle.list_laws.proofs.Places.{entry_set, entry_set_other}
 use Rattle.nc_base.specs.declared.header.Header.{Header}
 use Rattle.nc_base.specs.declared.step.Mark.TheVariants as mark
 use Rattle.nc_base.specs.declared.step.Offer.{Offer}
@@ -21,8 +22,8 @@ use Rattle.join_laws.proofs.ReplyLaws.{meeting_fits, solo_fits}
 use Rattle.join_laws.proofs.StepLaws.{meeting_within, replied}
 use Rattle.overlay_laws.proofs.Members.{at_in}
 use Rattle.run_laws.specs.Arrivals.{Arrived, heard, solo_to, step_to}
-use Rattle.serial_run.specs.Seated.{arrived, going_of, IsAsked, IsWaiting}
-use Rattle.serial_run.specs.Standing.{all_arrived, AllHear, AreWaiting, DoFit, HaveHeard, Heard, HeardOne}
+use Rattle.serial_run.specs.Seated.{arrived, going_of, HasGone, IsAsked, IsWaiting, MayGoOn}
+use Rattle.serial_run.specs.Standing.{all_arrived, AllHear, AreWaiting, DoFit, HasHeard, HaveHeard, Heard, HeardOne}
 use Rattle.serial_run.specs.declared.seats.Seat.{Seat}
 
 -- ---- the offers that ranks hold
@@ -47,6 +48,30 @@ held_asked header seat o w e =
 
 first_offer : (seat : Seat) (seats : List Seat) (o : Offer) → seat.held ≡ Some o → offers_of (all_arrived (seat ∷ seats)) ≡ o ∷ offers_of (all_arrived seats)
 first_offer seat seats o e = ap (λ (m : Option Offer). offers_of ((going_of seat, m) ∷ all_arrived seats)) e
+
+-- the offer of one rank more
+one_more : (seat : Seat) (seats : List Seat) → offers_of (all_arrived (seat ∷ seats)) ≡ offers_of (arrived seat ∷ []) ++ offers_of (all_arrived seats)
+one_more seat seats = by seat.held
+  where
+    by : (held : Option Offer) → offers_of ((going_of seat, held) ∷ all_arrived seats) ≡ offers_of ((going_of seat, held) ∷ []) ++ offers_of (all_arrived seats)
+    by None = refl
+    by (Some o) = refl
+
+pub offers_step : (seats : List Seat) (i : ℕ) (seat : Seat) (offers more whole : List Offer) → i < length seats → seat ≡ get_or seats i seat
+    → more ≡ offers ++ offers_of (arrived seat ∷ []) → offers ++ offers_of (all_arrived (drop i seats)) ≡ whole
+    → more ++ offers_of (all_arrived (drop (i + 1) seats)) ≡ whole
+offers_step seats i seat offers more whole l e m h =
+    let rest = drop (i + 1) seats in
+    ap (λ (os : List Offer). os ++ offers_of (all_arrived rest)) m
+    ∙ append_assoc offers (offers_of (arrived seat ∷ [])) (offers_of (all_arrived rest))
+    ∙ ap (λ (os : List Offer). offers ++ os) (sym (one_more seat rest))
+    ∙ ap (λ (x : Seat). offers ++ offers_of (all_arrived (x ∷ rest))) e
+    ∙ ap (λ (xs : List Seat). offers ++ offers_of (all_arrived xs)) (sym (drop_more seats i seat l))
+    ∙ h
+
+pub offers_end : (seats : List Seat) (i : ℕ) (offers whole : List Offer) → length seats ≤ i → offers ++ offers_of (all_arrived (drop i seats)) ≡ whole → offers ≡ whole
+offers_end seats i offers whole l h =
+    sym (append-nil offers) ∙ ap (λ (xs : List Seat). offers ++ offers_of (all_arrived xs)) (sym (drop_all i seats l)) ∙ h
 
 pub offers_long : (header : Header) (seats : List Seat) → AreWaiting header seats → length (offers_of (all_arrived seats)) ≡ length seats
 offers_long header [] all = refl
@@ -119,6 +144,15 @@ pub fits_open : (header : Header) (m : Option Open) (o : Offer) (y : Reply) → 
 fits_open header None o y e f = tt
 fits_open header (Some w) o y e f = f ∙ ap (λ (posts : List _). map (wanted header) posts) (sym e)
 
+pub hears_fit : (header : Header) (seat : Seat) (o : Offer) (y : Reply) → IsWaiting header seat → seat.held ≡ Some o → DoesFit header o y
+    → IfSome seat.rank.state.«open» (λ w. map (λ b. length b) y.got ≡ map (wanted seat.rank.header) w.gets)
+hears_fit header seat o y w e fit =
+    subst (λ (h : Header). IfSome seat.rank.state.«open» (λ p. map (λ b. length b) y.got ≡ map (wanted h) p.gets)) (sym w.of_header)
+    (fits_open header seat.rank.state.«open» o y (held_asked header seat o w e).gets fit)
+
+pub may_hear : (header : Header) (seat : Seat) (y : Reply) → IsWaiting header seat → MayGoOn (hears seat.rank.header (going_of seat) y)
+may_hear header seat y w = subst (λ (h : Header). MayGoOn (hears h (going_of seat) y)) (sym w.of_header) (w.ready y)
+
 pub replies_long : (s : Setting) (offers : List Offer) (c : Counted) → length (meeting s offers c).1 ≡ length offers
 replies_long s offers c = length-map offers _
 
@@ -159,6 +193,7 @@ pub have_heard : (s : Setting) (before now : List Seat) (replies : List Reply) (
 have_heard s before now replies c waiting low y all = record {
   long = all.long;
   each = λ r a b e f.
+      let offers = offers_of (all_arrived before) in
       let h = holds_one s.header a (waiting r a e) in
       let x = replied s offers c r h.offer (offer_at s.header before r a h.offer waiting e h.is) in
       record {
@@ -167,9 +202,35 @@ have_heard s before now replies c waiting low y all = record {
         heard = all.each r a b x.reply e f (ap (λ (ys : List Reply). slice_get ys r) y ∙ x.is);
       };
 }
-  where
-    abbrev offers : List Offer
-    offers = offers_of (all_arrived before)
+
+-- what a rank heard, under the same header
+pub heard_by : (header : Header) (a b : Seat) (y : Reply) → a.rank.header ≡ header → b.rank.header ≡ a.rank.header
+    → HasGone a.rank.header (hears a.rank.header (going_of a) y) (going_of b) b.held → Heard header y a b
+heard_by header a b y e f gone =
+    record { of_header = f ∙ e; gone = subst (λ (h : Header). HasGone h (hears h (going_of a) y) (going_of b) b.held) e gone }
+
+pub has_heard : (header : Header) (rank : ℕ) (before : List Seat) (a b : Seat) → slice_get before rank ≡ Some a → HeardOne header a b → HasHeard header rank before (set before rank b)
+has_heard header rank before a b e one = record {
+  long = length-set before rank b;
+  own = λ x y f g.
+      let was : a ≡ x = same_Some a x (sym e ∙ f) in
+      let is : b ≡ y = same_Some b y (sym (entry_set before rank a b e) ∙ g) in
+      subst (λ (z : Seat). HeardOne header x z) is (subst (λ (z : Seat). HeardOne header z b) was one);
+  others = λ r other. entry_set_other before rank r b other;
+}
+
+-- the reply to a step alone
+pub own_reply : (s : Setting) (rank : ℕ) (o : Offer) (file : List ℕ) (a b : Seat) (y : Reply) → Offered s.header o → y ≡ (solo s rank o (counted file 0)).1 → Heard s.header y a b → HeardOne s.header a b
+own_reply s rank o file a b y offered e heard = record {
+  reply = y;
+  low = subst (λ (z : Reply). z.records < record_limit s.header.version) (sym e) (solo_low s rank o (counted file 0) offered);
+  heard = heard;
+}
+
+pub own_fits : (s : Setting) (rank : ℕ) (o : Offer) (file : List ℕ) (seat : Seat) (y : Reply) → IsWaiting s.header seat → seat.held ≡ Some o → y ≡ (solo s rank o (counted file 0)).1
+    → IfSome seat.rank.state.«open» (λ w. map (λ b. length b) y.got ≡ map (wanted seat.rank.header) w.gets)
+own_fits s rank o file seat y w e f =
+    hears_fit s.header seat o y w e (subst (λ (z : Reply). DoesFit s.header o z) (sym f) (solo_fits s rank o (counted file 0)))
 
 pub alone_step : (s : Setting) (before : List Seat) (a b : Seat) (o : Offer) (y : Reply) (old file : List ℕ) (records rank n : ℕ) → slice_get before rank ≡ Some a → a.held ≡ Some o
     → file ≡ (solo s rank o (counted old 0)).0.file → y ≡ (solo s rank o (counted old 0)).1 → Heard s.header y a b

@@ -28,7 +28,7 @@ pub struct SerialEnd {
 
 /// Raises the record count of the file to the greatest that a rank knows. That is the last that a run does.
 pub(crate) fn closed(alloc: Global, header: &Header, stand: Stand) -> Result<SerialEnd, Memory>
-    requires known { AreLow header.now stand.entry.seats.items }
+    requires known { AreLow header.now stand.seats.items }
     ensures { IfOk result (λ end. (rule : Rule) → as_end end
         ≡ close_by (setting header.now rule) (counted stand.entry.file.items stand.entry.records) (map going_of stand.entry.seats.items)) }
 {

@@ -1,5 +1,5 @@
 // A run between two of its steps.
-ghost use Rattle.std.specs.Prelude.{◌≡◌, ◌+◌, ◌<◌, ◌≤◌, ◌^◌, ℕ, [], length, take, true, Some, slice_get, IfOk, OnOk};
+ghost use Rattle.std.specs.Prelude.{◌≡◌, ◌+◌, ◌<◌, ◌≤◌, ◌^◌, ◌∷◌, ◌++◌, ℕ, [], length, take, true, Some, slice_get, IfOk, OnOk};
 ghost use Rattle.nc_base.specs.declared.step.Mark.{Mark as Step};
 ghost use Rattle.nc_base.specs.declared.step.Mark.TheVariants as mark;
 ghost use Rattle.serial_spec.specs.HeaderGrammar.{is_sound};
@@ -11,7 +11,7 @@ ghost use Rattle.element_steps.specs.Requests.{setting};
 ghost use Rattle.rank_core.specs.Indexed.{IsIndexOf};
 ghost use Rattle.run_laws.specs.Arrivals.{first_stand, step_to};
 ghost use Rattle.serial_run.specs.Seated.{arrived, IsWaiting};
-ghost use Rattle.serial_run.specs.Standing.{all_arrived, stand_of, AreWaiting, DoFit, HaveHeard, HasHeard, IsStanding};
+ghost use Rattle.serial_run.specs.Standing.{all_arrived, stand_of, AllHear, AreWaiting, DoFit, HaveHeard, HasHeard, IsStanding};
 
 use crate::seats::Seat;
 use element_steps::{meeting, solo};
@@ -133,11 +133,19 @@ fn held_offers(alloc: Global, seats: &[Seat]) -> Result<Vec<Offer>, Memory>
 {
     let mut offers = Vec::new(alloc);
     for seat in seats {
-        if let Some(offer) = &seat.held {
-            offers.push(offer.clone(alloc)?)?;
-        }
+        add_offer(alloc, seat, &mut offers)?;
     }
     Ok(offers)
+}
+
+/// Adds the offer that the rank holds.
+fn add_offer(alloc: Global, seat: &Seat, offers: &mut Vec<Offer>) -> Result<(), Memory>
+    ensures { OnOk result (offers.new.items ≡ offers.old.items ++ offers_of (arrived seat.now ∷ [])) }
+{
+    if let Some(offer) = &seat.held {
+        offers.push(offer.clone(alloc)?)?;
+    }
+    Ok(())
 }
 
 /// Lets each rank hear its reply and go on.

@@ -32,6 +32,7 @@ struct Row {
 }
 
 // What a run left, and what it printed.
+#[derive(Drop)]
 struct Left {
     bytes: Blob,
     text: Blob,
