@@ -2,7 +2,7 @@
 use Rattle.std.proofs.Common.{◌≡◌, ℕ, ◌+◌, ◌<◌, ◌≤◌, refl, sym, ◌∙◌, ap, subst, List, [], ◌∷◌, ◌++◌, length, map, take, get_or, Bool, true, false, None, Some, length-append, arith}
 use Rattle.std.proofs.lemmas.Bool.Decides.{nat_tests}
 use Rattle.std.proofs.lemmas.List.{map-append, take_all, take_more}
-use Rattle.std.proofs.lemmas.Option.{get_or_from_slice_get, same_Some, slice_get_within}
+use Rattle.std.proofs.lemmas.Option.{get_or_from_slice_get, same_Some, slice_get_read, slice_get_within}
 use Rattle.std.specs.Prelude.{slice_get, nat_lt}
 use Rattle.nc_base.specs.declared.header.Header.{Header}
 use Rattle.nc_base.specs.declared.request.Call.{Call}
@@ -27,6 +27,12 @@ pub record AreFirst (script : Script) (header : Header) (n : ℕ) (seats : List 
   pub long : length seats ≡ n
   pub arrived : all_arrived seats ≡ map (λ (own : List Call). advance header (first_going header own)) (take n script.calls)
   pub each : (r : ℕ) (seat : Seat) → slice_get seats r ≡ Some seat → IsSeat script header [] r seat
+
+-- the calls of a rank, as they are read
+pub own_there : (calls list : List (List Call)) (i : ℕ) (item own : List Call) → list ≡ calls → i < length list → item ≡ get_or list i item → own ≡ item
+    → slice_get calls i ≡ Some own
+own_there calls list i item own e l is f =
+    ap (λ (xs : List (List Call)). slice_get xs i) (sym e) ∙ slice_get_read list (length list) i item refl l is ∙ ap (λ (x : List Call). Some x) (sym f)
 
 pub ready_first : (script : Script) (header : Header) (r : ℕ) (own : List Call) → is_lawful script ≡ true → slice_get script.calls r ≡ Some own → MayGoOn (first_going header own)
 ready_first script header r own lawful e =

@@ -1,8 +1,9 @@
 -- The steps of a run: the offers of its ranks, the replies to them, and the ranks that have heard.
-use Rattle.std.proofs.Common.{◌≡◌, ◌≢◌, ℕ, zero, suc, ◌+◌, ◌-◌, ◌<◌, ◌≤◌, refl, sym, ◌∙◌, ap, subst, inl, inr, List, [], ◌∷◌, ◌++◌, length, map, max, set, drop, get_or, Option, None, Some, append_assoc, append-nil, length-set, arith}
+use Rattle.std.proofs.Common.{◌≡◌, ◌≢◌, ℕ, zero, suc, ◌+◌, ◌-◌, ◌<◌, ◌≤◌, refl, sym, ◌∙◌, ap, subst, inl, inr, List, [], ◌∷◌, ◌++◌, length, map, max, set, drop, get_or, Bool, true, false, Option, None, Some, append_assoc, append-nil, length-set, arith}
+use Rattle.std.proofs.lemmas.Bool.Decides.{nat_tests}
 use Rattle.std.proofs.lemmas.List.{drop_all, drop_more, length-map, map-set}
 use Rattle.std.proofs.lemmas.Option.{same_Some, slice_get-map, slice_get_within}
-use Rattle.std.specs.Prelude.{slice_get, zip, flat_map, is_some, IfSome, IsSomeAnd}
+use Rattle.std.specs.Prelude.{slice_get, nat_lt, zip, flat_map, is_some, IfSome, IsSomeAnd}
 use Rattle.std.specs.List.{enumerate_from}
 use Rattle.list_laws.proofs.Places.{entry_set, entry_set_other}
 use Rattle.nc_base.specs.declared.header.Header.{Header}
@@ -105,13 +106,12 @@ seat_offer header seat o w e = asked_offer header seat o (held_asked header seat
 pub offered_in : (header : Header) (seats : List Seat) (o : Offer) → AreWaiting header seats → In (offers_of (all_arrived seats)) o → Offered header o
 offered_in header [] o all m = absurd m
 offered_in header (seat ∷ seats) o all m =
-    let w = all 0 seat refl in
-    let h = holds_one header seat w in
-    by h (subst (λ (os : List Offer). In os o) (first_offer seat seats h.offer h.is) m)
+    let h = holds_one header seat (all 0 seat refl) in
+    by h (offered_in header seats o (λ r x f. all (suc r) x f)) (subst (λ (os : List Offer). In os o) (first_offer seat seats h.offer h.is) m)
   where
-    by : (h : Holds header seat) → In (h.offer ∷ offers_of (all_arrived seats)) o → Offered header o
-    by h (inl e) = subst (λ (p : Offer). Offered header p) e (asked_offer header seat h.offer h.asked (all 0 seat refl).low)
-    by h (inr n) = offered_in header seats o (λ r x f. all (suc r) x f) n
+    by : (h : Holds header seat) → (In (offers_of (all_arrived seats)) o → Offered header o) → In (h.offer ∷ offers_of (all_arrived seats)) o → Offered header o
+    by h others (inl e) = subst (λ (p : Offer). Offered header p) e (asked_offer header seat h.offer h.asked (all 0 seat refl).low)
+    by h others (inr n) = others n
 
 -- ---- counts
 
@@ -202,6 +202,26 @@ have_heard s before now replies c waiting low y all = record {
         heard = all.each r a b x.reply e f (ap (λ (ys : List Reply). slice_get ys r) y ∙ x.is);
       };
 }
+
+-- one rank more has heard
+pub hear_more : (header : Header) (replies : List Reply) (old now : List Seat) (i : ℕ) (a b : Seat) (y : Reply) → slice_get old i ≡ Some a → slice_get now i ≡ Some a
+    → slice_get replies i ≡ Some y → Heard header y a b
+    → ((r : ℕ) (x z : Seat) (w : Reply) → r < i → slice_get old r ≡ Some x → slice_get now r ≡ Some z → slice_get replies r ≡ Some w → Heard header w x z)
+    → (r : ℕ) (x z : Seat) (w : Reply) → r < i + 1 → slice_get old r ≡ Some x → slice_get (set now i b) r ≡ Some z → slice_get replies r ≡ Some w → Heard header w x z
+hear_more header replies old now i a b y e f g heard each r x z w l h k m = by_place (nat_lt r i) refl
+  where
+    here : r ≡ i → Heard header w x z
+    here at =
+        let was : a ≡ x = same_Some a x (sym e ∙ ap (slice_get old) (sym at) ∙ h) in
+        let is : b ≡ z = same_Some b z (sym (entry_set now i a b f) ∙ ap (slice_get (set now i b)) (sym at) ∙ k) in
+        let said : y ≡ w = same_Some y w (sym g ∙ ap (slice_get replies) (sym at) ∙ m) in
+        subst (λ (v : Reply). Heard header v x z) said (subst (λ (c : Seat). Heard header y x c) is (subst (λ (c : Seat). Heard header y c b) was heard))
+
+    by_place : (t : Bool) → nat_lt r i ≡ t → Heard header w x z
+    by_place true t =
+        let below : r < i = grind (arith, nat_tests) in
+        each r x z w below h (sym (entry_set_other now i r b (λ s. absurd (omega arith))) ∙ k) m
+    by_place false t = here (grind (arith, nat_tests))
 
 -- what a rank heard, under the same header
 pub heard_by : (header : Header) (a b : Seat) (y : Reply) → a.rank.header ≡ header → b.rank.header ≡ a.rank.header
