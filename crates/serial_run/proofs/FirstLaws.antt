@@ -1,5 +1,5 @@
 -- The ranks before the first step, one after another.
-use Rattle.std.proofs.Common.{◌≡◌, ℕ, ◌+◌, ◌<◌, ◌≤◌, refl, sym, ◌∙◌, ap, subst, List, [], ◌∷◌, ◌++◌, length, map, take, get_or, Bool, true, false, None, Some, length-append, arith}
+use Rattle.std.proofs.Common.{◌≡◌, ℕ, ◌+◌, ◌<◌, ◌≤◌, refl, sym, ◌∙◌, ap, subst, List, [], ◌∷◌, ◌++◌, length, map, take, get_or, Bool, true, false, Some, length-append, arith}
 use Rattle.std.proofs.lemmas.Bool.Decides.{nat_tests}
 use Rattle.std.proofs.lemmas.List.{map-append, take_all, take_more}
 use Rattle.std.proofs.lemmas.Option.{get_or_from_slice_get, same_Some, slice_get_read, slice_get_within}
@@ -18,7 +18,7 @@ use Rattle.run_laws.proofs.LawfulLaws.{ranks_lawful}
 use Rattle.run_laws.proofs.WayLaws.{way_begins}
 use Rattle.element_steps.specs.Requests.{counted}
 use Rattle.serial_run.specs.Seated.{going_of, HasGone, IsSeat, MayGoOn}
-use Rattle.serial_run.specs.Standing.{all_arrived, stand_of, IsStanding}
+use Rattle.serial_run.specs.Standing.{all_arrived, IsStanding}
 use Rattle.serial_run.specs.declared.seats.Seat.{Seat}
 use Rattle.serial_run.specs.declared.standing.Stand.{Stand}
 

@@ -1,5 +1,5 @@
 -- The next step of a legal order finds its ranks at their offers, and leaves each where the order with that step says.
-use Rattle.std.proofs.Common.{◌≡◌, ℕ, suc, ◌<◌, ◌≢◌, refl, sym, ◌∙◌, ap, subst, inl, inr, ◌⊎◌, List, [], ◌∷◌, ◌++◌, length, max, Bool, true, cond, Option, None, Some, append_assoc}
+use Rattle.std.proofs.Common.{◌≡◌, ℕ, ◌<◌, ◌≢◌, refl, sym, ◌∙◌, ap, subst, inl, inr, List, [], ◌∷◌, ◌++◌, length, Bool, true, cond, Option, None, Some, append_assoc}
 use Rattle.std.proofs.lemmas.List.{append_cancel_left}
 use Rattle.std.proofs.lemmas.List.Elements.{filter-append}
 use Rattle.std.specs.Prelude.{filter, IfSome, IsSomeAnd}
@@ -15,15 +15,14 @@ use Rattle.nc_base.specs.declared.step.Reply.{Reply}
 use Rattle.serial_spec.specs.History.{IsLegal, concerns, marks, marks_from}
 use Rattle.serial_spec.specs.Lawful.{is_lawful}
 use Rattle.serial_spec.specs.Limits.{record_limit}
-use Rattle.serial_spec.specs.RankMachine as machine
 use Rattle.serial_spec.specs.RankMachine.{hear}
 use Rattle.serial_spec.specs.SerialEnd.{Going, hears}
 use Rattle.join_laws.proofs.CountLaws.{less_max}
 use Rattle.run_laws.specs.Ways.{meetings, marks_left, IsOnWay}
 use Rattle.run_laws.proofs.CallLaws.{hears_keeps}
 use Rattle.run_laws.proofs.WayLaws.{way_beside, way_hears, way_solo}
-use Rattle.serial_run.specs.Seated.{AsksAlone, HasGone, IsAsked, IsPlaced, IsSeat, IsWaiting, MayGoOn, going_of}
-use Rattle.serial_run.specs.Standing.{Heard, HeardOne}
+use Rattle.serial_run.specs.Seated.{AsksAlone, IsAsked, IsPlaced, IsSeat, IsWaiting, MayGoOn, going_of}
+use Rattle.serial_run.specs.Standing.{HeardOne}
 use Rattle.serial_run.specs.declared.seats.Seat.{Seat}
 
 -- ---- after the reply

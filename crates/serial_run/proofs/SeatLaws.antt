@@ -22,7 +22,7 @@ use Rattle.run_laws.proofs.CallLaws.{alone_keeps, meets_keeps, solo_keeps}
 use Rattle.run_laws.proofs.StandingLaws.{comes_on, comes_to_end, comes_to_meeting, comes_to_solo}
 use Rattle.run_laws.proofs.TogetherLaws.{call_lawful}
 use Rattle.run_laws.proofs.WayLaws.{way_answers, way_meets}
-use Rattle.serial_run.specs.Seated.{AsksAlone, HasGone, IsAsked, IsPlaced, MayGoOn}
+use Rattle.serial_run.specs.Seated.{AsksAlone, HasGone, MayGoOn}
 
 -- from s the rank has come to t by calls that it answers alone
 pub record Comes (header : Header) (s t : Going) : Type 0 where

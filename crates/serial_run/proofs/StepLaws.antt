@@ -1,9 +1,9 @@
 -- The steps of a run: the offers of its ranks, the replies to them, and the ranks that have heard.
-use Rattle.std.proofs.Common.{◌≡◌, ◌≢◌, ℕ, zero, suc, ◌+◌, ◌-◌, ◌<◌, ◌≤◌, refl, sym, ◌∙◌, ap, subst, inl, inr, List, [], ◌∷◌, ◌++◌, length, map, max, set, drop, get_or, Bool, true, false, Option, None, Some, append_assoc, append-nil, length-set, arith}
+use Rattle.std.proofs.Common.{◌≡◌, ℕ, zero, suc, ◌+◌, ◌-◌, ◌<◌, ◌≤◌, refl, sym, ◌∙◌, ap, subst, inl, inr, List, [], ◌∷◌, ◌++◌, length, map, max, set, drop, get_or, Bool, true, false, Option, None, Some, append_assoc, append-nil, length-set, arith}
 use Rattle.std.proofs.lemmas.Bool.Decides.{nat_tests}
 use Rattle.std.proofs.lemmas.List.{drop_all, drop_more, length-map, map-set}
-use Rattle.std.proofs.lemmas.Option.{same_Some, slice_get-map, slice_get_within}
-use Rattle.std.specs.Prelude.{slice_get, nat_lt, zip, flat_map, is_some, IfSome, IsSomeAnd}
+use Rattle.std.proofs.lemmas.Option.{same_Some, slice_get-map}
+use Rattle.std.specs.Prelude.{slice_get, nat_lt, zip, flat_map, IfSome, IsSomeAnd}
 use Rattle.std.specs.List.{enumerate_from}
 use Rattle.list_laws.proofs.Places.{entry_set, entry_set_other}
 use Rattle.nc_base.specs.declared.header.Header.{Header}
@@ -15,7 +15,7 @@ use Rattle.serial_spec.specs.Limits.{record_limit}
 use Rattle.serial_spec.specs.Lists.{In}
 use Rattle.serial_spec.specs.RankMachine.{Open}
 use Rattle.serial_spec.specs.RankSide.{wanted, DoesFit}
-use Rattle.serial_spec.specs.SerialEnd.{advance, hears, offers_of, solo_of}
+use Rattle.serial_spec.specs.SerialEnd.{advance, hears, offers_of}
 use Rattle.element_steps.specs.Requests.{counted, IsRight}
 use Rattle.element_steps.proofs.MeetSteps.{needs_low, own_right, puts_right, some_limit}
 use Rattle.join_laws.proofs.CountLaws.{less_max}

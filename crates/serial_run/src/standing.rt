@@ -77,12 +77,7 @@ impl<'a> Stand<'a> {
     }
 
     /// A meeting of all ranks.
-    fn meet(
-        &mut self,
-        alloc: Global,
-        header: &Header,
-        overlap: OverlapRule,
-    ) -> Result<(), Memory>
+    fn meet(&mut self, alloc: Global, header: &Header, overlap: OverlapRule) -> Result<(), Memory>
         requires sound { is_sound header.now ≡ true }
         requires ranks { length self.old.seats.items ≤ 2 ^ 32 }
         requires waiting { AreWaiting header.now self.old.seats.items }

@@ -1,6 +1,5 @@
 -- The file, its count, and what the ranks leave.
-use Rattle.std.proofs.Common.{◌≡◌, ℕ, ◌<◌, ◌∙◌, sym, ap, subst, List, map}
-use Rattle.nc_base.specs.declared.answer.Answer.{Answer}
+use Rattle.std.proofs.Common.{ℕ, ◌<◌, ◌∙◌, sym, ap, subst, List, map}
 use Rattle.serial_spec.specs.Limits.{record_limit}
 use Rattle.serial_spec.specs.RankMachine as machine
 use Rattle.element_steps.specs.Requests.{setting}

@@ -1,5 +1,5 @@
 -- The ranks hold their offers, and hear the replies to them.
-use Rattle.std.proofs.Common.{◌≡◌, ℕ, ◌<◌, ◌∙◌, sym, ap, subst, List, length, arith}
+use Rattle.std.proofs.Common.{ℕ, ◌<◌, ◌∙◌, sym, ap, subst, List, length, arith}
 use Rattle.std.proofs.lemmas.List.{with_items_is}
 use Rattle.std.proofs.lemmas.Result.{on_ok_weaker}
 use Rattle.nc_base.specs.declared.step.Offer.{Offer}
