@@ -1,6 +1,7 @@
 // Each run is done three ways: by the program, by the serial run along the order that the program answered, and by hand.
 mod alone;
 mod datasets;
+mod made;
 mod pending;
 mod refused;
 mod together;
@@ -46,17 +47,22 @@ fn joined<R: Abort>(rt: &R, alloc: Global, parts: &[&[u8]]) -> Blob {
     Blob::from_vec(bytes)
 }
 
-// The program's run, and the order of its steps.
-fn program<R: Abort + Threads + Wait + Sync>(rt: &R, alloc: Global, row: &Row) -> (Left, MarkList) {
-    let mut source = MemSource::new(joined(rt, alloc, &[row.script]), IdList::new(alloc));
-    let held = joined(rt, alloc, row.begun);
+// The program's run by these words, over a dataset that holds these parts before, and the order of its steps.
+fn program<R: Abort + Threads + Wait + Sync>(
+    rt: &R,
+    alloc: Global,
+    words: &[&str],
+    script: &[u8],
+    held: &[&[u8]],
+) -> (Left, MarkList) {
+    let mut source = MemSource::new(joined(rt, alloc, &[script]), IdList::new(alloc));
+    let held = joined(rt, alloc, held);
     let mut disk = MemDisk::failing(alloc, held, FailList::new(alloc)).expect(rt, NO_MEMORY);
     let mut sink = MemSink::new(alloc, 4096, IdList::new(alloc)).expect(rt, NO_MEMORY);
-    let words = ["d.nc"];
     let ended = ncrun(
         rt,
         alloc,
-        words.as_slice(),
+        words,
         &mut source,
         &mut disk,
         &mut sink,
@@ -86,8 +92,9 @@ fn serial<R: Abort>(rt: &R, alloc: Global, row: &Row, order: MarkList) -> Left {
         records: _,
         answers,
         pending,
-    } = serial_run(alloc, &script, &header, begun.as_slice(), order.as_slice())
-        .expect(rt, NO_MEMORY);
+    } = serial_run(alloc, &script, &header, begun.as_slice(), order.as_slice()).expect(
+        rt, NO_MEMORY,
+    );
     let end = RunEnd {
         order,
         answers,
@@ -107,7 +114,8 @@ fn serial<R: Abort>(rt: &R, alloc: Global, row: &Row, order: MarkList) -> Left {
 }
 
 fn agrees<R: Abort + Threads + Wait + Sync>(rt: &R, alloc: Global, row: &Row) {
-    let (run, order) = program(rt, alloc, row);
+    let words = ["d.nc"];
+    let (run, order) = program(rt, alloc, words.as_slice(), row.script, row.begun);
     let again = serial(rt, alloc, row, order);
     assert_eq!(rt; run.bytes, joined(rt, alloc, row.left));
     assert_eq!(rt; again.bytes, run.bytes);

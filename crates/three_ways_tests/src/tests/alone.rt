@@ -25,12 +25,7 @@ const KNOWN: [Row; 1] = [Row {
         0 begin_indep_data\n0 put_var1 s [2] 5\n0 inq_dimlen t\n0 end_indep_data\n0 inq_dimlen t\n\
         1 begin_indep_data\n1 inq_dimlen t\n1 get_var1 s [2]\n1 end_indep_data\n1 inq_dimlen t\nend\n",
     begun: NEW_B,
-    left: &[
-        MAGIC,
-        b"\x00\x00\x00\x03",
-        B,
-        b"\x00\x00\x00\x00\x00\x05",
-    ],
+    left: &[MAGIC, b"\x00\x00\x00\x03", B, b"\x00\x00\x00\x00\x00\x05"],
     told: b"rank 0\n0 begin_indep_data ok\n1 put_var1 ok\n2 inq_dimlen ok 3\n3 end_indep_data ok\n4 inq_dimlen ok 3\npending 0\n\
         rank 1\n0 begin_indep_data ok\n1 inq_dimlen ok 0\n2 get_var1 NC_EINVALCOORDS\n3 end_indep_data ok\n4 inq_dimlen ok 3\npending 0\n",
 }];
