@@ -1,0 +1,97 @@
+-- The ranks before the first step, one after another.
+use Rattle.std.proofs.Common.{◌≡◌, ℕ, ◌+◌, ◌<◌, ◌≤◌, refl, sym, ◌∙◌, ap, subst, List, [], ◌∷◌, ◌++◌, length, map, take, get_or, Bool, true, false, Some, length-append, arith}
+use Rattle.std.proofs.lemmas.Bool.Decides.{nat_tests}
+use Rattle.std.proofs.lemmas.List.{map-append, take_all, take_more}
+use Rattle.std.proofs.lemmas.Option.{get_or_from_slice_get, same_Some, slice_get_read, slice_get_within}
+use Rattle.std.specs.Prelude.{slice_get, nat_lt}
+use Rattle.nc_base.specs.declared.header.Header.{Header}
+use Rattle.nc_base.specs.declared.request.Call.{Call}
+use Rattle.nc_base.specs.declared.script.Script.{Script}
+use Rattle.serial_spec.specs.HeaderGrammar.{is_sound}
+use Rattle.serial_spec.specs.Lawful.{is_lawful}
+use Rattle.serial_spec.specs.Limits.{record_limit}
+use Rattle.serial_spec.specs.SerialEnd.{advance, first_going}
+use Rattle.serial_spec.proofs.ElementLaws.{get_left, get_right}
+use Rattle.join_laws.proofs.CountLaws.{sound_small}
+use Rattle.run_laws.specs.Arrivals.{Arrived, first_stand}
+use Rattle.run_laws.proofs.LawfulLaws.{ranks_lawful}
+use Rattle.run_laws.proofs.WayLaws.{way_begins}
+use Rattle.element_steps.specs.Requests.{counted}
+use Rattle.serial_run.specs.Seated.{going_of, HasGone, IsSeat, MayGoOn}
+use Rattle.serial_run.specs.Standing.{all_arrived, IsStanding}
+use Rattle.serial_run.specs.declared.seats.Seat.{Seat}
+use Rattle.serial_run.specs.declared.standing.Stand.{Stand}
+
+-- the first ranks of a script, gone up to their first offers
+pub record AreFirst (script : Script) (header : Header) (n : ℕ) (seats : List Seat) : Type 0 where
+  pub long : length seats ≡ n
+  pub arrived : all_arrived seats ≡ map (λ (own : List Call). advance header (first_going header own)) (take n script.calls)
+  pub each : (r : ℕ) (seat : Seat) → slice_get seats r ≡ Some seat → IsSeat script header [] r seat
+
+-- the calls of a rank, as they are read
+pub own_there : (calls list : List (List Call)) (i : ℕ) (item own : List Call) → list ≡ calls → i < length list → item ≡ get_or list i item → own ≡ item
+    → slice_get calls i ≡ Some own
+own_there calls list i item own e l is f =
+    ap (λ (xs : List (List Call)). slice_get xs i) (sym e) ∙ slice_get_read list (length list) i item refl l is ∙ ap (λ (x : List Call). Some x) (sym f)
+
+pub ready_first : (script : Script) (header : Header) (r : ℕ) (own : List Call) → is_lawful script ≡ true → slice_get script.calls r ≡ Some own → MayGoOn (first_going header own)
+ready_first script header r own lawful e =
+    let long = (ranks_lawful script lawful).one_each in
+    let within = slice_get_within script.calls r own e in
+    record { script = script; order = []; r = r; lawful = lawful; one_of = omega arith; way = way_begins script header r own lawful e }
+
+first_seat : (script : Script) (header : Header) (r : ℕ) (own : List Call) (seat : Seat) → is_sound header ≡ true → is_lawful script ≡ true → slice_get script.calls r ≡ Some own
+    → seat.rank.header ≡ header → HasGone header (first_going header own) (going_of seat) seat.held → IsSeat script header [] r seat
+first_seat script header r own seat sound lawful e same gone = record {
+  of_header = same;
+  low = subst (λ (n : ℕ). n < record_limit header.version) (sym gone.known) (sound_small header sound);
+  asked = gone.asked;
+  placed = gone.placed script [] r (way_begins script header r own lawful e);
+}
+
+pub first_more : (script : Script) (header : Header) (n : ℕ) (seats more : List Seat) (own : List Call) (seat : Seat) → is_sound header ≡ true → is_lawful script ≡ true
+    → slice_get script.calls n ≡ Some own → seat.rank.header ≡ header → HasGone header (first_going header own) (going_of seat) seat.held → more ≡ seats ++ seat ∷ []
+    → AreFirst script header n seats → AreFirst script header (n + 1) more
+first_more script header n seats more own seat sound lawful e same gone pushed are =
+    subst (λ (xs : List Seat). AreFirst script header (n + 1) xs) (sym pushed) (record {
+      long = let l = length-append seats (seat ∷ []) in let m = are.long in omega arith;
+      arrived = map-append _ seats (seat ∷ []) ∙ (λ i. are.arrived i ++ gone.arrived i ∷ []) ∙ sym (map-append go (take n script.calls) (own ∷ [])) ∙ ap (map go) (sym taken);
+      each = λ r x f. by_place r x f (nat_lt r n) refl;
+    })
+  where
+    go : List Call → Arrived
+    go own' = advance header (first_going header own')
+
+    taken : take (n + 1) script.calls ≡ take n script.calls ++ own ∷ []
+    taken = take_more script.calls n own (slice_get_within script.calls n own e)
+        ∙ ap (λ (x : List Call). take n script.calls ++ x ∷ []) (get_or_from_slice_get script.calls n own own e)
+
+    by_place : (r : ℕ) (x : Seat) → slice_get (seats ++ seat ∷ []) r ≡ Some x → (t : Bool) → nat_lt r n ≡ t → IsSeat script header [] r x
+    by_place r x f true t =
+        let l = are.long in
+        let below : r < n = grind (arith, nat_tests) in
+        are.each r x (sym (get_left seats (seat ∷ []) r (omega arith)) ∙ f)
+    by_place r x f false t =
+        let l = are.long in
+        let above : n ≤ r = grind (arith, nat_tests) in
+        let within = slice_get_within (seats ++ seat ∷ []) r x f in
+        let both = length-append seats (seat ∷ []) in
+        let last : r ≡ length seats + 0 = omega arith in
+        let at : r ≡ n = omega arith in
+        let is : seat ≡ x = same_Some seat x (sym (get_right seats (seat ∷ []) 0 r last) ∙ f) in
+        subst (λ (y : Seat). IsSeat script header [] r y) is
+        (subst (λ (k : ℕ). IsSeat script header [] k seat) (sym at) (first_seat script header n own seat sound lawful e same gone))
+
+pub first_is : (script : Script) (header : Header) (n : ℕ) (file bytes : List ℕ) (seats : List Seat) → length script.calls ≤ n → AreFirst script header n seats → file ≡ bytes
+    → (counted file header.records, all_arrived seats) ≡ first_stand header bytes script.calls
+first_is script header n file bytes seats l are e =
+    let all = are.arrived ∙ ap (map (λ (own : List Call). advance header (first_going header own))) (take_all n script.calls l) in
+    λ i. (counted (e i) header.records, all i)
+
+pub first_stands : (script : Script) (header : Header) (n : ℕ) (stand : Stand) → is_sound header ≡ true → is_lawful script ≡ true → n ≡ length script.calls
+    → AreFirst script header n stand.seats.items → stand.records ≡ header.records → IsStanding script header [] stand
+first_stands script header n stand sound lawful l are e = record {
+  all = are.long ∙ l ∙ (ranks_lawful script lawful).one_each;
+  records = subst (λ (k : ℕ). k < record_limit header.version) (sym e) (sound_small header sound);
+  each = are.each;
+}

@@ -1,0 +1,5 @@
+pub mod SeatLaws
+pub mod FirstLaws
+pub mod NextLaws
+pub mod StepLaws
+pub mod EndLaws

@@ -1,0 +1,131 @@
+// Each run is done three ways: by the program, by the serial run along the order that the program answered, and by hand.
+mod alone;
+mod datasets;
+mod made;
+mod pending;
+mod refused;
+mod together;
+
+use cdf_header::decode;
+use nc_base::{Blob, IdList, MarkList, RunEnd};
+use nc_outside::{FailList, MemDisk, MemSink, MemSource, OpenGate};
+use ncmpi_cli::{ncrun, offsets_text, run_text};
+use ncmpi_script::read_script;
+use serial_eval::legal;
+use serial_run::{SerialEnd, serial_run};
+use std::alloc::Global;
+use std::process::Abort;
+use std::sync::Wait;
+use std::thread::Threads;
+
+const NO_MEMORY: &str = "memory";
+
+// A run, and what was worked out of it.
+#[derive(Clone, Copy)]
+struct Row {
+    script: &'static [u8],
+    // What the dataset holds when the ranks begin, in parts; an existing dataset holds it before, too.
+    begun: &'static [&'static [u8]],
+    // What it holds in the end.
+    left: &'static [&'static [u8]],
+    // The lines of the ranks.
+    told: &'static [u8],
+}
+
+// What a run left, and what it printed.
+#[derive(Drop)]
+struct Left {
+    bytes: Blob,
+    text: Blob,
+}
+
+fn joined<R: Abort>(rt: &R, alloc: Global, parts: &[&[u8]]) -> Blob {
+    let mut bytes = Vec::new(alloc);
+    for part in parts {
+        bytes.extend_from_slice(part).expect(rt, NO_MEMORY);
+    }
+    Blob::from_vec(bytes)
+}
+
+// The program's run by these words, over a dataset that holds these parts before, and the order of its steps.
+fn program<R: Abort + Threads + Wait + Sync>(
+    rt: &R,
+    alloc: Global,
+    words: &[&str],
+    script: &[u8],
+    held: &[&[u8]],
+) -> (Left, MarkList) {
+    let mut source = MemSource::new(joined(rt, alloc, &[script]), IdList::new(alloc));
+    let held = joined(rt, alloc, held);
+    let mut disk = MemDisk::failing(alloc, held, FailList::new(alloc)).expect(rt, NO_MEMORY);
+    let mut sink = MemSink::new(alloc, 4096, IdList::new(alloc)).expect(rt, NO_MEMORY);
+    let ended = ncrun(
+        rt,
+        alloc,
+        words,
+        &mut source,
+        &mut disk,
+        &mut sink,
+        &OpenGate,
+    );
+    assert_eq!(rt; ended.status, 0);
+    let left = Left {
+        bytes: disk.bytes(alloc).expect(rt, NO_MEMORY),
+        text: joined(rt, alloc, &[sink.bytes()]),
+    };
+    (left, ended.order)
+}
+
+// The serial run along the order, whose text ends with the lines of the ranks.
+fn serial<R: Abort>(rt: &R, alloc: Global, row: &Row, order: MarkList) -> Left {
+    let Ok(script) = read_script(alloc, row.script) else {
+        panic!(rt; "script")
+    };
+    let begun = joined(rt, alloc, row.begun);
+    assert!(rt; begun.len() <= 1024);
+    let Ok((header, _)) = decode(alloc, begun.as_slice()) else {
+        panic!(rt; "header")
+    };
+    assert!(rt; legal(&script, order.as_slice()));
+    let SerialEnd {
+        bytes,
+        records: _,
+        answers,
+        pending,
+    } = serial_run(alloc, &script, &header, begun.as_slice(), order.as_slice()).expect(
+        rt, NO_MEMORY,
+    );
+    let end = RunEnd {
+        order,
+        answers,
+        pending,
+        fault: None,
+    };
+    let text = run_text(alloc, &script, &header, &end).expect(rt, NO_MEMORY);
+    let offsets = offsets_text(alloc, &header).expect(rt, NO_MEMORY);
+    let lines = text
+        .as_slice()
+        .strip_suffix(offsets.as_slice())
+        .expect(rt, "offsets");
+    Left {
+        bytes,
+        text: joined(rt, alloc, &[lines]),
+    }
+}
+
+fn agrees<R: Abort + Threads + Wait + Sync>(rt: &R, alloc: Global, row: &Row) {
+    let words = ["d.nc"];
+    let (run, order) = program(rt, alloc, words.as_slice(), row.script, row.begun);
+    let again = serial(rt, alloc, row, order);
+    assert_eq!(rt; run.bytes, joined(rt, alloc, row.left));
+    assert_eq!(rt; again.bytes, run.bytes);
+    assert!(rt; run.text.as_slice().starts_with(again.text.as_slice()));
+    assert!(rt; again.text.as_slice().ends_with(row.told));
+}
+
+// The three ways of each row agree.
+fn all_agree<R: Abort + Threads + Wait + Sync>(rt: &R, alloc: Global, rows: &[Row]) {
+    for row in rows {
+        agrees(rt, alloc, row);
+    }
+}
