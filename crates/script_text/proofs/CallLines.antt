@@ -37,7 +37,7 @@ chain_pushed : (ranks r : ℕ) (own cs : List Call) (c : Call) → Chain ranks r
 chain_pushed ranks r own [] c h k = (subst (λ xs. CallAgain ranks r xs c) (append-nil own) k, tt)
 chain_pushed ranks r own (x ∷ cs) c h k = (h.0, chain_pushed ranks r (own ++ x ∷ []) cs c h.1 (subst (λ xs. CallAgain ranks r xs c) (sym (append_assoc own (x ∷ []) cs)) k))
 
-abbrev count : List Call → ℕ
+abbrev pub count : List Call → ℕ
 count [] = 0
 count (c ∷ cs) = values_in_call c + count cs
 

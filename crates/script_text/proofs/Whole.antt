@@ -60,7 +60,7 @@ head_words false version = Plain (codes "create") ∷ Plain (decimal version) �
 abbrev all_lines : Bool → ℕ → ℕ → Hints → List Extra → Defined → List (List Call) → List (List Word)
 all_lines b version n h es d calls = head_words b version ∷ (before_data n h es d ++ from_data calls)
 
-abbrev script_with : ℕ → ℕ → Hints → Defined → List Extra → List (List Call) → Script
+abbrev pub script_with : ℕ → ℕ → Hints → Defined → List Extra → List (List Call) → Script
 script_with version n h d es calls = record { fresh = not (version == 0); header = header_of version d; ranks = n; hints = h; filled = d.filled; extra = es; calls = calls }
 
 -- ---- they spell what is shown
@@ -168,7 +168,7 @@ open_again n values h added r fit replay =
       lines = before_are_lines n h added.extras no_definition r fit (replay_lines 0 values nothing_added added added.extras replay) refl;
     }
 
-create_again : (version n values : ℕ) (h : Hints) (d : Defined) → (version == 0) ≡ false → is_value_of (Within 1 64 1) n ≡ true → HintsFit h → DefinedOk version values d → values ≤ most_values → KnownAgain version n h [] d values
+pub create_again : (version n values : ℕ) (h : Hints) (d : Defined) → (version == 0) ≡ false → is_value_of (Within 1 64 1) n ≡ true → HintsFit h → DefinedOk version values d → values ≤ most_values → KnownAgain version n h [] d values
 create_again version n values h d new r fit ok few =
     let k = with_ranks n in
     let k2 = with_hints k (hint_table h) in
@@ -195,7 +195,7 @@ pub record HeadIs (version : ℕ) : Type 0 where
   pub test : (version == 0) ≡ existing
   pub told : HeadLine existing version
 
-version_head : (version : ℕ) → is_version version ≡ true → HeadIs version
+pub version_head : (version : ℕ) → is_version version ≡ true → HeadIs version
 version_head zero h = absurd (cc)
 version_head (suc n) h = record { existing = false; test = ne_eqb (suc n) 0 (omega arith); told = h }
 
@@ -304,7 +304,7 @@ told_again_after past version n values h es d calls small again end agree =
     (go_on (data_part past (no_calls n k2) lines) _ (final.0, (record { calls = calls; values = values + count_all calls }, [])) (script_with version n h d es calls) called
     (go_on (finish final.0 calls []) _ tt (script_with version n h d es calls) (ap (finish_by final.0) agree) (ap (λ (s : Script). Ok s) same)))
 
-whole_from : (version n values : ℕ) (h : Hints) (es : List Extra) (d : Defined) (calls : List (List Call)) → HeadIs version → n ≤ 64 → KnownAgain version n h es d values → DataEnd n values calls
+pub whole_from : (version n values : ℕ) (h : Hints) (es : List Extra) (d : Defined) (calls : List (List Call)) → HeadIs version → n ≤ 64 → KnownAgain version n h es d values → DataEnd n values calls
     → mismatch (map (λ own. kinds own) calls) ≡ None → Whole (script_with version n h d es calls)
 whole_from version n values h es d calls first small again end agree =
     let call_text = calls_are_lines n 0 calls (omega (arith, end.long)) end.chains in
@@ -406,10 +406,14 @@ text_again text script short valid few told =
     ∙ (ap (λ (j : Bool). text_by false j text) valid
     ∙ (ap (λ (b : Bool). within_by b (script_of_lines (length (text_lines text) + 1) (significant text))) (le-ltb most_lines (length (text_lines text)) few) ∙ told))
 
-pub shown_again : (text : List ℕ) (script : Script) → Reads text script → length (shown script) ≤ most_bytes → length (text_lines (shown script)) ≤ most_lines → Reads (shown script) script
-shown_again text script reads short few =
-    let t = is_text text script reads in
-    let w = whole_read (length (text_lines text) + 1) (significant text) script (significant_read text (valid_bytes text t.valid)) t.told in
+-- the text of a script that is read from its lines is read as it
+pub whole_again : (script : Script) → Whole script → length (shown script) ≤ most_bytes → length (text_lines (shown script)) ≤ most_lines → Reads (shown script) script
+whole_again script w short few =
     let valid = subst (λ (x : List ℕ). (utf8_valid_len x == length x) ≡ true) w.text (valid_lines w.drafted w.lines) in
     let lines : significant (shown script) ≡ numbered 1 w.drafted = ap significant (sym w.text) ∙ significant_lines w.drafted w.lines in
     text_again (shown script) script short valid few (ap (script_of_lines (length (text_lines (shown script)) + 1)) lines ∙ w.again (length (text_lines (shown script)) + 1))
+
+pub shown_again : (text : List ℕ) (script : Script) → Reads text script → length (shown script) ≤ most_bytes → length (text_lines (shown script)) ≤ most_lines → Reads (shown script) script
+shown_again text script reads short few =
+    let t = is_text text script reads in
+    whole_again script (whole_read (length (text_lines text) + 1) (significant text) script (significant_read text (valid_bytes text t.valid)) t.told) short few
