@@ -1,7 +1,8 @@
 -- Each line between the head and `data` says a statement, and what is known at `data` is what the statements say.
-use Rattle.std.proofs.Common.{◌≡◌, ◌∙◌, ℕ, suc, ◌+◌, ◌<◌, List, [], ◌∷◌, ◌++◌, map, position, length, replicate, Bool, true, false, not, cond, ◌==◌, Option, Some, None, is_some, slice_get, slice_set, Result, Ok, Err, refl, sym, ap, subst, append_assoc, append-nil, length-set, arith, bytes_eq, codes}
+use Rattle.std.proofs.Common.{◌≡◌, ◌⊎◌, ◌∙◌, ℕ, suc, ◌+◌, ◌<◌, List, [], ◌∷◌, ◌++◌, map, position, length, replicate, Bool, true, false, not, cond, ◌==◌, Option, Some, None, is_some, slice_get, slice_set, Result, Ok, Err, refl, sym, ap, subst, ⊎_elim, append_assoc, append-nil, length-set, arith, bytes_eq, codes}
 use Rattle.std.specs.List.{AllZip, list_any}
-use Rattle.std.proofs.lemmas.Bool.{cond-false, eqb-true, eqb-false}
+use Rattle.std.proofs.lemmas.Bool.{cond-true, cond-false, eqb-true, or_left, or_right}
+use Rattle.list_laws.proofs.Truth.{equal_true}
 use Rattle.list_laws.proofs.Places.{entry_below, entry_set, entry_set_other, position_below}
 use Rattle.script_spec.proofs.TextLaws.{faultless_some}
 use Rattle.nc_base.specs.declared.errors.ScriptKind.{ScriptKind}
@@ -14,10 +15,10 @@ use Rattle.nc_base.specs.declared.script.Extra.{Extra}
 use Rattle.nc_base.specs.declared.script.Extra.TheVariants as extra
 use Rattle.script_spec.specs.ScriptWords.{Word, Plain, Quoted, Broken, Line}
 use Rattle.script_spec.specs.ScriptSteps.{◌>>=◌, refuse_if, or_fault, bare, reads_as, ended, whole}
-use Rattle.script_spec.specs.ScriptDefinitions.{hint_forms, hint_of_text, hint_in, hint_line, ranks_line, dim_line, var_head, var_line, var_names, owner_of_text, owner_name, owner_place, Title, same_title, attribute, Defined, with_dim, with_var, with_title, with_attr, with_attr_at, att_line, dim_definition, var_definition, fill_line, definition, added_shape, Added, dim_addition, var_addition, att_addition, addition, Known, nothing_known, definition_or_addition, known_after}
+use Rattle.script_spec.specs.ScriptDefinitions.{is_among, dim_ids, hint_forms, hint_of_text, hint_in, hint_line, ranks_line, dim_line, var_head, var_line, var_names, owner_of_text, owner_name, owner_place, Title, same_title, attribute, Defined, with_dim, with_var, with_title, with_attr, with_attr_at, att_line, dim_definition, var_definition, fill_line, definition, added_shape, Added, dim_addition, var_addition, att_addition, addition, Known, nothing_known, definition_or_addition, known_after}
 use Rattle.script_spec.specs.ScriptGrammar.{at_line, data_line, definition_step, definitions}
 use Rattle.script_text.proofs.Steps.{went, same_ok, not_refused, is_end, whole_value}
-use Rattle.script_text.proofs.Places.{bytes_same, more_ids}
+use Rattle.script_text.proofs.Places.{Later, bytes_same, more_ids, place_cases}
 use Rattle.script_text.proofs.CallLines.{line_ok}
 use Rattle.script_text.proofs.DefinedChains.{pushes, push_attr}
 use Rattle.script_spelling.specs.Statements.{VarLine, Statement, RanksAre, HintIs, IsFilled, DimIs, VarIs, AttIs, owner_word, IsOwner, Says, DimStands, VarStands, OwnerStands, title_of, Stand}
@@ -94,6 +95,9 @@ hint_part : (opened : Bool) (k : Known) (i v : ℕ) (hints : List (Option ℕ)) 
 hint_part true k i v hints ss last p = p
 hint_part false k i v hints ss last p = p
 
+differ : (i j : ℕ) → (i == j) ≡ false → i ≡ j → ⊥
+differ i j e same = let equal = equal_true i j same in absurd (cc)
+
 hint_first : (hints : List (Option ℕ)) (i v j : ℕ) (later found : List ℕ) → hint_in i hints ≡ None → i < length hints → found ≡ at_most_one (hint_in j (slice_set hints i (Some v))) ++ later
     → found ≡ at_most_one (hint_in j hints) ++ cond (i == j) (v ∷ later) later
 hint_first hints i v j later found free low h = by (i == j) refl
@@ -104,7 +108,7 @@ hint_first hints i v j later found free low h = by (i == j) refl
         let set : hint_in j (slice_set hints i (Some v)) ≡ Some v = subst (λ (n : ℕ). hint_in n (slice_set hints i (Some v)) ≡ Some v) same (hint_here hints i v low) in
         let none : hint_in j hints ≡ None = subst (λ (n : ℕ). hint_in n hints ≡ None) same free in
         h ∙ (ap (λ (o : Option ℕ). at_most_one o ++ later) set ∙ ap (λ (o : Option ℕ). at_most_one o ++ v ∷ later) (sym none))
-    by false e = h ∙ ap (λ (o : Option ℕ). at_most_one o ++ later) (hint_elsewhere hints i j v (λ same. eqb-false i j e (sym same)))
+    by false e = h ∙ ap (λ (o : Option ℕ). at_most_one o ++ later) (hint_elsewhere hints i j v (λ same. differ i j e (sym same)))
 
 hint_taken : (opened : Bool) (version : ℕ) (k : Known) (ws : List Word) (next : Known) → Fine k → (hint_line k.hints ws >>= λ h. Ok (record k { hints = slice_set k.hints h.0 (Some h.1) })) ≡ Ok next
     → Taken opened version k (Plain (codes "hint") ∷ ws) next

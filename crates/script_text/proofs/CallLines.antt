@@ -149,10 +149,10 @@ data_holds ranks v past (l ∷ lines) d r holds read h = by (at_line l.number (c
 
 -- ---- printed lines of calls
 
-abbrev call_tokens_of : ℕ → Call → List Word
+abbrev pub call_tokens_of : ℕ → Call → List Word
 call_tokens_of r c = Plain (decimal r) ∷ Plain (call_word c) ∷ call_tokens c
 
-abbrev own_lines : ℕ → List Call → List (List Word)
+abbrev pub own_lines : ℕ → List Call → List (List Word)
 own_lines r cs = map (call_tokens_of r) cs
 
 abbrev pub call_lines : ℕ → List (List Call) → List (List Word)

@@ -1,10 +1,13 @@
 -- A lawful script that words can express is read from what is printed of it.
-use Rattle.std.proofs.Common.{◌≡◌, ◌∙◌, ℕ, zero, suc, ◌+◌, ◌*◌, ◌/◌, ◌%◌, ◌^◌, ◌≤◌, List, [], ◌∷◌, ◌++◌, find, map, position, sum, length, Bool, true, false, not, cond, nat_le, ◌==◌, ◌&&◌, Option, Some, None, is_some, option_map, slice_get, refl, sym, ap, subst, arith, bytes_eq}
+use Rattle.std.proofs.Common.{◌≡◌, ◌∙◌, ℕ, zero, suc, ◌+◌, ◌*◌, ◌/◌, ◌%◌, ◌^◌, ◌≤◌, List, [], ◌∷◌, ◌++◌, find, map, position, sum, length, length-append, codes, Bool, true, false, not, cond, nat_le, ◌==◌, ◌&&◌, Option, Some, None, is_some, option_map, slice_get, refl, sym, ap, subst, arith, bytes_eq}
 use Rattle.std.specs.List.{list_all, range_with_len, enumerate_from}
 use Rattle.std.proofs.lemmas.Bool.{and_parts, and_from, cond-false, cond-true, eqb-true, eq-eqb, leb-true, ne_eqb}
+use Rattle.std.proofs.lemmas.List.{length-map}
+use Rattle.std.proofs.lemmas.List.Sums.{sum_by-cons}
 use Rattle.std.proofs.lemmas.Slice.Eq.{bytes_eq-Decides}
 use Rattle.nc_base.specs.declared.errors.ScriptKind.{ScriptKind}
 use Rattle.nc_base.specs.declared.errors.ScriptKind.TheVariants as kind
+use Rattle.nc_base.specs.declared.header.Attr.{Attr}
 use Rattle.nc_base.specs.declared.header.Header.{Header}
 use Rattle.nc_base.specs.declared.script.Extra.{Extra}
 use Rattle.nc_base.specs.declared.script.Hints.{Hints}
@@ -16,19 +19,20 @@ use Rattle.serial_spec.specs.HeaderGrammar.{is_version}
 use Rattle.serial_spec.specs.History.{kinds, kind_number}
 use Rattle.serial_spec.specs.Lawful.{added_dims, added_vars, agree, are_different, are_lawful_hints, is_alignment, is_empty, is_lawful, is_lawful_call, is_lawful_dim, is_lawful_extra, is_lawful_header, is_lawful_var, is_within, kind_numbers, most_calls, most_ranks, most_values, posted_ids, values_in_call, values_in_script}
 use Rattle.script_spec.specs.Shown.{shown}
-use Rattle.script_spec.specs.ScriptWords.{text_lines}
+use Rattle.script_spec.specs.ScriptWords.{Word, Plain}
 use Rattle.script_spec.specs.ScriptDefinitions.{Within}
 use Rattle.script_spec.specs.ScriptCalls.{kind_at, differs_at, is_difference, first_difference, mismatch}
 use Rattle.script_spec.specs.ScriptGrammar.{Reads, most_bytes, most_lines}
-use Rattle.script_text.specs.Expressible.{is_expressible, is_expressible_call, is_expressible_header}
+use Rattle.script_text.specs.Expressible.{is_expressible, is_expressible_call, is_expressible_header, printed_lines}
 use Rattle.script_text.proofs.Lines.{empty_list}
 use Rattle.script_text.proofs.PrintedDefinitions.{is_value_of}
 use Rattle.script_text.proofs.Places.{position_cons}
-use Rattle.script_text.proofs.CallLines.{count_all, DataEnd}
-use Rattle.script_text.proofs.KnownLines.{HintsFit}
-use Rattle.script_text.proofs.ExpressedDefinitions.{defined_of, header_told}
+use Rattle.script_text.proofs.CallLines.{call_tokens_of, own_lines, call_lines, count_all, DataEnd}
+use Rattle.script_text.proofs.DefinedLines.{line_of_dim, line_of_var, line_of_att, lines_of_own, definition_lines}
+use Rattle.script_text.proofs.KnownLines.{hint_tokens, HintsFit}
+use Rattle.script_text.proofs.ExpressedDefinitions.{defined_of, header_told, no_attributes}
 use Rattle.script_text.proofs.ExpressedCalls.{chains_told, all_counted}
-use Rattle.script_text.proofs.Whole.{Whole, HeadIs, create_again, script_with, version_head, whole_from, whole_again}
+use Rattle.script_text.proofs.Whole.{Whole, all_lines, before_data, create_again, fill_lines, from_data, from_drafted, script_with, version_head, whole_from, whole_again, whole_long}
 
 -- ---- ranks and hints
 
@@ -172,25 +176,77 @@ same_script version ranks hints filled calls fresh records extra new e1 e2 e3 he
     ∙ (ap (λ (n : ℕ). record { fresh = fresh; header = record { version = version; records = n; dims = header.dims; attrs = header.attrs; vars = header.vars }; ranks = ranks; hints = hints; filled = filled; extra = []; calls = calls }) (sym e2)
     ∙ ap (λ (xs : List Extra). record { fresh = fresh; header = record { version = version; records = records; dims = header.dims; attrs = header.attrs; vars = header.vars }; ranks = ranks; hints = hints; filled = filled; extra = xs; calls = calls }) (sym e3))
 
-expressed_whole : (s : Script) → is_lawful s ≡ true → is_expressible s ≡ true → Whole s
+-- ---- how many lines it has
+
+calls_long : (r : ℕ) (calls : List (List Call)) → length (call_lines r calls) ≡ sum (map (λ own. length own) calls)
+calls_long r [] = refl
+calls_long r (own ∷ more) =
+    let first = sum_by-cons (λ n. n) (length own) (map (λ cs. length cs) more) in
+    omega (arith, first, length-append (own_lines r own) (call_lines (r + 1) more), length-map own (call_tokens_of r), calls_long (r + 1) more)
+
+fill_long : (filled : Bool) → length (fill_lines filled) ≡ cond filled 1 0
+fill_long true = refl
+fill_long false = refl
+
+definitions_long : (header : Header) (filled : Bool) → header.attrs ≡ [] → lines_of_own header.vars ≡ [] → length (definition_lines (defined_of header filled)) ≡ length header.dims + length header.vars
+definitions_long header filled plain own =
+    let dims = map line_of_dim header.dims in
+    let vars = map (line_of_var header.dims) header.vars in
+    let none : map (line_of_att (codes ":")) header.attrs ++ lines_of_own header.vars ≡ [] = ap (λ (list : List Attr). map (line_of_att (codes ":")) list ++ lines_of_own header.vars) plain ∙ own in
+    ap (λ (rest : List (List Word)). length (dims ++ (vars ++ rest))) none
+    ∙ omega (arith, length-append dims (vars ++ []), length-append vars [], length-map header.dims line_of_dim, length-map header.vars (line_of_var header.dims))
+
+all_long : (b : Bool) (version n : ℕ) (h : Hints) (header : Header) (filled : Bool) (calls : List (List Call)) → header.attrs ≡ [] → lines_of_own header.vars ≡ []
+    → length (all_lines b version n h [] (defined_of header filled) calls) ≡ 14 + cond filled 1 0 + length header.dims + length header.vars + sum (map (λ own. length own) calls)
+all_long b version n h header filled calls plain own =
+    let d = defined_of header filled in
+    let hints : length (hint_tokens h) ≡ 10 = refl in
+    let end = (Plain (codes "end") ∷ []) ∷ [] in
+    omega (
+      arith,
+      hints,
+      length-append (before_data n h [] d) (from_data calls),
+      length-append (hint_tokens h) (fill_lines filled ++ definition_lines d),
+      length-append (fill_lines filled) (definition_lines d),
+      fill_long filled,
+      definitions_long header filled plain own,
+      length-append (call_lines 0 calls) end,
+      calls_long 0 calls,
+    )
+
+-- ---- the whole
+
+record Counted (s : Script) : Type 0 where
+  whole : Whole s
+  long : length whole.drafted ≡ printed_lines s
+
+expressed_whole : (s : Script) → is_lawful s ≡ true → is_expressible s ≡ true → Counted s
 expressed_whole s lawful h =
     let e2 = and_parts (s.fresh && is_expressible_header s.header) (list_all (list_all is_expressible_call) s.calls) h in
     let e1 = and_parts s.fresh (is_expressible_header s.header) e2.0 in
     let parts = lawful_parts s lawful in
     let new = new_header s e1.0 parts.header in
     let version = s.header.version in
+    let d = defined_of s.header s.filled in
     let ranks = any_unit 1 most_ranks s.ranks parts.ranks in
     let small = leb-true s.ranks most_ranks (and_parts (nat_le 1 s.ranks) (nat_le s.ranks most_ranks) parts.ranks).1 in
-    let known = create_again version s.ranks 0 s.hints (defined_of s.header s.filled) (new_version version new.version) ranks (hints_told s.hints parts.hints)
-        (header_told s.header s.filled e1.1 new.dims new.few_dims new.vars new.few_vars) (omega arith) in
+    let known = create_again version s.ranks 0 s.hints d (new_version version new.version) ranks (hints_told s.hints parts.hints)
+    (header_told s.header s.filled e1.1 new.dims new.few_dims new.vars new.few_vars) (omega arith) in
     let values = leb-true (values_in_script s) most_values parts.few in
     let end : DataEnd s.ranks 0 s.calls = record {
       long = eqb-true (length s.calls) s.ranks parts.long;
       chains = chains_told s.ranks 0 s.calls parts.calls e2.1 parts.ids;
       few = omega (arith, values, all_counted s.calls);
     } in
-    subst Whole (same_script version s.ranks s.hints s.filled s.calls s.fresh s.header.records s.extra (new_version version new.version) e1.0 new.records new.nothing_added s.header)
-    (whole_from version s.ranks 0 s.hints [] (defined_of s.header s.filled) s.calls (version_head version new.version) small known end (agreement s.calls parts.agreed))
+    let first = version_head version new.version in
+    let agree = agreement s.calls parts.agreed in
+    let plain = no_attributes s.header e1.1 in
+    subst Counted (same_script version s.ranks s.hints s.filled s.calls s.fresh s.header.records s.extra (new_version version new.version) e1.0 new.records new.nothing_added s.header) (record {
+      whole = whole_from version s.ranks 0 s.hints [] d s.calls first small known end agree;
+      long = ap length (from_drafted version s.ranks 0 s.hints [] d s.calls first small known end agree) ∙ all_long first.existing version s.ranks s.hints s.header s.filled s.calls plain.0 plain.1;
+    })
 
-pub expressed_again : (s : Script) → is_lawful s ≡ true → is_expressible s ≡ true → length (shown s) ≤ most_bytes → length (text_lines (shown s)) ≤ most_lines → Reads (shown s) s
-expressed_again s lawful h short few = whole_again s (expressed_whole s lawful h) short few
+pub expressed_again : (s : Script) → is_lawful s ≡ true → is_expressible s ≡ true → length (shown s) ≤ most_bytes → printed_lines s ≤ most_lines → Reads (shown s) s
+expressed_again s lawful h short few =
+    let counted = expressed_whole s lawful h in
+    whole_again s counted.whole short (omega (arith, few, whole_long s counted.whole, counted.long))

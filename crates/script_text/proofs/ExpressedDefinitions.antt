@@ -17,6 +17,7 @@ use Rattle.script_text.proofs.Lines.{empty_list}
 use Rattle.script_text.proofs.PrintedAttributes.{type_told}
 use Rattle.script_text.proofs.PrintedDefinitions.{LengthAgain, length_told, DimAgain, dim_told, HeadAgain}
 use Rattle.script_text.proofs.Places.{name_at, place_in, place_of_new, joined_names, length_names, ids_found}
+use Rattle.script_text.proofs.DefinedLines.{line_of_att, lines_of_own}
 use Rattle.script_text.proofs.DefinedChains.{DimChain, VarOk, VarChain, AttrChain, OwnChains, DefinedOk, count_attrs, count_own}
 
 -- a name that is one, and that none has
@@ -166,3 +167,18 @@ header_told header filled h dims few_dims vars few_vars =
       own = told.own;
       counted = omega (arith, ap count_attrs plain, told.counted);
     }
+
+-- ---- it has no attributes
+
+own_plain : (version : ℕ) (dims : List Dim) (names : List (List ℕ)) (vs : List Var) → are_expressible_vars version dims names vs ≡ true → lines_of_own vs ≡ []
+own_plain version dims names [] h = refl
+own_plain version dims names (v ∷ vs) h =
+    let both = and_parts (is_new_name names v.name && is_expressible_var version dims v) _ h in
+    let first = and_parts (is_new_name names v.name) (is_expressible_var version dims v) both.0 in
+    ap (λ (list : List Attr). map (line_of_att v.name) list ++ lines_of_own vs) (var_parts version dims v first.1).plain ∙ own_plain version dims (names ++ v.name ∷ []) vs both.1
+
+pub no_attributes : (header : Header) → is_expressible_header header ≡ true → (header.attrs ≡ []) × (lines_of_own header.vars ≡ [])
+no_attributes header h =
+    let a = and_parts _ (is_empty header.attrs) h in
+    let b = and_parts (are_expressible_dims [] header.dims) (are_expressible_vars header.version header.dims [] header.vars) a.0 in
+    (empty_list header.attrs a.1, own_plain header.version header.dims [] header.vars b.1)

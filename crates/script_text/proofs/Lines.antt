@@ -99,7 +99,7 @@ abbrev pub is_line : List Word → Bool
 is_line [] = false
 is_line (w ∷ ws) = not (is_comment w) && list_all is_good (w ∷ ws)
 
-abbrev body : List Word → List ℕ
+abbrev pub body : List Word → List ℕ
 body ws = joined 32 (map spelling ws)
 
 abbrev pub spelled : List Word → List ℕ

@@ -1,7 +1,8 @@
 -- Which scripts for a new dataset words can express, besides the limits that each lawful script keeps. (own)
 --     is_expressible script     its names are names of the language and each is given once, it has no attributes, and
 --                               ids, bits and texts have as many bits as their words
-use Rattle.std.specs.Prelude.{◌^◌, ℕ, List, [], ◌∷◌, ◌++◌, drop, length, Bool, true, not, ◌&&◌, nat_lt, nat_le}
+--     printed_lines script      how many lines are printed of such a script
+use Rattle.std.specs.Prelude.{◌+◌, ◌^◌, ℕ, List, [], ◌∷◌, ◌++◌, map, drop, length, sum, Bool, true, not, ◌&&◌, nat_lt, nat_le, if◌then◌else◌}
 use Rattle.std.specs.List.{list_any, list_all}
 use Rattle.nc_base.specs.declared.header.Dim.{Dim}
 use Rattle.nc_base.specs.declared.header.Var.{Var}
@@ -75,3 +76,8 @@ is_expressible_call _ = true
 
 abbrev pub is_expressible : Script → Bool
 is_expressible s = s.fresh && is_expressible_header s.header && list_all (list_all is_expressible_call) s.calls
+
+-- how many lines are printed: the head, `ranks`, ten hints, `data` and `end`, and one for each other part
+abbrev pub printed_lines : Script → ℕ
+printed_lines s =
+    14 + (if s.filled then 1 else 0) + length s.header.dims + length s.header.vars + sum (map (λ own. length own) s.calls)
