@@ -28,7 +28,7 @@ pub fn made_text(alloc: Global, seed: u64, size: u32) -> Result<Blob, Memory>
 
 /// What is printed of a made script is read as it, as long as it is no longer than a text may be.
 pub fn made_text_law()
-    ensures read { (seed size : ℕ) → 1 ≤ size → size ≤ 64 → length (shown (made_script seed size)) ≤ most_bytes → Reads (shown (made_script seed size)) (made_script seed size) }
+    ensures read { (seed size : ℕ) → size ≤ 64 → length (shown (made_script seed size)) ≤ most_bytes → Reads (shown (made_script seed size)) (made_script seed size) }
     ensures short { (seed size : ℕ) → size ≤ 40 → length (shown (made_script seed size)) ≤ most_bytes }
-    ensures long { (seed size : ℕ) → 53 ≤ size → most_bytes < length (shown (made_script seed size)) }
+    ensures long { (seed size : ℕ) → 53 ≤ size → size ≤ 64 → most_bytes < length (shown (made_script seed size)) }
 {}

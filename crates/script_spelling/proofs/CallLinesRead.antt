@@ -1,5 +1,5 @@
 -- The lines of calls that are read spell them, and each rank has the calls of its lines.
-use Rattle.std.proofs.Common.{◌≡◌, ◌∙◌, ℕ, zero, suc, ◌+◌, ◌<◌, List, [], ◌∷◌, ◌++◌, map, length, replicate, Bool, true, false, cond, nat_lt, ◌==◌, Option, Some, None, slice_set, Result, Ok, Err, refl, sym, ap, subst, append_assoc, append-nil, arith, bytes_eq, codes}
+use Rattle.std.proofs.Common.{◌≡◌, ◌∙◌, ℕ, zero, suc, ◌+◌, ◌<◌, List, [], ◌∷◌, ◌++◌, map, length, replicate, Bool, true, false, cond, nat_lt, ◌==◌, Option, Some, None, slice_set, Result, Ok, Err, refl, sym, ap, subst, append_assoc, append-nil, length-set, arith, bytes_eq, codes}
 use Rattle.std.specs.List.{AllZip, cons_option, list_all, range_with_len}
 use Rattle.std.proofs.lemmas.Bool.{and_from, cond-true, cond-false, lt-ltb, ltb-true, eq-eqb, ne_eqb}
 use Rattle.nc_base.specs.declared.errors.ScriptKind.{ScriptKind}
@@ -12,7 +12,7 @@ use Rattle.script_spec.specs.ScriptCalls.{Called, calls_of, rank_of_text, with_c
 use Rattle.script_spec.specs.ScriptGrammar.{at_line, call_step, data_part}
 use Rattle.script_text.proofs.Steps.{went, same_ok, whole_value}
 use Rattle.script_text.proofs.Places.{bytes_same}
-use Rattle.script_text.proofs.CallLines.{length-set_list, line_ok}
+use Rattle.script_text.proofs.CallLines.{line_ok}
 use Rattle.script_spelling.specs.SpelledCalls.{SpellsCallLine}
 use Rattle.script_spelling.specs.Described.{calls_in}
 use Rattle.script_spelling.proofs.CallsRead.{call_spelled}
@@ -121,7 +121,7 @@ ended_calls d l lines e = record {
 
 more_calls : (d : Called) (l : Line) (lines : List Line) (next : Called) (r : ℕ × (Called × List Line)) → CallTaken d (words_of l) next → CallsRead next lines r → CallsRead d (l ∷ lines) r
 more_calls d l lines next r taken more =
-    let long : length next.calls ≡ length d.calls = ap (λ (x : Called). length x.calls) taken.same ∙ length-set_list d.calls taken.rank (calls_of taken.rank d.calls ++ taken.call ∷ []) in
+    let long : length next.calls ≡ length d.calls = ap (λ (x : Called). length x.calls) taken.same ∙ length-set d.calls taken.rank (calls_of taken.rank d.calls ++ taken.call ∷ []) in
     record {
       own = words_of l ∷ more.own;
       are = ap (λ (xs : List (List Word)). words_of l ∷ xs) more.are;

@@ -248,6 +248,9 @@ new_attr version k words owner place a fine at says fresh =
           };
     }
 
+abbrev place_by : List Var → List ℕ → Bool → Result (Option ℕ) ScriptKind
+place_by vars word b = elim b [ true ↦ Ok None | false ↦ (or_fault kind.UnknownName (position (bytes_eq word) (var_names vars)) >>= λ i. Ok (Some i)) ]
+
 new_att : (version : ℕ) (k : Known) (ws : List Word) (x : ℕ × Defined) → Fine k → att_line version k.values k.defined ws ≡ Ok x → TakenNew version k (Plain (codes "att") ∷ ws) x
 new_att version k ws x fine h =
     let d = k.defined in
@@ -265,11 +268,11 @@ new_att version k ws x fine h =
         → Says version (Plain (codes "att") ∷ Plain (owner_word owner) ∷ more) (AttIs owner a) → list_any (same_title (word, a.name)) k.defined.titles ≡ false
         → TakenNew version k (Plain (codes "att") ∷ Plain (owner_word owner) ∷ more) (defined_with word place a k.defined)
     by {more} None word place same is colon at a says fresh =
-        let none : None ≡ place = same_ok None place (sym (cond-true _ _ _ colon) ∙ at) in
+        let none : None ≡ place = same_ok None place (ap (place_by k.defined.vars word) (sym colon) ∙ at) in
         subst (λ (o : Option ℕ). TakenNew version k (Plain (codes "att") ∷ Plain (codes ":") ∷ more) (defined_with word o a k.defined)) none
         (new_own version k (Plain (codes "att") ∷ Plain (codes ":") ∷ more) word a fine same says fresh)
     by {more} (Some owner) word place same is colon at a says fresh =
-        let found : (or_fault kind.UnknownName (position (bytes_eq word) (var_names k.defined.vars)) >>= λ i. Ok (Some i)) ≡ Ok place = sym (cond-false _ _ _ colon) ∙ at in
+        let found : (or_fault kind.UnknownName (position (bytes_eq word) (var_names k.defined.vars)) >>= λ i. Ok (Some i)) ≡ Ok place = ap (place_by k.defined.vars word) (sym colon) ∙ at in
         let i = went (or_fault kind.UnknownName (position (bytes_eq word) (var_names k.defined.vars))) (λ j. Ok (Some j)) place found in
         let there = faultless_some kind.UnknownName (position (bytes_eq word) (var_names k.defined.vars)) i.value i.first in
         subst (λ (w : List ℕ). TakenNew version k (Plain (codes "att") ∷ Plain owner ∷ more) (defined_with w place a k.defined)) (sym same)

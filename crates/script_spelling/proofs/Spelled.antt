@@ -125,6 +125,26 @@ finished_lines : (n : ℕ) (calls : List (List Call)) (lines : List Line) (u : U
 finished_lines n calls [] u h = refl
 finished_lines n calls (l ∷ lines) u h = absurd (cc)
 
+-- the head, the definitions that are read up to `data`, and the calls up to `end`
+parts_spelled : (version : ℕ) (l : Line) (lines : List Line) (d : ℕ × (Known × List Line)) (c : ℕ × (Called × List Line)) → HeadRead (words_of l) version
+    → DefinitionsRead (version == 0) (lines_version (version == 0) version) nothing_known lines d → CallsRead (no_calls d.0 d.1.0) d.1.1 c → c.1.1 ≡ []
+    → LinesSpelled (map words_of (l ∷ lines)) (script_of version d.0 d.1.0 c.1.0.calls)
+parts_spelled version l lines d c first defined calls last =
+    let end = ap (λ (ls : List Line). calls.own ++ (Plain (codes "end") ∷ []) ∷ map words_of ls) last in
+    record {
+      sections = record { head = words_of l; before_data = defined.own; after_data = calls.own };
+      are = ap (λ (xs : List (List Word)). words_of l ∷ xs) (defined.are ∙ ap (λ (xs : List (List Word)). defined.own ++ (Plain (codes "data") ∷ []) ∷ xs) (calls.are ∙ end));
+      head = first;
+      statements = defined.statements;
+      say = defined.say;
+      stand = subst (λ (b : Bool). Stand b [] [] [] defined.statements) (sym (no_not (version == 0))) (stand_read (version == 0) defined.statements d.1.0 defined.grown.part);
+      called = calls.called;
+      call = calls.spells;
+      describes = describes_read version d.0 defined.statements d.1.0 calls.called c.1.0.calls defined.grown defined.ranks
+          (subst (λ (n : ℕ). list_all (λ x. nat_lt x.0 n) calls.called ≡ true) (length-replicate d.0 []) calls.there)
+          (calls.calls ∙ from_none (λ r. calls_in r calls.called) 0 d.0);
+    }
+
 lines_spelled : (past : ℕ) (lines : List Line) (script : Script) → script_of_lines past lines ≡ Ok script → LinesSpelled (map words_of lines) script
 lines_spelled past [] script h = absurd (cc)
 lines_spelled past (l ∷ lines) script h =
@@ -132,28 +152,11 @@ lines_spelled past (l ∷ lines) script h =
     let d = went (definitions past v.value nothing_known lines) _ script v.rest in
     let c = went (data_part past (no_calls d.value.0 d.value.1.0) d.value.1.1) _ script d.rest in
     let f = went (finish c.value.0 c.value.1.0.calls c.value.1.1) _ script c.rest in
-    let version = v.value in
-    let ranks = d.value.0 in
-    let known = d.value.1.0 in
-    let first = head_read l.first l.rest version (line_ok l.number (head l.first l.rest) version v.first) in
-    let defined = definitions_read (version == 0) past version nothing_known lines d.value refl (record { long = refl; apart = refl }) d.first in
-    let calls = calls_read past (no_calls ranks known) d.value.1.1 c.value c.first in
-    let long : length (no_calls ranks known).calls ≡ ranks = length-replicate ranks [] in
-    let sections : Sections = record { head = words_of l; before_data = defined.own; after_data = calls.own } in
-    let end = ap (λ (ls : List Line). calls.own ++ (Plain (codes "end") ∷ []) ∷ map words_of ls) (finished_lines c.value.0 c.value.1.0.calls c.value.1.1 f.value f.first) in
-    subst (LinesSpelled (map words_of (l ∷ lines))) (same_ok (script_of version ranks known c.value.1.0.calls) script f.rest) (record {
-      sections = sections;
-      are = ap (λ (xs : List (List Word)). words_of l ∷ xs) (defined.are ∙ ap (λ (xs : List (List Word)). defined.own ++ (Plain (codes "data") ∷ []) ∷ xs) (calls.are ∙ end));
-      head = first;
-      statements = defined.statements;
-      say = defined.say;
-      stand = subst (λ (b : Bool). Stand b [] [] [] defined.statements) (sym (no_not (version == 0))) (stand_read (version == 0) defined.statements known defined.grown.part);
-      called = calls.called;
-      call = calls.spells;
-      describes = describes_read version ranks defined.statements known calls.called c.value.1.0.calls defined.grown defined.ranks
-          (subst (λ (n : ℕ). list_all (λ x. nat_lt x.0 n) calls.called ≡ true) long calls.there)
-          (calls.calls ∙ from_none (λ r. calls_in r calls.called) 0 ranks);
-    })
+    subst (LinesSpelled (map words_of (l ∷ lines))) (same_ok (script_of v.value d.value.0 d.value.1.0 c.value.1.0.calls) script f.rest)
+    (parts_spelled v.value l lines d.value c.value (head_read l.first l.rest v.value (line_ok l.number (head l.first l.rest) v.value v.first))
+    (definitions_read (v.value == 0) past v.value nothing_known lines d.value refl (record { long = refl; apart = refl }) d.first)
+    (calls_read past (no_calls d.value.0 d.value.1.0) d.value.1.1 c.value c.first)
+    (finished_lines c.value.0 c.value.1.0.calls c.value.1.1 f.value f.first))
 
 -- ---- a whole text
 

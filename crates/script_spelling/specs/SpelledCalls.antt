@@ -1,7 +1,7 @@
 -- What the words of a line spell of a call. (own)
 --     SpellsCall words call     the words behind a call's own word spell it
 --     SpellsCallLine words c    the words of a line spell a call of a rank
-use Rattle.std.specs.Prelude.{◌≡◌, ℕ, List, [], ◌∷◌, ◌++◌, true, Some, codes}
+use Rattle.std.specs.Prelude.{◌≡◌, ℕ, List, [], ◌∷◌, ◌++◌, true, Some, None, codes}
 use Rattle.nc_base.specs.declared.request.Values.{Values}
 use Rattle.nc_base.specs.declared.request.Values.TheVariants.{Numbers}
 use Rattle.nc_base.specs.declared.request.PostKind.{PostKind}
