@@ -4,6 +4,7 @@ use Rattle.std.specs.Prelude.{ℤ, pos, neg_ℤ, ◌<ℤ◌, negsuc, unsigned_ab
 use Rattle.std.specs.Fmt.{signed_decimal}
 use Rattle.std.specs.List.{enumerate_from, flat_map, list_all, range_with_len}
 use Rattle.std.proofs.lemmas.Bool.{and_from, lt-ltb, ltb-true}
+use Rattle.std.proofs.lemmas.Fmt.{length-decimal-le_wide}
 use Rattle.std.proofs.lemmas.Int.{ints}
 use Rattle.std.proofs.lemmas.List.Concat.{flat_map-append}
 use Rattle.std.proofs.lemmas.List.Folds.{list_all-append}
@@ -143,9 +144,9 @@ precip_words seed r t h =
 
 -- a post's line: what comes before its values, and these
 post_line : (r id low high : ℕ) (name : List ℕ) (g : Given) (vs : List (List ℕ)) → r < 8 → id < 10 ^ 3 → length name ≤ 6 → region_size g ≤ 28 → Between low high (words_size vs)
-    → Between low (high + 60) (length (line (decimal r ∷ codes "bput_vara" ∷ decimal id ∷ name ∷ region_words g ++ vs)))
+    → Between low (high + 60) (length (line (decimal r ∷ codes "bput_vara" ∷ decimal id ∷ name ∷ (region_words g ++ vs))))
 post_line r id low high name g vs h small short region values =
-    let long = line_long (decimal r) (codes "bput_vara" ∷ decimal id ∷ name ∷ region_words g ++ vs) in
+    let long = line_long (decimal r) (codes "bput_vara" ∷ decimal id ∷ name ∷ (region_words g ++ vs)) in
     let word : length (codes "bput_vara") ≡ 9 = refl in
     let rank = small_long r (omega arith) in
     let least = values.least in
@@ -207,7 +208,7 @@ get_line size r name s h short =
 attach_line : (r : ℕ) → r < 8 → length (shown_call r (call.Attach 65536)) ≤ 64
 attach_line r h =
     let word : length (call_word (call.Attach 65536)) ≡ 13 = refl in
-    let size : length (decimal 65536) ≡ 5 = refl in
+    let size = length-decimal-le_wide 5 65536 (omega arith) (omega arith) (omega arith) in
     few_words r (call.Attach 65536) h (omega (arith, word, size))
 
 detach_line : (r : ℕ) → r < 8 → length (shown_call r call.Detach) ≤ 64
@@ -220,7 +221,7 @@ rank_text seed size r s h =
     let attach = shown_call r (call.Attach 65536) in
     let records = records_of seed r 0 size in
     let reads = shown_call r temps ++ (shown_call r precips ++ (shown_call r call.Detach ++ [])) in
-    let middle = records_long seed r 0 size h s in
+    let middle = records_long seed r 0 size h (omega arith) in
     let all : length (attach ++ shown_calls r (records ++ temps ∷ precips ∷ call.Detach ∷ [])) ≡ length attach + length (shown_calls r records) + length reads =
     length-append attach (shown_calls r (records ++ temps ∷ precips ∷ call.Detach ∷ []))
     ∙ (ap (λ (text : List ℕ). length attach + length text) (flat_map-append (shown_call r) records (temps ∷ precips ∷ call.Detach ∷ []))

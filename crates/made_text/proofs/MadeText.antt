@@ -1,5 +1,6 @@
 -- What is printed of a made script is read as that script.
 use Rattle.std.proofs.Common.{◌≡◌, ◌∙◌, ℕ, ◌+◌, ◌*◌, ◌≤◌, ◌<◌, List, [], ◌∷◌, ◌++◌, map, sum, length, true, false, nat_le, refl, subst, length-append, arith, codes, decimal}
+use Rattle.std.specs.Fmt.{digits}
 use Rattle.std.specs.List.{enumerate_from, list_all, range_with_len}
 use Rattle.std.proofs.lemmas.Bool.{leb-true}
 use Rattle.nc_base.specs.declared.request.Call.{Call}
@@ -44,20 +45,24 @@ opening = line (codes "create" ∷ decimal 1 ∷ []) ++ line (codes "ranks" ∷ 
 
 parts_long : (a b c d e x f : List ℕ) → length (a ++ b ++ c ++ [] ++ [] ++ d ++ e ++ x ++ f) ≡ length (a ++ b ++ c ++ d ++ e) + length x + length f
 parts_long a b c d e x f =
+    let p = a ++ b ++ c in
+    let q = p ++ [] ++ [] ++ d in
     omega (
-      arith, length-append a (b ++ c ++ d ++ e ++ x ++ f), length-append b (c ++ d ++ e ++ x ++ f), length-append c (d ++ e ++ x ++ f), length-append d (e ++ x ++ f), length-append e (x ++ f), length-append x f,
-      length-append a (b ++ c ++ d ++ e), length-append b (c ++ d ++ e), length-append c (d ++ e), length-append d e,
+      arith, length-append (q ++ e ++ x) f, length-append (q ++ e) x, length-append q e, length-append (p ++ [] ++ []) d, length-append (p ++ []) [], length-append p [], length-append (p ++ d) e, length-append p d,
     )
 
 named_long : (seed size : ℕ) → length (shown (named_script seed size)) ≡ length opening + length (ranks_text (enumerate_from 0 (all_calls seed size))) + length (line (codes "end" ∷ []))
 named_long seed size =
     parts_long (line (codes "create" ∷ decimal 1 ∷ [])) (line (codes "ranks" ∷ decimal 8 ∷ [])) (shown_hints default_hints) (shown_definitions made_header) (line (codes "data" ∷ [])) (ranks_text (enumerate_from 0 (all_calls seed size))) (line (codes "end" ∷ []))
 
+opening_short : nat_le (length opening + length (line (codes "end" ∷ []))) 1000 ≡ true
+unfolding digits
+opening_short = refl
+
 pub made_short : (seed size : ℕ) → size ≤ 40 → length (shown (made_script seed size)) ≤ most_bytes
 made_short seed size s =
     let calls = ranks_long seed size 0 8 (omega arith) (omega arith) in
-    let front : nat_le (length opening + length (line (codes "end" ∷ []))) 1000 ≡ true = refl in
-    let few = leb-true (length opening + length (line (codes "end" ∷ []))) 1000 front in
+    let few = leb-true (length opening + length (line (codes "end" ∷ []))) 1000 opening_short in
     subst (λ (script : script_type.Script). length (shown script) ≤ most_bytes) (named_is seed size) (omega (arith, named_long seed size, calls.most, few))
 
 pub made_long : (seed size : ℕ) → 53 ≤ size → size ≤ 64 → most_bytes < length (shown (made_script seed size))

@@ -1,5 +1,5 @@
 -- A text that is read spells its script.
-use Rattle.std.proofs.Common.{◌≡◌, ◌∙◌, ℕ, zero, suc, ◌+◌, ◌≤◌, List, [], ◌∷◌, ◌++◌, map, replicate, length, Bool, true, false, not, cond, nat_lt, nat_le, ◌==◌, ◌&&◌, Option, Some, None, Result, Ok, Err, refl, sym, ap, subst, append-nil, arith, bytes_eq, codes, take}
+use Rattle.std.proofs.Common.{◌≡◌, ◌∙◌, ℕ, zero, suc, ◌+◌, ◌≤◌, List, [], ◌∷◌, ◌++◌, map, replicate, length, Bool, true, false, not, cond, nat_lt, nat_le, ◌==◌, ◌&&◌, Option, Some, None, Result, Ok, Err, refl, sym, ap, subst, append_assoc, arith, bytes_eq, codes, take}
 use Rattle.std.specs.Str.Lossy.{utf8_valid_len}
 use Rattle.std.specs.List.{AllZip, list_all, range_with_len}
 use Rattle.std.proofs.lemmas.Bool.{eqb-true, ne_eqb}
@@ -133,7 +133,8 @@ parts_spelled version l lines d c first defined calls last =
     let end = ap (λ (ls : List Line). calls.own ++ (Plain (codes "end") ∷ []) ∷ map words_of ls) last in
     record {
       sections = record { head = words_of l; before_data = defined.own; after_data = calls.own };
-      are = ap (λ (xs : List (List Word)). words_of l ∷ xs) (defined.are ∙ ap (λ (xs : List (List Word)). defined.own ++ (Plain (codes "data") ∷ []) ∷ xs) (calls.are ∙ end));
+      are = ap (λ (xs : List (List Word)). words_of l ∷ xs) (defined.are ∙ ap (λ (xs : List (List Word)). defined.own ++ (Plain (codes "data") ∷ []) ∷ xs) (calls.are ∙ end))
+          ∙ sym (append_assoc (words_of l ∷ defined.own) ((Plain (codes "data") ∷ []) ∷ calls.own) ((Plain (codes "end") ∷ []) ∷ []));
       head = first;
       statements = defined.statements;
       say = defined.say;
