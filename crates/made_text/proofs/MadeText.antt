@@ -48,7 +48,15 @@ parts_long a b c d e x f =
     let p = a ++ b ++ c in
     let q = p ++ [] ++ [] ++ d in
     omega (
-      arith, length-append (q ++ e ++ x) f, length-append (q ++ e) x, length-append q e, length-append (p ++ [] ++ []) d, length-append (p ++ []) [], length-append p [], length-append (p ++ d) e, length-append p d,
+      arith,
+      length-append (q ++ e ++ x) f,
+      length-append (q ++ e) x,
+      length-append q e,
+      length-append (p ++ [] ++ []) d,
+      length-append (p ++ []) [],
+      length-append p [],
+      length-append (p ++ d) e,
+      length-append p d,
     )
 
 named_long : (seed size : ℕ) → length (shown (named_script seed size)) ≡ length opening + length (ranks_text (enumerate_from 0 (all_calls seed size))) + length (line (codes "end" ∷ []))

@@ -149,7 +149,12 @@ post_spelled w k rest posted_before f before ws c a b h =
     subst (IsCall w ws) (same_ok (call.Post i.value.0 k n.value.0 g.value.0 vs.value) c vs.rest) (
       a ∙ ap (λ (x : List ℕ). kind_word k ++ x) (b ∙ ap form_word (sym place.same_form)),
       (
-        id.word, place.place, g.value.1, id.are ∙ ap (λ (xs : List Word). Plain id.word ∷ xs) place.are, id.says, place.spells,
+        id.word,
+        place.place,
+        g.value.1,
+        id.are ∙ ap (λ (xs : List Word). Plain id.word ∷ xs) place.are,
+        id.says,
+        place.spells,
         posted_spelled k before g.value.1 vs.value vs.first,
       ),
     )

@@ -75,10 +75,10 @@ ranks_taken opened version k ws next fine h =
       says = said.0;
       fine = record { long = fine.long; apart = fine.apart };
       grown = λ ss last g. record {
-          ranks = g.ranks ∙ ap (λ (o : Option ℕ). at_most_one o ++ n ∷ ranks_in ss) (sym said.1);
-          hints = g.hints;
-          filled = g.filled;
-          part = ranks_part opened k n ss last g.part;
+        ranks = g.ranks ∙ ap (λ (o : Option ℕ). at_most_one o ++ n ∷ ranks_in ss) (sym said.1);
+        hints = g.hints;
+        filled = g.filled;
+        part = ranks_part opened k n ss last g.part;
       };
     })
 
@@ -124,10 +124,10 @@ hint_taken opened version k ws next fine h =
       says = said.says;
       fine = record { long = length-set k.hints i (Some v) ∙ fine.long; apart = fine.apart };
       grown = λ ss last g. record {
-          ranks = g.ranks;
-          hints = λ j. hint_first k.hints i v j (hint_values j ss) (at_most_one (hint_in j last.hints)) said.free low (g.hints j);
-          filled = g.filled;
-          part = hint_part opened k i v hints ss last g.part;
+        ranks = g.ranks;
+        hints = λ j. hint_first k.hints i v j (hint_values j ss) (at_most_one (hint_in j last.hints)) said.free low (g.hints j);
+        filled = g.filled;
+        part = hint_part opened k i v hints ss last g.part;
       };
     })
 
@@ -150,10 +150,10 @@ new_dim version k ws x fine h =
       says = said.0;
       fine = record { long = fine.long; apart = fine.apart };
       grown = λ ss last g. record {
-          ranks = g.ranks;
-          hints = g.hints;
-          filled = g.filled;
-          part = (g.part.0, g.part.1 ∙ append_assoc k.defined.dims (d ∷ []) (dims_in ss), g.part.2, g.part.3, (said.1, g.part.4));
+        ranks = g.ranks;
+        hints = g.hints;
+        filled = g.filled;
+        part = (g.part.0, g.part.1 ∙ append_assoc k.defined.dims (d ∷ []) (dims_in ss), g.part.2, g.part.3, (said.1, g.part.4));
       };
     })
 
@@ -170,15 +170,17 @@ new_var version k ws x fine h =
       says = said.says;
       fine = record { long = fine.long; apart = subst (λ (ns : List (List ℕ)). are_apart ns ≡ true) (sym names) (apart_pushed (var_names d.vars) said.line.name fine.apart said.stands.0) };
       grown = λ ss last g. record {
-          ranks = g.ranks;
-          hints = g.hints;
-          filled = g.filled;
-          part = (
-              g.part.0, g.part.1, g.part.2,
-              var_first last.defined.dims (λ n. attrs_of n ss) d.vars said.line (vars_in ss) v last.defined.vars
-                  (record { found = subst (λ (ds : List Dim). dim_ids ds said.line.dims ≡ Some v.dims) (sym g.part.1) (more_ids d.dims (dims_in ss) said.line.dims v.dims said.found); same = said.same }) g.part.3,
-              (said.stands, subst (λ (ns : List (List ℕ)). Stand false d.dims ns d.titles ss) names g.part.4),
-          );
+        ranks = g.ranks;
+        hints = g.hints;
+        filled = g.filled;
+        part = (
+          g.part.0,
+          g.part.1,
+          g.part.2,
+          var_first last.defined.dims (λ n. attrs_of n ss) d.vars said.line (vars_in ss) v last.defined.vars
+              (record { found = subst (λ (ds : List Dim). dim_ids ds said.line.dims ≡ Some v.dims) (sym g.part.1) (more_ids d.dims (dims_in ss) said.line.dims v.dims said.found); same = said.same }) g.part.3,
+          (said.stands, subst (λ (ns : List (List ℕ)). Stand false d.dims ns d.titles ss) names g.part.4),
+        );
       };
     })
 
@@ -199,17 +201,20 @@ new_own version k words word a fine e says fresh =
       says = says;
       fine = record { long = fine.long; apart = fine.apart };
       grown = λ ss last g. record {
-          ranks = g.ranks;
-          hints = g.hints;
-          filled = g.filled;
-          part = (
-              g.part.0, g.part.1, g.part.2 ∙ append_assoc d.attrs (a ∷ []) (own_attrs ss), g.part.3,
-              (
-                  tt,
-                  subst (λ (w : List ℕ). list_any (same_title (w, a.name)) d.titles ≡ false) e fresh,
-                  titles_by false d.dims (var_names d.vars) d.titles ss word None a e g.part.4,
-              ),
-          );
+        ranks = g.ranks;
+        hints = g.hints;
+        filled = g.filled;
+        part = (
+          g.part.0,
+          g.part.1,
+          g.part.2 ∙ append_assoc d.attrs (a ∷ []) (own_attrs ss),
+          g.part.3,
+          (
+            tt,
+            subst (λ (w : List ℕ). list_any (same_title (w, a.name)) d.titles ≡ false) e fresh,
+            titles_by false d.dims (var_names d.vars) d.titles ss word None a e g.part.4,
+          ),
+        );
       };
     }
 
@@ -239,11 +244,13 @@ new_attr version k words owner place a fine at says fresh =
             hints = g.hints;
             filled = g.filled;
             part = (
-                g.part.0, g.part.1, g.part.2,
-                attr_first last.defined.dims (λ n. attrs_of n ss) owner a place d.vars (vars_in ss) last.defined.vars at fine.apart
-                    (later_names false d.dims (var_names d.vars) (d.titles ++ (owner, a.name) ∷ []) ss owner stand there)
-                    (subst (λ (vs : List Var). GrownVars last.defined.dims (λ n. attrs_of n ss) vs (vars_in ss) last.defined.vars) vars g.part.3),
-                (there, fresh, stand),
+              g.part.0,
+              g.part.1,
+              g.part.2,
+              attr_first last.defined.dims (λ n. attrs_of n ss) owner a place d.vars (vars_in ss) last.defined.vars at fine.apart
+                  (later_names false d.dims (var_names d.vars) (d.titles ++ (owner, a.name) ∷ []) ss owner stand there)
+                  (subst (λ (vs : List Var). GrownVars last.defined.dims (λ n. attrs_of n ss) vs (vars_in ss) last.defined.vars) vars g.part.3),
+              (there, fresh, stand),
             );
           };
     }
@@ -291,10 +298,10 @@ new_fill version k ws x fine h =
       says = ap (λ (xs : List Word). Plain (codes "fill") ∷ xs) (is_end ws b.value b.first);
       fine = record { long = fine.long; apart = fine.apart };
       grown = λ ss last g. record {
-          ranks = g.ranks;
-          hints = g.hints;
-          filled = omega (arith, g.filled, ap flag none);
-          part = (g.part.0, g.part.1, g.part.2, g.part.3, (refl, g.part.4));
+        ranks = g.ranks;
+        hints = g.hints;
+        filled = omega (arith, g.filled, ap flag none);
+        part = (g.part.0, g.part.1, g.part.2, g.part.3, (refl, g.part.4));
       };
     })
 
@@ -342,10 +349,10 @@ added_dim k ws x fine h =
       says = said.0;
       fine = record { long = fine.long; apart = fine.apart };
       grown = λ ss last g. record {
-          ranks = g.ranks;
-          hints = g.hints;
-          filled = g.filled;
-          part = (g.part.0, g.part.1 ∙ append_assoc d.extras (extra.Dim y ∷ []) (extras_in ss), (said.1, g.part.2));
+        ranks = g.ranks;
+        hints = g.hints;
+        filled = g.filled;
+        part = (g.part.0, g.part.1 ∙ append_assoc d.extras (extra.Dim y ∷ []) (extras_in ss), (said.1, g.part.2));
       };
     })
 
@@ -363,10 +370,10 @@ added_var k ws x fine h =
       says = said.says (is_end n.value.1 e.value e.first);
       fine = record { long = fine.long; apart = fine.apart };
       grown = λ ss last g. record {
-          ranks = g.ranks;
-          hints = g.hints;
-          filled = g.filled;
-          part = (g.part.0, g.part.1 ∙ append_assoc d.extras (one ∷ []) (extras_in ss), (said.stands, g.part.2));
+        ranks = g.ranks;
+        hints = g.hints;
+        filled = g.filled;
+        part = (g.part.0, g.part.1 ∙ append_assoc d.extras (one ∷ []) (extras_in ss), (said.stands, g.part.2));
       };
     })
 
@@ -382,17 +389,18 @@ added_one k words word owner a fine e says fresh =
       says = says;
       fine = record { long = fine.long; apart = fine.apart };
       grown = λ ss last g. record {
-          ranks = g.ranks;
-          hints = g.hints;
-          filled = g.filled;
-          part = (
-              g.part.0, g.part.1 ∙ append_assoc d.extras (extra.Att owner a ∷ []) (extras_in ss),
-              (
-                  tt,
-                  subst (λ (w : List ℕ). list_any (same_title (w, a.name)) d.titles ≡ false) e fresh,
-                  titles_by true d.dims d.vars d.titles ss word owner a e g.part.2,
-              ),
-          );
+        ranks = g.ranks;
+        hints = g.hints;
+        filled = g.filled;
+        part = (
+          g.part.0,
+          g.part.1 ∙ append_assoc d.extras (extra.Att owner a ∷ []) (extras_in ss),
+          (
+            tt,
+            subst (λ (w : List ℕ). list_any (same_title (w, a.name)) d.titles ≡ false) e fresh,
+            titles_by true d.dims d.vars d.titles ss word owner a e g.part.2,
+          ),
+        );
       };
     }
 

@@ -137,9 +137,15 @@ names_said ws r h =
 var_says : (version : ℕ) (names : List (List ℕ)) (ws : List Word) (v : (NcType × List ℕ) × List Word) (ns : List (List ℕ) × List Word) → HeadSaid version names ws v → NamesSaid v.1 ns → ns.1 ≡ []
     → Says version (Plain (codes "var") ∷ ws) (VarIs (record { kind = v.0.0; name = v.0.1; dims = ns.0 }))
 var_says version names ws v ns head shape_said end = (
-  head.word, shape_said.word, shape_said.inside,
+  head.word,
+  shape_said.word,
+  shape_said.inside,
   ap (λ (xs : List Word). Plain (codes "var") ∷ xs) (head.are ∙ ap (λ (xs : List Word). Plain head.word ∷ Plain v.0.1 ∷ xs) (shape_said.are ∙ ap (λ (xs : List Word). Plain shape_said.word ∷ xs) end)),
-  head.kind, head.named, shape_said.between, shape_said.parts_are, shape_said.named,
+  head.kind,
+  head.named,
+  shape_said.between,
+  shape_said.parts_are,
+  shape_said.named,
 )
 
 all_found : {A : Type 0} (os : List (Option A)) (xs : List A) → all_some os ≡ Some xs → length xs ≡ length os
@@ -261,9 +267,15 @@ attr_said version titles before owner ws a h =
     let spells = values_spelled (Some t.value.0) before t.value.1 vs.value vs.first in
     subst (AttrSaid version titles owner ws) (same_ok (attr_of n.value.0 t.value.0 vs.value) a vs.rest) (record {
       says = λ o is. (
-          w.word, t.value.1, vs.value,
-          ap (λ (xs : List Word). Plain (codes "att") ∷ Plain (owner_word o) ∷ xs) (named.are ∙ ap (λ (xs : List Word). Plain n.value.0 ∷ xs) w.are),
-          is, named.named, w.says, spells, refl,
+        w.word,
+        t.value.1,
+        vs.value,
+        ap (λ (xs : List Word). Plain (codes "att") ∷ Plain (owner_word o) ∷ xs) (named.are ∙ ap (λ (xs : List Word). Plain n.value.0 ∷ xs) w.are),
+        is,
+        named.named,
+        w.says,
+        spells,
+        refl,
       );
       fresh = fresh;
     })

@@ -58,7 +58,7 @@ head_read w ws version h = by (is_word (codes "create") w) (is_word (codes "open
         let end = whole_value v.value version v.rest in
         let says = word.says ∙ ap (λ (x : ℕ). Some x) end.0 in
         let words = ap (λ (x : Word). x ∷ ws) (plain_word (codes "create") w a)
-            ∙ ap (λ (xs : List Word). Plain (codes "create") ∷ xs) (word.are ∙ ap (λ (xs : List Word). Plain word.word ∷ xs) end.1) in
+        ∙ ap (λ (xs : List Word). Plain (codes "create") ∷ xs) (word.are ∙ ap (λ (xs : List Word). Plain word.word ∷ xs) end.1) in
         subst (λ (b : Bool). SpellsHead (w ∷ ws) (not b) version) (sym (no_zero word.word version says)) (word.word, words, says)
     by false true a b k =
         let end = whole_value (0, ws) version k in
@@ -72,8 +72,6 @@ none_given : (n h : ℕ) → hint_in h (replicate n None) ≡ None
 none_given zero h = refl
 none_given (suc n) zero = refl
 none_given (suc n) (suc h) = none_given n h
-
-
 
 dataset_read : (opened : Bool) (version ranks : ℕ) (ss : List Statement) (known : Known) (calls : List (List Call)) → (version == 0) ≡ opened → Part opened nothing_known ss known
     → ToDataset (not opened) ss (script_of version ranks known calls)

@@ -106,9 +106,19 @@ seq_spelled t before ws vs h =
     let count = count_spelled (may_be are_numbers t) t before ws n.value n.first in
     let first = term_spelled t n.value.0 n.value.1 a.value a.first in
     let step = word_is number_of_text kind.BadNumber a.value.1 b.value refl b.first in (
-      count.word.word, first.word.word, step.word, n.value.0, a.value.0, b.value.0,
+      count.word.word,
+      first.word.word,
+      step.word,
+      n.value.0,
+      a.value.0,
+      b.value.0,
       three_words (codes "seq") count.word.word first.word.word step.word ws n.value.1 a.value.1 b.value.1 count.word.are first.word.are step.are (is_end b.value.1 d.value d.first),
-      count.word.says, first.word.says, step.says, count.fits, first.fits, not-false _ (not_refused _ _ c.value c.first),
+      count.word.says,
+      first.word.says,
+      step.says,
+      count.fits,
+      first.fits,
+      not-false _ (not_refused _ _ c.value c.first),
       sym (same_ok (Numbers zs.value) vs zs.rest) ∙ ap (λ (xs : List ℤ). Numbers xs) (sym (same_ok (sequence a.value.0 b.value.0 n.value.0) zs.value d.rest)),
     )
 
@@ -123,9 +133,19 @@ seqx_spelled t before ws vs h =
     let count = count_spelled (may_be are_patterns t) t before ws n.value n.first in
     let first = pattern_spelled t n.value.0 n.value.1 a.value a.first in
     let step = word_is bits_of_text kind.BadNumber a.value.1 b.value refl b.first in (
-      count.word.word, first.word.word, step.word, n.value.0, a.value.0, b.value.0,
+      count.word.word,
+      first.word.word,
+      step.word,
+      n.value.0,
+      a.value.0,
+      b.value.0,
       three_words (codes "seqx") count.word.word first.word.word step.word ws n.value.1 a.value.1 b.value.1 count.word.are first.word.are step.are (is_end b.value.1 d.value d.first),
-      count.word.says, first.word.says, step.says, count.fits, first.fits, not-false _ (not_refused _ _ c.value c.first),
+      count.word.says,
+      first.word.says,
+      step.says,
+      count.fits,
+      first.fits,
+      not-false _ (not_refused _ _ c.value c.first),
       sym (same_ok (pattern_values ns.value) vs ns.rest) ∙ ap pattern_values (sym (same_ok (pattern_sequence a.value.0 b.value.0 n.value.0) ns.value d.rest)),
     )
 
