@@ -1,5 +1,5 @@
 -- How long the text of a made script is, and that words can express it.
-use Rattle.std.proofs.Common.{◌≡◌, ◌∙◌, ℕ, zero, suc, ◌+◌, ◌-◌, ◌*◌, ◌^◌, ◌≤◌, ◌<◌, List, [], ◌∷◌, ◌++◌, map, length, Bool, true, not, nat_lt, refl, sym, ap, subst, length-append, arith, codes, decimal}
+use Rattle.std.proofs.Common.{◌≡◌, ◌∙◌, ℕ, zero, suc, ◌+◌, ◌-◌, ◌*◌, ◌^◌, ◌≤◌, ◌<◌, List, [], ◌∷◌, ◌++◌, map, length, Bool, true, not, nat_lt, refl, ap, subst, length-append, arith, codes, decimal}
 use Rattle.std.specs.Prelude.{ℤ, pos, neg_ℤ, ◌<ℤ◌, negsuc, unsigned_abs}
 use Rattle.std.specs.Fmt.{signed_decimal}
 use Rattle.std.specs.List.{enumerate_from, flat_map, list_all, range_with_len}
@@ -17,9 +17,9 @@ use Rattle.nc_base.specs.declared.request.Given.{Given}
 use Rattle.nc_base.specs.declared.request.PostKind.TheVariants.{Bput}
 use Rattle.nc_base.specs.declared.request.Values.TheVariants.{Bits, Numbers}
 use Rattle.serial_spec.specs.Lawful.{is_empty}
-use Rattle.script_spec.specs.Generator.{block, first_row, precip_at, temp_at}
+use Rattle.script_spec.specs.Generator.{first_row, precip_at, temp_at}
 use Rattle.script_spec.specs.Texts.{call_word, hex, line}
-use Rattle.script_spec.specs.Shown.{call_words, region_words, shown_call, shown_values, size_list}
+use Rattle.script_spec.specs.Shown.{call_words, region_words, shown_call, shown_values}
 use Rattle.script_text.specs.Expressible.{is_expressible_call}
 use Rattle.generated_run.specs.Made.{calls_of_rank, calls_of_record, columns_of, precip_band, region_of_band, temp_band}
 use Rattle.generated_run.proofs.CallLaws.{rank_is, record_is}

@@ -1,5 +1,5 @@
 -- What is printed of a made script is read as that script.
-use Rattle.std.proofs.Common.{◌≡◌, ◌∙◌, ℕ, ◌+◌, ◌*◌, ◌≤◌, ◌<◌, List, [], ◌∷◌, ◌++◌, map, sum, length, true, false, nat_le, refl, subst, length-append, arith, codes, decimal}
+use Rattle.std.proofs.Common.{◌≡◌, ℕ, ◌+◌, ◌≤◌, ◌<◌, List, [], ◌∷◌, ◌++◌, map, length, true, false, nat_le, refl, subst, length-append, arith, codes, decimal}
 use Rattle.std.specs.Fmt.{digits}
 use Rattle.std.specs.List.{enumerate_from, list_all, range_with_len}
 use Rattle.std.proofs.lemmas.Bool.{leb-true}
@@ -17,7 +17,7 @@ use Rattle.generated_run.proofs.LawfulLaws.{made_lawful}
 use Rattle.generated_run.proofs.MadeLaws.{script_is}
 use Rattle.generated_run.proofs.RankLaws.{rank_long}
 use Rattle.generated_run.proofs.Ranges.{range_passes, sum_within}
-use Rattle.made_text.proofs.MadeLengths.{Between, rank_expressible, ranks_long, ranks_text}
+use Rattle.made_text.proofs.MadeLengths.{rank_expressible, ranks_long, ranks_text}
 
 abbrev all_calls : ℕ → ℕ → List (List Call)
 all_calls seed size = map (λ r. calls_of_rank seed size r) (range_with_len 0 8)

@@ -1,14 +1,11 @@
 -- The words of calls that are read spell them, and each rank has the calls of its lines.
-use Rattle.std.proofs.Common.{◌≡◌, ◌∙◌, ℕ, zero, suc, ◌+◌, ◌-◌, ◌<◌, List, [], ◌∷◌, ◌++◌, map, find, take, drop, length, replicate, Bool, true, false, cond, nat_lt, ◌==◌, Option, Some, None, option_map, slice_set, Result, Ok, Err, refl, sym, ap, subst, append_assoc, append-nil, arith, bytes_eq, codes}
-use Rattle.std.specs.List.{AllZip, list_all, range_with_len}
-use Rattle.std.proofs.lemmas.Bool.{and_from, cond-true, cond-false}
+use Rattle.std.proofs.Common.{◌≡◌, ◌∙◌, ℕ, ◌+◌, ◌-◌, List, [], ◌∷◌, ◌++◌, take, drop, length, Bool, true, false, cond, Option, Some, None, option_map, Result, Ok, Err, refl, sym, ap, subst, append-nil, bytes_eq, codes}
 use Rattle.std.proofs.lemmas.List.{take-append-drop}
 use Rattle.std.proofs.lemmas.Option.{cond_some}
 use Rattle.list_laws.proofs.Maps.{found_passes}
 use Rattle.script_spec.proofs.TextLaws.{faultless_some}
 use Rattle.nc_base.specs.declared.errors.ScriptKind.{ScriptKind}
 use Rattle.nc_base.specs.declared.errors.ScriptKind.TheVariants as kind
-use Rattle.nc_base.specs.declared.errors.ScriptErr.{ScriptErr}
 use Rattle.nc_base.specs.declared.request.Values.{Values}
 use Rattle.nc_base.specs.declared.request.Values.TheVariants.{Numbers}
 use Rattle.nc_base.specs.declared.request.Form.{Form}
@@ -20,16 +17,16 @@ use Rattle.nc_base.specs.declared.request.Given.{Given}
 use Rattle.nc_base.specs.declared.request.Call.{Call}
 use Rattle.nc_base.specs.declared.request.Call.TheVariants as call
 use Rattle.script_spec.specs.Texts.{call_word, form_word, kind_word, with_all}
-use Rattle.script_spec.specs.ScriptWords.{Word, Plain, Quoted, Broken, is_word, begins_rank, digits_value, is_name, size_of_text}
-use Rattle.script_spec.specs.ScriptSteps.{◌>>=◌, refuse_if, or_fault, bare, next, reads_as, size, name, ended, whole}
+use Rattle.script_spec.specs.ScriptWords.{Word, Plain, Quoted, Broken, is_word}
+use Rattle.script_spec.specs.ScriptSteps.{◌>>=◌, refuse_if, or_fault, reads_as, size, name, ended, whole}
 use Rattle.script_spec.specs.ScriptValues.{values}
-use Rattle.script_spec.specs.ScriptCalls.{after_prefix, before_suffix, forms, form_of_text, form_and_all, region, id_of_text, one_id, ids, choice, posted, is_posted, new_id, put_call, get_call, post_values, post_call, fill_call, attach_call, inquiry, lone_calls, lone_call, other_call, plain_call, post_of_text, call_of}
-use Rattle.script_text.proofs.Steps.{went, same_ok, not_refused, is_end, whole_value, carried}
+use Rattle.script_spec.specs.ScriptCalls.{after_prefix, before_suffix, forms, form_of_text, form_and_all, region, id_of_text, one_id, ids, choice, posted, is_posted, new_id, put_call, get_call, post_values, post_call, fill_call, attach_call, inquiry, lone_call, other_call, plain_call, post_of_text, call_of}
+use Rattle.script_text.proofs.Steps.{went, same_ok, is_end, whole_value, carried}
 use Rattle.script_text.proofs.Places.{bytes_same}
-use Rattle.script_spelling.specs.SpelledValues.{SpellsOne, Each, SpellsRegion, SpellsValues}
+use Rattle.script_spelling.specs.SpelledValues.{Each}
 use Rattle.script_spelling.specs.SpelledCalls.{SpellsPosted, SpellsChoice, SpellsPlace, SpellsCall}
-use Rattle.script_spelling.proofs.WordsRead.{some_of_map, WordRead, word_is, one_is, NameRead, name_is, size_is}
-use Rattle.script_spelling.proofs.ValuesRead.{EachRead, each_on, values_spelled, RegionRead, region_spelled, region_of_form}
+use Rattle.script_spelling.proofs.WordsRead.{some_of_map, WordRead, word_is, one_is, name_is, size_is}
+use Rattle.script_spelling.proofs.ValuesRead.{EachRead, each_on, values_spelled, region_spelled, region_of_form}
 
 -- ---- the words of calls
 

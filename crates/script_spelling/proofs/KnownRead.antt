@@ -1,7 +1,7 @@
 -- Each line between the head and `data` says a statement, and what is known at `data` is what the statements say.
-use Rattle.std.proofs.Common.{◌≡◌, ◌⊎◌, ◌∙◌, ℕ, suc, ◌+◌, ◌<◌, List, [], ◌∷◌, ◌++◌, map, position, length, replicate, Bool, true, false, not, cond, ◌==◌, Option, Some, None, is_some, slice_get, slice_set, Result, Ok, Err, refl, sym, ap, subst, ⊎_elim, append_assoc, append-nil, length-set, arith, bytes_eq, codes}
+use Rattle.std.proofs.Common.{◌≡◌, ◌⊎◌, ◌∙◌, ℕ, ◌+◌, ◌<◌, List, [], ◌∷◌, ◌++◌, map, position, length, Bool, true, false, not, cond, ◌==◌, Option, Some, None, is_some, slice_set, Result, Ok, Err, refl, sym, ap, subst, ⊎_elim, append_assoc, append-nil, length-set, arith, bytes_eq, codes}
 use Rattle.std.specs.List.{AllZip, list_any}
-use Rattle.std.proofs.lemmas.Bool.{cond-true, cond-false, eqb-true, or_left, or_right}
+use Rattle.std.proofs.lemmas.Bool.{eqb-true, or_left, or_right}
 use Rattle.list_laws.proofs.Truth.{equal_true}
 use Rattle.list_laws.proofs.Places.{entry_below, entry_set, entry_set_other, position_below}
 use Rattle.script_spec.proofs.TextLaws.{faultless_some}
@@ -11,20 +11,19 @@ use Rattle.nc_base.specs.declared.errors.ScriptErr.{ScriptErr}
 use Rattle.nc_base.specs.declared.header.Dim.{Dim}
 use Rattle.nc_base.specs.declared.header.Attr.{Attr}
 use Rattle.nc_base.specs.declared.header.Var.{Var}
-use Rattle.nc_base.specs.declared.script.Extra.{Extra}
 use Rattle.nc_base.specs.declared.script.Extra.TheVariants as extra
 use Rattle.script_spec.specs.ScriptWords.{Word, Plain, Quoted, Broken, Line}
-use Rattle.script_spec.specs.ScriptSteps.{◌>>=◌, refuse_if, or_fault, bare, reads_as, ended, whole}
-use Rattle.script_spec.specs.ScriptDefinitions.{is_among, dim_ids, hint_forms, hint_of_text, hint_in, hint_line, ranks_line, dim_line, var_head, var_line, var_names, owner_of_text, owner_name, owner_place, Title, same_title, attribute, Defined, with_dim, with_var, with_title, with_attr, with_attr_at, att_line, dim_definition, var_definition, fill_line, definition, added_shape, Added, dim_addition, var_addition, att_addition, addition, Known, nothing_known, definition_or_addition, known_after}
+use Rattle.script_spec.specs.ScriptSteps.{◌>>=◌, refuse_if, or_fault, reads_as, ended}
+use Rattle.script_spec.specs.ScriptDefinitions.{is_among, dim_ids, hint_forms, hint_in, hint_line, ranks_line, dim_line, var_head, var_line, var_names, owner_of_text, owner_name, owner_place, Title, same_title, attribute, Defined, with_dim, with_var, with_title, with_attr, with_attr_at, att_line, dim_definition, var_definition, fill_line, definition, added_shape, Added, dim_addition, var_addition, att_addition, addition, Known, definition_or_addition, known_after}
 use Rattle.script_spec.specs.ScriptGrammar.{at_line, data_line, definition_step, definitions}
 use Rattle.script_text.proofs.Steps.{went, same_ok, not_refused, is_end, whole_value}
 use Rattle.script_text.proofs.Places.{Later, bytes_same, more_ids, place_cases}
 use Rattle.script_text.proofs.CallLines.{line_ok}
-use Rattle.script_text.proofs.DefinedChains.{pushes, push_attr}
-use Rattle.script_spelling.specs.Statements.{VarLine, Statement, RanksAre, HintIs, IsFilled, DimIs, VarIs, AttIs, owner_word, IsOwner, Says, DimStands, VarStands, OwnerStands, title_of, Stand}
+use Rattle.script_text.proofs.DefinedChains.{pushes}
+use Rattle.script_spelling.specs.Statements.{VarLine, Statement, RanksAre, HintIs, IsFilled, DimIs, VarIs, AttIs, owner_word, IsOwner, Says, title_of, Stand}
 use Rattle.script_spelling.specs.Described.{ranks_in, hint_values, fills_in, dims_in, vars_in, own_attrs, attrs_of, extras_in, at_most_one}
-use Rattle.script_spelling.proofs.LinesRead.{ranks_said, HintSaid, hint_said, dim_said, VarSaid, var_said, LineSaid, added_said, OwnerSaid, owner_said, AttrSaid, attr_said}
-use Rattle.script_spelling.proofs.GrownVars.{are_apart, apart_pushed, names_pushed, names_kept, line_names, later_names, GrownVars, none_grown, IsBare, var_first, first_of, attr_first}
+use Rattle.script_spelling.proofs.LinesRead.{ranks_said, hint_said, dim_said, var_said, added_said, owner_said, attr_said}
+use Rattle.script_spelling.proofs.GrownVars.{are_apart, apart_pushed, names_pushed, names_kept, later_names, GrownVars, none_grown, var_first, attr_first}
 use Rattle.script_spelling.proofs.CallLinesRead.{words_of}
 
 -- ---- what later statements add to what is known

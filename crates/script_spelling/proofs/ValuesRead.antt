@@ -1,6 +1,5 @@
 -- The words of values and regions that are read spell them.
-use Rattle.std.proofs.Common.{◌≡◌, ◌∙◌, ℕ, zero, suc, ◌+◌, ◌<◌, List, [], ◌∷◌, ◌++◌, flat_map, length, Bool, true, false, not, nat_lt, ◌==◌, ◌&&◌, Option, Some, None, Result, Ok, Err, ℤ, refl, sym, ap, subst, append_assoc, append-nil, arith, bytes_eq, codes}
-use Rattle.std.specs.List.{AllZip}
+use Rattle.std.proofs.Common.{◌≡◌, ◌∙◌, ℕ, zero, suc, ◌+◌, ◌<◌, List, [], ◌∷◌, ◌++◌, flat_map, length, Bool, true, false, not, nat_lt, ◌==◌, ◌&&◌, Option, Some, None, Result, Ok, ℤ, refl, sym, ap, subst, append_assoc, append-nil, arith, bytes_eq, codes}
 use Rattle.std.proofs.lemmas.Bool.{and_from, lt-ltb}
 use borrow.Author.Tests.{not-false}
 use Rattle.nc_base.specs.declared.errors.ScriptKind.{ScriptKind}
@@ -22,7 +21,7 @@ use Rattle.script_spec.specs.ScriptValues.{within_limits, are_numbers, are_patte
 use Rattle.script_spec.specs.ScriptCalls.{given_of, given_parts, part, part_list, many_regions, region}
 use Rattle.script_text.proofs.Steps.{went, same_ok, not_refused, is_end, carried}
 use Rattle.script_text.proofs.Places.{bytes_same}
-use Rattle.script_spelling.specs.SpelledValues.{SpellsOne, Each, SpellsSequence, SpellsBitSequence, SpellsValues, OfNothing, OfText, OfNumbers, OfBits, OfSequence, OfBitSequence, lists_of, SpellsForm, SpellsRegion}
+use Rattle.script_spelling.specs.SpelledValues.{SpellsOne, Each, SpellsSequence, SpellsBitSequence, SpellsValues, OfNothing, OfText, OfNumbers, OfBits, OfSequence, OfBitSequence, SpellsForm, SpellsRegion}
 use Rattle.script_spelling.proofs.WordsRead.{WordRead, word_is, one_is, size_is, list_is}
 
 -- ---- values that are written out

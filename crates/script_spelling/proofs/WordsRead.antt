@@ -1,11 +1,11 @@
 -- Words that are read stand as they are.
-use Rattle.std.proofs.Common.{◌≡◌, ◌∙◌, ℕ, List, [], ◌∷◌, Bool, true, false, cond, Option, Some, None, option_map, Result, Ok, Err, refl, ap, subst, sym}
+use Rattle.std.proofs.Common.{◌≡◌, ◌∙◌, ℕ, List, [], ◌∷◌, true, Option, Some, None, option_map, Ok, refl, ap, subst}
 use Rattle.std.proofs.lemmas.Option.{cond_some}
 use Rattle.script_spec.proofs.TextLaws.{faultless_some}
 use Rattle.nc_base.specs.declared.errors.ScriptKind.{ScriptKind}
 use Rattle.nc_base.specs.declared.errors.ScriptKind.TheVariants as kind
 use Rattle.script_spec.specs.ScriptWords.{Word, Plain, Quoted, Broken, is_name, size_of_text, list_of_text}
-use Rattle.script_spec.specs.ScriptSteps.{◌>>=◌, or_fault, bare, next, reads_as, size, list, name, name_of_text}
+use Rattle.script_spec.specs.ScriptSteps.{◌>>=◌, or_fault, bare, reads_as, size, list, name, name_of_text}
 use Rattle.script_text.proofs.Steps.{went, same_ok}
 use Rattle.script_spelling.specs.SpelledValues.{SpellsOne}
 

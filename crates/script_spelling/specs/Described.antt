@@ -1,9 +1,8 @@
 -- The script of which statements and calls tell. (own)
 --     Describes ss called script    its parts are those that these say, in the order of their lines
-use Rattle.std.specs.Prelude.{◌≡◌, ◌<◌, ℕ, suc, List, [], ◌∷◌, map, Bool, true, false, ◌==◌, if◌then◌else◌, Option, Some, None, bytes_eq}
+use Rattle.std.specs.Prelude.{◌≡◌, ℕ, suc, List, [], ◌∷◌, map, Bool, true, false, ◌==◌, if◌then◌else◌, Option, Some, None, bytes_eq}
 use Rattle.std.specs.List.{AllZip, filter_map, list_all, range_with_len}
 use Rattle.std.specs.Prelude.{nat_lt}
-use Rattle.nc_base.specs.declared.header.Header.{Header}
 use Rattle.nc_base.specs.declared.header.Dim.{Dim}
 use Rattle.nc_base.specs.declared.header.Attr.{Attr}
 use Rattle.nc_base.specs.declared.header.Var.{Var}

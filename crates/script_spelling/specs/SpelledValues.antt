@@ -2,7 +2,7 @@
 --     Each f words xs           the words, one by one, spell these
 --     SpellsValues t words vs   the words spell the values of an attribute of this type, or of a call
 --     SpellsRegion words given  the words spell the region
-use Rattle.std.specs.Prelude.{◌≡◌, ◌<◌, ℕ, List, [], ◌∷◌, flat_map, length, Bool, true, Option, Some, ℤ, codes}
+use Rattle.std.specs.Prelude.{◌≡◌, ◌<◌, ℕ, List, [], ◌∷◌, flat_map, length, true, Option, Some, ℤ, codes}
 use Rattle.std.specs.List.{AllZip}
 use Rattle.nc_base.specs.declared.header.NcType.{NcType}
 use Rattle.nc_base.specs.declared.request.Values.{Values}

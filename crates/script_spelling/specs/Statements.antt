@@ -1,7 +1,7 @@
 -- What a line between the head and `data` says, and what may be said after what. (own)
 --     Says version words s      the words of a line of a script for this version say the statement
 --     Stand opened .. ss        the statements may stand behind what was named before them
-use Rattle.std.specs.Prelude.{◌≡◌, ◌<◌, ◌≤◌, ℕ, List, [], ◌∷◌, ◌++◌, drop, length, Bool, true, false, ◌&&◌, ◌==◌, if◌then◌else◌, Option, Some, None, codes}
+use Rattle.std.specs.Prelude.{◌≡◌, ◌<◌, ◌≤◌, ℕ, List, [], ◌∷◌, ◌++◌, drop, length, Bool, true, false, ◌&&◌, Option, Some, None, codes}
 use Rattle.std.specs.List.{list_any, list_all}
 use Rattle.nc_base.specs.declared.header.NcType.{NcType}
 use Rattle.nc_base.specs.declared.header.Dim.{Dim}

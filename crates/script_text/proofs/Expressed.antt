@@ -1,5 +1,5 @@
 -- A lawful script that words can express is read from what is printed of it.
-use Rattle.std.proofs.Common.{◌≡◌, ◌∙◌, ℕ, zero, suc, ◌+◌, ◌*◌, ◌/◌, ◌%◌, ◌^◌, ◌≤◌, List, [], ◌∷◌, ◌++◌, find, map, position, sum, length, length-append, codes, Bool, true, false, not, cond, nat_le, ◌==◌, ◌&&◌, Option, Some, None, is_some, option_map, slice_get, refl, sym, ap, subst, arith, bytes_eq}
+use Rattle.std.proofs.Common.{◌≡◌, ◌∙◌, ℕ, zero, suc, ◌+◌, ◌*◌, ◌/◌, ◌%◌, ◌^◌, ◌≤◌, List, [], ◌∷◌, ◌++◌, find, map, sum, length, length-append, codes, Bool, true, false, not, cond, nat_le, ◌==◌, ◌&&◌, Option, Some, None, is_some, option_map, refl, sym, ap, subst, arith, bytes_eq}
 use Rattle.std.specs.List.{list_all, range_with_len, enumerate_from}
 use Rattle.std.proofs.lemmas.Bool.{and_parts, and_from, cond-false, cond-true, eqb-true, eq-eqb, leb-true, ne_eqb}
 use Rattle.std.proofs.lemmas.List.{length-map}
@@ -17,17 +17,17 @@ use Rattle.nc_base.specs.declared.step.MeetKind.{MeetKind}
 use Rattle.serial_spec.specs.Limits.{most_dims, most_vars}
 use Rattle.serial_spec.specs.HeaderGrammar.{is_version}
 use Rattle.serial_spec.specs.History.{kinds, kind_number}
-use Rattle.serial_spec.specs.Lawful.{added_dims, added_vars, agree, are_different, are_lawful_hints, is_alignment, is_empty, is_lawful, is_lawful_call, is_lawful_dim, is_lawful_extra, is_lawful_header, is_lawful_var, is_within, kind_numbers, most_calls, most_ranks, most_values, posted_ids, values_in_call, values_in_script}
+use Rattle.serial_spec.specs.Lawful.{added_dims, added_vars, agree, are_different, are_lawful_hints, is_alignment, is_empty, is_lawful, is_lawful_call, is_lawful_dim, is_lawful_extra, is_lawful_header, is_lawful_var, is_within, kind_numbers, most_calls, most_ranks, most_values, posted_ids, values_in_script}
 use Rattle.script_spec.specs.Shown.{shown}
 use Rattle.script_spec.specs.ScriptWords.{Word, Plain}
 use Rattle.script_spec.specs.ScriptDefinitions.{Within}
-use Rattle.script_spec.specs.ScriptCalls.{kind_at, differs_at, is_difference, first_difference, mismatch}
+use Rattle.script_spec.specs.ScriptCalls.{kind_at, differs_at, is_difference, mismatch}
 use Rattle.script_spec.specs.ScriptGrammar.{Reads, most_bytes, most_lines}
 use Rattle.script_text.specs.Expressible.{is_expressible, is_expressible_call, is_expressible_header, printed_lines}
 use Rattle.script_text.proofs.Lines.{empty_list}
 use Rattle.script_text.proofs.PrintedDefinitions.{is_value_of}
 use Rattle.script_text.proofs.Places.{position_cons}
-use Rattle.script_text.proofs.CallLines.{call_tokens_of, own_lines, call_lines, count_all, DataEnd}
+use Rattle.script_text.proofs.CallLines.{call_tokens_of, own_lines, call_lines, DataEnd}
 use Rattle.script_text.proofs.DefinedLines.{line_of_dim, line_of_var, line_of_att, lines_of_own, definition_lines}
 use Rattle.script_text.proofs.KnownLines.{hint_tokens, HintsFit}
 use Rattle.script_text.proofs.ExpressedDefinitions.{defined_of, header_told, no_attributes}

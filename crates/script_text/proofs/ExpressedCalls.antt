@@ -1,7 +1,7 @@
 -- Calls that words can express, printed rank by rank, are read again.
-use Rattle.std.proofs.Common.{◌≡◌, ◌∙◌, ℕ, zero, suc, ◌+◌, ◌^◌, ◌≤◌, ◌<◌, List, [], ◌∷◌, ◌++◌, map, sum, length, Bool, true, false, not, nat_lt, nat_le, ◌==◌, ◌&&◌, ◌||◌, None, ℤ, refl, sym, ap, subst, append_assoc, arith}
+use Rattle.std.proofs.Common.{◌≡◌, ◌∙◌, ℕ, ◌+◌, ◌^◌, ◌≤◌, ◌<◌, List, [], ◌∷◌, ◌++◌, map, sum, length, true, false, not, nat_lt, nat_le, ◌==◌, ◌&&◌, ◌||◌, None, refl, sym, subst, append_assoc, arith}
 use Rattle.std.specs.List.{list_all, list_any, enumerate_from}
-use Rattle.std.proofs.lemmas.Bool.{and_parts, and_from, or_parts, or_from, not-true, ne_eqb, eqb-true, ltb-true, leb-true, lt-ltb, le-ltb}
+use Rattle.std.proofs.lemmas.Bool.{and_parts, and_from, or_parts, or_from, not-true, eqb-true, ltb-true, leb-true}
 use Rattle.std.proofs.lemmas.List.Elements.{filter_map-append}
 use Rattle.std.proofs.lemmas.List.Folds.{list_any-append}
 use Rattle.std.proofs.lemmas.List.Sums.{sum_by-cons}
@@ -9,19 +9,16 @@ use Rattle.nc_base.specs.declared.request.Values.{Values}
 use Rattle.nc_base.specs.declared.request.Values.TheVariants.{Numbers, Text, Bits}
 use Rattle.nc_base.specs.declared.request.PostKind.{PostKind}
 use Rattle.nc_base.specs.declared.request.PostKind.TheVariants.{Iput, Iget, Bput}
-use Rattle.nc_base.specs.declared.request.Choice.{Choice}
-use Rattle.nc_base.specs.declared.request.Choice.TheVariants.{Every, Listed}
 use Rattle.nc_base.specs.declared.request.Call.{Call}
 use Rattle.nc_base.specs.declared.request.Call.TheVariants as call
 use Rattle.serial_spec.specs.Limits.{most_elements}
 use Rattle.serial_spec.specs.Lawful.{are_values, are_different, id_posted, is_given, is_lawful_call, is_nothing, is_number, is_post_of, is_empty, posted_ids, values_in_call}
 use Rattle.script_spec.specs.ScriptWords.{is_name}
 use Rattle.script_spec.specs.ScriptCalls.{posted, is_posted}
-use Rattle.script_text.specs.Expressible.{are_expressible_values, is_expressible_choice, is_expressible_call, is_id}
-use Rattle.script_text.proofs.Lexing.{is_byte}
+use Rattle.script_text.specs.Expressible.{are_expressible_values, is_expressible_call, is_id}
 use Rattle.script_text.proofs.Lines.{all_more}
 use Rattle.script_text.proofs.Sequences.{is_fit_number, is_fit_pattern}
-use Rattle.script_text.proofs.PrintedValues.{AreFit, HasRoom, Fitting}
+use Rattle.script_text.proofs.PrintedValues.{HasRoom, Fitting}
 use Rattle.script_text.proofs.PrintedRegions.{region_told, choice_told}
 use Rattle.script_text.proofs.PrintedCalls.{CallAgain, PostedAgain, put_same, get_same, post_same, put_values, nothing_posted, choice_same, attach_same, inquiry_same, fill_same, lone_same}
 use Rattle.script_text.proofs.CallLines.{Chain, Chains, count, count_all}
