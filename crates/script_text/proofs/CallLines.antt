@@ -37,7 +37,7 @@ chain_pushed : (ranks r : ℕ) (own cs : List Call) (c : Call) → Chain ranks r
 chain_pushed ranks r own [] c h k = (subst (λ xs. CallAgain ranks r xs c) (append-nil own) k, tt)
 chain_pushed ranks r own (x ∷ cs) c h k = (h.0, chain_pushed ranks r (own ++ x ∷ []) cs c h.1 (subst (λ xs. CallAgain ranks r xs c) (sym (append_assoc own (x ∷ []) cs)) k))
 
-abbrev count : List Call → ℕ
+abbrev pub count : List Call → ℕ
 count [] = 0
 count (c ∷ cs) = values_in_call c + count cs
 
@@ -149,10 +149,10 @@ data_holds ranks v past (l ∷ lines) d r holds read h = by (at_line l.number (c
 
 -- ---- printed lines of calls
 
-abbrev call_tokens_of : ℕ → Call → List Word
+abbrev pub call_tokens_of : ℕ → Call → List Word
 call_tokens_of r c = Plain (decimal r) ∷ Plain (call_word c) ∷ call_tokens c
 
-abbrev own_lines : ℕ → List Call → List (List Word)
+abbrev pub own_lines : ℕ → List Call → List (List Word)
 own_lines r cs = map (call_tokens_of r) cs
 
 abbrev pub call_lines : ℕ → List (List Call) → List (List Word)

@@ -16,4 +16,7 @@ pub mod DefinedLines
 pub mod ReadWords
 pub mod KnownLines
 pub mod Whole
+pub mod ExpressedDefinitions
+pub mod ExpressedCalls
+pub mod Expressed
 pub mod PrintingLaws

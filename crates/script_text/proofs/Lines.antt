@@ -11,6 +11,7 @@ use Rattle.std.specs.List.{All, list_all, slice_split, enumerate_from}
 use Rattle.std.specs.Str.{is_utf8}
 use Rattle.std.specs.Str.Lossy.{valid_len_up_to, utf8_valid_len}
 use lib.Utf8.{scalar, scalars, encode, encodes, scalar_cases, next}
+use Rattle.serial_spec.specs.Lawful.{is_empty}
 use Rattle.script_spec.proofs.TextLaws.{first_line_kept}
 use Rattle.script_spec.specs.Texts.{text_char, hex_digit, joined, line}
 use Rattle.script_spec.specs.ScriptWords.{Word, Plain, Quoted, Broken, Line, words, is_comment, is_newline, line_of, significant, significant_of, text_lines, without_empty_end}
@@ -26,6 +27,10 @@ all_more p q more (x ∷ xs) h =
 
 pub all_joined : {A : Type 0} (p : A → Bool) (xs ys : List A) → list_all p xs ≡ true → list_all p ys ≡ true → list_all p (xs ++ ys) ≡ true
 all_joined p xs ys a b = list_all-append p xs ys ∙ and_from _ _ a b
+
+pub empty_list : {A : Type 0} (xs : List A) → is_empty xs ≡ true → xs ≡ []
+empty_list [] h = refl
+empty_list (x ∷ xs) h = absurd (cc)
 
 -- ---- bytes that are printed
 
@@ -94,7 +99,7 @@ abbrev pub is_line : List Word → Bool
 is_line [] = false
 is_line (w ∷ ws) = not (is_comment w) && list_all is_good (w ∷ ws)
 
-abbrev body : List Word → List ℕ
+abbrev pub body : List Word → List ℕ
 body ws = joined 32 (map spelling ws)
 
 abbrev pub spelled : List Word → List ℕ

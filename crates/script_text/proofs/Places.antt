@@ -110,7 +110,7 @@ zipped_to f [] (y ∷ ys) h = absurd h
 zipped_to f (x ∷ xs) [] h = absurd h
 zipped_to {A} {B} f (x ∷ xs) (y ∷ ys) h = ap (λ (o : Option B). all_some (o ∷ map f xs)) h.0 ∙ ap (option_map (λ zs. y ∷ zs)) (zipped_to f xs ys h.1)
 
-abbrev place_in : List Dim → List ℕ → Option ℕ
+abbrev pub place_in : List Dim → List ℕ → Option ℕ
 place_in dims n = position (bytes_eq n) (dim_names dims)
 
 names_zipped : (dims : List Dim) (ns : List (List ℕ)) (ids : List ℕ) → Zipped (place_in dims) ns ids → map (name_at dims) ids ≡ ns
@@ -124,7 +124,7 @@ names_zipped dims (n ∷ ns) (i ∷ ids) h =
 pub names_shown : (dims : List Dim) (ns : List (List ℕ)) (ids : List ℕ) → dim_ids dims ns ≡ Some ids → map (name_at dims) ids ≡ ns
 names_shown dims ns ids h = names_zipped dims ns ids (zipped_from (place_in dims) ns ids h)
 
-joined_names : (dims more : List Dim) → dim_names (dims ++ more) ≡ dim_names dims ++ dim_names more
+pub joined_names : (dims more : List Dim) → dim_names (dims ++ more) ≡ dim_names dims ++ dim_names more
 joined_names [] more = refl
 joined_names (d ∷ dims) more = ap (λ (xs : List (List ℕ)). d.name ∷ xs) (joined_names dims more)
 
@@ -139,12 +139,22 @@ more_zipped dims more (n ∷ ns) (i ∷ ids) h =
 pub more_ids : (dims more : List Dim) (ns : List (List ℕ)) (ids : List ℕ) → dim_ids dims ns ≡ Some ids → dim_ids (dims ++ more) ns ≡ Some ids
 more_ids dims more ns ids h = zipped_to (place_in (dims ++ more)) ns ids (more_zipped dims more ns ids (zipped_from (place_in dims) ns ids h))
 
-length_names : (dims : List Dim) → length (dim_names dims) ≡ length dims
+pub length_names : (dims : List Dim) → length (dim_names dims) ≡ length dims
 length_names [] = refl
 length_names (d ∷ dims) = ap suc (length_names dims)
 
-abbrev are_within : List Dim → List ℕ → Bool
+abbrev pub are_within : List Dim → List ℕ → Bool
 are_within dims ids = list_all (λ id. nat_lt id (length dims)) ids
+
+zipped_names : (dims : List Dim) (ids : List ℕ) → ((k : ℕ) → k < length dims → place_in dims (name_at dims k) ≡ Some k) → are_within dims ids ≡ true → Zipped (place_in dims) (map (name_at dims) ids) ids
+zipped_names dims [] each low = tt
+zipped_names dims (i ∷ ids) each low =
+    let both = and_parts (nat_lt i (length dims)) (are_within dims ids) low in
+    (each i (ltb-true i (length dims) both.0), zipped_names dims ids each both.1)
+
+-- the dimensions of these places, by their names
+pub ids_found : (dims : List Dim) (ids : List ℕ) → ((k : ℕ) → k < length dims → place_in dims (name_at dims k) ≡ Some k) → are_within dims ids ≡ true → dim_ids dims (map (name_at dims) ids) ≡ Some ids
+ids_found dims ids each low = zipped_to (place_in dims) (map (name_at dims) ids) ids (zipped_names dims ids each low)
 
 within_zipped : (dims : List Dim) (ns : List (List ℕ)) (ids : List ℕ) → Zipped (place_in dims) ns ids → are_within dims ids ≡ true
 within_zipped dims [] [] h = refl

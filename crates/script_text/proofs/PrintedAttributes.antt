@@ -69,8 +69,11 @@ type_known version (Some s) t h = by (nat_le (number_of s) (last_type version)) 
     by true e k = let same : s ≡ t = cc in subst (λ x. nat_le (number_of x) (last_type version) ≡ true) same e
     by false e k = absurd (cc)
 
+pub type_told : (version : ℕ) (t : NcType) → nat_le (number_of t) (last_type version) ≡ true → type_of version (type_word t) ≡ Some t
+type_told version t h = ap (type_by version) (find_type t) ∙ cond-true _ _ _ h
+
 pub type_again : (version : ℕ) (w : List ℕ) (t : NcType) → type_of version w ≡ Some t → type_of version (type_word t) ≡ Some t
-type_again version w t h = ap (type_by version) (find_type t) ∙ cond-true _ _ _ (type_known version (find (λ s. bytes_eq w (type_word s)) types) t h)
+type_again version w t h = type_told version t (type_known version (find (λ s. bytes_eq w (type_word s)) types) t h)
 
 pub type_read : (version : ℕ) (ws : List Word) (r : NcType × List Word) → reads_as (type_of version) kind.UnknownWord ws ≡ Ok r → type_of version (type_word r.0) ≡ Some r.0
 type_read version ws r h = let w = read_word (type_of version) kind.UnknownWord ws r h in type_again version w.0 r.0 w.1

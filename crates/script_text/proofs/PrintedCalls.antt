@@ -11,6 +11,7 @@ use Rattle.nc_base.specs.declared.request.Form.TheVariants as form
 use Rattle.nc_base.specs.declared.request.Given.{Given}
 use Rattle.nc_base.specs.declared.request.PostKind.{PostKind}
 use Rattle.nc_base.specs.declared.request.PostKind.TheVariants.{Iput, Iget, Bput}
+use Rattle.nc_base.specs.declared.request.Choice.{Choice}
 use Rattle.nc_base.specs.declared.request.Call.{Call}
 use Rattle.nc_base.specs.declared.request.Call.TheVariants as call
 use Rattle.serial_spec.specs.Lawful.{most_values, values_in_call}
@@ -26,7 +27,7 @@ use Rattle.script_text.proofs.Lexing.{spelling, is_plain, is_good}
 use Rattle.script_text.proofs.Lines.{all_joined}
 use Rattle.script_text.proofs.Numerals.{name_plain, size_plain}
 use Rattle.script_text.proofs.PrintedValues.{value_tokens, values_spelled, is_read, Fitting, values_fit, values_again, values_good}
-use Rattle.script_text.proofs.PrintedRegions.{kept, name_read, name_again, size_read, size_word, region_tokens, region_spelled, RegionAgain, region_again, region_kept, id_bound, id_again, id_plain, choice_tokens, choice_spelled, choice_read}
+use Rattle.script_text.proofs.PrintedRegions.{kept, name_read, name_again, size_read, size_word, region_tokens, region_spelled, RegionAgain, region_again, region_kept, id_bound, id_again, id_plain, choice_tokens, choice_spelled, ChoiceAgain, choice_read}
 
 -- ---- calls as they are printed
 
@@ -194,7 +195,7 @@ no_values ranks r own before c low none again = record { same = again; few = ome
 fitting_at : (vs : Values) (before now : ℕ) → Fitting None before vs → now + count_of vs ≤ most_values → Fitting None now vs
 fitting_at vs before now fit low = record { are = fit.are; room = record { all = low; own = fit.room.own } }
 
-put_same : (ranks r : ℕ) (own : List Call) (all : Bool) (n : List ℕ) (f : Form) (g : Given) (before : ℕ) (vs : Values)
+pub put_same : (ranks r : ℕ) (own : List Call) (all : Bool) (n : List ℕ) (f : Form) (g : Given) (before : ℕ) (vs : Values)
     → is_name n ≡ true → RegionAgain f g → Fitting None before vs → CallAgain ranks r own (call.Put all n g vs)
 put_same ranks r own all n f g before vs hn hg hv =
     let region_of = subst (λ k. RegionAgain k g) hg.same_form hg in
@@ -220,7 +221,7 @@ put_read ranks r own all f before ws c low read h =
       few = fit.room.all;
     })
 
-get_same : (ranks r : ℕ) (own : List Call) (all : Bool) (n : List ℕ) (f : Form) (g : Given) → is_name n ≡ true → RegionAgain f g → CallAgain ranks r own (call.Get all n g)
+pub get_same : (ranks r : ℕ) (own : List Call) (all : Bool) (n : List ℕ) (f : Form) (g : Given) → is_name n ≡ true → RegionAgain f g → CallAgain ranks r own (call.Get all n g)
 get_same ranks r own all n f g hn hg =
     let region_of = subst (λ k. RegionAgain k g) hg.same_form hg in
     let rest = region_tokens g.form g in
@@ -245,18 +246,21 @@ pub record PostedAgain (k : PostKind) (before : ℕ) (vs : Values) : Type 0 wher
   pub again : (now : ℕ) → now + count_of vs ≤ most_values → post_values k now (value_tokens vs) ≡ Ok vs
   pub few : before + count_of vs ≤ most_values
 
-put_values : (before : ℕ) (vs : Values) → Fitting None before vs → PostedAgain Iput before vs × PostedAgain Bput before vs
+pub put_values : (before : ℕ) (vs : Values) → Fitting None before vs → PostedAgain Iput before vs × PostedAgain Bput before vs
 put_values before vs fit = (
   record { good = values_good None vs fit.are; again = λ now low. values_again None now vs (fitting_at vs before now fit low); few = fit.room.all },
   record { good = values_good None vs fit.are; again = λ now low. values_again None now vs (fitting_at vs before now fit low); few = fit.room.all },
 )
 
+pub nothing_posted : (before : ℕ) → before ≤ most_values → PostedAgain Iget before (Numbers [])
+nothing_posted before low = record { good = refl; again = λ now fits. refl; few = omega arith }
+
 posted_read : (k : PostKind) (before : ℕ) (ws : List Word) (vs : Values) → before ≤ most_values → list_all is_read ws ≡ true → post_values k before ws ≡ Ok vs → PostedAgain k before vs
-posted_read Iget before ws vs low read h = subst (PostedAgain Iget before) (whole_value (Numbers [], ws) vs h).0 (record { good = refl; again = λ now fits. refl; few = omega arith })
+posted_read Iget before ws vs low read h = subst (PostedAgain Iget before) (whole_value (Numbers [], ws) vs h).0 (nothing_posted before low)
 posted_read Iput before ws vs low read h = (put_values before vs (values_fit None before ws vs low read h)).0
 posted_read Bput before ws vs low read h = (put_values before vs (values_fit None before ws vs low read h)).1
 
-post_same : (ranks r : ℕ) (own : List Call) (k : PostKind) (id : ℕ) (n : List ℕ) (f : Form) (g : Given) (before : ℕ) (vs : Values)
+pub post_same : (ranks r : ℕ) (own : List Call) (k : PostKind) (id : ℕ) (n : List ℕ) (f : Form) (g : Given) (before : ℕ) (vs : Values)
     → id < 2 ^ 32 → is_posted id (posted own) ≡ false → is_name n ≡ true → RegionAgain f g → PostedAgain k before vs → CallAgain ranks r own (call.Post id k n g vs)
 post_same ranks r own k id n f g before vs low fresh hn hg hv =
     let region_of = subst (λ x. RegionAgain x g) hg.same_form hg in
@@ -296,72 +300,88 @@ post_read ranks r own k f before ws c low read h =
 
 -- ---- calls of no form
 
-wait_read : (ranks r : ℕ) (own : List Call) (before : ℕ) (low : before ≤ most_values) (all : Bool) (ws : List Word) (c : Call) → (choice ws >>= λ x. Ok (call.Wait all x)) ≡ Ok c → CallRead ranks r own before c
-wait_read ranks r own before low all ws c h =
-    let a = went (choice ws) (λ x. Ok (call.Wait all x)) c h in
-    let k = choice_read ws a.value a.first in
-    subst (CallRead ranks r own before) (same_ok (call.Wait all a.value) c a.rest) (no_values ranks r own before _ low refl (record {
-      good = k.good;
-      again = λ now fits. wait_word ranks r own now (choice_tokens a.value) all ∙ go_on (choice (choice_tokens a.value)) (λ x. Ok (call.Wait all x)) a.value (call.Wait all a.value) k.again refl;
-    }))
+pub choice_same : (ranks r : ℕ) (own : List Call) (c : Choice) → ChoiceAgain c → ((all : Bool) → CallAgain ranks r own (call.Wait all c)) × CallAgain ranks r own (call.Cancel c)
+choice_same ranks r own c k = (
+  λ all. record {
+    good = k.good;
+    again = λ now fits. wait_word ranks r own now (choice_tokens c) all ∙ go_on (choice (choice_tokens c)) (λ x. Ok (call.Wait all x)) c (call.Wait all c) k.again refl;
+  },
+  record { good = k.good; again = λ now fits. go_on (choice (choice_tokens c)) (λ x. Ok (call.Cancel x)) c (call.Cancel c) k.again refl },
+)
 
-cancel_read : (ranks r : ℕ) (own : List Call) (before : ℕ) (low : before ≤ most_values) (ws : List Word) (c : Call) → (choice ws >>= λ x. Ok (call.Cancel x)) ≡ Ok c → CallRead ranks r own before c
-cancel_read ranks r own before low ws c h =
-    let a = went (choice ws) (λ x. Ok (call.Cancel x)) c h in
-    let k = choice_read ws a.value a.first in
-    subst (CallRead ranks r own before) (same_ok (call.Cancel a.value) c a.rest) (no_values ranks r own before _ low refl (record {
-      good = k.good;
-      again = λ now fits. go_on (choice (choice_tokens a.value)) (λ x. Ok (call.Cancel x)) a.value (call.Cancel a.value) k.again refl;
-    }))
+pub attach_same : (ranks r : ℕ) (own : List Call) (n : ℕ) → n < 2 ^ 63 → CallAgain ranks r own (call.Attach n)
+attach_same ranks r own n small = record {
+  good = and_from _ _ (size_plain n small) refl;
+  again = λ now few. go_on (size (Plain (decimal n) ∷ [])) _ (n, []) (call.Attach n) (size_word n [] small) refl;
+}
 
-attach_read : (ranks r : ℕ) (own : List Call) (before : ℕ) (low : before ≤ most_values) (ws : List Word) (c : Call) → attach_call ws ≡ Ok c → CallRead ranks r own before c
-attach_read ranks r own before low ws c h =
-    let a = went (size ws) _ c h in
-    let small = size_read ws a.value a.first in
-    let n = a.value.0 in
-    subst (CallRead ranks r own before) (whole_value (call.Attach n, a.value.1) c a.rest).0 (no_values ranks r own before _ low refl (record {
-      good = and_from _ _ (size_plain n small) refl;
-      again = λ now few. go_on (size (Plain (decimal n) ∷ [])) _ (n, []) (call.Attach n) (size_word n [] small) refl;
-    }))
+pub inquiry_same : (ranks r : ℕ) (own : List Call) (n : List ℕ) → is_name n ≡ true → CallAgain ranks r own (call.InqDim n)
+inquiry_same ranks r own n named = record {
+  good = and_from _ _ (name_plain n named) refl;
+  again = λ now few. go_on (name (Plain n ∷ [])) _ (n, []) (call.InqDim n) (name_again n [] named) refl;
+}
 
-inquiry_read : (ranks r : ℕ) (own : List Call) (before : ℕ) (low : before ≤ most_values) (ws : List Word) (c : Call) → inquiry ws ≡ Ok c → CallRead ranks r own before c
-inquiry_read ranks r own before low ws c h =
-    let a = went (name ws) _ c h in
-    let hn = name_read ws a.value a.first in
-    let n = a.value.0 in
-    subst (CallRead ranks r own before) (whole_value (call.InqDim n, a.value.1) c a.rest).0 (no_values ranks r own before _ low refl (record {
-      good = and_from _ _ (name_plain n hn) refl;
-      again = λ now few. go_on (name (Plain n ∷ [])) _ (n, []) (call.InqDim n) (name_again n [] hn) refl;
-    }))
+pub fill_same : (ranks r : ℕ) (own : List Call) (n : List ℕ) (k : ℕ) → is_name n ≡ true → k < 2 ^ 63 → CallAgain ranks r own (call.FillRec n k r ranks)
+fill_same ranks r own n k named small = record {
+  good = and_from _ _ (name_plain n named) (and_from _ _ (size_plain k small) refl);
+  again = λ now few. go_on (name (Plain n ∷ Plain (decimal k) ∷ [])) _ (n, Plain (decimal k) ∷ []) (call.FillRec n k r ranks) (name_again n (Plain (decimal k) ∷ []) named)
+      (go_on (size (Plain (decimal k) ∷ [])) _ (k, []) (call.FillRec n k r ranks) (size_word k [] small) refl);
+}
 
-fill_read : (ranks r : ℕ) (own : List Call) (before : ℕ) (low : before ≤ most_values) (ws : List Word) (c : Call) → fill_call ranks r ws ≡ Ok c → CallRead ranks r own before c
-fill_read ranks r own before low ws c h =
-    let a = went (name ws) _ c h in
-    let b = went (size a.value.1) _ c a.rest in
-    let d = went (ended b.value.1) _ c b.rest in
-    let hn = name_read ws a.value a.first in
-    let small = size_read a.value.1 b.value b.first in
-    let n = a.value.0 in
-    let k = b.value.0 in
-    subst (CallRead ranks r own before) (same_ok (call.FillRec n k r ranks) c d.rest) (no_values ranks r own before _ low refl (record {
-      good = and_from _ _ (name_plain n hn) (and_from _ _ (size_plain k small) refl);
-      again = λ now few. go_on (name (Plain n ∷ Plain (decimal k) ∷ [])) _ (n, Plain (decimal k) ∷ []) (call.FillRec n k r ranks) (name_again n (Plain (decimal k) ∷ []) hn)
-          (go_on (size (Plain (decimal k) ∷ [])) _ (k, []) (call.FillRec n k r ranks) (size_word k [] small) refl);
-    }))
+-- calls without a word of their own behind them
+pub lone_same : (ranks r : ℕ) (own : List Call) → CallAgain ranks r own call.Detach × CallAgain ranks r own call.BeginIndep × CallAgain ranks r own call.EndIndep × CallAgain ranks r own call.SyncRecords
+lone_same ranks r own = (
+  record { good = refl; again = λ now fits. refl },
+  record { good = refl; again = λ now fits. refl },
+  record { good = refl; again = λ now fits. refl },
+  record { good = refl; again = λ now fits. refl },
+)
 
-lone_read : (ranks r : ℕ) (own : List Call) (before : ℕ) (low : before ≤ most_values) (w : List ℕ) (ws : List Word) (c : Call) → lone_call w ws ≡ Ok c → CallRead ranks r own before c
-lone_read ranks r own before low w ws c h = by (bytes_eq w (codes "buffer_detach")) (bytes_eq w (codes "begin_indep_data")) (bytes_eq w (codes "end_indep_data")) (bytes_eq w (codes "sync_numrecs")) h
-  where
-    by : (i j k l : Bool)
-        → elim (cond {A = Option (List ℕ × Call)} i (Some (codes "buffer_detach", call.Detach)) (cond j (Some (codes "begin_indep_data", call.BeginIndep)) (cond k (Some (codes "end_indep_data", call.EndIndep)) (cond l (Some (codes "sync_numrecs", call.SyncRecords)) None)))) as (λ x. Result Call ScriptKind) [
-          | None ↦ Err kind.UnknownWord
-          | Some p ↦ whole (p.1, ws)
-        ] ≡ Ok c → CallRead ranks r own before c
-    by true j k l e = subst (CallRead ranks r own before) (whole_value (call.Detach, ws) c e).0 (no_values ranks r own before _ low refl (record { good = refl; again = λ now fits. refl }))
-    by false true k l e = subst (CallRead ranks r own before) (whole_value (call.BeginIndep, ws) c e).0 (no_values ranks r own before _ low refl (record { good = refl; again = λ now fits. refl }))
-    by false false true l e = subst (CallRead ranks r own before) (whole_value (call.EndIndep, ws) c e).0 (no_values ranks r own before _ low refl (record { good = refl; again = λ now fits. refl }))
-    by false false false true e = subst (CallRead ranks r own before) (whole_value (call.SyncRecords, ws) c e).0 (no_values ranks r own before _ low refl (record { good = refl; again = λ now fits. refl }))
-    by false false false false e = absurd (cc)
+module _ (ranks r : ℕ) (own : List Call) (before : ℕ) (low : before ≤ most_values) where
+  wait_read : (all : Bool) (ws : List Word) (c : Call) → (choice ws >>= λ x. Ok (call.Wait all x)) ≡ Ok c → CallRead ranks r own before c
+  wait_read all ws c h =
+      let a = went (choice ws) (λ x. Ok (call.Wait all x)) c h in
+      subst (CallRead ranks r own before) (same_ok (call.Wait all a.value) c a.rest) (no_values ranks r own before _ low refl ((choice_same ranks r own a.value (choice_read ws a.value a.first)).0 all))
+
+  cancel_read : (ws : List Word) (c : Call) → (choice ws >>= λ x. Ok (call.Cancel x)) ≡ Ok c → CallRead ranks r own before c
+  cancel_read ws c h =
+      let a = went (choice ws) (λ x. Ok (call.Cancel x)) c h in
+      subst (CallRead ranks r own before) (same_ok (call.Cancel a.value) c a.rest) (no_values ranks r own before _ low refl (choice_same ranks r own a.value (choice_read ws a.value a.first)).1)
+
+  attach_read : (ws : List Word) (c : Call) → attach_call ws ≡ Ok c → CallRead ranks r own before c
+  attach_read ws c h =
+      let a = went (size ws) _ c h in
+      subst (CallRead ranks r own before) (whole_value (call.Attach a.value.0, a.value.1) c a.rest).0 (no_values ranks r own before _ low refl (attach_same ranks r own a.value.0 (size_read ws a.value a.first)))
+
+  inquiry_read : (ws : List Word) (c : Call) → inquiry ws ≡ Ok c → CallRead ranks r own before c
+  inquiry_read ws c h =
+      let a = went (name ws) _ c h in
+      subst (CallRead ranks r own before) (whole_value (call.InqDim a.value.0, a.value.1) c a.rest).0 (no_values ranks r own before _ low refl (inquiry_same ranks r own a.value.0 (name_read ws a.value a.first)))
+
+  fill_read : (ws : List Word) (c : Call) → fill_call ranks r ws ≡ Ok c → CallRead ranks r own before c
+  fill_read ws c h =
+      let a = went (name ws) _ c h in
+      let b = went (size a.value.1) _ c a.rest in
+      let d = went (ended b.value.1) _ c b.rest in
+      subst (CallRead ranks r own before) (same_ok (call.FillRec a.value.0 b.value.0 r ranks) c d.rest)
+      (no_values ranks r own before _ low refl (fill_same ranks r own a.value.0 b.value.0 (name_read ws a.value a.first) (size_read a.value.1 b.value b.first)))
+
+  lone_read : (w : List ℕ) (ws : List Word) (c : Call) → lone_call w ws ≡ Ok c → CallRead ranks r own before c
+  lone_read w ws c h = by (bytes_eq w (codes "buffer_detach")) (bytes_eq w (codes "begin_indep_data")) (bytes_eq w (codes "end_indep_data")) (bytes_eq w (codes "sync_numrecs")) h
+    where
+      lone : (k : Call) → values_in_call k ≡ 0 → CallAgain ranks r own k → whole (k, ws) ≡ Ok c → CallRead ranks r own before c
+      lone k none again e = subst (CallRead ranks r own before) (whole_value (k, ws) c e).0 (no_values ranks r own before k low none again)
+
+      by : (i j k l : Bool)
+          → elim (cond {A = Option (List ℕ × Call)} i (Some (codes "buffer_detach", call.Detach)) (cond j (Some (codes "begin_indep_data", call.BeginIndep)) (cond k (Some (codes "end_indep_data", call.EndIndep)) (cond l (Some (codes "sync_numrecs", call.SyncRecords)) None)))) as (λ x. Result Call ScriptKind) [
+            | None ↦ Err kind.UnknownWord
+            | Some p ↦ whole (p.1, ws)
+          ] ≡ Ok c → CallRead ranks r own before c
+      by true j k l e = lone call.Detach refl (lone_same ranks r own).0 e
+      by false true k l e = lone call.BeginIndep refl (lone_same ranks r own).1 e
+      by false false true l e = lone call.EndIndep refl (lone_same ranks r own).2 e
+      by false false false true e = lone call.SyncRecords refl (lone_same ranks r own).3 e
+      by false false false false e = absurd (cc)
 
 other_read : (ranks r : ℕ) (own : List Call) (before : ℕ) (low : before ≤ most_values) (w : List ℕ) (ws : List Word) (c : Call) → other_call ranks r w ws ≡ Ok c → CallRead ranks r own before c
 other_read ranks r own before low w ws c h = by (bytes_eq w (codes "buffer_attach")) (bytes_eq w (codes "inq_dimlen")) (bytes_eq w (codes "fill_var_rec")) h

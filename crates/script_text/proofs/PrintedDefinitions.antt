@@ -148,12 +148,12 @@ length_is version w n h = by (bytes_eq w (codes "unlimited")) h
     by true k = let same : 0 ≡ n = cc in inl (sym same)
     by false k = by_size (below (length_limit version) (size_of_text w)) refl k
 
-record LengthAgain (version n : ℕ) : Type 0 where
-  plain : is_plain (length_word n) ≡ true
-  again : length_of_text version (length_word n) ≡ Some n
+pub record LengthAgain (version n : ℕ) : Type 0 where
+  pub plain : is_plain (length_word n) ≡ true
+  pub again : length_of_text version (length_word n) ≡ Some n
 
-length_again : (version : ℕ) (w : List ℕ) (n : ℕ) → length_of_text version w ≡ Some n → LengthAgain version n
-length_again version w n h = ⊎_elim
+pub length_told : (version n : ℕ) → (n ≡ 0) ⊎ (((n == 0) ≡ false) × (n < length_limit version) × (n < 2 ^ 63)) → LengthAgain version n
+length_told version n h = ⊎_elim
     (λ (e : n ≡ 0). subst (LengthAgain version) (sym e) (record { plain = refl; again = refl }))
     (λ (k : ((n == 0) ≡ false) × (n < length_limit version) × (n < 2 ^ 63)).
     let word : length_word n ≡ decimal n = cond-false _ _ _ k.0 in
@@ -163,12 +163,29 @@ length_again version w n h = ⊎_elim
       plain = ap is_plain word ∙ size_plain n k.2;
       again = ap (length_of_text version) word ∙ (cond-false _ _ _ letters ∙ (ap length_by small ∙ cond-false _ _ _ k.0));
     })
-    (length_is version w n h)
+    h
+
+length_again : (version : ℕ) (w : List ℕ) (n : ℕ) → length_of_text version w ≡ Some n → LengthAgain version n
+length_again version w n h = length_told version n (length_is version w n h)
 
 -- the dimension, printed, is read again after these
 pub record DimAgain (version : ℕ) (dims : List Dim) (d : Dim) : Type 0 where
   pub good : list_all is_good (dim_tokens d) ≡ true
   pub again : dim_line version dims (dim_tokens d) ≡ Ok d
+
+pub dim_told : (version : ℕ) (dims : List Dim) (n : List ℕ) (len : ℕ) → is_name n ≡ true → is_among n (dim_names dims) ≡ false → nat_le most_dims (length dims) ≡ false → LengthAgain version len
+    → (len == 0 && list_any is_unlimited dims) ≡ false → DimAgain version dims (record { name = n; len = len })
+dim_told version dims n len named fresh room hl one =
+    let rest = Plain (length_word len) ∷ [] in
+    let x : Dim = record { name = n; len = len } in
+    record {
+      good = and_from _ _ (name_plain n named) (and_from _ _ hl.plain refl);
+      again = go_on (name (Plain n ∷ rest)) _ (n, rest) x (name_again n rest named)
+          (go_on (refuse_if (is_among n (dim_names dims)) kind.TwiceNamed) _ tt x (passed _ _ fresh)
+          (go_on (refuse_if (nat_le most_dims (length dims)) (kind.Limit limit.Dims)) _ tt x (passed _ _ room)
+          (go_on (reads_as (length_of_text version) kind.BadNumber rest) _ (len, []) x (word_read (length_of_text version) kind.BadNumber (length_word len) len [] hl.again)
+          (go_on (refuse_if (len == 0 && list_any is_unlimited dims) kind.BadShape) _ tt x (passed _ _ one) refl))));
+    }
 
 pub dim_read : (version : ℕ) (dims : List Dim) (ws : List Word) (d : Dim) → dim_line version dims ws ≡ Ok d → DimAgain version dims d
 dim_read version dims ws d h =
@@ -178,21 +195,10 @@ dim_read version dims ws d h =
     let e = went (reads_as (length_of_text version) kind.BadNumber a.value.1) _ d c.rest in
     let f = went (refuse_if (e.value.0 == 0 && list_any is_unlimited dims) kind.BadShape) _ d e.rest in
     let g = went (ended e.value.1) _ d f.rest in
-    let n = a.value.0 in
-    let len = e.value.0 in
-    let hn = name_read ws a.value a.first in
     let lw = read_word (length_of_text version) kind.BadNumber a.value.1 e.value e.first in
-    let hl = length_again version lw.0 len lw.1 in
-    let rest = Plain (length_word len) ∷ [] in
-    let x : Dim = record { name = n; len = len } in
-    subst (DimAgain version dims) (same_ok x d g.rest) (record {
-      good = and_from _ _ (name_plain n hn) (and_from _ _ hl.plain refl);
-      again = go_on (name (Plain n ∷ rest)) _ (n, rest) x (name_again n rest hn)
-          (go_on (refuse_if (is_among n (dim_names dims)) kind.TwiceNamed) _ tt x (passed _ _ (not_refused _ _ b.value b.first))
-          (go_on (refuse_if (nat_le most_dims (length dims)) (kind.Limit limit.Dims)) _ tt x (passed _ _ (not_refused _ _ c.value c.first))
-          (go_on (reads_as (length_of_text version) kind.BadNumber rest) _ (len, []) x (word_read (length_of_text version) kind.BadNumber (length_word len) len [] hl.again)
-          (go_on (refuse_if (len == 0 && list_any is_unlimited dims) kind.BadShape) _ tt x (passed _ _ (not_refused _ _ f.value f.first)) refl))));
-    })
+    subst (DimAgain version dims) (same_ok (record { name = a.value.0; len = e.value.0 }) d g.rest)
+    (dim_told version dims a.value.0 e.value.0 (name_read ws a.value a.first) (not_refused _ _ b.value b.first) (not_refused _ _ c.value c.first)
+    (length_again version lw.0 e.value.0 lw.1) (not_refused _ _ f.value f.first))
 
 -- ---- what begins a variable
 

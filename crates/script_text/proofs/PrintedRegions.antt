@@ -1,8 +1,8 @@
 -- Names, regions, ids and choices that are printed are read again.
-use Rattle.std.proofs.Common.{◌≡◌, ◌∙◌, ℕ, zero, suc, ◌+◌, ◌^◌, ◌<◌, List, [], ◌∷◌, ◌++◌, map, length, flat_map, Bool, true, false, cond, nat_lt, ◌==◌, ◌&&◌, Option, Some, None, Result, Ok, refl, sym, ap, subst, append_assoc, append-nil, length-append, arith, bytes_eq, codes, decimal}
+use Rattle.std.proofs.Common.{◌≡◌, ◌∙◌, ℕ, zero, suc, ◌+◌, ◌^◌, ◌≤◌, ◌<◌, List, [], ◌∷◌, ◌++◌, map, length, flat_map, Bool, true, false, not, cond, nat_lt, nat_le, ◌==◌, ◌&&◌, Option, Some, None, Result, Ok, refl, sym, ap, subst, append_assoc, append-nil, length-append, arith, bytes_eq, codes, decimal}
 use Rattle.std.specs.List.{list_all}
-use Rattle.std.proofs.lemmas.Bool.{and_parts, and_from, cond-true}
-use borrow.Author.Tests.{ltb-true, ltb-false, lt-ltb}
+use Rattle.std.proofs.lemmas.Bool.{and_parts, and_from, cond-true, ne_eqb}
+use borrow.Author.Tests.{ltb-true, ltb-false, lt-ltb, le-ltb, leb-true}
 use Rattle.script_spec.proofs.TextLaws.{faultless_some}
 use Rattle.nc_base.specs.declared.errors.ScriptKind.{ScriptKind}
 use Rattle.nc_base.specs.declared.errors.ScriptKind.TheVariants as kind
@@ -13,14 +13,15 @@ use Rattle.nc_base.specs.declared.request.Given.{Given}
 use Rattle.nc_base.specs.declared.request.Part.{Part}
 use Rattle.nc_base.specs.declared.request.Choice.{Choice}
 use Rattle.nc_base.specs.declared.request.Choice.TheVariants.{Every, Listed}
-use Rattle.serial_spec.specs.Lawful.{most_parts}
+use Rattle.serial_spec.specs.Lawful.{most_parts, is_empty, has_lists_of, has_its_lists, is_given}
 use Rattle.script_spec.specs.Shown.{size_list, part_words, form_words, choice_words}
 use Rattle.script_spec.specs.ScriptWords.{Word, Plain, is_word, is_name, size_of_text, list_of_text}
 use Rattle.script_spec.specs.ScriptSteps.{◌>>=◌, refuse_if, bare, reads_as, size, list, name, name_of_text, whole}
 use Rattle.script_spec.specs.ScriptCalls.{given_of, given_parts, part, part_list, region, id_of_text, one_id, ids, choice}
+use Rattle.script_text.specs.Expressible.{is_id, is_expressible_choice}
 use Rattle.script_text.proofs.Steps.{went, go_on, same_ok, not_refused, passed, faultless, read_word, word_read, word_before, whole_value, carried, carry_on, by_false}
 use Rattle.script_text.proofs.Lexing.{spelling, is_plain, is_good}
-use Rattle.script_text.proofs.Lines.{all_joined}
+use Rattle.script_text.proofs.Lines.{all_joined, empty_list}
 use Rattle.script_text.proofs.Numerals.{decimal_word, below_bound, below_again, size_bound, size_again, size_plain, is_size, list_bound, list_again, list_plain}
 use Rattle.script_text.proofs.PrintedValues.{plain_spelled, not_letters}
 
@@ -267,10 +268,64 @@ region_kept p form.Varn ws r h all =
     left p (same_ok (given_parts d.value.0, d.value.1) r d.rest)
     (parts_kept p a.value.0 [] a.value.1 d.value d.first (kept p size_of_text kind.BadNumber ws a.value a.first all))
 
--- ---- ids
+-- ---- a region that has just the lists of its form
 
-abbrev is_id : ℕ → Bool
-is_id n = nat_lt n (2 ^ 32)
+abbrev region_with : Form → List ℕ → List ℕ → List ℕ → List ℕ → List Part → Given
+region_with f s c d m ps = record { form = f; start = s; count = c; stride = d; imap = m; parts = ps }
+
+same_region : (f : Form) (s c d m s2 c2 d2 m2 : List ℕ) (ps ps2 : List Part) → s2 ≡ s → c2 ≡ c → d2 ≡ d → m2 ≡ m → ps2 ≡ ps → region_with f s c d m ps ≡ region_with f s2 c2 d2 m2 ps2
+same_region f s c d m s2 c2 d2 m2 ps ps2 e1 e2 e3 e4 e5 = cc
+
+region_by : (f : Form) (s c d m : List ℕ) (ps : List Part) → has_lists_of f (region_with f s c d m ps) ≡ true → are_sizes s ≡ true → are_sizes c ≡ true → are_sizes d ≡ true → are_sizes m ≡ true → list_all is_part ps ≡ true
+    → length ps ≤ most_parts → RegionAgain f (region_with f s c d m ps)
+region_by form.Var s c d m ps lists hs hc hd hm hp few =
+    let p4 = and_parts (is_empty s && is_empty c && is_empty d && is_empty m) (is_empty ps) lists in
+    let p3 = and_parts (is_empty s && is_empty c && is_empty d) (is_empty m) p4.0 in
+    let p2 = and_parts (is_empty s && is_empty c) (is_empty d) p3.0 in
+    let p1 = and_parts (is_empty s) (is_empty c) p2.0 in
+    let same = same_region form.Var [] [] [] [] s c d m [] ps (empty_list s p1.0) (empty_list c p1.1) (empty_list d p2.1) (empty_list m p3.1) (empty_list ps p4.1) in
+    subst (RegionAgain form.Var) same (record { same_form = refl; good = refl; again = λ more. refl })
+region_by form.Var1 s c d m ps lists hs hc hd hm hp few =
+    let p3 = and_parts (is_empty c && is_empty d && is_empty m) (is_empty ps) lists in
+    let p2 = and_parts (is_empty c && is_empty d) (is_empty m) p3.0 in
+    let p1 = and_parts (is_empty c) (is_empty d) p2.0 in
+    let same = same_region form.Var1 s [] [] [] s c d m [] ps refl (empty_list c p1.0) (empty_list d p1.1) (empty_list m p2.1) (empty_list ps p3.1) in
+    subst (RegionAgain form.Var1) same (var1_again s hs)
+region_by form.Vara s c d m ps lists hs hc hd hm hp few =
+    let p2 = and_parts (is_empty d && is_empty m) (is_empty ps) lists in
+    let p1 = and_parts (is_empty d) (is_empty m) p2.0 in
+    let same = same_region form.Vara s c [] [] s c d m [] ps refl refl (empty_list d p1.0) (empty_list m p1.1) (empty_list ps p2.1) in
+    subst (RegionAgain form.Vara) same (vara_again s c hs hc)
+region_by form.Vars s c d m ps lists hs hc hd hm hp few =
+    let p1 = and_parts (is_empty m) (is_empty ps) lists in
+    let same = same_region form.Vars s c d [] s c d m [] ps refl refl refl (empty_list m p1.0) (empty_list ps p1.1) in
+    subst (RegionAgain form.Vars) same (vars_again s c d hs hc hd)
+region_by form.Varm s c d m ps lists hs hc hd hm hp few =
+    let same = same_region form.Varm s c d m s c d m [] ps refl refl refl refl (empty_list ps lists) in
+    subst (RegionAgain form.Varm) same (varm_again s c d m hs hc hd hm)
+region_by form.Varn s c d m ps lists hs hc hd hm hp few =
+    let p4 = and_parts (is_empty s && is_empty c && is_empty d && is_empty m) (not (is_empty ps)) lists in
+    let p3 = and_parts (is_empty s && is_empty c && is_empty d) (is_empty m) p4.0 in
+    let p2 = and_parts (is_empty s && is_empty c) (is_empty d) p3.0 in
+    let p1 = and_parts (is_empty s) (is_empty c) p2.0 in
+    let same = same_region form.Varn [] [] [] [] s c d m ps ps (empty_list s p1.0) (empty_list c p1.1) (empty_list d p2.1) (empty_list m p3.1) refl in
+    subst (RegionAgain form.Varn) same (varn_again ps hp (some_parts ps p4.1) (le-ltb most_parts (length ps) few))
+  where
+    some_parts : (ps : List Part) → not (is_empty ps) ≡ true → (length ps == 0) ≡ false
+    some_parts [] h = absurd (cc)
+    some_parts (p ∷ ps) h = ne_eqb (length (p ∷ ps)) 0 (omega arith)
+
+pub region_told : (g : Given) → is_given g ≡ true → RegionAgain g.form g
+region_told g h =
+    let a = and_parts _ (nat_le (length g.parts) most_parts) h in
+    let b = and_parts _ (list_all is_part g.parts) a.0 in
+    let c = and_parts _ (are_sizes g.imap) b.0 in
+    let d = and_parts _ (are_sizes g.stride) c.0 in
+    let e = and_parts _ (are_sizes g.count) d.0 in
+    let f = and_parts (has_its_lists g) (are_sizes g.start) e.0 in
+    region_by g.form g.start g.count g.stride g.imap g.parts f.0 f.1 e.1 d.1 c.1 b.1 (leb-true (length g.parts) most_parts a.1)
+
+-- ---- ids
 
 pub id_bound : (w : List ℕ) (n : ℕ) → id_of_text w ≡ Some n → n < 2 ^ 32
 id_bound w n h = (below_bound (2 ^ 32) (size_of_text w) n h).1
@@ -326,6 +381,10 @@ listed_again (n ∷ ns) h =
     by_false (bytes_eq (decimal n) (codes "all")) _ _ (not_letters (decimal n) 97 (108 ∷ 108 ∷ []) (decimal_word n (omega arith)) (omega arith))
     ∙ go_on (ids [] (map (λ k. Plain (decimal k)) (n ∷ ns))) (λ found. Ok (Listed found)) (n ∷ ns) (Listed (n ∷ ns)) (ids_again (n ∷ ns) [] h) refl
 
+pub choice_told : (c : Choice) → is_expressible_choice c ≡ true → ChoiceAgain c
+choice_told Every h = record { good = refl; again = refl }
+choice_told (Listed ns) h = record { good = ids_good ns h; again = listed_again ns h }
+
 pub choice_read : (ws : List Word) (c : Choice) → choice ws ≡ Ok c → ChoiceAgain c
 choice_read [] c h = subst ChoiceAgain (same_ok (Listed []) c h) (record { good = refl; again = refl })
 choice_read (w ∷ ws) c h = by (is_word (codes "all") w) h
@@ -335,4 +394,4 @@ choice_read (w ∷ ws) c h = by (is_word (codes "all") w) h
     by false k =
         let a = went (ids [] (w ∷ ws)) (λ found. Ok (Listed found)) c k in
         let all = ids_read (w ∷ ws) [] a.value refl a.first in
-        subst ChoiceAgain (same_ok (Listed a.value) c a.rest) (record { good = ids_good a.value all; again = listed_again a.value all })
+        subst ChoiceAgain (same_ok (Listed a.value) c a.rest) (choice_told (Listed a.value) all)

@@ -3,7 +3,7 @@ use Rattle.std.proofs.Common.{◌≡◌, ◌∙◌, ℕ, zero, suc, ◌+◌, ◌
 use Rattle.std.specs.List.{list_all, enumerate_from}
 use Rattle.std.specs.Str.Lossy.{utf8_valid_len}
 use Rattle.std.proofs.lemmas.Bool.{and_parts, and_from, or_cases, cond-true, ne_eqb, eqb-true}
-use borrow.Author.Tests.{leb-true, le-ltb}
+use borrow.Author.Tests.{leb-true, le-ltb, ltb-false}
 use Rattle.script_spec.proofs.TextLaws.{finished}
 use Rattle.nc_base.specs.declared.errors.ScriptKind.{ScriptKind}
 use Rattle.nc_base.specs.declared.errors.ScriptKind.TheVariants as kind
@@ -25,8 +25,9 @@ use Rattle.script_spec.specs.ScriptSteps.{◌>>=◌, reads_as, whole}
 use Rattle.script_spec.specs.ScriptDefinitions.{Within, Defined, no_definition, Added, nothing_added, Known, nothing_known, ranks_line}
 use Rattle.script_spec.specs.ScriptCalls.{Called, mismatch}
 use Rattle.script_spec.specs.ScriptGrammar.{at_line, version_of_text, version_line, head, definitions, data_part, finish, hints_of, header_of, script_of, no_calls, script_of_lines, most_bytes, most_lines, newlines, too_many_lines, within_lines, script_of_utf8, Reads, is_mismatch}
+use Rattle.std.proofs.lemmas.List.{length-map}
 use Rattle.script_text.proofs.Steps.{went, go_on, same_ok, read_word, word_read, whole_value}
-use Rattle.script_text.proofs.Lines.{is_line, spelled, numbered, all_joined, significant_lines, valid_lines, valid_bytes}
+use Rattle.script_text.proofs.Lines.{is_line, spelled, body, numbered, all_joined, lines_again, significant_lines, valid_lines, valid_bytes}
 use Rattle.script_text.proofs.Numerals.{size_again, size_plain}
 use Rattle.script_text.proofs.PrintedDefinitions.{is_value_of, ranks_again, within_plain}
 use Rattle.script_text.proofs.CallLines.{Chains, count_all, Holds, DataEnd, are_read, data_holds, call_lines, flat_joined, calls_spelled, calls_are_lines, data_again, line_ok}
@@ -41,15 +42,15 @@ use Rattle.script_text.proofs.KnownLines.{hint_tokens, mapped_spelled, hints_spe
 abbrev ranks_words : ℕ → List Word
 ranks_words n = Plain (codes "ranks") ∷ Plain (decimal n) ∷ []
 
-abbrev fill_lines : Bool → List (List Word)
+abbrev pub fill_lines : Bool → List (List Word)
 fill_lines true = (Plain (codes "fill") ∷ []) ∷ []
 fill_lines false = []
 
 -- the lines between the head and `data`
-abbrev before_data : ℕ → Hints → List Extra → Defined → List (List Word)
+abbrev pub before_data : ℕ → Hints → List Extra → Defined → List (List Word)
 before_data n h es d = ranks_words n ∷ (hint_tokens h ++ (fill_lines d.filled ++ (map extra_line es ++ definition_lines d)))
 
-abbrev from_data : List (List Call) → List (List Word)
+abbrev pub from_data : List (List Call) → List (List Word)
 from_data calls = (Plain (codes "data") ∷ []) ∷ (call_lines 0 calls ++ (Plain (codes "end") ∷ []) ∷ [])
 
 -- of an existing dataset, or of a new one of this version
@@ -57,10 +58,10 @@ abbrev head_words : Bool → ℕ → List Word
 head_words true version = Plain (codes "open") ∷ []
 head_words false version = Plain (codes "create") ∷ Plain (decimal version) ∷ []
 
-abbrev all_lines : Bool → ℕ → ℕ → Hints → List Extra → Defined → List (List Call) → List (List Word)
+abbrev pub all_lines : Bool → ℕ → ℕ → Hints → List Extra → Defined → List (List Call) → List (List Word)
 all_lines b version n h es d calls = head_words b version ∷ (before_data n h es d ++ from_data calls)
 
-abbrev script_with : ℕ → ℕ → Hints → Defined → List Extra → List (List Call) → Script
+abbrev pub script_with : ℕ → ℕ → Hints → Defined → List Extra → List (List Call) → Script
 script_with version n h d es calls = record { fresh = not (version == 0); header = header_of version d; ranks = n; hints = h; filled = d.filled; extra = es; calls = calls }
 
 -- ---- they spell what is shown
@@ -168,7 +169,7 @@ open_again n values h added r fit replay =
       lines = before_are_lines n h added.extras no_definition r fit (replay_lines 0 values nothing_added added added.extras replay) refl;
     }
 
-create_again : (version n values : ℕ) (h : Hints) (d : Defined) → (version == 0) ≡ false → is_value_of (Within 1 64 1) n ≡ true → HintsFit h → DefinedOk version values d → values ≤ most_values → KnownAgain version n h [] d values
+pub create_again : (version n values : ℕ) (h : Hints) (d : Defined) → (version == 0) ≡ false → is_value_of (Within 1 64 1) n ≡ true → HintsFit h → DefinedOk version values d → values ≤ most_values → KnownAgain version n h [] d values
 create_again version n values h d new r fit ok few =
     let k = with_ranks n in
     let k2 = with_hints k (hint_table h) in
@@ -195,7 +196,7 @@ pub record HeadIs (version : ℕ) : Type 0 where
   pub test : (version == 0) ≡ existing
   pub told : HeadLine existing version
 
-version_head : (version : ℕ) → is_version version ≡ true → HeadIs version
+pub version_head : (version : ℕ) → is_version version ≡ true → HeadIs version
 version_head zero h = absurd (cc)
 version_head (suc n) h = record { existing = false; test = ne_eqb (suc n) 0 (omega arith); told = h }
 
@@ -304,7 +305,7 @@ told_again_after past version n values h es d calls small again end agree =
     (go_on (data_part past (no_calls n k2) lines) _ (final.0, (record { calls = calls; values = values + count_all calls }, [])) (script_with version n h d es calls) called
     (go_on (finish final.0 calls []) _ tt (script_with version n h d es calls) (ap (finish_by final.0) agree) (ap (λ (s : Script). Ok s) same)))
 
-whole_from : (version n values : ℕ) (h : Hints) (es : List Extra) (d : Defined) (calls : List (List Call)) → HeadIs version → n ≤ 64 → KnownAgain version n h es d values → DataEnd n values calls
+pub whole_from : (version n values : ℕ) (h : Hints) (es : List Extra) (d : Defined) (calls : List (List Call)) → HeadIs version → n ≤ 64 → KnownAgain version n h es d values → DataEnd n values calls
     → mismatch (map (λ own. kinds own) calls) ≡ None → Whole (script_with version n h d es calls)
 whole_from version n values h es d calls first small again end agree =
     let call_text = calls_are_lines n 0 calls (omega (arith, end.long)) end.chains in
@@ -316,6 +317,11 @@ whole_from version n values h es d calls first small again end agree =
       again = λ past. head_again first.existing past version (before_data n h es d ++ from_data calls) (script_with version n h d es calls) first.told
           (told_again_after past version n values h es d calls small again end agree);
     }
+
+pub from_drafted : (version n values : ℕ) (h : Hints) (es : List Extra) (d : Defined) (calls : List (List Call)) (first : HeadIs version) (small : n ≤ 64) (again : KnownAgain version n h es d values) (end : DataEnd n values calls)
+    (agree : mismatch (map (λ own. kinds own) calls) ≡ None) → (whole_from version n values h es d calls first small again end agree).drafted ≡ all_lines first.existing version n h es d calls
+unfolding whole_from
+from_drafted version n values h es d calls first small again end agree = refl
 
 -- the mode of the script decides what its definitions are
 known_again : (b : Bool) (version n : ℕ) (h : Hints) (k : Known) → (version == 0) ≡ b → is_value_of (Within 1 64 1) n ≡ true → HintsFit h → k.values ≤ most_values → What b version k → KnownAgain version n h k.added.extras k.defined k.values
@@ -375,29 +381,34 @@ text_by i j text = elim i [
   ]
 ]
 
-within_told : (n : ℕ) (told : Result Script ScriptErr) (script : Script) → within_lines n told ≡ Ok script → told ≡ Ok script
-within_told n told script h = by (nat_lt most_lines n) told h
+within_told : (n : ℕ) (told : Result Script ScriptErr) (script : Script) → within_lines n told ≡ Ok script → (told ≡ Ok script) × (n ≤ most_lines)
+within_told n told script h = by (nat_lt most_lines n) told refl h
   where
     by_line : (e : ScriptErr) (b : Bool) → elim b as (λ x. Result Script ScriptErr) [ true ↦ Err e | false ↦ too_many_lines ] ≡ Ok script → ⊥
     by_line e true k = absurd (cc)
     by_line e false k = absurd (cc)
 
-    by : (b : Bool) (told : Result Script ScriptErr) → within_by b told ≡ Ok script → told ≡ Ok script
-    by false told k = k
-    by true (Ok s) k = absurd (cc)
-    by true (Err e) k = absurd (by_line e (nat_le e.line most_lines && not (is_mismatch e.kind)) k)
+    by : (b : Bool) (told : Result Script ScriptErr) → nat_lt most_lines n ≡ b → within_by b told ≡ Ok script → (told ≡ Ok script) × (n ≤ most_lines)
+    by false told i k = (k, ltb-false most_lines n i)
+    by true (Ok s) i k = absurd (cc)
+    by true (Err e) i k = absurd (by_line e (nat_le e.line most_lines && not (is_mismatch e.kind)) k)
 
+-- a text that is read
 pub record IsText (text : List ℕ) (script : Script) : Type 0 where
+  pub short : length text ≤ most_bytes
+  pub few : length (text_lines text) ≤ most_lines
   pub valid : (utf8_valid_len text == length text) ≡ true
   pub told : script_of_lines (length (text_lines text) + 1) (significant text) ≡ Ok script
 
-is_text : (text : List ℕ) (script : Script) → Reads text script → IsText text script
-is_text text script h = by (nat_lt most_bytes (length text)) (utf8_valid_len text == length text) refl h
+pub is_text : (text : List ℕ) (script : Script) → Reads text script → IsText text script
+is_text text script h = by (nat_lt most_bytes (length text)) (utf8_valid_len text == length text) refl refl h
   where
-    by : (i j : Bool) → (utf8_valid_len text == length text) ≡ j → text_by i j text ≡ Ok script → IsText text script
-    by true j e k = absurd (cc)
-    by false false e k = absurd (cc)
-    by false true e k = record { valid = e; told = within_told (length (text_lines text)) (script_of_lines (length (text_lines text) + 1) (significant text)) script k }
+    by : (i j : Bool) → nat_lt most_bytes (length text) ≡ i → (utf8_valid_len text == length text) ≡ j → text_by i j text ≡ Ok script → IsText text script
+    by true j d e k = absurd (cc)
+    by false false d e k = absurd (cc)
+    by false true d e k =
+        let told = within_told (length (text_lines text)) (script_of_lines (length (text_lines text) + 1) (significant text)) script k in
+        record { short = ltb-false most_bytes (length text) d; few = told.1; valid = e; told = told.0 }
 
 text_again : (text : List ℕ) (script : Script) → length text ≤ most_bytes → (utf8_valid_len text == length text) ≡ true → length (text_lines text) ≤ most_lines
     → script_of_lines (length (text_lines text) + 1) (significant text) ≡ Ok script → Reads text script
@@ -406,10 +417,18 @@ text_again text script short valid few told =
     ∙ (ap (λ (j : Bool). text_by false j text) valid
     ∙ (ap (λ (b : Bool). within_by b (script_of_lines (length (text_lines text) + 1) (significant text))) (le-ltb most_lines (length (text_lines text)) few) ∙ told))
 
-pub shown_again : (text : List ℕ) (script : Script) → Reads text script → length (shown script) ≤ most_bytes → length (text_lines (shown script)) ≤ most_lines → Reads (shown script) script
-shown_again text script reads short few =
-    let t = is_text text script reads in
-    let w = whole_read (length (text_lines text) + 1) (significant text) script (significant_read text (valid_bytes text t.valid)) t.told in
+-- the text of a script that is read from its lines is read as it
+pub whole_again : (script : Script) → Whole script → length (shown script) ≤ most_bytes → length (text_lines (shown script)) ≤ most_lines → Reads (shown script) script
+whole_again script w short few =
     let valid = subst (λ (x : List ℕ). (utf8_valid_len x == length x) ≡ true) w.text (valid_lines w.drafted w.lines) in
     let lines : significant (shown script) ≡ numbered 1 w.drafted = ap significant (sym w.text) ∙ significant_lines w.drafted w.lines in
     text_again (shown script) script short valid few (ap (script_of_lines (length (text_lines (shown script)) + 1)) lines ∙ w.again (length (text_lines (shown script)) + 1))
+
+-- its text has a line for each of them
+pub whole_long : (script : Script) (w : Whole script) → length (text_lines (shown script)) ≡ length w.drafted
+whole_long script w = ap (λ (text : List ℕ). length (text_lines text)) (sym w.text) ∙ (ap length (lines_again w.drafted w.lines) ∙ length-map w.drafted body)
+
+pub shown_again : (text : List ℕ) (script : Script) → Reads text script → length (shown script) ≤ most_bytes → length (text_lines (shown script)) ≤ most_lines → Reads (shown script) script
+shown_again text script reads short few =
+    let t = is_text text script reads in
+    whole_again script (whole_read (length (text_lines text) + 1) (significant text) script (significant_read text (valid_bytes text t.valid)) t.told) short few

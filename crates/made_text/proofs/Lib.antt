@@ -1,0 +1,3 @@
+pub mod LineLengths
+pub mod MadeLengths
+pub mod MadeText

@@ -1,0 +1,249 @@
+-- How long the text of a made script is, and that words can express it.
+use Rattle.std.proofs.Common.{◌≡◌, ◌∙◌, ℕ, zero, suc, ◌+◌, ◌-◌, ◌*◌, ◌^◌, ◌≤◌, ◌<◌, List, [], ◌∷◌, ◌++◌, map, length, Bool, true, not, nat_lt, refl, ap, subst, length-append, arith, codes, decimal}
+use Rattle.std.specs.Prelude.{ℤ, pos, neg_ℤ, ◌<ℤ◌, negsuc, unsigned_abs}
+use Rattle.std.specs.Fmt.{signed_decimal}
+use Rattle.std.specs.List.{enumerate_from, flat_map, list_all, range_with_len}
+use Rattle.std.proofs.lemmas.Bool.{and_from, lt-ltb, ltb-true}
+use Rattle.std.proofs.lemmas.Fmt.{length-decimal-le_wide}
+use Rattle.std.proofs.lemmas.Int.{ints}
+use Rattle.std.proofs.lemmas.List.Concat.{flat_map-append}
+use Rattle.std.proofs.lemmas.List.Folds.{list_all-append}
+use Rattle.std.proofs.lemmas.List.FromFn.{length-map-range_with_len}
+use Rattle.list_laws.proofs.Ranges.{pieces_long}
+use Rattle.nc_base.specs.declared.request.Call.{Call}
+use Rattle.nc_base.specs.declared.request.Call.TheVariants as call
+use Rattle.nc_base.specs.declared.request.Choice.TheVariants.{Every}
+use Rattle.nc_base.specs.declared.request.Given.{Given}
+use Rattle.nc_base.specs.declared.request.PostKind.TheVariants.{Bput}
+use Rattle.nc_base.specs.declared.request.Values.TheVariants.{Bits, Numbers}
+use Rattle.serial_spec.specs.Lawful.{is_empty}
+use Rattle.script_spec.specs.Generator.{first_row, precip_at, temp_at}
+use Rattle.script_spec.specs.Texts.{call_word, hex, line}
+use Rattle.script_spec.specs.Shown.{call_words, region_words, shown_call, shown_values}
+use Rattle.script_text.specs.Expressible.{is_expressible_call}
+use Rattle.generated_run.specs.Made.{calls_of_rank, calls_of_record, columns_of, precip_band, region_of_band, temp_band}
+use Rattle.generated_run.proofs.CallLaws.{rank_is, record_is}
+use Rattle.generated_run.proofs.Ranges.{pieces_pass, range_passes}
+use Rattle.made_text.proofs.LineLengths.{hex_long, line_long, number_long, number_some, sizes_long, small_long, words_joined, words_least, words_most, words_size}
+
+-- ---- the values of a rank's rows
+
+-- from 22 to 23 rows of 360 values
+abbrev FitsBand : ℕ → Type 0
+FitsBand n = (7920 ≤ n) × (n ≤ 8280)
+
+rows_long : (r n : ℕ) → r < 8 → n ≡ (first_row (r + 1) - first_row r) * 360 → FitsBand n
+rows_long r n h e = (omega (arith, e), omega (arith, e))
+
+temps_long : (seed r t : ℕ) → r < 8 → FitsBand (length (temp_band seed r t))
+unfolding temp_band
+temps_long seed r t h =
+    rows_long r _ h (pieces_long (λ y. map (λ x. temp_at seed t y x) (range_with_len 0 360)) 360 (λ y. length-map-range_with_len (λ x. temp_at seed t y x) 0 360) (first_row r) (first_row (r + 1) - first_row r))
+
+precips_long : (seed r t : ℕ) → r < 8 → FitsBand (length (precip_band seed r t))
+unfolding precip_band
+precips_long seed r t h =
+    rows_long r _ h (pieces_long (λ y. map (λ x. precip_at seed t y x) (range_with_len 0 360)) 360 (λ y. length-map-range_with_len (λ x. precip_at seed t y x) 0 360) (first_row r) (first_row (r + 1) - first_row r))
+
+temps_fit : (seed r t : ℕ) → list_all (λ n. nat_lt n (2 ^ 64)) (temp_band seed r t) ≡ true
+unfolding temp_band
+temps_fit seed r t =
+    pieces_pass (λ n. nat_lt n (2 ^ 64)) (λ y. map (λ x. temp_at seed t y x) (range_with_len 0 360)) (first_row r) (first_row (r + 1) - first_row r)
+    (λ y b. range_passes (λ n. nat_lt n (2 ^ 64)) (λ x. temp_at seed t y x) 0 360 (λ x c. lt-ltb (temp_at seed t y x) (2 ^ 64) (omega arith)))
+
+abbrev is_depth : ℤ → Bool
+is_depth z = nat_lt (unsigned_abs z) (10 ^ 5)
+
+near_zero : (z : ℤ) → neg_ℤ (pos 10001) <ℤ z → z <ℤ pos 10001 → unsigned_abs z < 10 ^ 5
+near_zero (pos n) low high = let below : n < 10001 = omega (arith, ints) in omega arith
+near_zero (negsuc n) low high = let below : suc n < 10001 = omega (arith, ints) in omega arith
+
+one_depth : (seed t y x : ℕ) → is_depth (precip_at seed t y x) ≡ true
+one_depth seed t y x = lt-ltb _ (10 ^ 5) (near_zero (precip_at seed t y x) (omega (arith, ints)) (omega (arith, ints)))
+
+depths_fit : (seed r t : ℕ) → list_all is_depth (precip_band seed r t) ≡ true
+unfolding precip_band
+depths_fit seed r t =
+    pieces_pass is_depth (λ y. map (λ x. precip_at seed t y x) (range_with_len 0 360)) (first_row r) (first_row (r + 1) - first_row r)
+    (λ y b. range_passes is_depth (λ x. precip_at seed t y x) 0 360 (λ x c. one_depth seed t y x))
+
+-- ---- words can express the calls
+
+some_values : {A : Type 0} (xs : List A) → 1 ≤ length xs → not (is_empty xs) ≡ true
+some_values [] h = absurd (omega arith)
+some_values (x ∷ xs) h = refl
+
+abbrev temp_post : ℕ → ℕ → ℕ → Call
+temp_post seed r t = call.Post (2 * t) Bput (codes "temp") (region_of_band r t) (Bits (temp_band seed r t))
+
+abbrev precip_post : ℕ → ℕ → ℕ → Call
+precip_post seed r t = call.Post (2 * t + 1) Bput (codes "precip") (region_of_band r t) (Numbers (precip_band seed r t))
+
+record_expressible : (seed r t : ℕ) → r < 8 → t < 64 → list_all is_expressible_call (calls_of_record seed r t) ≡ true
+record_expressible seed r t h l =
+    let long = temps_long seed r t h in
+    let some = some_values (temp_band seed r t) (omega (arith, long.0)) in
+    let temp = and_from _ _ (and_from _ _ (lt-ltb (2 * t) (2 ^ 32) (omega arith)) refl) (and_from _ _ some (temps_fit seed r t)) in
+    let precip = and_from _ _ (and_from _ _ (lt-ltb (2 * t + 1) (2 ^ 32) (omega arith)) refl) refl in
+    subst (λ (cs : List Call). list_all is_expressible_call cs ≡ true) (record_is seed r t (temp_post seed r t) (precip_post seed r t) refl refl) (and_from _ _ temp (and_from _ _ precip refl))
+
+abbrev column_get : List ℕ → ℕ → ℕ → Call
+column_get name size r = call.Get true name (columns_of size r)
+
+abbrev records_of : ℕ → ℕ → ℕ → ℕ → List Call
+records_of seed r t n = flat_map (λ k. calls_of_record seed r k) (range_with_len t n)
+
+pub rank_expressible : (seed size r : ℕ) → size ≤ 64 → r < 8 → list_all is_expressible_call (calls_of_rank seed size r) ≡ true
+rank_expressible seed size r s h =
+    let reads = column_get (codes "temp") size r ∷ column_get (codes "precip") size r ∷ call.Detach ∷ [] in
+    subst (λ (cs : List Call). list_all is_expressible_call cs ≡ true) (rank_is seed size r (column_get (codes "temp") size r) (column_get (codes "precip") size r) refl refl)
+    (list_all-append is_expressible_call (call.Attach 65536 ∷ records_of seed r 0 size) reads
+    ∙ and_from _ _ (pieces_pass is_expressible_call (λ k. calls_of_record seed r k) 0 size (λ k b. record_expressible seed r k h (omega arith))) refl)
+
+-- ---- how long their lines are
+
+abbrev region_size : Given → ℕ
+region_size g = words_size (region_words g)
+
+band_region : (r t : ℕ) → r < 8 → t < 64 → region_size (region_of_band r t) ≤ 28
+unfolding region_of_band
+band_region r t h l =
+    let start = sizes_long t (first_row r) 0 (omega arith) (omega arith) (omega arith) in
+    let count = sizes_long 1 (first_row (r + 1) - first_row r) 360 (omega arith) (omega arith) (omega arith) in
+    omega (arith, start, count)
+
+column_region : (size r : ℕ) → size ≤ 64 → r < 8 → region_size (columns_of size r) ≤ 28
+unfolding columns_of
+column_region size r s h =
+    let start = sizes_long 0 0 (45 * r) (omega arith) (omega arith) (omega arith) in
+    let count = sizes_long size 180 1 (omega arith) (omega arith) (omega arith) in
+    omega (arith, start, count)
+
+-- least and most
+pub record Between (low high n : ℕ) : Type 0 where
+  pub least : low ≤ n
+  pub most : n ≤ high
+
+temp_words : (seed r t : ℕ) → r < 8 → Between 142560 149040 (words_size (shown_values (Bits (temp_band seed r t))))
+temp_words seed r t h =
+    let word = λ (n : ℕ). 120 ∷ hex 16 n in
+    let long = temps_long seed r t h in
+    let each : (n : ℕ) → length (word n) ≡ 17 = λ n. omega (arith, hex_long 16 n) in
+    record {
+      least = let least = words_least word (λ n. nat_lt n (2 ^ 64)) 17 (λ n k. omega (arith, each n)) (temp_band seed r t) (temps_fit seed r t) in omega (arith, least, long.0);
+      most = let most = words_most word (λ n. nat_lt n (2 ^ 64)) 17 (λ n k. omega (arith, each n)) (temp_band seed r t) (temps_fit seed r t) in omega (arith, most, long.1);
+    }
+
+precip_words : (seed r t : ℕ) → r < 8 → Between 15840 57960 (words_size (shown_values (Numbers (precip_band seed r t))))
+precip_words seed r t h =
+    let long = precips_long seed r t h in
+    record {
+      least = let least = words_least signed_decimal is_depth 1 (λ z k. number_some z (ltb-true _ _ k)) (precip_band seed r t) (depths_fit seed r t) in omega (arith, least, long.0);
+      most = let most = words_most signed_decimal is_depth 6 (λ z k. number_long z (ltb-true _ _ k)) (precip_band seed r t) (depths_fit seed r t) in omega (arith, most, long.1);
+    }
+
+-- a post's line: what comes before its values, and these
+post_line : (r id low high : ℕ) (name : List ℕ) (g : Given) (vs : List (List ℕ)) → r < 8 → id < 10 ^ 3 → length name ≤ 6 → region_size g ≤ 28 → Between low high (words_size vs)
+    → Between low (high + 60) (length (line (decimal r ∷ codes "bput_vara" ∷ decimal id ∷ name ∷ (region_words g ++ vs))))
+post_line r id low high name g vs h small short region values =
+    let long = line_long (decimal r) (codes "bput_vara" ∷ decimal id ∷ name ∷ (region_words g ++ vs)) in
+    let word : length (codes "bput_vara") ≡ 9 = refl in
+    let rank = small_long r (omega arith) in
+    let least = values.least in
+    let most = values.most in
+    record {
+      least = omega (arith, long, words_joined (region_words g) vs, least);
+      most = omega (arith, long, words_joined (region_words g) vs, most, word, rank, small_long id small, short, region);
+    }
+
+temp_line : (seed r t : ℕ) → r < 8 → t < 64 → Between 142560 149100 (length (shown_call r (temp_post seed r t)))
+unfolding region_of_band
+temp_line seed r t h l = post_line r (2 * t) 142560 149040 (codes "temp") (region_of_band r t) (shown_values (Bits (temp_band seed r t))) h (omega arith) (omega arith) (band_region r t h l) (temp_words seed r t h)
+
+precip_line : (seed r t : ℕ) → r < 8 → t < 64 → Between 15840 58020 (length (shown_call r (precip_post seed r t)))
+unfolding region_of_band
+precip_line seed r t h l = post_line r (2 * t + 1) 15840 57960 (codes "precip") (region_of_band r t) (shown_values (Numbers (precip_band seed r t))) h (omega arith) (omega arith) (band_region r t h l) (precip_words seed r t h)
+
+-- a line of few words
+few_words : (r : ℕ) (c : Call) → r < 8 → words_size (call_word c ∷ call_words c) ≤ 60 → length (shown_call r c) ≤ 64
+few_words r c h few = let rank = small_long r (omega arith) in omega (arith, line_long (decimal r) (call_word c ∷ call_words c), few, rank)
+
+wait_words : words_size (call_word (call.Wait true Every) ∷ call_words (call.Wait true Every)) ≤ 60
+wait_words = omega arith
+
+abbrev shown_calls : ℕ → List Call → List ℕ
+shown_calls r cs = flat_map (shown_call r) cs
+
+record_long : (seed r t : ℕ) → r < 8 → t < 64 → Between 158400 207200 (length (shown_calls r (calls_of_record seed r t)))
+record_long seed r t h l =
+    let temp = shown_call r (temp_post seed r t) in
+    let precip = shown_call r (precip_post seed r t) in
+    let wait = shown_call r (call.Wait true Every) in
+    let one = temp_line seed r t h l in
+    let two = precip_line seed r t h l in
+    let three = few_words r (call.Wait true Every) h wait_words in
+    let all : length (temp ++ (precip ++ (wait ++ []))) ≡ length temp + length precip + length wait =
+    omega (arith, length-append temp (precip ++ (wait ++ [])), length-append precip (wait ++ []), length-append wait []) in
+    subst (λ (cs : List Call). Between 158400 207200 (length (shown_calls r cs))) (record_is seed r t (temp_post seed r t) (precip_post seed r t) refl refl)
+    (record { least = omega (arith, all, one.least, two.least); most = omega (arith, all, one.most, two.most, three) })
+
+records_long : (seed r t n : ℕ) → r < 8 → t + n ≤ 64 → Between (n * 158400) (n * 207200) (length (shown_calls r (records_of seed r t n)))
+records_long seed r t zero h l = record { least = omega arith; most = omega arith }
+records_long seed r t (suc n) h l =
+    let one = record_long seed r t h (omega arith) in
+    let more = records_long seed r (t + 1) n h (omega arith) in
+    let first = calls_of_record seed r t in
+    let rest = records_of seed r (t + 1) n in
+    let all : length (shown_calls r (first ++ rest)) ≡ length (shown_calls r first) + length (shown_calls r rest) =
+    ap (λ (text : List ℕ). length text) (flat_map-append (shown_call r) first rest) ∙ length-append (shown_calls r first) (shown_calls r rest) in
+    record { least = omega (arith, all, one.least, more.least); most = omega (arith, all, one.most, more.most) }
+
+get_line : (size r : ℕ) (name : List ℕ) → size ≤ 64 → r < 8 → length name ≤ 6 → length (shown_call r (column_get name size r)) ≤ 64
+unfolding columns_of
+get_line size r name s h short =
+    let region = column_region size r s h in
+    let word : length (call_word (column_get name size r)) ≡ 12 = refl in
+    few_words r (column_get name size r) h (omega (arith, region, short, word))
+
+attach_line : (r : ℕ) → r < 8 → length (shown_call r (call.Attach 65536)) ≤ 64
+attach_line r h =
+    let word : length (call_word (call.Attach 65536)) ≡ 13 = refl in
+    let size = length-decimal-le_wide 5 65536 (omega arith) (omega arith) (omega arith) in
+    few_words r (call.Attach 65536) h (omega (arith, word, size))
+
+detach_line : (r : ℕ) → r < 8 → length (shown_call r call.Detach) ≤ 64
+detach_line r h = let word : length (call_word call.Detach) ≡ 13 = refl in few_words r call.Detach h (omega (arith, word))
+
+pub rank_text : (seed size r : ℕ) → size ≤ 64 → r < 8 → Between (size * 158400) (size * 207200 + 256) (length (shown_calls r (calls_of_rank seed size r)))
+rank_text seed size r s h =
+    let temps = column_get (codes "temp") size r in
+    let precips = column_get (codes "precip") size r in
+    let attach = shown_call r (call.Attach 65536) in
+    let records = records_of seed r 0 size in
+    let reads = shown_call r temps ++ (shown_call r precips ++ (shown_call r call.Detach ++ [])) in
+    let middle = records_long seed r 0 size h (omega arith) in
+    let all : length (attach ++ shown_calls r (records ++ temps ∷ precips ∷ call.Detach ∷ [])) ≡ length attach + length (shown_calls r records) + length reads =
+    length-append attach (shown_calls r (records ++ temps ∷ precips ∷ call.Detach ∷ []))
+    ∙ (ap (λ (text : List ℕ). length attach + length text) (flat_map-append (shown_call r) records (temps ∷ precips ∷ call.Detach ∷ []))
+    ∙ omega (arith, length-append (shown_calls r records) reads)) in
+    let last : length reads ≡ length (shown_call r temps) + length (shown_call r precips) + length (shown_call r call.Detach) =
+    omega (arith, length-append (shown_call r temps) (shown_call r precips ++ (shown_call r call.Detach ++ [])), length-append (shown_call r precips) (shown_call r call.Detach ++ []), length-append (shown_call r call.Detach) []) in
+    subst (λ (cs : List Call). Between (size * 158400) (size * 207200 + 256) (length (shown_calls r cs))) (rank_is seed size r temps precips refl refl)
+    (record {
+      least = omega (arith, all, middle.least);
+      most = omega (arith, all, last, middle.most, attach_line r h, get_line size r (codes "temp") s h (omega arith), get_line size r (codes "precip") s h (omega arith), detach_line r h);
+    })
+
+-- ---- the calls of all ranks
+
+abbrev pub ranks_text : List (ℕ × List Call) → List ℕ
+ranks_text ranks = flat_map (λ p. flat_map (shown_call p.0) p.1) ranks
+
+pub ranks_long : (seed size a n : ℕ) → size ≤ 64 → a + n ≤ 8 → Between (n * (size * 158400)) (n * (size * 207200 + 256)) (length (ranks_text (enumerate_from a (map (λ r. calls_of_rank seed size r) (range_with_len a n)))))
+ranks_long seed size a zero s h = record { least = omega arith; most = omega arith }
+ranks_long seed size a (suc n) s h =
+    let one = rank_text seed size a s (omega arith) in
+    let more = ranks_long seed size (a + 1) n s (omega arith) in
+    let first = shown_calls a (calls_of_rank seed size a) in
+    let rest = ranks_text (enumerate_from (a + 1) (map (λ r. calls_of_rank seed size r) (range_with_len (a + 1) n))) in
+    record { least = omega (arith, length-append first rest, one.least, more.least); most = omega (arith, length-append first rest, one.most, more.most) }

@@ -1,0 +1,89 @@
+-- What is printed of a made script is read as that script.
+use Rattle.std.proofs.Common.{◌≡◌, ℕ, ◌+◌, ◌≤◌, ◌<◌, List, [], ◌∷◌, ◌++◌, map, length, true, false, nat_le, refl, subst, length-append, arith, codes, decimal}
+use Rattle.std.specs.Fmt.{digits}
+use Rattle.std.specs.List.{enumerate_from, list_all, range_with_len}
+use Rattle.std.proofs.lemmas.Bool.{leb-true}
+use Rattle.nc_base.specs.declared.request.Call.{Call}
+use Rattle.nc_base.specs.declared.script.Script as script_type
+use Rattle.serial_spec.specs.Lawful.{has_whole_attrs}
+use Rattle.script_spec.specs.Generator.{default_hints, made_header, made_script}
+use Rattle.script_spec.specs.ScriptGrammar.{Reads, most_bytes, most_lines}
+use Rattle.script_spec.specs.Shown.{shown, shown_definitions, shown_hints}
+use Rattle.script_spec.specs.Texts.{line}
+use Rattle.script_text.specs.Expressible.{is_expressible, is_expressible_call, printed_lines}
+use Rattle.script_text.proofs.Expressed.{expressed_again}
+use Rattle.generated_run.specs.Made.{calls_of_rank}
+use Rattle.generated_run.proofs.LawfulLaws.{made_lawful}
+use Rattle.generated_run.proofs.MadeLaws.{script_is}
+use Rattle.generated_run.proofs.RankLaws.{rank_long}
+use Rattle.generated_run.proofs.Ranges.{range_passes, sum_within}
+use Rattle.made_text.proofs.MadeLengths.{rank_expressible, ranks_long, ranks_text}
+
+abbrev all_calls : ℕ → ℕ → List (List Call)
+all_calls seed size = map (λ r. calls_of_rank seed size r) (range_with_len 0 8)
+
+-- the made script, with the calls of its ranks under a name
+abbrev named_script : ℕ → ℕ → script_type.Script
+named_script seed size = record { fresh = true; header = made_header; ranks = 8; hints = default_hints; filled = false; extra = []; calls = all_calls seed size }
+
+named_is : (seed size : ℕ) → named_script seed size ≡ made_script seed size
+named_is seed size = script_is seed size made_header [] (all_calls seed size) refl refl refl
+
+pub made_expressible : (seed size : ℕ) → size ≤ 64 → is_expressible (made_script seed size) ≡ true
+made_expressible seed size s =
+    subst (λ (script : script_type.Script). is_expressible script ≡ true) (named_is seed size)
+    (range_passes (λ (own : List Call). list_all is_expressible_call own) (λ r. calls_of_rank seed size r) 0 8 (λ r b. rank_expressible seed size r s (omega arith)))
+
+made_lines : (seed size : ℕ) → size ≤ 64 → printed_lines (made_script seed size) ≤ most_lines
+made_lines seed size s =
+    subst (λ (script : script_type.Script). printed_lines script ≤ most_lines) (named_is seed size)
+    (let few = sum_within (λ (own : List Call). length own) (λ r. calls_of_rank seed size r) 196 0 8 (λ r b. omega (arith, rank_long seed size r)) in omega (arith, few))
+
+-- the text before the calls
+abbrev opening : List ℕ
+opening = line (codes "create" ∷ decimal 1 ∷ []) ++ line (codes "ranks" ∷ decimal 8 ∷ []) ++ shown_hints default_hints ++ shown_definitions made_header ++ line (codes "data" ∷ [])
+
+parts_long : (a b c d e x f : List ℕ) → length (a ++ b ++ c ++ [] ++ [] ++ d ++ e ++ x ++ f) ≡ length (a ++ b ++ c ++ d ++ e) + length x + length f
+parts_long a b c d e x f =
+    let p = a ++ b ++ c in
+    let q = p ++ [] ++ [] ++ d in
+    omega (
+      arith,
+      length-append (q ++ e ++ x) f,
+      length-append (q ++ e) x,
+      length-append q e,
+      length-append (p ++ [] ++ []) d,
+      length-append (p ++ []) [],
+      length-append p [],
+      length-append (p ++ d) e,
+      length-append p d,
+    )
+
+named_long : (seed size : ℕ) → length (shown (named_script seed size)) ≡ length opening + length (ranks_text (enumerate_from 0 (all_calls seed size))) + length (line (codes "end" ∷ []))
+named_long seed size =
+    parts_long (line (codes "create" ∷ decimal 1 ∷ [])) (line (codes "ranks" ∷ decimal 8 ∷ [])) (shown_hints default_hints) (shown_definitions made_header) (line (codes "data" ∷ [])) (ranks_text (enumerate_from 0 (all_calls seed size))) (line (codes "end" ∷ []))
+
+opening_short : nat_le (length opening + length (line (codes "end" ∷ []))) 1000 ≡ true
+unfolding digits
+opening_short = refl
+
+pub made_short : (seed size : ℕ) → size ≤ 40 → length (shown (made_script seed size)) ≤ most_bytes
+made_short seed size s =
+    let calls = ranks_long seed size 0 8 (omega arith) (omega arith) in
+    let few = leb-true (length opening + length (line (codes "end" ∷ []))) 1000 opening_short in
+    subst (λ (script : script_type.Script). length (shown script) ≤ most_bytes) (named_is seed size) (omega (arith, named_long seed size, calls.most, few))
+
+pub made_long : (seed size : ℕ) → 53 ≤ size → size ≤ 64 → most_bytes < length (shown (made_script seed size))
+made_long seed size low s =
+    let calls = ranks_long seed size 0 8 s (omega arith) in
+    subst (λ (script : script_type.Script). most_bytes < length (shown script)) (named_is seed size) (omega (arith, named_long seed size, calls.least))
+
+pub made_again : (seed size : ℕ) → size ≤ 64 → length (shown (made_script seed size)) ≤ most_bytes → Reads (shown (made_script seed size)) (made_script seed size)
+made_again seed size s short = expressed_again (made_script seed size) (made_lawful seed size s) (made_expressible seed size s) short (made_lines seed size s)
+
+pub made_read : (seed size : ℕ) → size ≤ 40 → Reads (shown (made_script seed size)) (made_script seed size)
+made_read seed size s = made_again seed size (omega arith) (made_short seed size s)
+
+-- its attributes, of which it has none
+pub made_whole : (seed size : ℕ) → has_whole_attrs (made_script seed size) ≡ true
+made_whole seed size = refl

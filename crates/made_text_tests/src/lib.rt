@@ -1,0 +1,5 @@
+//! Tests of made_text.
+#![tactic(auto)]
+
+#[cfg(test)]
+mod tests;

@@ -1,0 +1,291 @@
+-- The words of calls that are read spell them, and each rank has the calls of its lines.
+use Rattle.std.proofs.Common.{◌≡◌, ◌∙◌, ℕ, ◌+◌, ◌-◌, List, [], ◌∷◌, ◌++◌, take, drop, length, Bool, true, false, cond, Option, Some, None, option_map, Result, Ok, Err, refl, sym, ap, subst, append-nil, bytes_eq, codes}
+use Rattle.std.proofs.lemmas.List.{take-append-drop}
+use Rattle.std.proofs.lemmas.Option.{cond_some}
+use Rattle.list_laws.proofs.Maps.{found_passes}
+use Rattle.script_spec.proofs.TextLaws.{faultless_some}
+use Rattle.nc_base.specs.declared.errors.ScriptKind.{ScriptKind}
+use Rattle.nc_base.specs.declared.errors.ScriptKind.TheVariants as kind
+use Rattle.nc_base.specs.declared.request.Values.{Values}
+use Rattle.nc_base.specs.declared.request.Values.TheVariants.{Numbers}
+use Rattle.nc_base.specs.declared.request.Form.{Form}
+use Rattle.nc_base.specs.declared.request.PostKind.{PostKind}
+use Rattle.nc_base.specs.declared.request.PostKind.TheVariants.{Iput, Iget, Bput}
+use Rattle.nc_base.specs.declared.request.Choice.{Choice}
+use Rattle.nc_base.specs.declared.request.Choice.TheVariants.{Every, Listed}
+use Rattle.nc_base.specs.declared.request.Given.{Given}
+use Rattle.nc_base.specs.declared.request.Call.{Call}
+use Rattle.nc_base.specs.declared.request.Call.TheVariants as call
+use Rattle.script_spec.specs.Texts.{call_word, form_word, kind_word, with_all}
+use Rattle.script_spec.specs.ScriptWords.{Word, Plain, Quoted, Broken, is_word}
+use Rattle.script_spec.specs.ScriptSteps.{◌>>=◌, refuse_if, or_fault, reads_as, size, name, ended, whole}
+use Rattle.script_spec.specs.ScriptValues.{values}
+use Rattle.script_spec.specs.ScriptCalls.{after_prefix, before_suffix, forms, form_of_text, form_and_all, region, id_of_text, one_id, ids, choice, posted, is_posted, new_id, put_call, get_call, post_values, post_call, fill_call, attach_call, inquiry, lone_call, other_call, plain_call, post_of_text, call_of}
+use Rattle.script_text.proofs.Steps.{went, same_ok, is_end, whole_value, carried}
+use Rattle.script_text.proofs.Places.{bytes_same}
+use Rattle.script_spelling.specs.SpelledValues.{Each}
+use Rattle.script_spelling.specs.SpelledCalls.{SpellsPosted, SpellsChoice, SpellsPlace, SpellsCall}
+use Rattle.script_spelling.proofs.WordsRead.{some_of_map, WordRead, word_is, one_is, name_is, size_is}
+use Rattle.script_spelling.proofs.ValuesRead.{EachRead, each_on, values_spelled, region_spelled, region_of_form}
+
+-- ---- the words of calls
+
+prefixed : (prefix w rest : List ℕ) → after_prefix prefix w ≡ Some rest → w ≡ prefix ++ rest
+prefixed prefix w rest h =
+    let n = length prefix in
+    let k = cond_some (bytes_eq (take n w) prefix) (drop n w) rest h in
+    sym (take-append-drop n w) ∙ (ap (λ (front : List ℕ). front ++ drop n w) (bytes_same (take n w) prefix k.0) ∙ ap (λ (back : List ℕ). prefix ++ back) k.1)
+
+suffixed : (suffix w front : List ℕ) → before_suffix suffix w ≡ Some front → w ≡ front ++ suffix
+suffixed suffix w front h =
+    let n = length w - length suffix in
+    let k = cond_some (bytes_eq (drop n w) suffix) (take n w) front h in
+    sym (take-append-drop n w) ∙ (ap (λ (back : List ℕ). take n w ++ back) (bytes_same (drop n w) suffix k.0) ∙ ap (λ (x : List ℕ). x ++ suffix) k.1)
+
+form_is : (w : List ℕ) (f : Form) → form_of_text w ≡ Some f → w ≡ form_word f
+form_is w f h = bytes_same w (form_word f) (found_passes (λ (g : Form). bytes_eq w (form_word g)) forms f h)
+
+with_form : (w : List ℕ) (r : Form × Bool) → form_and_all w ≡ Some r → w ≡ with_all r.1 (form_word r.0)
+with_form w r h = by (before_suffix (codes "_all") w) refl h
+  where
+    by : (o : Option (List ℕ)) → before_suffix (codes "_all") w ≡ o → elim o as (λ x. Option (Form × Bool)) [
+      | Some f ↦ option_map (λ x. (x, true)) (form_of_text f)
+      | None ↦ option_map (λ x. (x, false)) (form_of_text w)
+    ] ≡ Some r → w ≡ with_all r.1 (form_word r.0)
+    by (Some f) e k =
+        let m = some_of_map (λ x. (x, true)) (form_of_text f) r k in
+        subst (λ (x : Form × Bool). w ≡ with_all x.1 (form_word x.0)) m.2 (suffixed (codes "_all") w f e ∙ ap (λ (x : List ℕ). x ++ codes "_all") (form_is f m.0 m.1))
+    by None e k =
+        let m = some_of_map (λ x. (x, false)) (form_of_text w) r k in
+        subst (λ (x : Form × Bool). w ≡ with_all x.1 (form_word x.0)) m.2 (form_is w m.0 m.1)
+
+put_word : (all : Bool) (f : Form) → codes "put_" ++ with_all all (form_word f) ≡ with_all all (codes "put_" ++ form_word f)
+put_word true f = refl
+put_word false f = refl
+
+get_word : (all : Bool) (f : Form) → codes "get_" ++ with_all all (form_word f) ≡ with_all all (codes "get_" ++ form_word f)
+get_word true f = refl
+get_word false f = refl
+
+post_word : (w : List ℕ) (r : PostKind × List ℕ) → post_of_text w ≡ Some r → w ≡ kind_word r.0 ++ r.1
+post_word w r h = by (after_prefix (codes "iput_") w) (after_prefix (codes "bput_") w) refl refl h
+  where
+    by : (i j : Option (List ℕ)) → after_prefix (codes "iput_") w ≡ i → after_prefix (codes "bput_") w ≡ j → elim i as (λ x. Option (PostKind × List ℕ)) [
+      | Some f ↦ Some (Iput, f)
+      | None ↦ elim j as (λ x. Option (PostKind × List ℕ)) [ Some f ↦ Some (Bput, f) | None ↦ option_map (λ f. (Iget, f)) (after_prefix (codes "iget_") w) ]
+    ] ≡ Some r → w ≡ kind_word r.0 ++ r.1
+    by (Some f) j a b k = let same : (Iput, f) ≡ r = cc in subst (λ (x : PostKind × List ℕ). w ≡ kind_word x.0 ++ x.1) same (prefixed (codes "iput_") w f a)
+    by None (Some f) a b k = let same : (Bput, f) ≡ r = cc in subst (λ (x : PostKind × List ℕ). w ≡ kind_word x.0 ++ x.1) same (prefixed (codes "bput_") w f b)
+    by None None a b k =
+        let m = some_of_map (λ (f : List ℕ). (Iget, f)) (after_prefix (codes "iget_") w) r k in
+        subst (λ (x : PostKind × List ℕ). w ≡ kind_word x.0 ++ x.1) m.2 (prefixed (codes "iget_") w m.0 m.1)
+
+-- ---- what stands behind them
+
+-- a name and a region, and what follows
+pub record PlaceRead (f : Form) (ws : List Word) (n : List ℕ) (g : Given) (rest : List Word) : Type 0 where
+  pub place : List Word
+  pub are : ws ≡ place ++ rest
+  pub same_form : g.form ≡ f
+  pub spells : SpellsPlace place n g
+
+place_spelled : (f : Form) (ws : List Word) (n : List ℕ × List Word) (g : Given × List Word) → name ws ≡ Ok n → region f n.1 ≡ Ok g → PlaceRead f ws n.0 g.0 g.1
+place_spelled f ws n g h k =
+    let named = name_is ws n h in
+    let read = region_spelled f n.1 g k in
+    record {
+      place = Plain n.0 ∷ read.own;
+      are = named.are ∙ ap (λ (xs : List Word). Plain n.0 ∷ xs) read.are;
+      same_form = read.same_form;
+      spells = (read.own, refl, named.named, region_of_form f n.1 g read);
+    }
+
+-- a word and the words behind it are those of the call
+abbrev IsCall : List ℕ → List Word → Call → Type 0
+IsCall w ws c = (w ≡ call_word c) × SpellsCall ws c
+
+put_spelled : (w rest : List ℕ) (all : Bool) (f : Form) (before : ℕ) (ws : List Word) (c : Call) → w ≡ codes "put_" ++ rest → rest ≡ with_all all (form_word f) → put_call all f before ws ≡ Ok c → IsCall w ws c
+put_spelled w rest all f before ws c a b h =
+    let n = went (name ws) _ c h in
+    let g = went (region f n.value.1) _ c n.rest in
+    let vs = went (values None before g.value.1) _ c g.rest in
+    let place = place_spelled f ws n.value g.value n.first g.first in
+    subst (IsCall w ws) (same_ok (call.Put all n.value.0 g.value.0 vs.value) c vs.rest) (
+      a ∙ (ap (λ (x : List ℕ). codes "put_" ++ x) b ∙ (put_word all f ∙ ap (λ (k : Form). with_all all (codes "put_" ++ form_word k)) (sym place.same_form))),
+      (place.place, g.value.1, place.are, place.spells, values_spelled None before g.value.1 vs.value vs.first),
+    )
+
+get_spelled : (w rest : List ℕ) (all : Bool) (f : Form) (ws : List Word) (c : Call) → w ≡ codes "get_" ++ rest → rest ≡ with_all all (form_word f) → get_call all f ws ≡ Ok c → IsCall w ws c
+get_spelled w rest all f ws c a b h =
+    let n = went (name ws) _ c h in
+    let g = went (region f n.value.1) _ c n.rest in
+    let u = went (ended g.value.1) _ c g.rest in
+    let place = place_spelled f ws n.value g.value n.first g.first in
+    let are : place.place ≡ ws = sym (place.are ∙ (ap (λ (xs : List Word). place.place ++ xs) (is_end g.value.1 u.value u.first) ∙ append-nil place.place)) in
+    subst (IsCall w ws) (same_ok (call.Get all n.value.0 g.value.0) c u.rest) (
+      a ∙ (ap (λ (x : List ℕ). codes "get_" ++ x) b ∙ (get_word all f ∙ ap (λ (k : Form). with_all all (codes "get_" ++ form_word k)) (sym place.same_form))),
+      subst (λ (xs : List Word). SpellsPlace xs n.value.0 g.value.0) are place.spells,
+    )
+
+posted_spelled : (k : PostKind) (before : ℕ) (ws : List Word) (vs : Values) → post_values k before ws ≡ Ok vs → SpellsPosted k ws vs
+posted_spelled Iget before ws vs h = let k = whole_value (Numbers [], ws) vs h in (k.1, sym k.0)
+posted_spelled Iput before ws vs h = values_spelled None before ws vs h
+posted_spelled Bput before ws vs h = values_spelled None before ws vs h
+
+post_spelled : (w : List ℕ) (k : PostKind) (rest : List ℕ) (posted_before : List ℕ) (f : Form) (before : ℕ) (ws : List Word) (c : Call)
+    → w ≡ kind_word k ++ rest → rest ≡ form_word f → post_call k posted_before f before ws ≡ Ok c → IsCall w ws c
+post_spelled w k rest posted_before f before ws c a b h =
+    let i = went (new_id posted_before ws) _ c h in
+    let n = went (name i.value.1) _ c i.rest in
+    let g = went (region f n.value.1) _ c n.rest in
+    let vs = went (post_values k before g.value.1) _ c g.rest in
+    let r = went (reads_as id_of_text kind.BadNumber ws) _ i.value i.first in
+    let u = went (refuse_if (is_posted r.value.0 posted_before) kind.TwiceNamed) _ i.value r.rest in
+    let id = subst (WordRead id_of_text ws) (same_ok r.value i.value u.rest) (word_is id_of_text kind.BadNumber ws r.value refl r.first) in
+    let place = place_spelled f i.value.1 n.value g.value n.first g.first in
+    subst (IsCall w ws) (same_ok (call.Post i.value.0 k n.value.0 g.value.0 vs.value) c vs.rest) (
+      a ∙ ap (λ (x : List ℕ). kind_word k ++ x) (b ∙ ap form_word (sym place.same_form)),
+      (
+        id.word,
+        place.place,
+        g.value.1,
+        id.are ∙ ap (λ (xs : List Word). Plain id.word ∷ xs) place.are,
+        id.says,
+        place.spells,
+        posted_spelled k before g.value.1 vs.value vs.first,
+      ),
+    )
+
+-- ---- calls of no form
+
+ids_spelled : (found : List ℕ) (ws : List Word) (ns : List ℕ) → ids found ws ≡ Ok ns → EachRead id_of_text found ws ns
+ids_spelled found [] ns h = record { more = []; are = sym (append-nil found ∙ same_ok found ns h); spells = tt }
+ids_spelled found (w ∷ ws) ns h =
+    let a = carried (one_id w) (λ x. ids (found ++ x ∷ []) ws) ns h in
+    each_on id_of_text found w ws ns a.value (one_is id_of_text kind.BadNumber w a.value refl a.first) (ids_spelled (found ++ a.value ∷ []) ws ns a.rest)
+
+pub plain_word : (text : List ℕ) (w : Word) → is_word text w ≡ true → w ≡ Plain text
+plain_word text (Plain w) h = ap (λ (x : List ℕ). Plain x) (bytes_same w text h)
+plain_word text (Quoted t) h = absurd (cc)
+plain_word text Broken h = absurd (cc)
+
+choice_spelled : (ws : List Word) (c : Choice) → choice ws ≡ Ok c → SpellsChoice ws c
+choice_spelled [] c h = subst (SpellsChoice []) (same_ok (Listed []) c h) tt
+choice_spelled (w ∷ ws) c h = by (is_word (codes "all") w) refl h
+  where
+    by : (b : Bool) → is_word (codes "all") w ≡ b → elim b as (λ x. Result Choice ScriptKind) [ true ↦ whole (Every, ws) | false ↦ (ids [] (w ∷ ws) >>= λ found. Ok (Listed found)) ] ≡ Ok c → SpellsChoice (w ∷ ws) c
+    by true e k =
+        let end = whole_value (Every, ws) c k in
+        subst (SpellsChoice (w ∷ ws)) end.0 (ap (λ (x : Word). x ∷ ws) (plain_word (codes "all") w e) ∙ ap (λ (xs : List Word). Plain (codes "all") ∷ xs) end.1)
+    by false e k =
+        let a = went (ids [] (w ∷ ws)) (λ found. Ok (Listed found)) c k in
+        let each = ids_spelled [] (w ∷ ws) a.value a.first in
+        subst (SpellsChoice (w ∷ ws)) (same_ok (Listed a.value) c a.rest) (subst (Each id_of_text (w ∷ ws)) (sym each.are) each.spells)
+
+waits : (all : Bool) (ws : List Word) (c : Call) → (choice ws >>= λ x. Ok (call.Wait all x)) ≡ Ok c → IsCall (with_all all (codes "wait")) ws c
+waits all ws c h =
+    let a = went (choice ws) (λ x. Ok (call.Wait all x)) c h in
+    subst (IsCall (with_all all (codes "wait")) ws) (same_ok (call.Wait all a.value) c a.rest) (refl, choice_spelled ws a.value a.first)
+
+cancels : (ws : List Word) (c : Call) → (choice ws >>= λ x. Ok (call.Cancel x)) ≡ Ok c → IsCall (codes "cancel") ws c
+cancels ws c h =
+    let a = went (choice ws) (λ x. Ok (call.Cancel x)) c h in
+    subst (IsCall (codes "cancel") ws) (same_ok (call.Cancel a.value) c a.rest) (refl, choice_spelled ws a.value a.first)
+
+one_word : (w : List ℕ) (ws rest : List Word) → ws ≡ Plain w ∷ rest → rest ≡ [] → ws ≡ Plain w ∷ []
+one_word w ws rest a b = a ∙ ap (λ (xs : List Word). Plain w ∷ xs) b
+
+attaches : (ws : List Word) (c : Call) → attach_call ws ≡ Ok c → IsCall (codes "buffer_attach") ws c
+attaches ws c h =
+    let a = went (size ws) _ c h in
+    let s = size_is ws a.value a.first in
+    let end = whole_value (call.Attach a.value.0, a.value.1) c a.rest in
+    subst (IsCall (codes "buffer_attach") ws) end.0 (refl, (s.word, one_word s.word ws a.value.1 s.are end.1, s.says))
+
+inquires : (ws : List Word) (c : Call) → inquiry ws ≡ Ok c → IsCall (codes "inq_dimlen") ws c
+inquires ws c h =
+    let a = went (name ws) _ c h in
+    let n = name_is ws a.value a.first in
+    let end = whole_value (call.InqDim a.value.0, a.value.1) c a.rest in
+    subst (IsCall (codes "inq_dimlen") ws) end.0 (refl, (one_word a.value.0 ws a.value.1 n.are end.1, n.named))
+
+fills : (ranks r : ℕ) (ws : List Word) (c : Call) → fill_call ranks r ws ≡ Ok c → IsCall (codes "fill_var_rec") ws c
+fills ranks r ws c h =
+    let a = went (name ws) _ c h in
+    let b = went (size a.value.1) _ c a.rest in
+    let u = went (ended b.value.1) _ c b.rest in
+    let n = name_is ws a.value a.first in
+    let s = size_is a.value.1 b.value b.first in
+    let are = n.are ∙ ap (λ (xs : List Word). Plain a.value.0 ∷ xs) (one_word s.word a.value.1 b.value.1 s.are (is_end b.value.1 u.value u.first)) in
+    subst (IsCall (codes "fill_var_rec") ws) (same_ok (call.FillRec a.value.0 b.value.0 r ranks) c u.rest) (refl, (s.word, are, n.named, s.says))
+
+at_word : (w word : List ℕ) (ws : List Word) (c : Call) → bytes_eq w word ≡ true → IsCall word ws c → IsCall w ws c
+at_word w word ws c e h = (bytes_same w word e ∙ h.0, h.1)
+
+lone_spelled : (w : List ℕ) (ws : List Word) (c : Call) → lone_call w ws ≡ Ok c → IsCall w ws c
+lone_spelled w ws c h = by (bytes_eq w (codes "buffer_detach")) (bytes_eq w (codes "begin_indep_data")) (bytes_eq w (codes "end_indep_data")) (bytes_eq w (codes "sync_numrecs")) refl refl refl refl h
+  where
+    by : (i j k l : Bool) → bytes_eq w (codes "buffer_detach") ≡ i → bytes_eq w (codes "begin_indep_data") ≡ j → bytes_eq w (codes "end_indep_data") ≡ k → bytes_eq w (codes "sync_numrecs") ≡ l
+        → elim (cond {A = Option (List ℕ × Call)} i (Some (codes "buffer_detach", call.Detach)) (cond j (Some (codes "begin_indep_data", call.BeginIndep)) (cond k (Some (codes "end_indep_data", call.EndIndep)) (cond l (Some (codes "sync_numrecs", call.SyncRecords)) None)))) as (λ x. Result Call ScriptKind) [
+          | None ↦ Err kind.UnknownWord
+          | Some p ↦ whole (p.1, ws)
+        ] ≡ Ok c → IsCall w ws c
+    by true j k l a b d e m = let end = whole_value (call.Detach, ws) c m in subst (IsCall w ws) end.0 (bytes_same w (codes "buffer_detach") a, end.1)
+    by false true k l a b d e m = let end = whole_value (call.BeginIndep, ws) c m in subst (IsCall w ws) end.0 (bytes_same w (codes "begin_indep_data") b, end.1)
+    by false false true l a b d e m = let end = whole_value (call.EndIndep, ws) c m in subst (IsCall w ws) end.0 (bytes_same w (codes "end_indep_data") d, end.1)
+    by false false false true a b d e m = let end = whole_value (call.SyncRecords, ws) c m in subst (IsCall w ws) end.0 (bytes_same w (codes "sync_numrecs") e, end.1)
+    by false false false false a b d e m = absurd (cc)
+
+other_spelled : (ranks r : ℕ) (w : List ℕ) (ws : List Word) (c : Call) → other_call ranks r w ws ≡ Ok c → IsCall w ws c
+other_spelled ranks r w ws c h = by (bytes_eq w (codes "buffer_attach")) (bytes_eq w (codes "inq_dimlen")) (bytes_eq w (codes "fill_var_rec")) refl refl refl h
+  where
+    by : (i j k : Bool) → bytes_eq w (codes "buffer_attach") ≡ i → bytes_eq w (codes "inq_dimlen") ≡ j → bytes_eq w (codes "fill_var_rec") ≡ k → elim i as (λ x. Result Call ScriptKind) [
+      | true ↦ attach_call ws
+      | false ↦ elim j as (λ x. Result Call ScriptKind) [
+        | true ↦ inquiry ws
+        | false ↦ elim k as (λ x. Result Call ScriptKind) [ true ↦ fill_call ranks r ws | false ↦ lone_call w ws ]
+      ]
+    ] ≡ Ok c → IsCall w ws c
+    by true j k a b d e = at_word w (codes "buffer_attach") ws c a (attaches ws c e)
+    by false true k a b d e = at_word w (codes "inq_dimlen") ws c b (inquires ws c e)
+    by false false true a b d e = at_word w (codes "fill_var_rec") ws c d (fills ranks r ws c e)
+    by false false false a b d e = lone_spelled w ws c e
+
+plain_spelled : (ranks r : ℕ) (w : List ℕ) (ws : List Word) (c : Call) → plain_call ranks r w ws ≡ Ok c → IsCall w ws c
+plain_spelled ranks r w ws c h = by (bytes_eq w (codes "wait")) (bytes_eq w (codes "wait_all")) (bytes_eq w (codes "cancel")) refl refl refl h
+  where
+    by : (i j k : Bool) → bytes_eq w (codes "wait") ≡ i → bytes_eq w (codes "wait_all") ≡ j → bytes_eq w (codes "cancel") ≡ k → elim i as (λ x. Result Call ScriptKind) [
+      | true ↦ (choice ws >>= λ x. Ok (call.Wait false x))
+      | false ↦ elim j as (λ x. Result Call ScriptKind) [
+        | true ↦ (choice ws >>= λ x. Ok (call.Wait true x))
+        | false ↦ elim k as (λ x. Result Call ScriptKind) [ true ↦ (choice ws >>= λ x. Ok (call.Cancel x)) | false ↦ other_call ranks r w ws ]
+      ]
+    ] ≡ Ok c → IsCall w ws c
+    by true j k a b d e = at_word w (codes "wait") ws c a (waits false ws c e)
+    by false true k a b d e = at_word w (codes "wait_all") ws c b (waits true ws c e)
+    by false false true a b d e = at_word w (codes "cancel") ws c d (cancels ws c e)
+    by false false false a b d e = other_spelled ranks r w ws c e
+
+pub call_spelled : (ranks r : ℕ) (own : List Call) (before : ℕ) (w : List ℕ) (ws : List Word) (c : Call) → call_of ranks r own before w ws ≡ Ok c → IsCall w ws c
+call_spelled ranks r own before w ws c h = by (after_prefix (codes "put_") w) (after_prefix (codes "get_") w) (post_of_text w) refl refl refl h
+  where
+    by : (i j : Option (List ℕ)) (k : Option (PostKind × List ℕ)) → after_prefix (codes "put_") w ≡ i → after_prefix (codes "get_") w ≡ j → post_of_text w ≡ k → elim i as (λ x. Result Call ScriptKind) [
+      | Some rest ↦ (or_fault kind.UnknownWord (form_and_all rest) >>= λ f. put_call f.1 f.0 before ws)
+      | None ↦ elim j as (λ x. Result Call ScriptKind) [
+        | Some rest ↦ (or_fault kind.UnknownWord (form_and_all rest) >>= λ f. get_call f.1 f.0 ws)
+        | None ↦ elim k as (λ x. Result Call ScriptKind) [
+          | Some p ↦ (or_fault kind.UnknownWord (form_of_text p.1) >>= λ f. post_call p.0 (posted own) f before ws)
+          | None ↦ plain_call ranks r w ws
+        ]
+      ]
+    ] ≡ Ok c → IsCall w ws c
+    by (Some rest) j k a b d e =
+        let f = went (or_fault kind.UnknownWord (form_and_all rest)) (λ x. put_call x.1 x.0 before ws) c e in
+        put_spelled w rest f.value.1 f.value.0 before ws c (prefixed (codes "put_") w rest a) (with_form rest f.value (faultless_some kind.UnknownWord (form_and_all rest) f.value f.first)) f.rest
+    by None (Some rest) k a b d e =
+        let f = went (or_fault kind.UnknownWord (form_and_all rest)) (λ x. get_call x.1 x.0 ws) c e in
+        get_spelled w rest f.value.1 f.value.0 ws c (prefixed (codes "get_") w rest b) (with_form rest f.value (faultless_some kind.UnknownWord (form_and_all rest) f.value f.first)) f.rest
+    by None None (Some p) a b d e =
+        let f = went (or_fault kind.UnknownWord (form_of_text p.1)) (λ x. post_call p.0 (posted own) x before ws) c e in
+        post_spelled w p.0 p.1 (posted own) f.value before ws c (post_word w p d) (form_is p.1 f.value (faultless_some kind.UnknownWord (form_of_text p.1) f.value f.first)) f.rest
+    by None None None a b d e = plain_spelled ranks r w ws c e

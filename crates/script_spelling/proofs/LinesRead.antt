@@ -1,0 +1,279 @@
+-- What the words of a line between the head and `data` say, where they are read, and that it may stand there.
+use Rattle.std.proofs.Common.{◌≡◌, ◌∙◌, ℕ, zero, suc, ◌<◌, ◌≤◌, List, [], ◌∷◌, position, drop, length, Bool, true, false, not, cond, nat_lt, nat_le, ◌==◌, ◌&&◌, Option, Some, None, is_some, is_none, slice_get, map, Ok, refl, sym, ap, subst, arith, bytes_eq, codes}
+use Rattle.std.specs.List.{list_any, list_all}
+use borrow.Author.Tests.{not-false, leb-false, ltb-false}
+use Rattle.std.proofs.lemmas.Bool.{and_parts}
+use Rattle.std.proofs.lemmas.List.{length-map}
+use Rattle.std.proofs.lemmas.Option.{cond_some}
+use Rattle.list_laws.proofs.Optional.{none_of_test}
+use Rattle.script_spec.proofs.TextLaws.{faultless_some}
+use Rattle.nc_base.specs.declared.errors.ScriptKind.TheVariants as kind
+use Rattle.nc_base.specs.declared.errors.LimitName.TheVariants as limit
+use Rattle.nc_base.specs.declared.header.NcType.{NcType}
+use Rattle.nc_base.specs.declared.header.Dim.{Dim}
+use Rattle.nc_base.specs.declared.header.Attr.{Attr}
+use Rattle.nc_base.specs.declared.header.Var.{Var}
+use Rattle.serial_spec.specs.Limits.{most_dims, most_dims_of_var, most_vars}
+use Rattle.script_spec.specs.ScriptWords.{Word, Plain, is_name, between_brackets, parts, all_some}
+use Rattle.script_spec.specs.ScriptSteps.{refuse_if, or_fault, reads_as, name, name_of_text, ended}
+use Rattle.script_spec.specs.ScriptValues.{values}
+use Rattle.script_spec.specs.ScriptDefinitions.{HintForm, Within, Either, hint_forms, hint_form, hint_of_text, hint_value, hint_in, hint_line, ranks_line, number_within, one_of_two, type_of, length_of_text, is_among, dim_names, dim_ids, is_unlimited, is_record_dim, is_added_record, dim_line, var_head, name_list, shape, added_shape, var_names, var_line, owner_of_text, owner_name, Title, same_title, attr_of, attribute_name, attribute}
+use Rattle.script_text.proofs.Steps.{went, same_ok, not_refused, is_end, whole_value}
+use Rattle.script_text.proofs.Places.{bytes_same}
+use Rattle.script_spelling.specs.Statements.{VarLine, RanksAre, HintIs, DimIs, VarIs, AttIs, hint_value_of, owner_word, IsOwner, Says, DimStands, VarStands}
+use Rattle.script_spelling.proofs.WordsRead.{some_of_map, WordRead, word_is, NameRead, name_is}
+use Rattle.script_spelling.proofs.ValuesRead.{values_spelled}
+
+pub two_words : (first one : List ℕ) (ws a : List Word) → ws ≡ Plain one ∷ a → a ≡ [] → Plain first ∷ ws ≡ Plain first ∷ Plain one ∷ []
+two_words first one ws a e1 e2 = ap (λ (xs : List Word). Plain first ∷ xs) e1 ∙ ap (λ (xs : List Word). Plain first ∷ Plain one ∷ xs) e2
+
+three_words : (first one two : List ℕ) (ws a b : List Word) → ws ≡ Plain one ∷ a → a ≡ Plain two ∷ b → b ≡ [] → Plain first ∷ ws ≡ Plain first ∷ Plain one ∷ Plain two ∷ []
+three_words first one two ws a b e1 e2 e3 = ap (λ (xs : List Word). Plain first ∷ xs) e1 ∙ ap (λ (xs : List Word). Plain first ∷ Plain one ∷ xs) (e2 ∙ ap (λ (xs : List Word). Plain two ∷ xs) e3)
+
+no_value : {A : Type 0} (o : Option A) → is_some o ≡ false → o ≡ None
+no_value None h = refl
+no_value (Some x) h = absurd (cc)
+
+-- ---- ranks and hints
+
+pub ranks_said : (version : ℕ) (ranks : Option ℕ) (ws : List Word) (n : ℕ) → ranks_line ranks ws ≡ Ok n → Says version (Plain (codes "ranks") ∷ ws) (RanksAre n) × (ranks ≡ None)
+ranks_said version ranks ws n h =
+    let a = went (refuse_if (is_some ranks) kind.TwiceNamed) _ n h in
+    let b = went (reads_as (number_within 1 64 1) kind.BadNumber ws) _ n a.rest in
+    let w = word_is (number_within 1 64 1) kind.BadNumber ws b.value refl b.first in
+    let end = whole_value b.value n b.rest in
+    ((w.word, two_words (codes "ranks") w.word ws b.value.1 w.are end.1, w.says ∙ ap (λ (x : ℕ). Some x) end.0), no_value ranks (not_refused _ _ a.value a.first))
+
+hint_word : (f : HintForm) (ws : List Word) (r : ℕ × List Word) → hint_value_of f (34 ∷ []) ≡ None → hint_value f ws ≡ Ok r → WordRead (hint_value_of f) ws r
+hint_word (Within low high unit) ws r none h = let w = word_is (number_within low high unit) kind.BadNumber ws r none h in record { word = w.word; are = w.are; says = w.says }
+hint_word (Either a b) ws r none h = let w = word_is (one_of_two a b) kind.UnknownWord ws r none h in record { word = w.word; are = w.are; says = w.says }
+
+-- a text is the value of no hint
+no_quote : (fs : List (List ℕ × HintForm)) (h : ℕ) → list_all (λ f. is_none (hint_value_of f.1 (34 ∷ []))) fs ≡ true
+    → hint_value_of (elim (slice_get fs h) as (λ x. HintForm) [ None ↦ Within 0 0 1 | Some f ↦ f.1 ]) (34 ∷ []) ≡ None
+no_quote [] h all = refl
+no_quote (f ∷ fs) zero all = none_of_test (hint_value_of f.1 (34 ∷ [])) (and_parts _ _ all).0
+no_quote (f ∷ fs) (suc h) all = no_quote fs h (and_parts (is_none (hint_value_of f.1 (34 ∷ []))) _ all).1
+
+pub record HintSaid (version : ℕ) (hints : List (Option ℕ)) (words : List Word) (r : ℕ × ℕ) : Type 0 where
+  pub says : Says version words (HintIs r.0 r.1)
+  pub free : hint_in r.0 hints ≡ None
+
+pub hint_said : (version : ℕ) (hints : List (Option ℕ)) (ws : List Word) (r : ℕ × ℕ) → hint_line hints ws ≡ Ok r → HintSaid version hints (Plain (codes "hint") ∷ ws) r
+hint_said version hints ws r h =
+    let a = went (reads_as hint_of_text kind.UnknownWord ws) _ r h in
+    let b = went (refuse_if (is_some (hint_in a.value.0 hints)) kind.TwiceNamed) _ r a.rest in
+    let c = went (hint_value (hint_form a.value.0) a.value.1) _ r b.rest in
+    let d = went (ended c.value.1) _ r c.rest in
+    let n = word_is hint_of_text kind.UnknownWord ws a.value refl a.first in
+    let v = hint_word (hint_form a.value.0) a.value.1 c.value (no_quote hint_forms a.value.0 refl) c.first in
+    subst (HintSaid version hints (Plain (codes "hint") ∷ ws)) (same_ok (a.value.0, c.value.0) r d.rest) (record {
+      says = (n.word, v.word, three_words (codes "hint") n.word v.word ws a.value.1 c.value.1 n.are v.are (is_end c.value.1 d.value d.first), n.says, v.says);
+      free = no_value (hint_in a.value.0 hints) (not_refused _ _ b.value b.first);
+    })
+
+-- ---- dimensions
+
+pub dim_said : (version : ℕ) (dims : List Dim) (ws : List Word) (d : Dim) → dim_line version dims ws ≡ Ok d → Says version (Plain (codes "dim") ∷ ws) (DimIs d) × DimStands dims d
+dim_said version dims ws d h =
+    let a = went (name ws) _ d h in
+    let b = went (refuse_if (is_among a.value.0 (dim_names dims)) kind.TwiceNamed) _ d a.rest in
+    let c = went (refuse_if (nat_le most_dims (length dims)) (kind.Limit limit.Dims)) _ d b.rest in
+    let e = went (reads_as (length_of_text version) kind.BadNumber a.value.1) _ d c.rest in
+    let f = went (refuse_if (e.value.0 == 0 && list_any is_unlimited dims) kind.BadShape) _ d e.rest in
+    let g = went (ended e.value.1) _ d f.rest in
+    let n = name_is ws a.value a.first in
+    let w = word_is (length_of_text version) kind.BadNumber a.value.1 e.value refl e.first in
+    subst (λ (x : Dim). Says version (Plain (codes "dim") ∷ ws) (DimIs x) × DimStands dims x) (same_ok (record { name = a.value.0; len = e.value.0 }) d g.rest) (
+      (w.word, three_words (codes "dim") a.value.0 w.word ws a.value.1 e.value.1 n.are w.are (is_end e.value.1 g.value g.first), n.named, w.says),
+      (not_refused _ _ b.value b.first, leb-false most_dims (length dims) (not_refused _ _ c.value c.first), not_refused _ _ f.value f.first),
+    )
+
+-- ---- variables
+
+pub record HeadSaid (version : ℕ) (names : List (List ℕ)) (ws : List Word) (r : (NcType × List ℕ) × List Word) : Type 0 where
+  pub word : List ℕ
+  pub are : ws ≡ Plain word ∷ Plain r.0.1 ∷ r.1
+  pub kind : type_of version word ≡ Some r.0.0
+  pub named : is_name r.0.1 ≡ true
+  pub fresh : is_among r.0.1 names ≡ false
+  pub room : length names < most_vars
+
+pub head_said : (version : ℕ) (names : List (List ℕ)) (ws : List Word) (r : (NcType × List ℕ) × List Word) → var_head version names ws ≡ Ok r → HeadSaid version names ws r
+head_said version names ws r h =
+    let a = went (reads_as (type_of version) kind.UnknownWord ws) _ r h in
+    let b = went (name a.value.1) _ r a.rest in
+    let c = went (refuse_if (is_among b.value.0 names) kind.TwiceNamed) _ r b.rest in
+    let d = went (refuse_if (nat_le most_vars (length names)) (kind.Limit limit.Vars)) _ r c.rest in
+    let w = word_is (type_of version) kind.UnknownWord ws a.value refl a.first in
+    let n = name_is a.value.1 b.value b.first in
+    subst (HeadSaid version names ws) (same_ok ((a.value.0, b.value.0), b.value.1) r d.rest) (record {
+      word = w.word;
+      are = w.are ∙ ap (λ (xs : List Word). Plain w.word ∷ xs) n.are;
+      kind = w.says;
+      named = n.named;
+      fresh = not_refused _ _ c.value c.first;
+      room = leb-false most_vars (length names) (not_refused _ _ d.value d.first);
+    })
+
+pub record NamesSaid (ws : List Word) (r : List (List ℕ) × List Word) : Type 0 where
+  pub word : List ℕ
+  pub are : ws ≡ Plain word ∷ r.1
+  pub inside : List ℕ
+  pub between : between_brackets word ≡ Some inside
+  pub parts_are : parts inside ≡ r.0
+  pub named : list_all is_name r.0 ≡ true
+
+pub names_said : (ws : List Word) (r : List (List ℕ) × List Word) → name_list ws ≡ Ok r → NamesSaid ws r
+names_said ws r h =
+    let a = went (reads_as between_brackets kind.BadNumber ws) _ r h in
+    let b = went (refuse_if (not (list_all is_name (parts a.value.0))) kind.BadName) _ r a.rest in
+    let w = word_is between_brackets kind.BadNumber ws a.value refl a.first in
+    subst (NamesSaid ws) (same_ok (parts a.value.0, a.value.1) r b.rest)
+    (record { word = w.word; are = w.are; inside = a.value.0; between = w.says; parts_are = refl; named = not-false _ (not_refused _ _ b.value b.first) })
+
+var_says : (version : ℕ) (names : List (List ℕ)) (ws : List Word) (v : (NcType × List ℕ) × List Word) (ns : List (List ℕ) × List Word) → HeadSaid version names ws v → NamesSaid v.1 ns → ns.1 ≡ []
+    → Says version (Plain (codes "var") ∷ ws) (VarIs (record { kind = v.0.0; name = v.0.1; dims = ns.0 }))
+var_says version names ws v ns head shape_said end = (
+  head.word,
+  shape_said.word,
+  shape_said.inside,
+  ap (λ (xs : List Word). Plain (codes "var") ∷ xs) (head.are ∙ ap (λ (xs : List Word). Plain head.word ∷ Plain v.0.1 ∷ xs) (shape_said.are ∙ ap (λ (xs : List Word). Plain shape_said.word ∷ xs) end)),
+  head.kind,
+  head.named,
+  shape_said.between,
+  shape_said.parts_are,
+  shape_said.named,
+)
+
+all_found : {A : Type 0} (os : List (Option A)) (xs : List A) → all_some os ≡ Some xs → length xs ≡ length os
+all_found [] xs h = let same : [] ≡ xs = cc in ap length (sym same)
+all_found (None ∷ os) xs h = absurd (cc)
+all_found (Some x ∷ os) xs h =
+    let rest = some_of_map (λ ys. x ∷ ys) (all_some os) xs h in
+    ap length (sym rest.2) ∙ ap suc (all_found os rest.0 rest.1)
+
+few_dims : (dims : List Dim) (names : List (List ℕ)) (ids : List ℕ) → dim_ids dims names ≡ Some ids → length ids ≤ most_dims_of_var → length names ≤ most_dims_of_var
+few_dims dims names ids e few =
+    let places = map (λ n. position (bytes_eq n) (dim_names dims)) names in
+    omega (arith, all_found places ids e, length-map names (λ n. position (bytes_eq n) (dim_names dims)))
+
+-- a variable of a new dataset, by the line that defines it
+pub record VarSaid (version : ℕ) (dims : List Dim) (names : List (List ℕ)) (words : List Word) (v : Var) : Type 0 where
+  pub line : VarLine
+  pub says : Says version words (VarIs line)
+  pub stands : VarStands false dims names line
+  pub found : dim_ids dims line.dims ≡ Some v.dims
+  pub same : v ≡ record { name = line.name; dims = v.dims; attrs = []; kind = line.kind; begin = 0 }
+
+pub var_said : (version : ℕ) (dims : List Dim) (vars : List Var) (ws : List Word) (v : Var) → var_line version dims vars ws ≡ Ok v → VarSaid version dims (var_names vars) (Plain (codes "var") ∷ ws) v
+var_said version dims vars ws v h =
+    let a = went (var_head version (var_names vars) ws) _ v h in
+    let b = went (shape dims a.value.1) _ v a.rest in
+    let c = went (ended b.value.1) _ v b.rest in
+    let n = went (name_list a.value.1) _ b.value b.first in
+    let i = went (or_fault kind.UnknownName (dim_ids dims n.value.0)) _ b.value n.rest in
+    let f = went (refuse_if (nat_lt most_dims_of_var (length i.value)) (kind.Limit limit.VarDims)) _ b.value i.rest in
+    let g = went (refuse_if (list_any (is_record_dim dims) (drop 1 i.value)) kind.BadShape) _ b.value f.rest in
+    let pair = same_ok (i.value, n.value.1) b.value g.rest in
+    let ids = ap (λ (x : List ℕ × List Word). x.0) pair in
+    let rest = ap (λ (x : List ℕ × List Word). x.1) pair in
+    let head = head_said version (var_names vars) ws a.value a.first in
+    let names = names_said a.value.1 n.value n.first in
+    let found = faultless_some kind.UnknownName (dim_ids dims n.value.0) i.value i.first in
+    subst (VarSaid version dims (var_names vars) (Plain (codes "var") ∷ ws)) (same_ok (record { name = a.value.0.1; dims = b.value.0; attrs = []; kind = a.value.0.0; begin = 0 }) v c.rest) (record {
+      line = record { kind = a.value.0.0; name = a.value.0.1; dims = n.value.0 };
+      says = var_says version (var_names vars) ws a.value n.value head names (rest ∙ is_end b.value.1 c.value c.first);
+      stands = (head.fresh, head.room, few_dims dims n.value.0 i.value found (ltb-false most_dims_of_var (length i.value) (not_refused _ _ f.value f.first)), (i.value, found, not_refused _ _ g.value g.first));
+      found = found ∙ ap (λ (xs : List ℕ). Some xs) ids;
+      same = refl;
+    })
+
+-- what is added to a dataset that is opened
+pub record LineSaid (dims : List Dim) (names : List (List ℕ)) (words : List Word) (v : (NcType × List ℕ) × List Word) (ns : List (List ℕ) × List Word) : Type 0 where
+  pub says : ns.1 ≡ [] → Says 5 words (VarIs (record { kind = v.0.0; name = v.0.1; dims = ns.0 }))
+  pub stands : VarStands true dims names (record { kind = v.0.0; name = v.0.1; dims = ns.0 })
+
+pub added_said : (dims : List Dim) (names : List (List ℕ)) (ws : List Word) (v : (NcType × List ℕ) × List Word) (ns : List (List ℕ) × List Word) → var_head 5 names ws ≡ Ok v → added_shape dims v.1 ≡ Ok ns
+    → LineSaid dims names (Plain (codes "var") ∷ ws) v ns
+added_said dims names ws v ns h k =
+    let n = went (name_list v.1) _ ns k in
+    let f = went (refuse_if (nat_lt most_dims_of_var (length n.value.0)) (kind.Limit limit.VarDims)) _ ns n.rest in
+    let g = went (refuse_if (list_any (is_added_record dims) (drop 1 n.value.0)) kind.BadShape) _ ns f.rest in
+    let head = head_said 5 names ws v h in
+    let all = names_said v.1 n.value n.first in
+    subst (LineSaid dims names (Plain (codes "var") ∷ ws) v) (same_ok n.value ns g.rest) (record {
+      says = λ end. var_says 5 names ws v n.value head all end;
+      stands = (head.fresh, head.room, ltb-false most_dims_of_var (length n.value.0) (not_refused _ _ f.value f.first), not_refused _ _ g.value g.first);
+    })
+
+-- ---- attributes
+
+-- the owner of an attribute, by its word
+pub record OwnerSaid (ws : List Word) (r : List ℕ × List Word) : Type 0 where
+  pub owner : Option (List ℕ)
+  pub are : ws ≡ Plain (owner_word owner) ∷ r.1
+  pub word : r.0 ≡ owner_word owner
+  pub is : IsOwner owner
+  pub of_name : owner_name r.0 ≡ owner
+  pub colon : bytes_eq r.0 (codes ":") ≡ not (is_some owner)
+
+pub owner_said : (ws : List Word) (r : List ℕ × List Word) → reads_as owner_of_text kind.BadName ws ≡ Ok r → OwnerSaid ws r
+owner_said ws r h = let w = word_is owner_of_text kind.BadName ws r refl h in by (bytes_eq w.word (codes ":")) refl w.says w.are
+  where
+    by : {w : List ℕ} (b : Bool) → bytes_eq w (codes ":") ≡ b → cond {A = Option (List ℕ)} b (Some w) (name_of_text w) ≡ Some r.0 → ws ≡ Plain w ∷ r.1 → OwnerSaid ws r
+    by {w} true e k are =
+        let same : w ≡ r.0 = cc in
+        let colon = bytes_same w (codes ":") e in
+        let test = subst (λ (x : List ℕ). bytes_eq x (codes ":") ≡ true) same e in
+        record {
+          owner = None;
+          are = are ∙ ap (λ (x : List ℕ). Plain x ∷ r.1) colon;
+          word = sym same ∙ colon;
+          is = tt;
+          of_name = ap (λ (b : Bool). cond {A = Option (List ℕ)} b None (Some r.0)) test;
+          colon = test;
+        }
+    by {w} false e k are =
+        let n = cond_some (is_name w) w r.0 k in
+        let test = subst (λ (x : List ℕ). bytes_eq x (codes ":") ≡ false) n.1 e in
+        record {
+          owner = Some r.0;
+          are = are ∙ ap (λ (x : List ℕ). Plain x ∷ r.1) n.1;
+          word = refl;
+          is = subst (λ (x : List ℕ). is_name x ≡ true) n.1 n.0;
+          of_name = ap (λ (b : Bool). cond {A = Option (List ℕ)} b None (Some r.0)) test;
+          colon = test;
+        }
+
+-- an attribute of this owner
+pub record AttrSaid (version : ℕ) (titles : List Title) (owner : List ℕ) (ws : List Word) (a : Attr) : Type 0 where
+  pub says : (o : Option (List ℕ)) → IsOwner o → Says version (Plain (codes "att") ∷ Plain (owner_word o) ∷ ws) (AttIs o a)
+  pub fresh : list_any (same_title (owner, a.name)) titles ≡ false
+
+pub attr_said : (version : ℕ) (titles : List Title) (before : ℕ) (owner : List ℕ) (ws : List Word) (a : Attr) → attribute version titles before owner ws ≡ Ok a → AttrSaid version titles owner ws a
+attr_said version titles before owner ws a h =
+    let n = went (attribute_name titles owner ws) _ a h in
+    let t = went (reads_as (type_of version) kind.UnknownWord n.value.1) _ a n.rest in
+    let vs = went (values (Some t.value.0) before t.value.1) _ a t.rest in
+    let m = went (name ws) _ n.value n.first in
+    let u = went (refuse_if (list_any (same_title (owner, m.value.0)) titles) kind.TwiceNamed) _ n.value m.rest in
+    let same = same_ok m.value n.value u.rest in
+    let named = subst (NameRead ws) same (name_is ws m.value m.first) in
+    let fresh = subst (λ (x : List ℕ × List Word). list_any (same_title (owner, x.0)) titles ≡ false) same (not_refused _ _ u.value u.first) in
+    let w = word_is (type_of version) kind.UnknownWord n.value.1 t.value refl t.first in
+    let spells = values_spelled (Some t.value.0) before t.value.1 vs.value vs.first in
+    subst (AttrSaid version titles owner ws) (same_ok (attr_of n.value.0 t.value.0 vs.value) a vs.rest) (record {
+      says = λ o is. (
+        w.word,
+        t.value.1,
+        vs.value,
+        ap (λ (xs : List Word). Plain (codes "att") ∷ Plain (owner_word o) ∷ xs) (named.are ∙ ap (λ (xs : List Word). Plain n.value.0 ∷ xs) w.are),
+        is,
+        named.named,
+        w.says,
+        spells,
+        refl,
+      );
+      fresh = fresh;
+    })

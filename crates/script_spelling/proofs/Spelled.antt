@@ -1,0 +1,180 @@
+-- A text that is read spells its script.
+use Rattle.std.proofs.Common.{◌≡◌, ◌∙◌, ℕ, zero, suc, ◌+◌, List, [], ◌∷◌, ◌++◌, map, replicate, length, Bool, true, false, not, cond, nat_lt, ◌==◌, Option, Some, None, Result, Ok, Err, refl, sym, ap, subst, append_assoc, arith, codes}
+use Rattle.std.specs.Str.Lossy.{utf8_valid_len}
+use Rattle.std.specs.List.{AllZip, list_all, range_with_len}
+use Rattle.std.proofs.lemmas.Bool.{eqb-true, ne_eqb}
+use Rattle.std.proofs.lemmas.List.{length-replicate}
+use Rattle.nc_base.specs.declared.errors.ScriptKind.{ScriptKind}
+use Rattle.nc_base.specs.declared.errors.ScriptKind.TheVariants as kind
+use Rattle.nc_base.specs.declared.request.Call.{Call}
+use Rattle.nc_base.specs.declared.script.Script.{Script}
+use Rattle.script_spec.specs.ScriptWords.{Word, Plain, Line, is_word, size_of_text, text_lines, significant}
+use Rattle.serial_spec.specs.HeaderGrammar.{is_version}
+use Rattle.script_spec.specs.ScriptSteps.{reads_as, whole}
+use Rattle.script_spec.specs.ScriptDefinitions.{hint_in, Known, nothing_known}
+use Rattle.script_spec.specs.ScriptCalls.{Called}
+use Rattle.script_spec.specs.ScriptGrammar.{at_line, version_of_text, version_line, head, definitions, data_part, finish, header_of, script_of, no_calls, script_of_lines, Reads}
+use Rattle.script_laws.proofs.LawfulLaws.{read_lawful}
+use Rattle.script_text.proofs.Steps.{went, same_ok, whole_value}
+use Rattle.script_text.proofs.CallLines.{line_ok}
+use Rattle.script_text.proofs.Whole.{is_text}
+use Rattle.script_spelling.specs.Statements.{Statement, Says, Stand}
+use Rattle.script_spelling.specs.Described.{calls_in, fills_in, hint_values, at_most_one, ToDataset, Describes}
+use Rattle.script_spelling.specs.SpelledCalls.{SpellsCallLine}
+use Rattle.script_spelling.specs.Spelling.{SpellsHead, version_of_lines, Sections, lines_of, Spells}
+use Rattle.script_spelling.proofs.WordsRead.{word_is}
+use Rattle.script_spelling.proofs.CallsRead.{plain_word}
+use Rattle.script_spelling.proofs.CallLinesRead.{words_of, from_none, CallsRead, calls_read}
+use Rattle.script_spelling.proofs.KnownRead.{flag, Part, Grown, lines_version, DefinitionsRead, definitions_read}
+
+-- ---- the head
+
+abbrev HeadRead : List Word → ℕ → Type 0
+HeadRead words version = SpellsHead words (not (version == 0)) version
+
+-- a version that stands in a script is not 0
+no_zero : (w : List ℕ) (version : ℕ) → version_of_text w ≡ Some version → (version == 0) ≡ false
+no_zero w version h = by (size_of_text w) h
+  where
+    by_test : (n : ℕ) (b : Bool) → is_version n ≡ b → cond {A = Option ℕ} b (Some n) None ≡ Some version → (version == 0) ≡ false
+    by_test zero true e k = absurd (cc)
+    by_test (suc n) true e k = let same : suc n ≡ version = cc in subst (λ (x : ℕ). (x == 0) ≡ false) same (ne_eqb (suc n) 0 (omega arith))
+    by_test n false e k = absurd (cc)
+
+    by : (o : Option ℕ) → elim o as (λ x. Option ℕ) [ None ↦ None | Some n ↦ cond (is_version n) (Some n) None ] ≡ Some version → (version == 0) ≡ false
+    by None k = absurd (cc)
+    by (Some n) k = by_test n (is_version n) refl k
+
+head_read : (w : Word) (ws : List Word) (version : ℕ) → head w ws ≡ Ok version → HeadRead (w ∷ ws) version
+head_read w ws version h = by (is_word (codes "create") w) (is_word (codes "open") w) refl refl h
+  where
+    by : (i j : Bool) → is_word (codes "create") w ≡ i → is_word (codes "open") w ≡ j → elim i as (λ x. Result ℕ ScriptKind) [
+      | true ↦ version_line ws
+      | false ↦ elim j as (λ x. Result ℕ ScriptKind) [ true ↦ whole (0, ws) | false ↦ Err kind.NoHead ]
+    ] ≡ Ok version → HeadRead (w ∷ ws) version
+    by true j a b k =
+        let v = went (reads_as version_of_text kind.BadNumber ws) (λ x. whole x) version k in
+        let word = word_is version_of_text kind.BadNumber ws v.value refl v.first in
+        let end = whole_value v.value version v.rest in
+        let says = word.says ∙ ap (λ (x : ℕ). Some x) end.0 in
+        let words = ap (λ (x : Word). x ∷ ws) (plain_word (codes "create") w a)
+        ∙ ap (λ (xs : List Word). Plain (codes "create") ∷ xs) (word.are ∙ ap (λ (xs : List Word). Plain word.word ∷ xs) end.1) in
+        subst (λ (b : Bool). SpellsHead (w ∷ ws) (not b) version) (sym (no_zero word.word version says)) (word.word, words, says)
+    by false true a b k =
+        let end = whole_value (0, ws) version k in
+        let words = ap (λ (x : Word). x ∷ ws) (plain_word (codes "open") w b) ∙ ap (λ (xs : List Word). Plain (codes "open") ∷ xs) end.1 in
+        subst (HeadRead (w ∷ ws)) end.0 (words, refl)
+    by false false a b k = absurd (cc)
+
+-- ---- what is known at `data` is what the statements say
+
+none_given : (n h : ℕ) → hint_in h (replicate n None) ≡ None
+none_given zero h = refl
+none_given (suc n) zero = refl
+none_given (suc n) (suc h) = none_given n h
+
+dataset_read : (opened : Bool) (version ranks : ℕ) (ss : List Statement) (known : Known) (calls : List (List Call)) → (version == 0) ≡ opened → Part opened nothing_known ss known
+    → ToDataset (not opened) ss (script_of version ranks known calls)
+dataset_read true version ranks ss known calls e p =
+    let zero_version = eqb-true version 0 e in
+    record { header = ap (λ (v : ℕ). header_of v known.defined) zero_version ∙ ap (λ d. header_of 0 d) p.0; extra = p.1 }
+dataset_read false version ranks ss known calls e p = record { dims = p.1; vars = p.3; attrs = p.2; records = refl; extra = p.0 }
+
+filled_as : (filled : Bool) (n : ℕ) → flag filled ≡ 0 + n → n ≡ cond filled 1 0
+filled_as filled n h = omega (arith, h)
+
+describes_read : (version ranks : ℕ) (ss : List Statement) (known : Known) (called : List (ℕ × Call)) (calls : List (List Call))
+    → Grown (version == 0) nothing_known ss known → known.ranks ≡ Some ranks → list_all (λ c. nat_lt c.0 ranks) called ≡ true → calls ≡ map (λ r. calls_in r called) (range_with_len 0 ranks)
+    → Describes ss called (script_of version ranks known calls)
+describes_read version ranks ss known called calls grown told low same = record {
+  ranks = sym grown.ranks ∙ ap at_most_one told;
+  hint_table = known.hints;
+  given = λ h. sym (grown.hints h ∙ ap (λ (o : Option ℕ). at_most_one o ++ hint_values h ss) (none_given 10 h));
+  hints = refl;
+  filled = filled_as known.defined.filled (fills_in ss) grown.filled;
+  dataset = dataset_read (version == 0) version ranks ss known calls refl grown.part;
+  there = low;
+  calls = same;
+}
+
+stand_read : (opened : Bool) (ss : List Statement) (known : Known) → Part opened nothing_known ss known → Stand opened [] [] [] ss
+stand_read true ss known p = p.2
+stand_read false ss known p = p.4
+
+no_not : (b : Bool) → not (not b) ≡ b
+no_not true = refl
+no_not false = refl
+
+-- ---- all lines
+
+-- what the lines of a text spell
+pub record LinesSpelled (lines : List (List Word)) (script : Script) : Type 0 where
+  pub sections : Sections
+  pub are : lines ≡ lines_of sections
+  pub head : SpellsHead sections.head script.fresh script.header.version
+  pub statements : List Statement
+  pub say : AllZip (Says (version_of_lines script.header.version)) sections.before_data statements
+  pub stand : Stand (not script.fresh) [] [] [] statements
+  pub called : List (ℕ × Call)
+  pub call : AllZip SpellsCallLine sections.after_data called
+  pub describes : Describes statements called script
+
+finished_lines : (n : ℕ) (calls : List (List Call)) (lines : List Line) (u : Unit {0}) → finish n calls lines ≡ Ok u → lines ≡ []
+finished_lines n calls [] u h = refl
+finished_lines n calls (l ∷ lines) u h = absurd (cc)
+
+-- the head, the definitions that are read up to `data`, and the calls up to `end`
+parts_spelled : (version : ℕ) (l : Line) (lines : List Line) (d : ℕ × (Known × List Line)) (c : ℕ × (Called × List Line)) → HeadRead (words_of l) version
+    → DefinitionsRead (version == 0) (lines_version (version == 0) version) nothing_known lines d → CallsRead (no_calls d.0 d.1.0) d.1.1 c → c.1.1 ≡ []
+    → LinesSpelled (map words_of (l ∷ lines)) (script_of version d.0 d.1.0 c.1.0.calls)
+parts_spelled version l lines d c first defined calls last =
+    let end = ap (λ (ls : List Line). calls.own ++ (Plain (codes "end") ∷ []) ∷ map words_of ls) last in
+    record {
+      sections = record { head = words_of l; before_data = defined.own; after_data = calls.own };
+      are = ap (λ (xs : List (List Word)). words_of l ∷ xs) (defined.are ∙ ap (λ (xs : List (List Word)). defined.own ++ (Plain (codes "data") ∷ []) ∷ xs) (calls.are ∙ end))
+          ∙ sym (append_assoc (words_of l ∷ defined.own) ((Plain (codes "data") ∷ []) ∷ calls.own) ((Plain (codes "end") ∷ []) ∷ []));
+      head = first;
+      statements = defined.statements;
+      say = defined.say;
+      stand = subst (λ (b : Bool). Stand b [] [] [] defined.statements) (sym (no_not (version == 0))) (stand_read (version == 0) defined.statements d.1.0 defined.grown.part);
+      called = calls.called;
+      call = calls.spells;
+      describes = describes_read version d.0 defined.statements d.1.0 calls.called c.1.0.calls defined.grown defined.ranks
+          (subst (λ (n : ℕ). list_all (λ x. nat_lt x.0 n) calls.called ≡ true) (length-replicate d.0 []) calls.there)
+          (calls.calls ∙ from_none (λ r. calls_in r calls.called) 0 d.0);
+    }
+
+lines_spelled : (past : ℕ) (lines : List Line) (script : Script) → script_of_lines past lines ≡ Ok script → LinesSpelled (map words_of lines) script
+lines_spelled past [] script h = absurd (cc)
+lines_spelled past (l ∷ lines) script h =
+    let v = went (at_line l.number (head l.first l.rest)) _ script h in
+    let d = went (definitions past v.value nothing_known lines) _ script v.rest in
+    let c = went (data_part past (no_calls d.value.0 d.value.1.0) d.value.1.1) _ script d.rest in
+    let f = went (finish c.value.0 c.value.1.0.calls c.value.1.1) _ script c.rest in
+    subst (LinesSpelled (map words_of (l ∷ lines))) (same_ok (script_of v.value d.value.0 d.value.1.0 c.value.1.0.calls) script f.rest)
+    (parts_spelled v.value l lines d.value c.value (head_read l.first l.rest v.value (line_ok l.number (head l.first l.rest) v.value v.first))
+    (definitions_read (v.value == 0) past v.value nothing_known lines d.value refl (record { long = refl; apart = refl }) d.first)
+    (calls_read past (no_calls d.value.0 d.value.1.0) d.value.1.1 c.value c.first)
+    (finished_lines c.value.0 c.value.1.0.calls c.value.1.1 f.value f.first))
+
+-- ---- a whole text
+
+pub read_spelled : (text : List ℕ) (script : Script) → Reads text script → Spells text script
+read_spelled text script h =
+    let t = is_text text script h in
+    let l = lines_spelled (length (text_lines text) + 1) (significant text) script t.told in
+    record {
+      short = t.short;
+      few = t.few;
+      utf8 = eqb-true (utf8_valid_len text) (length text) t.valid;
+      sections = l.sections;
+      lines = l.are;
+      head = l.head;
+      statements = l.statements;
+      say = l.say;
+      stand = l.stand;
+      called = l.called;
+      call = l.call;
+      describes = l.describes;
+      lawful = read_lawful text script h;
+    }

@@ -1,0 +1,58 @@
+-- Words that are read stand as they are.
+use Rattle.std.proofs.Common.{◌≡◌, ◌∙◌, ℕ, List, [], ◌∷◌, true, Option, Some, None, option_map, Ok, refl, ap, subst}
+use Rattle.std.proofs.lemmas.Option.{cond_some}
+use Rattle.script_spec.proofs.TextLaws.{faultless_some}
+use Rattle.nc_base.specs.declared.errors.ScriptKind.{ScriptKind}
+use Rattle.nc_base.specs.declared.errors.ScriptKind.TheVariants as kind
+use Rattle.script_spec.specs.ScriptWords.{Word, Plain, Quoted, Broken, is_name, size_of_text, list_of_text}
+use Rattle.script_spec.specs.ScriptSteps.{◌>>=◌, or_fault, bare, reads_as, size, list, name, name_of_text}
+use Rattle.script_text.proofs.Steps.{went, same_ok}
+use Rattle.script_spelling.specs.SpelledValues.{SpellsOne}
+
+pub some_of_map : {A B : Type 0} (g : A → B) (o : Option A) (y : B) → option_map g o ≡ Some y → (x : A) × (o ≡ Some x) × (g x ≡ y)
+some_of_map g None y h = absurd (cc)
+some_of_map g (Some x) y h = let same : g x ≡ y = cc in (x, refl, same)
+
+-- the word that is read, and what follows it
+pub record WordRead {A : Type 0} (f : List ℕ → Option A) (ws : List Word) (r : A × List Word) : Type 0 where
+  pub word : List ℕ
+  pub are : ws ≡ Plain word ∷ r.1
+  pub says : f word ≡ Some r.0
+
+-- what reads no lone quote reads a word as it stands
+pub word_is : {A : Type 0} (f : List ℕ → Option A) (e : ScriptKind) (ws : List Word) (r : A × List Word) → f (34 ∷ []) ≡ None → reads_as f e ws ≡ Ok r → WordRead f ws r
+word_is f e [] r none h = absurd (cc)
+word_is f e (Broken ∷ ws) r none h = absurd (cc)
+word_is f e (Quoted text ∷ ws) r none h =
+    let a = went (or_fault e (f (34 ∷ []))) (λ x. Ok (x, ws)) r h in
+    let some = faultless_some e (f (34 ∷ [])) a.value a.first in
+    absurd (cc)
+word_is f e (Plain w ∷ ws) r none h =
+    let a = went (or_fault e (f w)) (λ x. Ok (x, ws)) r h in
+    subst (WordRead f (Plain w ∷ ws)) (same_ok (a.value, ws) r a.rest) (record { word = w; are = refl; says = faultless_some e (f w) a.value a.first })
+
+-- one word by itself
+pub one_is : {A : Type 0} (f : List ℕ → Option A) (e : ScriptKind) (w : Word) (x : A) → f (34 ∷ []) ≡ None → (bare w >>= λ v. or_fault e (f v)) ≡ Ok x → SpellsOne f w x
+one_is f e Broken x none h = absurd (cc)
+one_is f e (Quoted text) x none h = let some = faultless_some e (f (34 ∷ [])) x h in absurd (cc)
+one_is f e (Plain w) x none h = (w, refl, faultless_some e (f w) x h)
+
+-- ---- names
+
+pub record NameRead (ws : List Word) (r : List ℕ × List Word) : Type 0 where
+  pub are : ws ≡ Plain r.0 ∷ r.1
+  pub named : is_name r.0 ≡ true
+
+pub name_is : (ws : List Word) (r : List ℕ × List Word) → name ws ≡ Ok r → NameRead ws r
+name_is ws r h =
+    let a = word_is name_of_text kind.BadName ws r refl h in
+    let k = cond_some (is_name a.word) a.word r.0 a.says in
+    record { are = a.are ∙ ap (λ (w : List ℕ). Plain w ∷ r.1) k.1; named = subst (λ (w : List ℕ). is_name w ≡ true) k.1 k.0 }
+
+-- ---- sizes and lists
+
+pub size_is : (ws : List Word) (r : ℕ × List Word) → size ws ≡ Ok r → WordRead size_of_text ws r
+size_is ws r h = word_is size_of_text kind.BadNumber ws r refl h
+
+pub list_is : (ws : List Word) (r : List ℕ × List Word) → list ws ≡ Ok r → WordRead list_of_text ws r
+list_is ws r h = word_is list_of_text kind.BadNumber ws r refl h

@@ -1,0 +1,252 @@
+-- A lawful script that words can express is read from what is printed of it.
+use Rattle.std.proofs.Common.{◌≡◌, ◌∙◌, ℕ, zero, suc, ◌+◌, ◌*◌, ◌/◌, ◌%◌, ◌^◌, ◌≤◌, List, [], ◌∷◌, ◌++◌, find, map, sum, length, length-append, codes, Bool, true, false, not, cond, nat_le, ◌==◌, ◌&&◌, Option, Some, None, is_some, option_map, refl, sym, ap, subst, arith, bytes_eq}
+use Rattle.std.specs.List.{list_all, range_with_len, enumerate_from}
+use Rattle.std.proofs.lemmas.Bool.{and_parts, and_from, cond-false, cond-true, eqb-true, eq-eqb, leb-true, ne_eqb}
+use Rattle.std.proofs.lemmas.List.{length-map}
+use Rattle.std.proofs.lemmas.List.Sums.{sum_by-cons}
+use Rattle.std.proofs.lemmas.Slice.Eq.{bytes_eq-Decides}
+use Rattle.nc_base.specs.declared.errors.ScriptKind.{ScriptKind}
+use Rattle.nc_base.specs.declared.errors.ScriptKind.TheVariants as kind
+use Rattle.nc_base.specs.declared.header.Attr.{Attr}
+use Rattle.nc_base.specs.declared.header.Header.{Header}
+use Rattle.nc_base.specs.declared.script.Extra.{Extra}
+use Rattle.nc_base.specs.declared.script.Hints.{Hints}
+use Rattle.nc_base.specs.declared.script.Script.{Script}
+use Rattle.nc_base.specs.declared.request.Call.{Call}
+use Rattle.nc_base.specs.declared.step.MeetKind.{MeetKind}
+use Rattle.serial_spec.specs.Limits.{most_dims, most_vars}
+use Rattle.serial_spec.specs.HeaderGrammar.{is_version}
+use Rattle.serial_spec.specs.History.{kinds, kind_number}
+use Rattle.serial_spec.specs.Lawful.{added_dims, added_vars, agree, are_different, are_lawful_hints, is_alignment, is_empty, is_lawful, is_lawful_call, is_lawful_dim, is_lawful_extra, is_lawful_header, is_lawful_var, is_within, kind_numbers, most_calls, most_ranks, most_values, posted_ids, values_in_script}
+use Rattle.script_spec.specs.Shown.{shown}
+use Rattle.script_spec.specs.ScriptWords.{Word, Plain}
+use Rattle.script_spec.specs.ScriptDefinitions.{Within}
+use Rattle.script_spec.specs.ScriptCalls.{kind_at, differs_at, is_difference, mismatch}
+use Rattle.script_spec.specs.ScriptGrammar.{Reads, most_bytes, most_lines}
+use Rattle.script_text.specs.Expressible.{is_expressible, is_expressible_call, is_expressible_header, printed_lines}
+use Rattle.script_text.proofs.Lines.{empty_list}
+use Rattle.script_text.proofs.PrintedDefinitions.{is_value_of}
+use Rattle.script_text.proofs.Places.{position_cons}
+use Rattle.script_text.proofs.CallLines.{call_tokens_of, own_lines, call_lines, DataEnd}
+use Rattle.script_text.proofs.DefinedLines.{line_of_dim, line_of_var, line_of_att, lines_of_own, definition_lines}
+use Rattle.script_text.proofs.KnownLines.{hint_tokens, HintsFit}
+use Rattle.script_text.proofs.ExpressedDefinitions.{defined_of, header_told, no_attributes}
+use Rattle.script_text.proofs.ExpressedCalls.{chains_told, all_counted}
+use Rattle.script_text.proofs.Whole.{Whole, all_lines, before_data, create_again, fill_lines, from_data, from_drafted, script_with, version_head, whole_from, whole_again, whole_long}
+
+-- ---- ranks and hints
+
+any_unit : (low high n : ℕ) → is_within low high n ≡ true → is_value_of (Within low high 1) n ≡ true
+any_unit low high n h = let unit : n % 1 ≡ 0 = omega arith in and_from _ _ h (eq-eqb (n % 1) 0 unit)
+
+alignment : (n : ℕ) → is_alignment n ≡ true → is_value_of (Within 4 1048576 4) n ≡ true
+alignment n h =
+    let both = and_parts (is_within 4 1048576 n) ((n / 4) * 4 == n) h in
+    let times = eqb-true ((n / 4) * 4) n both.1 in
+    let unit : n % 4 ≡ 0 = omega (arith, times) in
+    and_from _ _ both.0 (eq-eqb (n % 4) 0 unit)
+
+hints_told : (h : Hints) → are_lawful_hints h ≡ true → HintsFit h
+hints_told h lawful =
+    let p7 = and_parts _ (is_within 1 (2 ^ 25) h.striping_unit) lawful in
+    let p6 = and_parts _ (is_alignment h.var_align) p7.0 in
+    let p5 = and_parts _ (is_alignment h.header_align) p6.0 in
+    let p4 = and_parts _ (is_within 1 64 h.line_room) p5.0 in
+    let p3 = and_parts _ (is_within 1 (2 ^ 25) h.wr_buffer) p4.0 in
+    let p2 = and_parts _ (is_within 1 (2 ^ 25) h.rd_buffer) p3.0 in
+    let p1 = and_parts (is_within 1 64 h.cb_nodes) (is_within 1 (2 ^ 25) h.cb_buffer) p2.0 in
+    record {
+      cb_nodes = any_unit 1 64 h.cb_nodes p1.0;
+      cb_buffer = any_unit 1 (2 ^ 25) h.cb_buffer p1.1;
+      rd_buffer = any_unit 1 (2 ^ 25) h.rd_buffer p2.1;
+      wr_buffer = any_unit 1 (2 ^ 25) h.wr_buffer p3.1;
+      line_room = any_unit 1 64 h.line_room p4.1;
+      header_align = alignment h.header_align p5.1;
+      var_align = alignment h.var_align p6.1;
+      striping_unit = any_unit 1 (2 ^ 25) h.striping_unit p7.1;
+    }
+
+-- ---- ranks that agree don't differ
+
+abbrev numbers : List MeetKind → List ℕ
+numbers own = map (λ k. kind_number (Some k)) own
+
+same_at : (own first : List MeetKind) (k : ℕ) → numbers own ≡ numbers first → kind_at k own ≡ kind_at k first
+same_at [] [] k h = refl
+same_at [] (y ∷ ys) k h = absurd (cc)
+same_at (x ∷ xs) [] k h = absurd (cc)
+same_at (x ∷ xs) (y ∷ ys) zero h = cc
+same_at (x ∷ xs) (y ∷ ys) (suc k) h = let rest : numbers xs ≡ numbers ys = cc in same_at xs ys k rest
+
+abbrev have_kinds : List (List Call) → List ℕ → Bool
+have_kinds calls ns = list_all (λ own. bytes_eq (kind_numbers own) ns) calls
+
+none_differs : (calls : List (List Call)) (first : List MeetKind) (k : ℕ) → have_kinds calls (numbers first) ≡ true → differs_at (map (λ own. kinds own) calls) first k ≡ None
+none_differs [] first k h = refl
+none_differs (own ∷ calls) first k h =
+    let both = and_parts (bytes_eq (kind_numbers own) (numbers first)) (have_kinds calls (numbers first)) h in
+    let same = same_at (kinds own) first k ((bytes_eq-Decides (kind_numbers own) (numbers first)).0 both.0) in
+    let test = λ (ks : List MeetKind). not (kind_at k ks == kind_at k first) in
+    position_cons test (kinds own) (map (λ cs. kinds cs) calls)
+    ∙ (cond-false _ _ _ (ap not (eq-eqb (kind_at k (kinds own)) (kind_at k first) same)) ∙ ap (option_map suc) (none_differs calls first k both.1))
+
+nothing_found : (p : ℕ → Bool) (from n : ℕ) → ((k : ℕ) → p k ≡ false) → find p (range_with_len from n) ≡ None
+nothing_found p from zero h = refl
+nothing_found p from (suc n) h = cond-false _ _ _ (h from) ∙ nothing_found p (from + 1) n h
+
+abbrev difference_by : List (List MeetKind) → List MeetKind → Option ℕ → Option ScriptKind
+difference_by ranks first o = option_map (λ d. kind.Mismatch d.0 0 d.1) (elim o as (λ x. Option (ℕ × ℕ)) [ None ↦ None | Some k ↦ option_map (λ r. (k, r)) (differs_at ranks first k) ])
+
+agreement : (calls : List (List Call)) → agree calls ≡ true → mismatch (map (λ own. kinds own) calls) ≡ None
+agreement [] h = refl
+agreement (own ∷ others) h =
+    let first = kinds own in
+    let all = own ∷ others in
+    let ranks = map (λ cs. kinds cs) all in
+    let same : have_kinds all (numbers first) ≡ true = and_from _ _ ((bytes_eq-Decides (numbers first) (numbers first)).1 refl) h in
+    ap (difference_by ranks first) (nothing_found (is_difference ranks first) 0 (length first + 1) (λ k. ap is_some (none_differs all first k same)))
+
+-- ---- a script for a new dataset, by its parts
+
+record LawfulParts (s : Script) : Type 0 where
+  ranks : is_within 1 most_ranks s.ranks ≡ true
+  long : (length s.calls == s.ranks) ≡ true
+  hints : are_lawful_hints s.hints ≡ true
+  header : is_lawful_header s ≡ true
+  calls : list_all (λ own. list_all (is_lawful_call s.ranks own.0) own.1) (enumerate_from 0 s.calls) ≡ true
+  ids : list_all (λ own. are_different (posted_ids own)) s.calls ≡ true
+  few : nat_le (values_in_script s) most_values ≡ true
+  agreed : agree s.calls ≡ true
+
+lawful_parts : (s : Script) → is_lawful s ≡ true → LawfulParts s
+lawful_parts s h =
+    let p11 = and_parts _ (agree s.calls) h in
+    let p10 = and_parts _ (nat_le (values_in_script s) most_values) p11.0 in
+    let p9 = and_parts _ (nat_le (sum (map (λ own. length own) s.calls)) most_calls) p10.0 in
+    let p8 = and_parts _ (list_all (λ own. are_different (posted_ids own)) s.calls) p9.0 in
+    let p7 = and_parts _ (list_all (λ own. list_all (is_lawful_call s.ranks own.0) own.1) (enumerate_from 0 s.calls)) p8.0 in
+    let p6 = and_parts _ (list_all is_lawful_extra s.extra) p7.0 in
+    let p5 = and_parts _ (nat_le (added_vars s.extra) most_vars) p6.0 in
+    let p4 = and_parts _ (nat_le (added_dims s.extra) most_dims) p5.0 in
+    let p3 = and_parts _ (is_lawful_header s) p4.0 in
+    let p2 = and_parts _ (are_lawful_hints s.hints) p3.0 in
+    let p1 = and_parts (is_within 1 most_ranks s.ranks) (length s.calls == s.ranks) p2.0 in
+    record { ranks = p1.0; long = p1.1; hints = p2.1; header = p3.1; calls = p7.1; ids = p8.1; few = p10.1; agreed = p11.1 }
+
+-- of a script for a new dataset
+record NewHeader (s : Script) : Type 0 where
+  records : s.header.records ≡ 0
+  version : is_version s.header.version ≡ true
+  few_dims : length s.header.dims ≤ most_dims
+  dims : list_all (is_lawful_dim s.header.version) s.header.dims ≡ true
+  few_vars : length s.header.vars ≤ most_vars
+  vars : list_all is_lawful_var s.header.vars ≡ true
+  nothing_added : s.extra ≡ []
+
+new_header : (s : Script) → s.fresh ≡ true → is_lawful_header s ≡ true → NewHeader s
+new_header s fresh h =
+    let a = and_parts (s.header.records == 0) _ h in
+    let new = sym (cond-true _ _ _ fresh) ∙ a.1 in
+    let p5 = and_parts _ (is_empty s.extra) new in
+    let p4 = and_parts _ (list_all is_lawful_var s.header.vars) p5.0 in
+    let p3 = and_parts _ (nat_le (length s.header.vars) most_vars) p4.0 in
+    let p2 = and_parts _ (list_all (is_lawful_dim s.header.version) s.header.dims) p3.0 in
+    let p1 = and_parts (is_version s.header.version) (nat_le (length s.header.dims) most_dims) p2.0 in
+    record {
+      records = eqb-true s.header.records 0 a.0;
+      version = p1.0;
+      few_dims = leb-true (length s.header.dims) most_dims p1.1;
+      dims = p2.1;
+      few_vars = leb-true (length s.header.vars) most_vars p3.1;
+      vars = p4.1;
+      nothing_added = empty_list s.extra p5.1;
+    }
+
+new_version : (version : ℕ) → is_version version ≡ true → (version == 0) ≡ false
+new_version zero h = absurd (cc)
+new_version (suc n) h = ne_eqb (suc n) 0 (omega arith)
+
+-- the script as that which its parts tell
+same_script : (version ranks : ℕ) (hints : Hints) (filled : Bool) (calls : List (List Call)) (fresh : Bool) (records : ℕ) (extra : List Extra)
+    → (version == 0) ≡ false → fresh ≡ true → records ≡ 0 → extra ≡ []
+    → (header : Header) → script_with version ranks hints (defined_of header filled) [] calls
+    ≡ record { fresh = fresh; header = record { version = version; records = records; dims = header.dims; attrs = header.attrs; vars = header.vars }; ranks = ranks; hints = hints; filled = filled; extra = extra; calls = calls }
+same_script version ranks hints filled calls fresh records extra new e1 e2 e3 header =
+    ap (λ (b : Bool). record { fresh = b; header = record { version = version; records = 0; dims = header.dims; attrs = header.attrs; vars = header.vars }; ranks = ranks; hints = hints; filled = filled; extra = []; calls = calls }) (ap not new ∙ sym e1)
+    ∙ (ap (λ (n : ℕ). record { fresh = fresh; header = record { version = version; records = n; dims = header.dims; attrs = header.attrs; vars = header.vars }; ranks = ranks; hints = hints; filled = filled; extra = []; calls = calls }) (sym e2)
+    ∙ ap (λ (xs : List Extra). record { fresh = fresh; header = record { version = version; records = records; dims = header.dims; attrs = header.attrs; vars = header.vars }; ranks = ranks; hints = hints; filled = filled; extra = xs; calls = calls }) (sym e3))
+
+-- ---- how many lines it has
+
+calls_long : (r : ℕ) (calls : List (List Call)) → length (call_lines r calls) ≡ sum (map (λ own. length own) calls)
+calls_long r [] = refl
+calls_long r (own ∷ more) =
+    let first = sum_by-cons (λ n. n) (length own) (map (λ cs. length cs) more) in
+    omega (arith, first, length-append (own_lines r own) (call_lines (r + 1) more), length-map own (call_tokens_of r), calls_long (r + 1) more)
+
+fill_long : (filled : Bool) → length (fill_lines filled) ≡ cond filled 1 0
+fill_long true = refl
+fill_long false = refl
+
+definitions_long : (header : Header) (filled : Bool) → header.attrs ≡ [] → lines_of_own header.vars ≡ [] → length (definition_lines (defined_of header filled)) ≡ length header.dims + length header.vars
+definitions_long header filled plain own =
+    let dims = map line_of_dim header.dims in
+    let vars = map (line_of_var header.dims) header.vars in
+    let none : map (line_of_att (codes ":")) header.attrs ++ lines_of_own header.vars ≡ [] = ap (λ (list : List Attr). map (line_of_att (codes ":")) list ++ lines_of_own header.vars) plain ∙ own in
+    ap (λ (rest : List (List Word)). length (dims ++ (vars ++ rest))) none
+    ∙ omega (arith, length-append dims (vars ++ []), length-append vars [], length-map header.dims line_of_dim, length-map header.vars (line_of_var header.dims))
+
+all_long : (b : Bool) (version n : ℕ) (h : Hints) (header : Header) (filled : Bool) (calls : List (List Call)) → header.attrs ≡ [] → lines_of_own header.vars ≡ []
+    → length (all_lines b version n h [] (defined_of header filled) calls) ≡ 14 + cond filled 1 0 + length header.dims + length header.vars + sum (map (λ own. length own) calls)
+all_long b version n h header filled calls plain own =
+    let d = defined_of header filled in
+    let hints : length (hint_tokens h) ≡ 10 = refl in
+    let end = (Plain (codes "end") ∷ []) ∷ [] in
+    omega (
+      arith,
+      hints,
+      length-append (before_data n h [] d) (from_data calls),
+      length-append (hint_tokens h) (fill_lines filled ++ definition_lines d),
+      length-append (fill_lines filled) (definition_lines d),
+      fill_long filled,
+      definitions_long header filled plain own,
+      length-append (call_lines 0 calls) end,
+      calls_long 0 calls,
+    )
+
+-- ---- the whole
+
+record Counted (s : Script) : Type 0 where
+  whole : Whole s
+  long : length whole.drafted ≡ printed_lines s
+
+expressed_whole : (s : Script) → is_lawful s ≡ true → is_expressible s ≡ true → Counted s
+expressed_whole s lawful h =
+    let e2 = and_parts (s.fresh && is_expressible_header s.header) (list_all (list_all is_expressible_call) s.calls) h in
+    let e1 = and_parts s.fresh (is_expressible_header s.header) e2.0 in
+    let parts = lawful_parts s lawful in
+    let new = new_header s e1.0 parts.header in
+    let version = s.header.version in
+    let d = defined_of s.header s.filled in
+    let ranks = any_unit 1 most_ranks s.ranks parts.ranks in
+    let small = leb-true s.ranks most_ranks (and_parts (nat_le 1 s.ranks) (nat_le s.ranks most_ranks) parts.ranks).1 in
+    let known = create_again version s.ranks 0 s.hints d (new_version version new.version) ranks (hints_told s.hints parts.hints)
+    (header_told s.header s.filled e1.1 new.dims new.few_dims new.vars new.few_vars) (omega arith) in
+    let values = leb-true (values_in_script s) most_values parts.few in
+    let end : DataEnd s.ranks 0 s.calls = record {
+      long = eqb-true (length s.calls) s.ranks parts.long;
+      chains = chains_told s.ranks 0 s.calls parts.calls e2.1 parts.ids;
+      few = omega (arith, values, all_counted s.calls);
+    } in
+    let first = version_head version new.version in
+    let agree = agreement s.calls parts.agreed in
+    let plain = no_attributes s.header e1.1 in
+    subst Counted (same_script version s.ranks s.hints s.filled s.calls s.fresh s.header.records s.extra (new_version version new.version) e1.0 new.records new.nothing_added s.header) (record {
+      whole = whole_from version s.ranks 0 s.hints [] d s.calls first small known end agree;
+      long = ap length (from_drafted version s.ranks 0 s.hints [] d s.calls first small known end agree) ∙ all_long first.existing version s.ranks s.hints s.header s.filled s.calls plain.0 plain.1;
+    })
+
+pub expressed_again : (s : Script) → is_lawful s ≡ true → is_expressible s ≡ true → length (shown s) ≤ most_bytes → printed_lines s ≤ most_lines → Reads (shown s) s
+expressed_again s lawful h short few =
+    let counted = expressed_whole s lawful h in
+    whole_again s counted.whole short (omega (arith, few, whole_long s counted.whole, counted.long))

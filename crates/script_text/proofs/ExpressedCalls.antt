@@ -1,0 +1,138 @@
+-- Calls that words can express, printed rank by rank, are read again.
+use Rattle.std.proofs.Common.{◌≡◌, ◌∙◌, ℕ, ◌+◌, ◌^◌, ◌≤◌, ◌<◌, List, [], ◌∷◌, ◌++◌, map, sum, length, true, false, not, nat_lt, nat_le, ◌==◌, ◌&&◌, ◌||◌, None, refl, sym, subst, append_assoc, arith}
+use Rattle.std.specs.List.{list_all, list_any, enumerate_from}
+use Rattle.std.proofs.lemmas.Bool.{and_parts, and_from, or_parts, or_from, not-true, eqb-true, ltb-true, leb-true}
+use Rattle.std.proofs.lemmas.List.Elements.{filter_map-append}
+use Rattle.std.proofs.lemmas.List.Folds.{list_any-append}
+use Rattle.std.proofs.lemmas.List.Sums.{sum_by-cons}
+use Rattle.nc_base.specs.declared.request.Values.{Values}
+use Rattle.nc_base.specs.declared.request.Values.TheVariants.{Numbers, Text, Bits}
+use Rattle.nc_base.specs.declared.request.PostKind.{PostKind}
+use Rattle.nc_base.specs.declared.request.PostKind.TheVariants.{Iput, Iget, Bput}
+use Rattle.nc_base.specs.declared.request.Call.{Call}
+use Rattle.nc_base.specs.declared.request.Call.TheVariants as call
+use Rattle.serial_spec.specs.Limits.{most_elements}
+use Rattle.serial_spec.specs.Lawful.{are_values, are_different, id_posted, is_given, is_lawful_call, is_nothing, is_number, is_post_of, is_empty, posted_ids, values_in_call}
+use Rattle.script_spec.specs.ScriptWords.{is_name}
+use Rattle.script_spec.specs.ScriptCalls.{posted, is_posted}
+use Rattle.script_text.specs.Expressible.{are_expressible_values, is_expressible_call, is_id}
+use Rattle.script_text.proofs.Lines.{all_more}
+use Rattle.script_text.proofs.Sequences.{is_fit_number, is_fit_pattern}
+use Rattle.script_text.proofs.PrintedValues.{HasRoom, Fitting}
+use Rattle.script_text.proofs.PrintedRegions.{region_told, choice_told}
+use Rattle.script_text.proofs.PrintedCalls.{CallAgain, PostedAgain, put_same, get_same, post_same, put_values, nothing_posted, choice_same, attach_same, inquiry_same, fill_same, lone_same}
+use Rattle.script_text.proofs.CallLines.{Chain, Chains, count, count_all}
+
+-- ---- values
+
+has_room : (n : ℕ) → n ≤ most_elements → HasRoom None 0 n
+has_room n few = record { all = omega arith; own = λ none. few }
+
+some_bits : (ns : List ℕ) → not (is_empty ns) ≡ true → 0 < length ns
+some_bits [] h = absurd (cc)
+some_bits (n ∷ ns) h = omega arith
+
+values_told : (vs : Values) → are_values vs ≡ true → are_expressible_values vs ≡ true → Fitting None 0 vs
+values_told (Numbers zs) lawful h =
+    let both = and_parts (nat_le (length zs) most_elements) (list_all is_number zs) lawful in
+    record {
+      are = (all_more is_number (is_fit_number None) (λ z k. and_from _ _ k refl) zs both.1, λ some. refl);
+      room = has_room (length zs) (leb-true (length zs) most_elements both.0);
+    }
+values_told (Text text) lawful h = record { are = (h, refl); room = has_room (length text) (leb-true (length text) most_elements lawful) }
+values_told (Bits ns) lawful h =
+    let both = and_parts (not (is_empty ns)) (list_all (λ n. nat_lt n (2 ^ 64)) ns) h in
+    record {
+      are = (all_more (λ n. nat_lt n (2 ^ 64)) (is_fit_pattern None) (λ n k. and_from _ _ k refl) ns both.1, some_bits ns both.0, refl);
+      room = has_room (length ns) (leb-true (length ns) most_elements lawful);
+    }
+
+no_values : (vs : Values) → is_nothing vs ≡ true → PostedAgain Iget 0 vs
+no_values (Numbers []) h = nothing_posted 0 (omega arith)
+no_values (Numbers (z ∷ zs)) h = absurd (cc)
+no_values (Text text) h = absurd (cc)
+no_values (Bits ns) h = absurd (cc)
+
+posted_told : (k : PostKind) (vs : Values) → is_post_of k vs ≡ true → are_expressible_values vs ≡ true → PostedAgain k 0 vs
+posted_told Iget vs lawful h = no_values vs lawful
+posted_told Iput vs lawful h = (put_values 0 vs (values_told vs lawful h)).0
+posted_told Bput vs lawful h = (put_values 0 vs (values_told vs lawful h)).1
+
+-- ---- one call
+
+-- the id of a post is none that its rank has posted
+abbrev NewId : List Call → Call → Type 0
+NewId own (call.Post id k n g vs) = is_posted id (posted own) ≡ false
+NewId own _ = Unit {0}
+
+call_told : (ranks r : ℕ) (own : List Call) (c : Call) → is_lawful_call ranks r c ≡ true → is_expressible_call c ≡ true → NewId own c → CallAgain ranks r own c
+call_told ranks r own (call.Put all n g vs) lawful h new =
+    let a = and_parts (is_given g) (are_values vs) lawful in
+    let b = and_parts (is_name n) (are_expressible_values vs) h in
+    put_same ranks r own all n g.form g 0 vs b.0 (region_told g a.0) (values_told vs a.1 b.1)
+call_told ranks r own (call.Get all n g) lawful h new = get_same ranks r own all n g.form g h (region_told g lawful)
+call_told ranks r own (call.Post id k n g vs) lawful h new =
+    let a = and_parts (is_given g) (is_post_of k vs) lawful in
+    let b = and_parts (is_id id && is_name n) (are_expressible_values vs) h in
+    let d = and_parts (is_id id) (is_name n) b.0 in
+    post_same ranks r own k id n g.form g 0 vs (ltb-true id (2 ^ 32) d.0) new d.1 (region_told g a.0) (posted_told k vs a.1 b.1)
+call_told ranks r own (call.Wait all c) lawful h new = (choice_same ranks r own c (choice_told c h)).0 all
+call_told ranks r own (call.Cancel c) lawful h new = (choice_same ranks r own c (choice_told c h)).1
+call_told ranks r own (call.Attach n) lawful h new = attach_same ranks r own n (ltb-true n (2 ^ 63) lawful)
+call_told ranks r own (call.InqDim n) lawful h new = inquiry_same ranks r own n h
+call_told ranks r own (call.FillRec n number share others) lawful h new =
+    let a = and_parts _ (others == ranks) lawful in
+    let b = and_parts (nat_lt number (2 ^ 63)) (share == r) a.0 in
+    subst (λ (x : ℕ). CallAgain ranks r own (call.FillRec n number x others)) (sym (eqb-true share r b.1))
+    (subst (λ (x : ℕ). CallAgain ranks r own (call.FillRec n number r x)) (sym (eqb-true others ranks a.1)) (fill_same ranks r own n number h (ltb-true number (2 ^ 63) b.0)))
+call_told ranks r own call.Detach lawful h new = (lone_same ranks r own).0
+call_told ranks r own call.BeginIndep lawful h new = (lone_same ranks r own).1
+call_told ranks r own call.EndIndep lawful h new = (lone_same ranks r own).2
+call_told ranks r own call.SyncRecords lawful h new = (lone_same ranks r own).3
+
+-- ---- the ids of a rank's posts
+
+apart : (ids more : List ℕ) (id : ℕ) → are_different (ids ++ id ∷ more) ≡ true → is_posted id ids ≡ false
+apart [] more id h = refl
+apart (n ∷ ids) more id h =
+    let both = and_parts (not (list_any (λ m. m == n) (ids ++ id ∷ more))) (are_different (ids ++ id ∷ more)) h in
+    let none = sym (list_any-append (λ m. m == n) ids (id ∷ more)) ∙ not-true _ both.0 in
+    let behind = (or_parts (list_any (λ m. m == n) ids) ((id == n) || list_any (λ m. m == n) more) none).1 in
+    or_from _ _ (or_parts (id == n) (list_any (λ m. m == n) more) behind).0 (apart ids more id both.1)
+
+new_id : (own cs : List Call) (c : Call) → are_different (posted_ids (own ++ c ∷ cs)) ≡ true → NewId own c
+new_id own cs (call.Post id k n g vs) h =
+    apart (posted own) (posted_ids cs) id (subst (λ (ids : List ℕ). are_different ids ≡ true) (filter_map-append id_posted own (call.Post id k n g vs ∷ cs)) h)
+new_id own cs _ h = tt
+
+-- ---- the calls of a rank, and of all ranks
+
+chain_told : (ranks r : ℕ) (own cs : List Call) → list_all (is_lawful_call ranks r) cs ≡ true → list_all is_expressible_call cs ≡ true → are_different (posted_ids (own ++ cs)) ≡ true → Chain ranks r own cs
+chain_told ranks r own [] lawful h ids = tt
+chain_told ranks r own (c ∷ cs) lawful h ids =
+    let a = and_parts (is_lawful_call ranks r c) (list_all (is_lawful_call ranks r) cs) lawful in
+    let b = and_parts (is_expressible_call c) (list_all is_expressible_call cs) h in (
+      call_told ranks r own c a.0 b.0 (new_id own cs c ids),
+      chain_told ranks r (own ++ c ∷ []) cs a.1 b.1 (subst (λ (xs : List Call). are_different (posted_ids xs) ≡ true) (sym (append_assoc own (c ∷ []) cs)) ids),
+    )
+
+pub chains_told : (ranks r : ℕ) (calls : List (List Call)) → list_all (λ own. list_all (is_lawful_call ranks own.0) own.1) (enumerate_from r calls) ≡ true → list_all (list_all is_expressible_call) calls ≡ true
+    → list_all (λ own. are_different (posted_ids own)) calls ≡ true → Chains ranks r calls
+chains_told ranks r [] lawful h ids = tt
+chains_told ranks r (own ∷ more) lawful h ids =
+    let a = and_parts (list_all (is_lawful_call ranks r) own) _ lawful in
+    let b = and_parts (list_all is_expressible_call own) (list_all (list_all is_expressible_call) more) h in
+    let d = and_parts (are_different (posted_ids own)) _ ids in
+    (chain_told ranks r [] own a.0 b.0 d.0, chains_told ranks (r + 1) more a.1 b.1 d.1)
+
+-- ---- how many values
+
+counted : (cs : List Call) → count cs ≡ sum (map values_in_call cs)
+counted [] = refl
+counted (c ∷ cs) = let first = sum_by-cons (λ n. n) (values_in_call c) (map values_in_call cs) in omega (arith, first, counted cs)
+
+pub all_counted : (calls : List (List Call)) → count_all calls ≡ sum (map (λ own. sum (map values_in_call own)) calls)
+all_counted [] = refl
+all_counted (own ∷ more) =
+    let first = sum_by-cons (λ n. n) (sum (map values_in_call own)) (map (λ cs. sum (map values_in_call cs)) more) in
+    omega (arith, first, counted own, all_counted more)

@@ -1,0 +1,183 @@
+-- Definitions that words can express, printed after those before them, are read again.
+use Rattle.std.proofs.Common.{◌≡◌, ◌∙◌, ◌⊎◌, ℕ, zero, suc, ◌+◌, ◌^◌, ◌≤◌, ◌<◌, List, [], ◌∷◌, ◌++◌, map, position, drop, length, Bool, true, false, not, cond, nat_lt, nat_le, ◌==◌, ◌&&◌, Some, refl, sym, ap, subst, inl, inr, append_assoc, length-append, arith, bytes_eq, codes}
+use Rattle.std.specs.List.{list_all, list_any}
+use Rattle.std.proofs.lemmas.Bool.{and_parts, and_from, not-true, lt-leb, ne_eqb, ltb-true, leb-true, le-ltb, eqb-true}
+use Rattle.nc_base.specs.declared.header.Dim.{Dim}
+use Rattle.nc_base.specs.declared.header.Attr.{Attr}
+use Rattle.nc_base.specs.declared.header.Var.{Var}
+use Rattle.nc_base.specs.declared.header.Header.{Header}
+use Rattle.serial_spec.specs.Limits.{most_dims, most_vars, most_dims_of_var, record_limit}
+use Rattle.serial_spec.specs.HeaderGrammar.{number_of, last_type}
+use Rattle.serial_spec.specs.Lawful.{is_empty, is_lawful_dim, is_lawful_var}
+use Rattle.script_spec.specs.ScriptWords.{is_name}
+use Rattle.script_spec.specs.ScriptDefinitions.{is_among, dim_names, is_record_dim, is_unlimited, length_limit, same_title, Defined}
+use Rattle.script_text.specs.Expressible.{is_new_name, are_expressible_dims, is_expressible_var, are_expressible_vars, is_expressible_header}
+use Rattle.script_text.proofs.Lines.{empty_list}
+use Rattle.script_text.proofs.PrintedAttributes.{type_told}
+use Rattle.script_text.proofs.PrintedDefinitions.{length_told, dim_told}
+use Rattle.script_text.proofs.Places.{name_at, place_of_new, joined_names, length_names, ids_found}
+use Rattle.script_text.proofs.DefinedLines.{line_of_att, lines_of_own}
+use Rattle.script_text.proofs.DefinedChains.{DimChain, VarOk, VarChain, AttrChain, OwnChains, DefinedOk, count_attrs, count_own}
+
+-- a name that is one, and that none has
+new_name : (names : List (List ℕ)) (n : List ℕ) → is_new_name names n ≡ true → (is_name n ≡ true) × (is_among n names ≡ false)
+new_name names n h =
+    let both = and_parts (is_name n) (not (is_among n names)) h in
+    (both.0, not-true (is_among n names) both.1)
+
+-- ---- dimensions
+
+length_low : (b : Bool) (n : ℕ) → n < cond b (2 ^ 62) (2 ^ 31) → n < 2 ^ 63
+length_low true n h = omega arith
+length_low false n h = omega arith
+
+length_cases : (version n : ℕ) → n < length_limit version → (n ≡ 0) ⊎ (((n == 0) ≡ false) × (n < length_limit version) × (n < 2 ^ 63))
+length_cases version zero h = inl refl
+length_cases version (suc n) h = inr (ne_eqb (suc n) 0 (omega arith), h, length_low (version == 5) (suc n) h)
+
+record DimParts (before : List Dim) (d : Dim) (ds : List Dim) : Type 0 where
+  named : is_name d.name ≡ true
+  fresh : is_among d.name (dim_names before) ≡ false
+  one : (is_unlimited d && list_any is_unlimited before) ≡ false
+  rest : are_expressible_dims (before ++ d ∷ []) ds ≡ true
+
+dim_parts : (before : List Dim) (d : Dim) (ds : List Dim) → are_expressible_dims before (d ∷ ds) ≡ true → DimParts before d ds
+dim_parts before d ds h =
+    let one = is_unlimited d && list_any is_unlimited before in
+    let all = and_parts (is_new_name (dim_names before) d.name && not one) _ h in
+    let first = and_parts (is_new_name (dim_names before) d.name) (not one) all.0 in
+    let n = new_name (dim_names before) d.name first.0 in
+    record { named = n.0; fresh = n.1; one = not-true one first.1; rest = all.1 }
+
+dims_chained : (version : ℕ) (before ds : List Dim) → are_expressible_dims before ds ≡ true → list_all (is_lawful_dim version) ds ≡ true → length before + length ds ≤ most_dims → DimChain version before ds
+dims_chained version before [] h lawful few = tt
+dims_chained version before (d ∷ ds) h lawful few =
+    let parts = dim_parts before d ds h in
+    let lens = and_parts (is_lawful_dim version d) (list_all (is_lawful_dim version) ds) lawful in
+    let len = length_told version d.len (length_cases version d.len (ltb-true d.len (record_limit version) lens.0)) in
+    let long = length-append before (d ∷ []) in (
+      dim_told version before d.name d.len parts.named parts.fresh (lt-leb most_dims (length before) (omega arith)) len parts.one,
+      dims_chained version (before ++ d ∷ []) ds parts.rest lens.1 (omega (arith, long)),
+    )
+
+-- ---- their places
+
+dim_found : (before ds : List Dim) (k : ℕ) → are_expressible_dims before ds ≡ true → k < length ds → position (bytes_eq (name_at ds k)) (dim_names before ++ dim_names ds) ≡ Some (length before + k)
+dim_found before [] k h low = absurd (omega arith)
+dim_found before (d ∷ ds) zero h low =
+    let same : length (dim_names before) ≡ length before + 0 = omega (arith, length_names before) in
+    place_of_new d.name (dim_names before) (dim_names ds) (dim_parts before d ds h).fresh ∙ ap (λ (n : ℕ). Some n) same
+dim_found before (d ∷ ds) (suc k) h low =
+    let names : dim_names before ++ d.name ∷ dim_names ds ≡ dim_names (before ++ d ∷ []) ++ dim_names ds =
+    sym (ap (λ (ns : List (List ℕ)). ns ++ dim_names ds) (joined_names before (d ∷ [])) ∙ append_assoc (dim_names before) (d.name ∷ []) (dim_names ds)) in
+    let same : length (before ++ d ∷ []) + k ≡ length before + suc k = omega (arith, length-append before (d ∷ [])) in
+    ap (position (bytes_eq (name_at ds k))) names ∙ (dim_found (before ++ d ∷ []) ds k (dim_parts before d ds h).rest (omega arith) ∙ ap (λ (n : ℕ). Some n) same)
+
+dim_named : (before ds : List Dim) (k : ℕ) → are_expressible_dims before ds ≡ true → k < length ds → is_name (name_at ds k) ≡ true
+dim_named before [] k h low = absurd (omega arith)
+dim_named before (d ∷ ds) zero h low = (dim_parts before d ds h).named
+dim_named before (d ∷ ds) (suc k) h low = dim_named (before ++ d ∷ []) ds k (dim_parts before d ds h).rest (omega arith)
+
+dims_named : (dims : List Dim) (ids : List ℕ) → are_expressible_dims [] dims ≡ true → list_all (λ id. nat_lt id (length dims)) ids ≡ true → list_all is_name (map (name_at dims) ids) ≡ true
+dims_named dims [] h low = refl
+dims_named dims (id ∷ ids) h low =
+    let both = and_parts (nat_lt id (length dims)) (list_all (λ i. nat_lt i (length dims)) ids) low in
+    and_from _ _ (dim_named [] dims id h (ltb-true id (length dims) both.0)) (dims_named dims ids h both.1)
+
+-- ---- variables
+
+record VarParts (version : ℕ) (dims : List Dim) (v : Var) : Type 0 where
+  plain : v.attrs ≡ []
+  known : nat_le (number_of v.kind) (last_type version) ≡ true
+  there : list_all (λ id. nat_lt id (length dims)) v.dims ≡ true
+  records : list_any (is_record_dim dims) (drop 1 v.dims) ≡ false
+
+var_parts : (version : ℕ) (dims : List Dim) (v : Var) → is_expressible_var version dims v ≡ true → VarParts version dims v
+var_parts version dims v h =
+    let a = and_parts _ (not (list_any (is_record_dim dims) (drop 1 v.dims))) h in
+    let b = and_parts _ (list_all (λ id. nat_lt id (length dims)) v.dims) a.0 in
+    let c = and_parts (is_empty v.attrs) (nat_le (number_of v.kind) (last_type version)) b.0 in
+    record { plain = empty_list v.attrs c.0; known = c.1; there = b.1; records = not-true _ a.1 }
+
+var_chained : (version : ℕ) (dims : List Dim) (names : List (List ℕ)) (v : Var) → are_expressible_dims [] dims ≡ true → is_lawful_var v ≡ true → is_new_name names v.name ≡ true → is_expressible_var version dims v ≡ true
+    → length names < most_vars → VarOk version dims names v
+var_chained version dims names v all lawful fresh h room =
+    let parts = var_parts version dims v h in
+    let n = new_name names v.name fresh in
+    let limits = and_parts (nat_le (length v.dims) most_dims_of_var) (v.begin == 0) lawful in
+    record {
+      dim_list = map (name_at dims) v.dims;
+      named = dims_named dims v.dims all parts.there;
+      found = ids_found dims v.dims (λ k low. let same : 0 + k ≡ k = omega arith in dim_found [] dims k all low ∙ ap (λ (i : ℕ). Some i) same) parts.there;
+      few = le-ltb most_dims_of_var (length v.dims) (leb-true (length v.dims) most_dims_of_var limits.0);
+      records = parts.records;
+      head = record { known = type_told version v.kind parts.known; named = n.0; fresh = n.1; room = lt-leb most_vars (length names) room };
+      no_start = eqb-true v.begin 0 limits.1;
+    }
+
+record VarsTold (version : ℕ) (dims : List Dim) (names : List (List ℕ)) (vs : List Var) : Type 0 where
+  chain : VarChain version dims names vs
+  own : OwnChains version [] vs
+  counted : count_own vs ≡ 0
+
+plain_own : (version : ℕ) (v : Var) (vs : List Var) → v.attrs ≡ [] → OwnChains version [] vs → count_own vs ≡ 0 → OwnChains version [] (v ∷ vs) × (count_own (v ∷ vs) ≡ 0)
+plain_own version v vs plain own none = (
+  (
+    subst (AttrChain version []) (sym plain) tt,
+    ap (λ (list : List Attr). list_all (λ (a : Attr). list_any (same_title (v.name, a.name)) []) list) plain,
+    own,
+  ),
+  omega (arith, ap count_attrs plain, none),
+)
+
+vars_chained : (version : ℕ) (dims : List Dim) (names : List (List ℕ)) (vs : List Var) → are_expressible_dims [] dims ≡ true → list_all is_lawful_var vs ≡ true → are_expressible_vars version dims names vs ≡ true
+    → length names + length vs ≤ most_vars → VarsTold version dims names vs
+vars_chained version dims names [] all lawful h few = record { chain = tt; own = tt; counted = refl }
+vars_chained version dims names (v ∷ vs) all lawful h few =
+    let limits = and_parts (is_lawful_var v) (list_all is_lawful_var vs) lawful in
+    let both = and_parts (is_new_name names v.name && is_expressible_var version dims v) _ h in
+    let first = and_parts (is_new_name names v.name) (is_expressible_var version dims v) both.0 in
+    let more = vars_chained version dims (names ++ v.name ∷ []) vs all limits.1 both.1 (omega (arith, length-append names (v.name ∷ []))) in
+    let own = plain_own version v vs (var_parts version dims v first.1).plain more.own more.counted in
+    record {
+      chain = (var_chained version dims names v all limits.0 first.0 first.1 (omega arith), more.chain);
+      own = own.0;
+      counted = own.1;
+    }
+
+-- ---- the definitions of a header
+
+abbrev pub defined_of : Header → Bool → Defined
+defined_of header filled = record { dims = header.dims; vars = header.vars; attrs = header.attrs; titles = []; filled = filled }
+
+pub header_told : (header : Header) (filled : Bool) → is_expressible_header header ≡ true → list_all (is_lawful_dim header.version) header.dims ≡ true → length header.dims ≤ most_dims
+    → list_all is_lawful_var header.vars ≡ true → length header.vars ≤ most_vars → DefinedOk header.version 0 (defined_of header filled)
+header_told header filled h dims few_dims vars few_vars =
+    let version = header.version in
+    let a = and_parts _ (is_empty header.attrs) h in
+    let b = and_parts (are_expressible_dims [] header.dims) (are_expressible_vars version header.dims [] header.vars) a.0 in
+    let plain = empty_list header.attrs a.1 in
+    let told = vars_chained version header.dims [] header.vars b.0 vars b.1 (omega arith) in
+    record {
+      dims = dims_chained version [] header.dims b.0 dims (omega arith);
+      vars = told.chain;
+      attrs = subst (AttrChain version []) (sym plain) tt;
+      has_titles = ap (λ (list : List Attr). list_all (λ (a : Attr). list_any (same_title (codes ":", a.name)) []) list) plain;
+      own = told.own;
+      counted = omega (arith, ap count_attrs plain, told.counted);
+    }
+
+-- ---- it has no attributes
+
+own_plain : (version : ℕ) (dims : List Dim) (names : List (List ℕ)) (vs : List Var) → are_expressible_vars version dims names vs ≡ true → lines_of_own vs ≡ []
+own_plain version dims names [] h = refl
+own_plain version dims names (v ∷ vs) h =
+    let both = and_parts (is_new_name names v.name && is_expressible_var version dims v) _ h in
+    let first = and_parts (is_new_name names v.name) (is_expressible_var version dims v) both.0 in
+    ap (λ (list : List Attr). map (line_of_att v.name) list ++ lines_of_own vs) (var_parts version dims v first.1).plain ∙ own_plain version dims (names ++ v.name ∷ []) vs both.1
+
+pub no_attributes : (header : Header) → is_expressible_header header ≡ true → (header.attrs ≡ []) × (lines_of_own header.vars ≡ [])
+no_attributes header h =
+    let a = and_parts _ (is_empty header.attrs) h in
+    let b = and_parts (are_expressible_dims [] header.dims) (are_expressible_vars header.version header.dims [] header.vars) a.0 in
+    (empty_list header.attrs a.1, own_plain header.version header.dims [] header.vars b.1)
