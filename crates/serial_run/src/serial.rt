@@ -13,10 +13,10 @@ use rank_core::Names;
 use std::alloc::Global;
 
 /// The end of a run whose steps are done one after another in this order, from the bytes that the dataset has when the ranks begin.
-/// The record count then is that of the header.
+/// The record count is then that of the header. Bytes past the end of the file are read as zeros.
 ///
-/// It wants memory for a few copies of the bytes and of what the ranks put and get, and takes a time that grows with the square of the
-/// bytes that a step puts where two requests may share a byte.
+/// `Memory` is its one error. It keeps a copy of the bytes and of what a step puts and gets, and where an overlap is refused it takes a time
+/// that grows with the square of the bytes that a step puts.
 pub fn serial_run(
     alloc: Global,
     script: &Script,
