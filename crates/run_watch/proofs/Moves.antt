@@ -5,7 +5,7 @@ use mathlib.Core.List.{IsPrefix}
 use mathlib.Core.Option.{some, some-ne-none, some-injective}
 use lib.ListN.{get_elem?}
 use Rattle.atomic_table.proofs.Lists.{set_else}
-use Rattle.crossbeam_utils.specs.Register.{Admits, Turns, TurnsAt, Forks, Merges}
+use Rattle.crossbeam_utils.specs.Register.{Turns, TurnsAt, Forks, Merges}
 use Rattle.nc_base.specs.declared.step.Mark.{Mark}
 use Rattle.nc_base.specs.declared.run.Summary.{Summary}
 use Rattle.serial_spec.specs.Reading.{last_count}
@@ -65,10 +65,6 @@ nothing late records e =
 -- the writer is made
 pub begins : (x : Shown) (records : ℕ) → x.summary ≡ summary (opened records) → Keeps x (None ∷ [])
 begins x records is = (opened records, is, All-cons (HeardOf (opened records)) None [] tt (All-nil (HeardOf (opened records))))
-
--- a new reader comes
-pub admits : Admits Keeps None
-admits x ends h = (h.0, h.1, All-push (HeardOf h.0) ends None h.2 tt)
 
 -- an end reads what is shown
 pub reads_at : (seat : ℕ) (v : Option Heard) (x y : Shown) → y.summary ≡ x.summary → TurnsAt Keeps seat v x y (λ v x y w. Reads v y w)
