@@ -18,7 +18,10 @@ use std::alloc::{AllocError, Global};
 #[derive(Clone, Copy, Debug, PartialEq, Eq)]
 pub(crate) enum Form<'a> {
     /// A run of the script that the source has, beside so many watchers.
-    Run { watchers: u32, dataset: &'a str },
+    Run {
+        watchers: u32,
+        dataset: &'a str,
+    },
     /// Where the dataset's variables lie.
     Offsets(&'a str),
     /// A run of the script that a seed and a number of records make.

@@ -64,8 +64,5 @@ fn count_at(opening: u64, counts: &[u64], steps: u64) -> u64
     if steps == 0 {
         return opening;
     }
-    counts
-        .get(steps as usize - 1)
-        .copied()
-        .unwrap_or(opening)
+    counts.get(steps as usize - 1).copied().unwrap_or(opening)
 }
