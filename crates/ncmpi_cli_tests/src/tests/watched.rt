@@ -160,7 +160,7 @@ const FAULTS: [(Run, Want); 2] = [
     (
         Run {
             script: RECORD,
-            growth: Some(88),
+            growth: Some(80),
             ..PLAIN
         },
         Want {
