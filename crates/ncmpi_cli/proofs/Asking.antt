@@ -9,9 +9,9 @@ use Rattle.ncmpi_cli.proofs.Made.{made_begins_none}
 use Rattle.ncmpi_cli.proofs.Ran.{begins_none}
 
 -- what is so of what is asked for is so of what the words ask for
-pub ends : (form asked : Option Asked) (before now : Seen) (status : ℕ) (order : List Mark) → asked ≡ form → EndsAs asked before now status order
-    → EndsAs form before now status order
-ends form asked before now status order e h = subst (λ (f : Option Asked). EndsAs f before now status order) e h
+pub ends : (form asked : Option Asked) (before now : Seen) (status : ℕ) (order : List Mark) (readings : List (List ℕ)) → asked ≡ form
+    → EndsAs asked before now status order readings → EndsAs form before now status order readings
+ends form asked before now status order readings e h = subst (λ (f : Option Asked). EndsAs f before now status order readings) e h
 
 not_read : (status : ℕ) → status ≡ 8 → IsOfReadHeader status → ⊥
 not_read status e (inl s) = absurd (omega (arith, e, s))
@@ -19,10 +19,10 @@ not_read status e (inr (inl s)) = absurd (omega (arith, e, s))
 not_read status e (inr (inr s)) = absurd (omega (arith, e, s))
 
 -- want of memory before anything was done is an end of every form
-pub wanting : (form : Option Asked) (before now : Seen) (status : ℕ) (order : List Mark) → now.held ≡ before.held → status ≡ 8 → order ≡ []
-    → EndsAs form before now status order
-wanting None before now status order h e o = (inr e, o)
-wanting (Some (run name)) before now status order h e o = record {
+pub wanting : (form : Option Asked) (before now : Seen) (status : ℕ) (order : List Mark) (readings : List (List ℕ)) → now.held ≡ before.held → status ≡ 8
+    → order ≡ [] → EndsAs form before now status order readings
+wanting None before now status order readings h e o = (inr e, o)
+wanting (Some (run watchers name)) before now status order readings h e o = record {
   well = λ s. absurd (omega (arith, e, s));
   cut = λ s. absurd (omega (arith, e, s));
   script = λ s. absurd (omega (arith, e, s));
@@ -37,7 +37,7 @@ wanting (Some (run name)) before now status order h e o = record {
   torn = λ s. absurd (omega (arith, e, s));
   wanting = λ _. inl (inl (o, inl h));
 }
-wanting (Some (offsets name)) before now status order h e o = record {
+wanting (Some (offsets name)) before now status order readings h e o = record {
   statuses = inr (inr (inr (inr e)));
   whole = λ s. absurd (omega (arith, e, s));
   cut = λ s. absurd (omega (arith, e, s));
@@ -48,7 +48,7 @@ wanting (Some (offsets name)) before now status order h e o = record {
   steps = o;
   calls = λ s. absurd (not_read status e s);
 }
-wanting (Some (generate seed size name)) before now status order h e o = record {
+wanting (Some (generate seed size name)) before now status order readings h e o = record {
   statuses = inr (inr (inr e));
   well = λ s. absurd (omega (arith, e, s));
   cut = λ s. absurd (omega (arith, e, s));

@@ -1,5 +1,5 @@
 -- A run of a made script.
-use Rattle.std.proofs.Common.{◌≡◌, ℕ, ◌≤◌, true, List, [], length, Option, Some, None, inl, inr, ◌⊎◌, refl, sym, ap, ap₂, subst, ◌∙◌, arith}
+use Rattle.std.proofs.Common.{◌≡◌, ℕ, ◌≤◌, true, List, [], ◌++◌, length, Option, Some, None, inl, inr, ◌⊎◌, refl, sym, ap, ap₂, subst, ◌∙◌, arith}
 use Rattle.std.specs.Prelude.{IfSome, ◌==◌, Result, Ok, Err, IfErr, IsErrAnd}
 use Rattle.nc_base.specs.declared.answer.Answer.{Answer}
 use Rattle.nc_base.specs.declared.errors.LayoutErr.{LayoutErr}
@@ -23,7 +23,7 @@ use Rattle.ncmpi_cli.specs.Opening.{IsReady}
 use Rattle.ncmpi_cli.specs.Stops.{IsOfDataset, line_of, status_of}
 use Rattle.ncmpi_cli.specs.declared.stop.Stop.{Stop}
 use Rattle.ncmpi_cli.specs.declared.stop.Stop.TheVariants as stops
-use Rattle.ncmpi_cli.proofs.Ran.{done}
+use Rattle.ncmpi_cli.proofs.Ran.{done, nobody_read}
 use Rattle.ncmpi_cli.proofs.Ready.{file-kept, header-kept}
 
 -- ---- what is so of the script
@@ -93,8 +93,8 @@ module _ (seed size : ℕ) (script : Script) (header : Header) (order : List Mar
       let end : End = end_of_run script ready.old header file order in
       let count : records ≡ end.records = subst (λ (h : Option (List ℕ)). IfSome h (λ f. records ≡ (serial_from script header f order).records)) mid r in
       let told : answers ≡ end.answers = subst (λ (h : Option (List ℕ)). IfSome h (λ f. answers ≡ (serial_from script header f order).answers)) mid a in
-      let well : IsDone script ready.old header file held_after calls_before calls_after order (run_text script (record header { records = records }) order answers pending) =
-      done script header (Some file) held_mid held_after calls_before calls_mid calls_after order records answers pending _ ready b r a p k refl in
+      let well : IsDone script ready.old header file held_after calls_before calls_after order [] (run_text script (record header { records = records }) order answers pending ++ []) =
+      done script header (Some file) held_mid held_after calls_before calls_mid calls_after order [] [] records answers pending _ ready b r a p k (nobody_read held_mid) refl in
       let end_is : end ≡ new_end script file order =
       ap₂ (λ (o h : Header). end_of_run script o h file order) old_is header_is ∙ ap (λ (f : List ℕ). serial script own f order) (file-kept script own own file alone) in
       record {

@@ -1,5 +1,5 @@
 -- What is done of a script is a run that ended well.
-use Rattle.std.proofs.Common.{◌≡◌, ℕ, List, [], ◌++◌, Option, Some, None, refl, sym, ap, subst, ◌∙◌}
+use Rattle.std.proofs.Common.{◌≡◌, ℕ, List, [], ◌++◌, map, Option, Some, None, refl, sym, ap, subst, ◌∙◌}
 use Rattle.std.specs.Prelude.{IfSome}
 use Rattle.nc_base.specs.declared.answer.Answer.{Answer}
 use Rattle.nc_base.specs.declared.header.Header.{Header}
@@ -11,10 +11,10 @@ use Rattle.serial_spec.specs.DeviceCalls.{run_calls}
 use Rattle.serial_spec.specs.History.{IsLegal}
 use Rattle.serial_spec.specs.Redefinition.{brought}
 use Rattle.serial_spec.specs.SerialEnd.{End, serial_from, start}
-use Rattle.script_spec.specs.Texts.{run_text}
+use Rattle.script_spec.specs.Texts.{run_text, watch_text}
 use Rattle.script_spec.specs.ScriptGrammar.{Reads}
 use Rattle.rank_meeting.specs.Begun.{HasBegun}
-use Rattle.ncmpi_cli.specs.Headline.{Asks, BeginsFor, IsDone, Ran}
+use Rattle.ncmpi_cli.specs.Headline.{Asks, BeginsFor, IsDone, Ran, with_counts}
 use Rattle.ncmpi_cli.specs.Opening.{first_calls, CanHaveBegun, IsReady}
 use Rattle.ncmpi_cli.proofs.Ready.{same_script}
 
@@ -25,18 +25,27 @@ joined : (calls before : Option (List DiskCall)) (opening run : List DiskCall) �
 joined calls None opening run e = ap (λ (c : Option (List DiskCall)). with_end c run) e
 joined calls (Some old) opening run e = ap (λ (c : Option (List DiskCall)). with_end c run) e
 
+-- nothing is told of readings where nobody read
+abbrev no_readings : List (List (ℕ × ℕ))
+no_readings = []
+
+pub nobody_read : (held : Option (List ℕ)) → IfSome held (λ file. no_readings ≡ [])
+nobody_read None = tt
+nobody_read (Some file) = refl
+
 pub done : (script : Script) (header : Header) (held_before held_mid held_after : Option (List ℕ)) (calls_before calls_mid calls_after : Option (List DiskCall))
-    (order : List Mark) (records : ℕ) (answers : List (List Answer)) (pending : List ℕ) (text : List ℕ)
+    (order : List Mark) (readings : List (List ℕ)) (pairs : List (List (ℕ × ℕ))) (records : ℕ) (answers : List (List Answer)) (pending : List ℕ) (text : List ℕ)
     → (ready : IsReady script header held_before held_mid calls_before calls_mid)
     → IfSome held_mid (λ file. held_after ≡ Some (serial_from script header file order).bytes)
     → IfSome held_mid (λ file. records ≡ (serial_from script header file order).records)
     → IfSome held_mid (λ file. answers ≡ (serial_from script header file order).answers)
     → IfSome held_mid (λ file. pending ≡ (serial_from script header file order).pending)
     → IfSome held_mid (λ file. calls_after ≡ with_end calls_mid (run_calls script header file order))
-    → text ≡ run_text script (record header { records = records }) order answers pending
-    → IfSome held_before (λ bytes. IsDone script ready.old header bytes held_after calls_before calls_after order text)
-done script header None held_mid held_after calls_before calls_mid calls_after order records answers pending text ready b r a p k t = tt
-done script header (Some file) held_mid held_after calls_before calls_mid calls_after order records answers pending text ready b r a p k t =
+    → IfSome held_mid (λ file. pairs ≡ map (with_counts script header file order) readings)
+    → text ≡ run_text script (record header { records = records }) order answers pending ++ watch_text pairs
+    → IfSome held_before (λ bytes. IsDone script ready.old header bytes held_after calls_before calls_after order readings text)
+done script header None held_mid held_after calls_before calls_mid calls_after order readings pairs records answers pending text ready b r a p k w t = tt
+done script header (Some file) held_mid held_after calls_before calls_mid calls_after order readings pairs records answers pending text ready b r a p k w t =
     let begun : List ℕ = start script header (brought script ready.old header file) in
     let mid : held_mid ≡ Some begun = ready.bytes in
     let end : End = serial_from script header begun order in
@@ -45,14 +54,17 @@ done script header (Some file) held_mid held_after calls_before calls_mid calls_
     let left : pending ≡ end.pending = subst (λ (h : Option (List ℕ)). IfSome h (λ f. pending ≡ (serial_from script header f order).pending)) mid p in
     let made : calls_after ≡ with_end calls_mid (run_calls script header begun order) =
     subst (λ (h : Option (List ℕ)). IfSome h (λ f. calls_after ≡ with_end calls_mid (run_calls script header f order))) mid k in
+    let watched : pairs ≡ map (with_counts script header begun order) readings =
+    subst (λ (h : Option (List ℕ)). IfSome h (λ f. pairs ≡ map (with_counts script header f order) readings)) mid w in
     record {
       bytes = subst (λ (h : Option (List ℕ)). IfSome h (λ f. held_after ≡ Some (serial_from script header f order).bytes)) mid b;
       calls = made ∙ joined calls_mid calls_before (first_calls script ready.old header file) (run_calls script header begun order) ready.calls;
       lines =
           t
-          ∙ ap (λ (n : ℕ). run_text script (record header { records = n }) order answers pending) count
-          ∙ ap (λ (x : List (List Answer)). run_text script (record header { records = end.records }) order x pending) told
-          ∙ ap (λ (x : List ℕ). run_text script (record header { records = end.records }) order end.answers x) left;
+          ∙ ap (λ (n : ℕ). run_text script (record header { records = n }) order answers pending ++ watch_text pairs) count
+          ∙ ap (λ (x : List (List Answer)). run_text script (record header { records = end.records }) order x pending ++ watch_text pairs) told
+          ∙ ap (λ (x : List ℕ). run_text script (record header { records = end.records }) order end.answers x ++ watch_text pairs) left
+          ∙ ap (λ (x : List (List (ℕ × ℕ))). run_text script (record header { records = end.records }) order end.answers end.pending ++ watch_text x) watched;
     }
 
 -- the order, which is this one, begins one of the script that the text spells
@@ -84,18 +96,20 @@ can_have_begun script header left_before left_after held_before held_mid calls_b
 }
 
 pub ran : (script : Script) (header : Header) (left_before left_after held_before held_mid held_after : Option (List ℕ)) (calls_before calls_mid calls_after : Option (List DiskCall))
-    (order end_order : List Mark) (records : ℕ) (answers : List (List Answer)) (pending : List ℕ) (text : List ℕ)
+    (order end_order : List Mark) (readings end_readings : List (List ℕ)) (pairs : List (List (ℕ × ℕ))) (records : ℕ) (answers : List (List Answer)) (pending : List ℕ) (text : List ℕ)
     → Asks left_before script → IsReady script header held_before held_mid calls_before calls_mid → left_after ≡ after (λ _. []) left_before
-    → order ≡ end_order → IsLegal script end_order
+    → order ≡ end_order → readings ≡ end_readings → IsLegal script end_order
     → IfSome held_mid (λ file. held_after ≡ Some (serial_from script header file end_order).bytes)
     → IfSome held_mid (λ file. records ≡ (serial_from script header file end_order).records)
     → IfSome held_mid (λ file. answers ≡ (serial_from script header file end_order).answers)
     → IfSome held_mid (λ file. pending ≡ (serial_from script header file end_order).pending)
     → IfSome held_mid (λ file. calls_after ≡ with_end calls_mid (run_calls script header file end_order))
-    → text ≡ run_text script (record header { records = records }) end_order answers pending
-    → Ran left_before left_after held_before held_after calls_before calls_after order text
-ran script header left_before left_after held_before held_mid held_after calls_before calls_mid calls_after order end_order records answers pending text asks ready taken same legal b r a p k t =
-    subst (λ (o : List Mark). Ran left_before left_after held_before held_after calls_before calls_after o text) (sym same)
+    → IfSome held_mid (λ file. pairs ≡ map (with_counts script header file end_order) end_readings)
+    → text ≡ run_text script (record header { records = records }) end_order answers pending ++ watch_text pairs
+    → Ran left_before left_after held_before held_after calls_before calls_after order readings text
+ran script header left_before left_after held_before held_mid held_after calls_before calls_mid calls_after order end_order readings end_readings pairs records answers pending text asks ready taken same same_readings legal b r a p k w t =
+    subst (λ (o : List Mark). Ran left_before left_after held_before held_after calls_before calls_after o readings text) (sym same)
+    (subst (λ (x : List (List ℕ)). Ran left_before left_after held_before held_after calls_before calls_after end_order x text) (sym same_readings)
     (record {
       script = script;
       old = ready.old;
@@ -106,5 +120,5 @@ ran script header left_before left_after held_before held_mid held_after calls_b
       held = ready.held;
       heads = ready.heads;
       legal = legal;
-      done = done script header held_before held_mid held_after calls_before calls_mid calls_after end_order records answers pending text ready b r a p k t;
-    })
+      done = done script header held_before held_mid held_after calls_before calls_mid calls_after end_order end_readings pairs records answers pending text ready b r a p k w t;
+    }))

@@ -5,7 +5,6 @@ use Rattle.redef_mover.proofs.AppliedLaws.{one_keeps}
 use Rattle.nc_base.specs.declared.header.Header.{Header}
 use Rattle.nc_base.specs.declared.header.Var.{Var}
 use Rattle.nc_base.specs.declared.script.Extra.{Extra}
-use Rattle.nc_base.specs.declared.script.Extra.TheVariants as extra
 use Rattle.serial_spec.specs.ExternalForm.{size_of}
 use Rattle.serial_spec.specs.File.{longer, read, written}
 use Rattle.serial_spec.specs.HeaderGrammar.{canon, header_len}

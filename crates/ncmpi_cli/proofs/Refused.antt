@@ -1,12 +1,10 @@
 -- A text that is refused, and one that is read.
 use Rattle.std.proofs.Common.{ℕ, List, Option, option_map}
 use Rattle.std.specs.Prelude.{Result}
-use Rattle.nc_base.specs.declared.errors.ScriptKind.TheVariants as kind
 use Rattle.nc_base.specs.declared.errors.ScriptErr.{ScriptErr}
 use Rattle.nc_base.specs.declared.script.Script.{Script}
 use Rattle.script_spec.specs.ScriptGrammar.{fault_of}
 use Rattle.script_spec.specs.Texts.{script_line}
-use Rattle.ncmpi_cli.specs.declared.stop.Stop.TheVariants as stops
 
 -- the line that refuses a text, by what is read of it
 abbrev line_for : Result Script ScriptErr → Option (List ℕ)

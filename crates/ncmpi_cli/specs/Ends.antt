@@ -2,7 +2,9 @@
 --     Seen                             what source, disk and sink tell at one time, and how often each failed
 --     HasRun, HasListed, HasGenerated  the ends of a run of the source's script, of a list of offsets, and of a run of a made script
 --     EndsAs form                      the end that the words ask for
-use Rattle.std.specs.Prelude.{ℕ, ◌≡◌, ◌⊎◌, List, [], Option, Some, None, IfSome, IsSomeAnd, is_some, true}
+--     watchers_of form                 how many watch
+--     HasReadings                      the numbers that they read
+use Rattle.std.specs.Prelude.{ℕ, ◌≡◌, ◌⊎◌, List, [], length, All, Option, Some, None, IfSome, IsSomeAnd, is_some, true}
 use Rattle.nc_base.specs.declared.step.DiskCall.{DiskCall}
 use Rattle.nc_base.specs.declared.step.Mark.{Mark}
 use Rattle.nc_base.specs.declared.step.StepErr.TheVariants.{Disk}
@@ -12,9 +14,10 @@ use Rattle.serial_spec.specs.DeviceCalls.{head_load}
 use Rattle.rank_meeting.specs.Begun.{HasBegun}
 use Rattle.ncmpi_cli.specs.Faults.{EndsEarly, MadeEndsEarly, MadeWantsMemory, WantsMemory}
 use Rattle.ncmpi_cli.specs.Generated.{IsMadeStatus, MadeFront, MadeWhole, script_made}
-use Rattle.ncmpi_cli.specs.Headline.{AsksFor, BeginsFor, GivesLine, IsBadDataset, IsRight, IsWrong, RanToSink, RanWell, refusal, TellsHeader}
+use Rattle.ncmpi_cli.specs.Headline.{AsksFor, BeginsFor, GivesLine, GivesText, IsBadDataset, IsRight, IsWrong, RanToSink, RanWell, refusal, TellsHeader}
 use Rattle.ncmpi_cli.specs.Listing.{IsFaultyFront, IsListStatus, IsOfReadHeader, IsSoundFront, ListsFront, ListsWhole}
 use Rattle.ncmpi_cli.specs.Opening.{CanHaveBegun}
+use Rattle.ncmpi_cli.specs.Watching.{AreReadings}
 use Rattle.ncmpi_cli.specs.Words.{Asked, run, offsets, generate}
 
 pub record Seen : Type 0 where
@@ -42,11 +45,11 @@ module _ (before now : Seen) where
 
 -- ---- a run of the script that the source has
 
-pub record HasRun (before now : Seen) (status : ℕ) (order : List Mark) : Type 0 where
+pub record HasRun (before now : Seen) (status : ℕ) (order : List Mark) (readings : List (List ℕ)) : Type 0 where
   -- file, text and device calls are those of the calls done one after another in the order
-  pub well : status ≡ 0 → RanWell before.left now.left before.held now.held before.calls now.calls before.given now.given order
+  pub well : status ≡ 0 → RanWell before.left now.left before.held now.held before.calls now.calls before.given now.given order readings
   -- where the sink fails, the file is the same, and a front of the text was given
-  pub cut : status ≡ 6 → RanToSink before.left now.left before.held now.held before.calls now.calls before.given now.given order
+  pub cut : status ≡ 6 → RanToSink before.left now.left before.held now.held before.calls now.calls before.given now.given order readings
   -- the fault of the script, or of its dataset, is told
   pub script : status ≡ 3 → IfSome before.left (λ text. IsSomeAnd (refusal text) (Gives before now))
   pub dataset : status ≡ 4 → (line : List ℕ) × (IsBadDataset before.left before.held line × Gives before now line)
@@ -102,13 +105,24 @@ pub record HasGenerated (seed size : ℕ) (before now : Seen) (status : ℕ) (or
 
 -- ---- every form
 
-abbrev pub EndsAs : Option Asked → Seen → Seen → ℕ → List Mark → Type 0
-EndsAs None before now status order = ((status ≡ 2) ⊎ (status ≡ 8)) × (order ≡ [])
-EndsAs (Some (run name)) before now status order = HasRun before now status order
-EndsAs (Some (offsets name)) before now status order = HasListed before now status order
-EndsAs (Some (generate seed size name)) before now status order = HasGenerated seed size before now status order
+abbrev pub EndsAs : Option Asked → Seen → Seen → ℕ → List Mark → List (List ℕ) → Type 0
+EndsAs None before now status order readings = ((status ≡ 2) ⊎ (status ≡ 8)) × (order ≡ [])
+EndsAs (Some (run watchers name)) before now status order readings = HasRun before now status order readings
+EndsAs (Some (offsets name)) before now status order readings = HasListed before now status order
+EndsAs (Some (generate seed size name)) before now status order readings = HasGenerated seed size before now status order
 
 -- the form reads the script that the source has
 abbrev pub TakesScript : Option Asked → Type 0
-TakesScript (Some (run name)) = Unit {0}
+TakesScript (Some (run watchers name)) = Unit {0}
 TakesScript _ = ⊥
+
+-- ---- what watchers read
+
+abbrev pub watchers_of : Option Asked → ℕ
+watchers_of (Some (run watchers name)) = watchers
+watchers_of _ = 0
+
+-- Where the text is given, each watcher read how many steps were done, and at last all that were; else nothing was read.
+pub record HasReadings (watchers status steps : ℕ) (readings : List (List ℕ)) : Type 0 where
+  pub each : GivesText status → (length readings ≡ watchers) × All (AreReadings steps) readings
+  pub none : (GivesText status → ⊥) → readings ≡ []

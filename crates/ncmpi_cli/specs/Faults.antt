@@ -42,7 +42,7 @@ module _ (left_before left_after held_before held_after : Option (List ℕ)) whe
 
   abbrev pub WantsMemory : Option (List DiskCall) → Option (List DiskCall) → List Mark → Type 0
   WantsMemory calls_before calls_after order =
-      EndsEarly Memory order ⊎ ((text : List ℕ) × Ran left_before left_after held_before held_after calls_before calls_after order text)
+      EndsEarly Memory order ⊎ ((text : List ℕ) × Ran left_before left_after held_before held_after calls_before calls_after order [] text)
 
 -- ---- a made script
 

@@ -6,7 +6,7 @@ use Rattle.ncmpi_cli.specs.declared.command.Form.TheVariants.{Run, Offsets, Gene
 use Rattle.ncmpi_cli.specs.declared.command.Options.{Options}
 
 abbrev pub asked_of : Form → words.Asked
-asked_of (Run name) = words.run name.now
+asked_of (Run watchers dataset) = words.run watchers dataset.now
 asked_of (Offsets name) = words.offsets name.now
 asked_of (Generate seed size dataset) = words.generate seed size dataset.now
 
@@ -19,7 +19,8 @@ options_of o = record {
   dataset = option_map (λ w. w.now) o.dataset;
 }
 
--- a script is made with 1 to 64 records
-abbrev pub HasSize : Form → Type 0
-HasSize (Generate seed size dataset) = (1 ≤ size) × (size ≤ 64)
-HasSize _ = Unit {0}
+-- a run has 8 watchers at most, and a script is made with 1 to 64 records
+abbrev pub IsWithinLimits : Form → Type 0
+IsWithinLimits (Run watchers dataset) = watchers ≤ 8
+IsWithinLimits (Offsets name) = Unit {0}
+IsWithinLimits (Generate seed size dataset) = (1 ≤ size) × (size ≤ 64)

@@ -1,12 +1,13 @@
 -- What a run that ended well did, what refuses a script or a dataset, and what each status leaves.
 --     AreHeadersOf script file old header    the first header of the dataset, and the one with which the ranks run
+--     with_counts, watched_text              what watchers read, and its lines
 --     IsDone, Ran, RanWell, RanToSink        what a run did to the file, and what it gave
 --     refusal text                           the line that refuses a text
 --     IsSoundFile, IsFaultyFile              whether an existing file can be opened as the script asks
 --     TellsDataset script held line          the line tells what is wrong with the dataset
 --     IsRight, IsWrong                       whether something is wrong with it
 --     BeginsFor, GivesLine                   the steps that were done, and the line that was given
-use Rattle.std.specs.Prelude.{ℕ, ◌^◌, ◌==◌, ◌≡◌, ◌⊎◌, true, false, List, [], take, length, Option, Some, None, option_map, IfSome, IsSomeAnd}
+use Rattle.std.specs.Prelude.{ℕ, ◌^◌, ◌==◌, ◌≡◌, ◌⊎◌, true, false, List, [], ◌++◌, map, take, length, Option, Some, None, option_map, IfSome, IsSomeAnd}
 use Rattle.nc_base.specs.declared.errors.HeaderErr.{HeaderErr}
 use Rattle.nc_base.specs.declared.errors.LayoutErr.{LayoutErr}
 use Rattle.nc_base.specs.declared.errors.RedefErr.{RedefErr}
@@ -24,12 +25,12 @@ use Rattle.serial_spec.specs.HeaderGrammar.{HasFault, header_len}
 use Rattle.serial_spec.specs.History.{IsLegal}
 use Rattle.serial_spec.specs.Lawful.{has_whole_attrs, is_lawful}
 use Rattle.serial_spec.specs.Redefinition.{brought, layout_fault, redefined_fault, redefined_header}
-use Rattle.serial_spec.specs.SerialEnd.{End, serial}
+use Rattle.serial_spec.specs.SerialEnd.{count_after, End, serial, start}
 use Rattle.var_layout.specs.Unplaced.{has_writable_parts, is_unplaced}
 use Rattle.cdf_header.specs.Decoding.{BeginsWith}
 use Rattle.rank_meeting.specs.Begun.{HasBegun}
 use Rattle.script_spec.specs.ScriptGrammar.{Reads, script_fault}
-use Rattle.script_spec.specs.Texts.{header_line, layout_line, redef_line, run_text, script_line}
+use Rattle.script_spec.specs.Texts.{header_line, layout_line, redef_line, run_text, script_line, watch_text}
 
 -- ---- the dataset that a script asks for
 
@@ -60,21 +61,29 @@ pub record AreHeadersOf (script : Script) (file : List ℕ) (old header : Header
 abbrev pub text_of : Script → Header → List Mark → End → List ℕ
 text_of script header order end = run_text script (record header { records = end.records }) order end.answers end.pending
 
+-- a watcher's numbers of steps, each with the record count after so many, from the bytes when the ranks begin
+abbrev pub with_counts : Script → Header → List ℕ → List Mark → List ℕ → List (ℕ × ℕ)
+with_counts script header begun order numbers = map (λ steps. (steps, count_after script header begun order steps)) numbers
+
+-- the lines of what watchers read, none where nobody watched
+abbrev pub watched_text : Script → Header → List ℕ → List Mark → List (List ℕ) → List ℕ
+watched_text script header begun order readings = watch_text (map (with_counts script header begun order) readings)
+
 -- what the calls lead to, done one after another in the order: on what the file held or, where the script adds to it, on the
 -- redefined file
 abbrev pub end_of_run : Script → Header → Header → List ℕ → List Mark → End
 end_of_run script old header file order = serial script header (brought script old header file) order
 
 -- What was done to a file that is told: its bytes and the text are those of the calls done one after another in the order, and
--- the device calls are those of the plan.
-pub record IsDone (script : Script) (old header : Header) (file : List ℕ) (held_after : Option (List ℕ)) (calls_before calls_after : Option (List DiskCall)) (order : List Mark) (text : List ℕ) : Type 0 where
+-- the device calls are those of the plan. What watchers read stands behind the text.
+pub record IsDone (script : Script) (old header : Header) (file : List ℕ) (held_after : Option (List ℕ)) (calls_before calls_after : Option (List DiskCall)) (order : List Mark) (readings : List (List ℕ)) (text : List ℕ) : Type 0 where
   pub bytes : held_after ≡ Some (end_of_run script old header file order).bytes
   pub calls : calls_after ≡ after (λ _. all_calls script old header file order) calls_before
-  pub lines : text ≡ text_of script header order (end_of_run script old header file order)
+  pub lines : text ≡ text_of script header order (end_of_run script old header file order) ++ watched_text script header (start script header (brought script old header file)) order readings
 
 -- The script is the one that the source's text spells, which was taken to its end. The order is legal, and file, text and device
 -- calls are those of the calls done one after another in it, on what the dataset held.
-pub record Ran (left_before left_after held_before held_after : Option (List ℕ)) (calls_before calls_after : Option (List DiskCall)) (order : List Mark) (text : List ℕ) : Type 0 where
+pub record Ran (left_before left_after held_before held_after : Option (List ℕ)) (calls_before calls_after : Option (List DiskCall)) (order : List Mark) (readings : List (List ℕ)) (text : List ℕ) : Type 0 where
   pub script : Script
   pub old : Header
   pub header : Header
@@ -84,19 +93,19 @@ pub record Ran (left_before left_after held_before held_after : Option (List ℕ
   pub held : IfSome held_before (λ bytes. bytes ≡ file)
   pub heads : AreHeadersOf script file old header
   pub legal : IsLegal script order
-  pub done : IfSome held_before (λ bytes. IsDone script old header bytes held_after calls_before calls_after order text)
+  pub done : IfSome held_before (λ bytes. IsDone script old header bytes held_after calls_before calls_after order readings text)
 
 -- the same, with the text given whole
-pub record RanWell (left_before left_after held_before held_after : Option (List ℕ)) (calls_before calls_after : Option (List DiskCall)) (given_before given_after : Option (List ℕ)) (order : List Mark) : Type 0 where
+pub record RanWell (left_before left_after held_before held_after : Option (List ℕ)) (calls_before calls_after : Option (List DiskCall)) (given_before given_after : Option (List ℕ)) (order : List Mark) (readings : List (List ℕ)) : Type 0 where
   pub text : List ℕ
-  pub ran : Ran left_before left_after held_before held_after calls_before calls_after order text
+  pub ran : Ran left_before left_after held_before held_after calls_before calls_after order readings text
   pub given : given_after ≡ with_end given_before text
 
 -- the same, with a front of the text given
-pub record RanToSink (left_before left_after held_before held_after : Option (List ℕ)) (calls_before calls_after : Option (List DiskCall)) (given_before given_after : Option (List ℕ)) (order : List Mark) : Type 0 where
+pub record RanToSink (left_before left_after held_before held_after : Option (List ℕ)) (calls_before calls_after : Option (List DiskCall)) (given_before given_after : Option (List ℕ)) (order : List Mark) (readings : List (List ℕ)) : Type 0 where
   pub text : List ℕ
   pub count : ℕ
-  pub ran : Ran left_before left_after held_before held_after calls_before calls_after order text
+  pub ran : Ran left_before left_after held_before held_after calls_before calls_after order readings text
   pub given : given_after ≡ with_end given_before (take count text)
 
 -- ---- what refuses a script or a dataset
@@ -179,6 +188,10 @@ AsksFor P text held = (script : Script) × Reads text script × P script held
 -- the order is a beginning of one of the script that the text spells
 abbrev pub BeginsFor : List ℕ → List Mark → Type 0
 BeginsFor text order = (script : Script) → Reads text script → HasBegun script order
+
+-- the statuses with which the text is given, whole or in front
+abbrev pub GivesText : ℕ → Type 0
+GivesText status = (status ≡ 0) ⊎ (status ≡ 6)
 
 -- the statuses there are
 abbrev pub IsStatus : ℕ → Type 0

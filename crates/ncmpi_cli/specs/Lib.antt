@@ -3,6 +3,8 @@ pub mod Words
 pub mod Forms
 pub mod Stops
 pub mod Headline
+pub mod Watching
+pub mod Readings
 pub mod Opening
 pub mod Listing
 pub mod Generated

@@ -6,7 +6,7 @@ ghost use Rattle.clap.specs.Simple.{app_of};
 ghost use Rattle.clap.specs.Walk.{rows_of, rule_of};
 ghost use Rattle.script_spec.specs.ScriptWords.{below, is_digit, is_digits, natural_of};
 ghost use Rattle.ncmpi_cli.specs.Words as spec;
-ghost use Rattle.ncmpi_cli.specs.Forms.{asked_of, HasSize, options_of};
+ghost use Rattle.ncmpi_cli.specs.Forms.{asked_of, IsWithinLimits, options_of};
 ghost use Rattle.ncmpi_cli.specs.Words.{texts};
 
 use clap::error::ErrorKind;
@@ -17,8 +17,11 @@ use std::alloc::{AllocError, Global};
 /// What the words ask for, and the dataset that they name.
 #[derive(Clone, Copy, Debug, PartialEq, Eq)]
 pub(crate) enum Form<'a> {
-    /// A run of the script that the source has.
-    Run(&'a str),
+    /// A run of the script that the source has, beside so many watchers.
+    Run {
+        watchers: u32,
+        dataset: &'a str,
+    },
     /// Where the dataset's variables lie.
     Offsets(&'a str),
     /// A run of the script that a seed and a number of records make.
@@ -44,10 +47,13 @@ const MOST: u64 = 64;
 
 const USUAL: u32 = 12;
 
-/// The form of the words. Watching a run is not built: words that ask for it are of no form.
+// The most watchers that a run has.
+const MOST_WATCHERS: u64 = 8;
+
+/// The form of the words, where they are of one.
 pub(crate) fn form_of<'a>(alloc: Global, words: &'a [&'a str]) -> Result<Option<Form<'a>>, Memory>
     ensures asked { IfOk result (λ form. option_map asked_of form ≡ spec.form_of (texts words.entry.now)) }
-    ensures sized { IfOk result (λ form. IfSome form HasSize) }
+    ensures limits { IfOk result (λ form. IfSome form IsWithinLimits) }
 {
     match parsed(alloc, words) {
         Ok(Some(options)) => Ok(form_by(&options)),
@@ -118,7 +124,7 @@ fn is_set(value: Option<&str>) -> bool
 
 fn form_by<'a>(options: &Options<'a>) -> Option<Form<'a>>
     ensures asked { option_map asked_of result ≡ spec.asked (options_of options.now) }
-    ensures sized { IfSome result HasSize }
+    ensures limits { IfSome result IsWithinLimits }
 {
     let name = options.dataset.filter(|name| !name.is_empty())?;
     match (
@@ -127,7 +133,14 @@ fn form_by<'a>(options: &Options<'a>) -> Option<Form<'a>>
         options.size,
         options.watch,
     ) {
-        (false, None, None, None) => Some(Form::Run(name)),
+        (false, None, None, None) => Some(Form::Run {
+            watchers: 0,
+            dataset: name,
+        }),
+        (false, None, None, Some(watchers)) => Some(Form::Run {
+            watchers: watchers_of(watchers)?,
+            dataset: name,
+        }),
         (true, None, None, None) => Some(Form::Offsets(name)),
         (false, Some(seed), size, None) => Some(Form::Generate {
             seed: seed_of(seed)?,
@@ -153,6 +166,16 @@ fn size_of(word: Option<&str>) -> Option<u32>
     };
     match natural(word)? {
         size @ 1..=MOST => u32::try_from(size).ok(),
+        _ => None,
+    }
+}
+
+fn watchers_of(word: &str) -> Option<u32>
+    ensures value { result ≡ spec.watchers_of word.now }
+    ensures bound { IfSome result (λ n. n ≤ 8) }
+{
+    match natural(word)? {
+        watchers @ 1..=MOST_WATCHERS => u32::try_from(watchers).ok(),
         _ => None,
     }
 }

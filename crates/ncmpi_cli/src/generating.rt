@@ -18,7 +18,7 @@ use crate::ending::{give, tell};
 use crate::stop::Stop;
 use crate::top::Outcome;
 use generated_run::{make_script, summary_text};
-use nc_base::{Header, MarkList, RunEnd, Script, StepErr};
+use nc_base::{Header, MarkList, ReadingTable, RunEnd, Script, StepErr};
 use nc_outside::{Disk, Gate, Sink};
 use rank_meeting::run_ranks;
 use std::alloc::Global;
@@ -113,7 +113,7 @@ fn sum_up<K: Sink>(
     ensures readings { result.readings ≡ [] }
 {
     match summary_text(alloc, seed, size, script, header, &end.order, &end.answers) {
-        Ok(text) => give(alloc, out, text.as_slice(), end.order),
+        Ok(text) => give(out, text.as_slice(), end.order, ReadingTable::new(alloc)),
         Err(_) => tell(alloc, out, Stop::Memory, end.order),
     }
 }

@@ -17,6 +17,8 @@ mod stop;
 mod streams;
 mod taking;
 mod top;
+mod watcher_lines;
+mod watching;
 
 pub use file_disk::FileDisk;
 pub use printed_text::{offsets_text, run_text};

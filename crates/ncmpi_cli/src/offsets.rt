@@ -13,7 +13,7 @@ use crate::ending::{give, tell};
 use crate::opening::read_header;
 use crate::stop::Stop;
 use crate::top::Outcome;
-use nc_base::{Blob, MarkList};
+use nc_base::{Blob, MarkList, ReadingTable};
 use nc_outside::{Disk, Sink};
 use printed_text::offsets_text;
 use std::alloc::Global;
@@ -41,7 +41,12 @@ pub(crate) fn list_offsets<K: Sink, D: Disk>(
     ensures readings { result.readings ≡ [] }
 {
     match offsets_of(alloc, disk, dataset) {
-        Ok(text) => give(alloc, out, text.as_slice(), MarkList::new(alloc)),
+        Ok(text) => give(
+            out,
+            text.as_slice(),
+            MarkList::new(alloc),
+            ReadingTable::new(alloc),
+        ),
         Err(stop) => tell(alloc, out, stop, MarkList::new(alloc)),
     }
 }

@@ -1,37 +1,49 @@
 // A run of the script that the source has.
-ghost use Rattle.std.specs.Prelude.{◌≡◌, ◌⊎◌, ℕ, List, [], true, is_some, IfSome, IsSomeAnd};
+ghost use Rattle.std.specs.Prelude.{◌≡◌, ◌≤◌, ◌⊎◌, ℕ, List, [], length, true, is_some, All, IfSome, IsSomeAnd};
 ghost use Rattle.nc_outside.specs.Cause.{Rose};
 ghost use Rattle.nc_base.specs.declared.script.Script.{Script};
 ghost use Rattle.nc_base.specs.declared.step.StepErr.TheVariants as fault;
+ghost use Rattle.rank_meeting.specs.Run.{IsRun};
 ghost use Rattle.script_spec.specs.ScriptGrammar.{Reads};
+ghost use Rattle.serial_spec.specs.HeaderGrammar.{header_len, is_sound};
+ghost use Rattle.serial_spec.specs.Lawful.{is_lawful};
+ghost use Rattle.serial_spec.specs.Layout.{end_of};
+ghost use Rattle.ncmpi_cli.specs.Ends.{HasReadings};
 ghost use Rattle.ncmpi_cli.specs.Faults.{EndsEarly, WantsMemory};
 ghost use Rattle.ncmpi_cli.specs.Headline.{AsksFor, BeginsFor, GivesLine, IsBadDataset, IsBeforeRanks, IsBeforeStart, IsRight, IsSilent, IsStatus, IsWrong, RanToSink, RanWell, refusal};
 ghost use Rattle.ncmpi_cli.specs.Opening.{CanHaveBegun};
+ghost use Rattle.ncmpi_cli.specs.Readings.{AreCounted};
 ghost use Rattle.ncmpi_cli.specs.Stops.{line_of_status};
+ghost use Rattle.ncmpi_cli.specs.Watching.{AreReadings};
 
 use crate::beginning::{Begun, begin};
 use crate::ending::{finish, tell};
 use crate::stop::Stop;
 use crate::top::Outcome;
-use nc_base::{MarkList, StepErr};
+use crate::watching::{Seen, WatchedRun, watch_ranks};
+use nc_base::{Header, MarkList, ReadingTable, Script, SizeList, StepErr};
 use nc_outside::{Disk, Gate, Sink, Source};
 use rank_meeting::run_ranks;
 use std::alloc::Global;
 use std::sync::Wait;
 use std::thread::Threads;
 
-/// Runs the script that the source has on the dataset, and gives its text to the sink.
+/// Runs the script that the source has on the dataset, beside so many watchers, and gives its text to the sink.
 pub(crate) fn run_script<R: Threads + Wait + Sync, S: Source, K: Sink, D: Disk, G: Gate>(
     rt: &R,
     alloc: Global,
     dataset: &str,
+    watchers: u32,
     script: &mut S,
     disk: &mut D,
     out: &mut K,
     gate: &G,
 ) -> Outcome
+    requires few { watchers ≤ 8 }
+
     // File, text and device calls are those of the calls done one after another in the order that is answered.
-    ensures ok { result.status ≡ 0 → RanWell (S.left script.old) (S.left script.new) (D.held disk.old) (D.held disk.new) (D.calls disk.old) (D.calls disk.new) (K.given out.old) (K.given out.new) result.order }
+    ensures ok { result.status ≡ 0 → RanWell (S.left script.old) (S.left script.new) (D.held disk.old) (D.held disk.new) (D.calls disk.old) (D.calls disk.new) (K.given out.old) (K.given out.new) result.order result.readings }
+    ensures readings { HasReadings watchers result.status (length result.order) result.readings }
 
     // Each status has its cause.
     ensures statuses { IsStatus result.status }
@@ -57,7 +69,7 @@ pub(crate) fn run_script<R: Threads + Wait + Sync, S: Source, K: Sink, D: Disk, 
         → ¬ (Rose (D.faults disk.old) (D.faults disk.new)) → (result.status ≡ 0) ⊎ (result.status ≡ 8) }
 
     // Where the sink fails, the file is that of the run, and a front of the text was given.
-    ensures front { result.status ≡ 6 → RanToSink (S.left script.old) (S.left script.new) (D.held disk.old) (D.held disk.new) (D.calls disk.old) (D.calls disk.new) (K.given out.old) (K.given out.new) result.order }
+    ensures front { result.status ≡ 6 → RanToSink (S.left script.old) (S.left script.new) (D.held disk.old) (D.held disk.new) (D.calls disk.old) (D.calls disk.new) (K.given out.old) (K.given out.new) result.order result.readings }
 
     // Where the disk fails, or memory is wanting, the dataset was not made ready, or the run of its ranks was cut off; or all but the text was done.
     ensures torn { result.status ≡ 7 → EndsEarly (S.left script.old) (S.left script.new) (D.held disk.old) (D.held disk.new) fault.Disk result.order }
@@ -73,7 +85,6 @@ pub(crate) fn run_script<R: Threads + Wait + Sync, S: Source, K: Sink, D: Disk, 
     ensures unread { IsSomeAnd (S.left script.old) (λ text. is_some (refusal text) ≡ true) → result.order ≡ [] }
     ensures unfit { IsSomeAnd (S.left script.old) (λ text. AsksFor IsWrong text (D.held disk.old)) → result.order ≡ [] }
     ensures no_step { IsBeforeRanks result.status → result.order ≡ [] }
-    ensures no_reading { result.readings ≡ [] }
 
     // The line that tells a fault, or a front of it where the sink failed.
     ensures told { IfSome (line_of_status result.status) (λ line. GivesLine (K.faults out.old) (K.faults out.new) (K.given out.old) (K.given out.new) line) }
@@ -82,14 +93,57 @@ pub(crate) fn run_script<R: Threads + Wait + Sync, S: Source, K: Sink, D: Disk, 
         Ok(begun) => begun,
         Err(stop) => return tell(alloc, out, stop, MarkList::new(alloc)),
     };
-    let mut records = header.records;
-    let end = run_ranks(rt, alloc, disk, &header, &mut records, &script, gate);
-    match end.fault {
+    let opening = header.records;
+    let mut records = opening;
+    let run = run_beside(
+        rt,
+        alloc,
+        disk,
+        &header,
+        &mut records,
+        &script,
+        gate,
+        watchers,
+    );
+    match run.end.fault {
         None => {
             header.records = records;
-            finish(alloc, out, &script, &header, end)
+            finish(alloc, out, &script, &header, opening, run)
         }
-        Some(StepErr::Disk) => tell(alloc, out, Stop::Disk, end.order),
-        Some(StepErr::Memory) => tell(alloc, out, Stop::Memory, end.order),
+        Some(StepErr::Disk) => tell(alloc, out, Stop::Disk, run.end.order),
+        Some(StepErr::Memory) => tell(alloc, out, Stop::Memory, run.end.order),
+    }
+}
+
+// Runs the ranks, beside watchers where there are some.
+fn run_beside<R: Threads + Wait + Sync, D: Disk, G: Gate>(
+    rt: &R,
+    alloc: Global,
+    disk: &mut D,
+    header: &Header,
+    records: &mut u64,
+    script: &Script,
+    gate: &G,
+    watchers: u32,
+) -> WatchedRun
+    requires sound { is_sound header.now ≡ true }
+    requires lawful { is_lawful script.now ≡ true }
+    requires records { records.old ≡ header.now.records }
+    requires from { D.from disk.old ≡ 0 }
+    requires long { end_of header.now (header_len header.now) header.now.records ≤ D.len disk.old }
+    requires few { watchers ≤ 8 }
+    ensures run { IsRun script.now header.now (D.held disk.old) (D.calls disk.old) (D.faults disk.old) (D.held disk.new) (D.calls disk.new) (D.faults disk.new) records.new result.end }
+    ensures readings { IfSome result.seen (λ seen. (length seen.readings ≡ watchers) × All (AreReadings (length result.end.order)) seen.readings) }
+    ensures counted { IfSome (D.held disk.old) (AreCounted script.now header.now result) }
+{
+    if watchers > 0 {
+        return watch_ranks(rt, alloc, disk, header, records, script, gate, watchers);
+    }
+    WatchedRun {
+        end: run_ranks(rt, alloc, disk, header, records, script, gate),
+        seen: Some(Seen {
+            readings: ReadingTable::new(alloc),
+            counts: SizeList::new(alloc),
+        }),
     }
 }

@@ -1,9 +1,9 @@
 // The top call.
-ghost use Rattle.std.specs.Prelude.{◌≡◌, ℕ, List, [], None, true, IfSome};
+ghost use Rattle.std.specs.Prelude.{◌≡◌, ℕ, List, [], length, None, true, IfSome};
 ghost use Rattle.nc_outside.specs.Cause.{Rose};
 ghost use Rattle.nc_base.specs.declared.script.Script.{Script};
 ghost use Rattle.script_spec.specs.ScriptGrammar.{Reads};
-ghost use Rattle.ncmpi_cli.specs.Ends.{EndsAs, TakesScript};
+ghost use Rattle.ncmpi_cli.specs.Ends.{EndsAs, HasReadings, TakesScript, watchers_of};
 ghost use Rattle.ncmpi_cli.specs.Headline.{GivesLine, IsBeforeRanks, IsBeforeStart, IsSilent, IsStatus};
 ghost use Rattle.ncmpi_cli.specs.Stops.{line_of_status};
 ghost use Rattle.ncmpi_cli.specs.Words.{form_of, texts};
@@ -29,15 +29,16 @@ pub struct Outcome {
     pub status: u8,
     /// The steps that were finished, in order.
     pub order: MarkList,
-    /// What watchers read: nothing so far.
+    /// What the watchers read, a list for each: how many steps were done at each of 16 readings beside the run, and then how many were done in
+    /// all. Nothing where the status is not 0 or 6.
     pub readings: ReadingTable,
 }
 
 /// Does what the words ask for, and gives its text to the sink.
 ///
-/// The words are those after the program's name. `DATASET` runs the script that the source has on that dataset. `--offsets DATASET`
-/// lists where its variables lie. `--generate SEED [--size N] DATASET` runs a script that is made by the seed, of N records, 12 where N
-/// is not given, and sums it up. A run is not watched yet: `--watch` is of no form.
+/// The words are those after the program's name. `[--watch N] DATASET` runs the script that the source has on that dataset, beside N watchers,
+/// from 1 to 8; what they read stands behind the run's text. `--offsets DATASET` lists where its variables lie.
+/// `--generate SEED [--size N] DATASET` runs a script that is made by the seed, of N records, 12 where N is not given, and sums it up.
 ///
 /// Each rank runs on a thread of its own, so that independent calls of several ranks may come in any order; under the hint `threads off`,
 /// and where a thread can't be had, the ranks run in turn on this thread. Where the script adds to an existing dataset, that is redefined
@@ -55,7 +56,7 @@ pub fn ncrun<R: Threads + Wait + Sync, S: Source, K: Sink, D: Disk, G: Gate>(
     ensures ends { EndsAs (form_of (texts words.now))
         (record { left = S.left script.old; held = D.held disk.old; calls = D.calls disk.old; given = K.given out.old; source_faults = S.faults script.old; disk_faults = D.faults disk.old; sink_faults = K.faults out.old })
         (record { left = S.left script.new; held = D.held disk.new; calls = D.calls disk.new; given = K.given out.new; source_faults = S.faults script.new; disk_faults = D.faults disk.new; sink_faults = K.faults out.new })
-        result.status result.order }
+        result.status result.order result.readings }
 
     // Each status has its cause.
     ensures statuses { IsStatus result.status }
@@ -72,13 +73,17 @@ pub fn ncrun<R: Threads + Wait + Sync, S: Source, K: Sink, D: Disk, G: Gate>(
     ensures unchanged { result.status ≡ 4 → D.held disk.new ≡ D.held disk.old }
     ensures silent { IsSilent result.status → out.new ≡ out.old }
     ensures no_step { IsBeforeRanks result.status → result.order ≡ [] }
-    ensures no_reading { result.readings ≡ [] }
+
+    // What watchers read: 17 numbers each, which never fall, the last of them how many steps there were.
+    ensures readings { HasReadings (watchers_of (form_of (texts words.now))) result.status (length result.order) result.readings }
 
     // The line that tells a fault, or a front of it where the sink failed.
     ensures told { IfSome (line_of_status result.status) (λ line. GivesLine (K.faults out.old) (K.faults out.new) (K.given out.old) (K.given out.new) line) }
 {
     match form_of(alloc, words) {
-        Ok(Some(Form::Run(dataset))) => run_script(rt, alloc, dataset, script, disk, out, gate),
+        Ok(Some(Form::Run { watchers, dataset })) => {
+            run_script(rt, alloc, dataset, watchers, script, disk, out, gate)
+        }
         Ok(Some(Form::Offsets(dataset))) => list_offsets(alloc, disk, out, dataset),
         Ok(
             Some(

@@ -14,7 +14,7 @@ const OFFSETS: u8 = 4;
 // A run of a made script.
 const MADE: u8 = 0;
 
-const FORMS: [(&[&str], u8); 15] = [
+const FORMS: [(&[&str], u8); 20] = [
     (&["d.nc"], RUN),
     (&["--", "-d.nc"], RUN),
     (&["--offsets", "d.nc"], OFFSETS),
@@ -37,8 +37,12 @@ const FORMS: [(&[&str], u8); 15] = [
     (&["--generate", "0", "--size", "65", "d.nc"], NONE),
     (&["--generate", "18446744073709551616", "d.nc"], NONE),
     (&["--help"], NONE),
-    // Watching is not built.
-    (&["--watch", "1", "d.nc"], NONE),
+    (&["--watch", "1", "d.nc"], RUN),
+    (&["d.nc", "--watch=00000000000000000008"], RUN),
+    (&["--watch", "0", "d.nc"], NONE),
+    (&["--watch", "9", "d.nc"], NONE),
+    (&["--watch", "1", "--offsets", "d.nc"], NONE),
+    (&["--watch", "1", "--generate", "0", "d.nc"], NONE),
 ];
 
 #[test]

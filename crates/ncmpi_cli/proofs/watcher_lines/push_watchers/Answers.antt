@@ -1,0 +1,10 @@
+use Rattle.std.proofs.Common.{arith}
+use Rattle.std.proofs.lemmas.Grind.{common_steps}
+use Rattle.ncmpi_cli.specs.Readings.{counted}
+use Rattle.ncmpi_cli.proofs.WatcherLaws.{watchers_more}
+use Rattle.ncmpi_cli.proofs.watcher_lines.push_watchers.Goals as goal
+
+pub loop-watcher-preserved : goal.loop-watcher-preserved
+loop-watcher-preserved c =
+    let more = watchers_more (counted c.args.opening c.args.counts.now) c.args.out.now.items c.args.readings.now c.loop-watcher.watcher c.as_slice.result.now c.loop-watcher-test.true in
+    grind (arith, common_steps, more)
