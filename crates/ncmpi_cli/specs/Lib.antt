@@ -4,6 +4,7 @@ pub mod Forms
 pub mod Stops
 pub mod Headline
 pub mod Watching
+pub mod BeforeRun
 pub mod Readings
 pub mod Opening
 pub mod Listing

@@ -17,6 +17,7 @@ mod stop;
 mod streams;
 mod taking;
 mod top;
+mod watcher;
 mod watcher_lines;
 mod watching;
 
