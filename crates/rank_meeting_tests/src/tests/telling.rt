@@ -1,9 +1,7 @@
 // Who is told of the steps of a run.
-ghost use Rattle.std.specs.Prelude.{IfOk};
-
 use crate::tests::scripts::{four_ints, two_ranks};
 use crate::tests::serving::{arrive, disk_of_zeros, served};
-use nc_base::{Mark, Memory, OwnerItem, ServeEnd, StepErr};
+use nc_base::{Mark, Memory, OwnerItem, RunEnd, ServeEnd, StepErr};
 use nc_outside::{OpenGate, Told};
 use rank_items::SentItem;
 use rank_meeting::run_ranks_told;
@@ -12,6 +10,7 @@ use std::alloc::Global;
 use std::process::Abort;
 use std::sync::Wait;
 use std::test::Fail;
+use std::thread::Threads;
 
 /// Keeps what it is told, of so many steps at most.
 #[derive(Drop)]
@@ -92,24 +91,32 @@ fn a_step_that_cannot_be_told_is_not_in_the_order(rt: HostRuntime) -> Result<(),
     Ok(())
 }
 
-#[test]
-fn a_run_on_threads_tells_its_meeting(rt: HostRuntime) -> Result<(), Fail> {
-    let alloc = rt.alloc();
+/// Runs two ranks that meet once, on threads, and tells this one.
+fn told_on_threads<R: Threads + Wait + Sync>(
+    rt: &R,
+    alloc: Global,
+    listener: &mut Listener,
+) -> Result<RunEnd, Fail> {
     let script = two_ranks(alloc)?;
     let header = four_ints(alloc, 80)?;
     let mut records = header.records;
     let mut disk = disk_of_zeros(alloc)?;
-    let mut listener = Listener::new(alloc, 8);
-    let end = run_ranks_told(
-        &rt,
+    Ok(run_ranks_told(
+        rt,
         alloc,
         &mut disk,
         &header,
         &mut records,
         &script,
         &OpenGate,
-        &mut listener,
-    );
+        listener,
+    ))
+}
+
+#[test]
+fn a_run_on_threads_tells_its_meeting(rt: HostRuntime) -> Result<(), Fail> {
+    let mut listener = Listener::new(rt.alloc(), 8);
+    let end = told_on_threads(&rt, rt.alloc(), &mut listener)?;
     assert_eq!(rt; end.fault, None);
     assert_eq!(rt; listener.told.as_slice(), [(Mark::Meet(0), 0)].as_slice());
     Ok(())
