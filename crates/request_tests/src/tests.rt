@@ -2,6 +2,3 @@
 mod buffers;
 mod queues;
 mod regions;
-
-/// What a test says that has no memory.
-const NO_MEMORY: &str = "memory";

@@ -9,21 +9,25 @@ use nc_base::{Blob, DiskCall};
 use nc_outside::MemDisk;
 use std::alloc::Global;
 use std::process::Abort;
-
-/// What a test says that has no memory.
-const NO_MEMORY: &str = "memory";
+use std::test::Fail;
 
 /// A file whose byte at each place is the place.
-fn numbered(rt: &impl Abort, alloc: Global, len: u8) -> Blob {
+fn numbered(alloc: Global, len: u8) -> Result<Blob, Fail> {
     let mut bytes = Vec::new(alloc);
     for byte in 0..len {
-        bytes.push(byte).expect(rt, NO_MEMORY);
+        bytes.push(byte)?;
     }
-    Blob::from_vec(bytes)
+    Ok(Blob::from_vec(bytes))
 }
 
 /// The disk had these calls.
-fn has_calls<R: Abort>(rt: &R, alloc: Global, disk: &MemDisk, calls: &[DiskCall]) {
-    let told = disk.calls(alloc).expect(rt, NO_MEMORY).expect(rt, "calls");
+fn has_calls<R: Abort>(
+    rt: &R,
+    alloc: Global,
+    disk: &MemDisk,
+    calls: &[DiskCall],
+) -> Result<(), Fail> {
+    let told = disk.calls(alloc)?.ok_or("calls")?;
     assert_eq!(rt; told.as_slice(), calls);
+    Ok(())
 }

@@ -2,11 +2,11 @@
 ghost use Rattle.std.specs.Prelude.{◌≤◌};
 ghost use Rattle.file_domains.specs.Rounds.{IsWalk};
 
-use super::NO_MEMORY;
 use file_domains::{Window, WindowWalk, cut, windows};
 use nc_base::Extent;
-use std::alloc::Global;
+use std::alloc::{AllocError, Global};
 use std::process::Abort;
+use std::test::Fail;
 
 fn domain<R: Abort>(rt: &R, lo: u64, hi: u64, aggregators: u32, unit: u64, a: u32) -> Extent {
     assert!(rt; lo <= hi && hi < 1000);
@@ -38,14 +38,14 @@ fn domains_are_whole_units(rt: HostRuntime) {
     }
 }
 
-fn listed(rt: &impl Abort, alloc: Global, walk: WindowWalk) -> Vec<Window>
+fn listed(alloc: Global, walk: WindowWalk) -> Result<Vec<Window>, AllocError>
     requires { IsWalk walk }
 {
     let mut list = Vec::new(alloc);
     for window in walk {
-        list.push(window).expect(rt, NO_MEMORY);
+        list.push(window)?;
     }
-    list
+    Ok(list)
 }
 
 fn window(round: u64, at: u64, len: u64, full: bool) -> Window {
@@ -56,22 +56,22 @@ fn window(round: u64, at: u64, len: u64, full: bool) -> Window {
     }
 }
 
-fn solid(rt: &impl Abort, alloc: Global, domain: Extent, size: u64) -> Vec<Window>
+fn solid(alloc: Global, domain: Extent, size: u64) -> Result<Vec<Window>, AllocError>
     requires { 1 ≤ size }
 {
     let cover = [Extent { at: 80, len: 16 }];
-    listed(rt, alloc, windows(domain, &cover, size))
+    listed(alloc, windows(domain, &cover, size))
 }
 
-fn with_a_gap(rt: &impl Abort, alloc: Global, domain: Extent, size: u64) -> Vec<Window>
+fn with_a_gap(alloc: Global, domain: Extent, size: u64) -> Result<Vec<Window>, AllocError>
     requires { 1 ≤ size }
 {
     let cover = [Extent { at: 80, len: 4 }, Extent { at: 92, len: 4 }];
-    listed(rt, alloc, windows(domain, &cover, size))
+    listed(alloc, windows(domain, &cover, size))
 }
 
 #[test]
-fn windows_of_a_solid_domain(rt: HostRuntime) {
+fn windows_of_a_solid_domain(rt: HostRuntime) -> Result<(), Fail> {
     let alloc = rt.alloc();
     let whole = Extent { at: 80, len: 16 };
     let want = [
@@ -82,28 +82,27 @@ fn windows_of_a_solid_domain(rt: HostRuntime) {
         window(4, 92, 3, true),
         window(5, 95, 1, true),
     ];
-    assert_eq!(rt; solid(&rt, alloc, whole, 3).as_slice(), want.as_slice());
+    assert_eq!(rt; solid(alloc, whole, 3)?.as_slice(), want.as_slice());
     let part = Extent { at: 92, len: 6 };
     assert_eq!(rt;
-        solid(&rt, alloc, part, 16).as_slice(),
+        solid(alloc, part, 16)?.as_slice(),
         [window(0, 92, 4, true)].as_slice()
     );
+    Ok(())
 }
 
 #[test]
-fn windows_of_a_domain_with_a_gap(rt: HostRuntime) {
+fn windows_of_a_domain_with_a_gap(rt: HostRuntime) -> Result<(), Fail> {
     let alloc = rt.alloc();
     let whole = Extent { at: 0, len: 200 };
     let one = [window(0, 80, 16, false)];
-    assert_eq!(rt;
-        with_a_gap(&rt, alloc, whole, 16).as_slice(),
-        one.as_slice()
-    );
+    assert_eq!(rt; with_a_gap(alloc, whole, 16)?.as_slice(), one.as_slice());
     let two = [window(0, 80, 4, true), window(3, 92, 4, true)];
-    assert_eq!(rt; with_a_gap(&rt, alloc, whole, 4).as_slice(), two.as_slice());
+    assert_eq!(rt; with_a_gap(alloc, whole, 4)?.as_slice(), two.as_slice());
     let cut = [window(0, 82, 11, false), window(1, 93, 3, true)];
     let late = Extent { at: 82, len: 118 };
-    assert_eq!(rt; with_a_gap(&rt, alloc, late, 11).as_slice(), cut.as_slice());
+    assert_eq!(rt; with_a_gap(alloc, late, 11)?.as_slice(), cut.as_slice());
     let none = Extent { at: 84, len: 8 };
-    assert_eq!(rt; with_a_gap(&rt, alloc, none, 4).as_slice(), [].as_slice());
+    assert_eq!(rt; with_a_gap(alloc, none, 4)?.as_slice(), [].as_slice());
+    Ok(())
 }

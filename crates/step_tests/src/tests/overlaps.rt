@@ -5,11 +5,11 @@ ghost use Rattle.overlay_laws.specs.Entries.{In};
 ghost use Rattle.overlay_laws.specs.Lines.{extents, IsByPlace, EndBelow};
 ghost use Rattle.overlay_laws.specs.Origins.{origins, IsOnceEach};
 
-use super::NO_MEMORY;
-use nc_base::{Extent, Owned, Pair};
+use nc_base::{Extent, Memory, Owned, Pair};
 use overlap_report::{cover, first_pair, gather, resolve};
 use std::alloc::Global;
 use std::process::Abort;
+use std::test::Fail;
 
 fn entry(at: u64, len: u64, rank: u32, request: u32) -> Owned {
     Owned {
@@ -39,10 +39,10 @@ fn pair_of<R: Abort>(rt: &R, list: &mut [Owned]) -> Option<Pair> {
     first_pair(list)
 }
 
-fn cover_of<R: Abort>(rt: &R, alloc: Global, list: &mut [Owned]) -> Vec<Extent> {
+fn cover_of<R: Abort>(rt: &R, alloc: Global, list: &mut [Owned]) -> Result<Vec<Extent>, Memory> {
     gather(list);
     assert!(rt; end_below(list));
-    cover(alloc, list).expect(rt, NO_MEMORY).into_vec()
+    Ok(cover(alloc, list)?.into_vec())
 }
 
 fn pair(rank1: u32, request1: u32, rank2: u32, request2: u32, at: u64) -> Pair {
@@ -94,7 +94,7 @@ fn the_least_shared_byte_has_a_pair(rt: HostRuntime) {
 }
 
 #[test]
-fn covered_bytes_are_joined(rt: HostRuntime) {
+fn covered_bytes_are_joined(rt: HostRuntime) -> Result<(), Fail> {
     let alloc = rt.alloc();
     let mut list = [
         entry(88, 4, 1, 0),
@@ -104,57 +104,59 @@ fn covered_bytes_are_joined(rt: HostRuntime) {
         entry(100, 0, 0, 0),
     ];
     let want = [Extent { at: 80, len: 12 }, Extent { at: 93, len: 2 }];
-    let got = cover_of(&rt, alloc, &mut list);
+    let got = cover_of(&rt, alloc, &mut list)?;
     assert_eq!(rt; got.as_slice(), want.as_slice());
-    assert!(rt; cover_of(&rt, alloc, &mut []).is_empty());
+    assert!(rt; cover_of(&rt, alloc, &mut [])?.is_empty());
+    Ok(())
 }
 
 // Many entries of four bytes in an order that jumps, each touching the next.
-fn scattered(rt: &impl Abort, alloc: Global) -> Vec<Owned> {
+fn scattered(alloc: Global) -> Result<Vec<Owned>, Fail> {
     let mut list = Vec::new(alloc);
     for number in 0..65_536u32 {
         let place = (number * 25_173 + 13_849) % 65_536;
-        list.push(entry(u64::from(place) * 4, 4, number % 64, number))
-            .expect(rt, NO_MEMORY);
+        list.push(entry(u64::from(place) * 4, 4, number % 64, number))?;
     }
-    list
+    Ok(list)
 }
 
 #[test]
-fn many_entries_are_joined(rt: HostRuntime) {
+fn many_entries_are_joined(rt: HostRuntime) -> Result<(), Fail> {
     let alloc = rt.alloc();
-    let mut list = scattered(&rt, alloc);
+    let mut list = scattered(alloc)?;
     assert_eq!(rt; pair_of(&rt, list.as_mut_slice()), None);
-    let got = cover_of(&rt, alloc, list.as_mut_slice());
+    let got = cover_of(&rt, alloc, list.as_mut_slice())?;
     let want = [Extent {
         at: 0,
         len: 262_144,
     }];
     assert_eq!(rt; got.as_slice(), want.as_slice());
+    Ok(())
 }
 
-fn resolved_two<R: Abort>(rt: &R, alloc: Global, a: Owned, b: Owned) -> Vec<Owned> {
+fn resolved_two<R: Abort>(rt: &R, alloc: Global, a: Owned, b: Owned) -> Result<Vec<Owned>, Memory> {
     let list = [a, b];
     assert!(rt; a.extent.at <= b.extent.at);
     assert!(rt; end_below(&list));
     assert!(rt; a.extent.len < 1000 && a.from < 1000 && b.extent.len < 1000 && b.from < 1000);
     assert!(rt; a.rank < b.rank);
-    resolve(alloc, &list).expect(rt, NO_MEMORY).into_vec()
+    Ok(resolve(alloc, &list)?.into_vec())
 }
 
 #[test]
-fn the_later_rank_has_the_byte(rt: HostRuntime) {
+fn the_later_rank_has_the_byte(rt: HostRuntime) -> Result<(), Fail> {
     let alloc = rt.alloc();
-    let got = resolved_two(&rt, alloc, entry(80, 12, 0, 0), entry(88, 8, 1, 0));
+    let got = resolved_two(&rt, alloc, entry(80, 12, 0, 0), entry(88, 8, 1, 0))?;
     let want = [entry(80, 8, 0, 0), entry(88, 8, 1, 0)];
     assert_eq!(rt; got.as_slice(), want.as_slice());
-    let inner = resolved_two(&rt, alloc, entry(80, 12, 0, 0), entry(84, 4, 1, 0));
+    let inner = resolved_two(&rt, alloc, entry(80, 12, 0, 0), entry(84, 4, 1, 0))?;
     let last = Owned {
         from: 8,
         ..entry(88, 4, 0, 0)
     };
     let want = [entry(80, 4, 0, 0), entry(84, 4, 1, 0), last];
     assert_eq!(rt; inner.as_slice(), want.as_slice());
+    Ok(())
 }
 
 // Whether each entry's bytes end below 2^62 in its post.
@@ -184,25 +186,24 @@ fn slots_rise(list: &[Owned]) -> bool
     true
 }
 
-fn resolved_of<R: Abort>(rt: &R, alloc: Global, list: &mut [Owned]) -> Vec<Owned> {
+fn resolved_of<R: Abort>(rt: &R, alloc: Global, list: &mut [Owned]) -> Result<Vec<Owned>, Memory> {
     gather(list);
     assert!(rt; end_below(list));
     assert!(rt; found_below(list));
     assert!(rt; slots_rise(list));
-    resolve(alloc, list).expect(rt, NO_MEMORY).into_vec()
+    Ok(resolve(alloc, list)?.into_vec())
 }
 
 // Many entries of four bytes in an order that jumps, each sharing two bytes with the next. The ranks go round.
-fn overlapping(rt: &impl Abort, alloc: Global, ranks: u32) -> Vec<Owned>
+fn overlapping(alloc: Global, ranks: u32) -> Result<Vec<Owned>, Fail>
     requires { 1 ≤ ranks }
 {
     let mut list = Vec::new(alloc);
     for number in 0..65_536u32 {
         let place = (number * 25_173 + 13_849) % 65_536;
-        list.push(entry(u64::from(place) * 2, 4, place % ranks, place))
-            .expect(rt, NO_MEMORY);
+        list.push(entry(u64::from(place) * 2, 4, place % ranks, place))?;
     }
-    list
+    Ok(list)
 }
 
 // The slot of the entry that holds a byte of the file, and which byte of its post that is.
@@ -218,10 +219,10 @@ fn byte_of(list: &[Owned], at: u64) -> Option<(u32, u64)> {
 
 // Each entry but the last keeps its first two bytes.
 #[test]
-fn many_entries_of_one_rank_are_resolved(rt: HostRuntime) {
+fn many_entries_of_one_rank_are_resolved(rt: HostRuntime) -> Result<(), Fail> {
     let alloc = rt.alloc();
-    let mut list = overlapping(&rt, alloc, 1);
-    let mut got = resolved_of(&rt, alloc, list.as_mut_slice());
+    let mut list = overlapping(alloc, 1)?;
+    let mut got = resolved_of(&rt, alloc, list.as_mut_slice())?;
     assert_eq!(rt; got.len(), 65_536);
     assert_eq!(rt; got.get(0).copied(), Some(entry(0, 2, 0, 0)));
     assert_eq!(rt; got.get(40_000).copied(), Some(entry(80_000, 2, 0, 40_000)));
@@ -238,17 +239,18 @@ fn many_entries_of_one_rank_are_resolved(rt: HostRuntime) {
         len: 131_074,
     }];
     assert_eq!(rt;
-        cover_of(&rt, alloc, got.as_mut_slice()).as_slice(),
+        cover_of(&rt, alloc, got.as_mut_slice())?.as_slice(),
         want.as_slice()
     );
+    Ok(())
 }
 
 // An entry of rank 63 keeps its four bytes, so that the next one, of rank 0, has none.
 #[test]
-fn many_entries_of_many_ranks_are_resolved(rt: HostRuntime) {
+fn many_entries_of_many_ranks_are_resolved(rt: HostRuntime) -> Result<(), Fail> {
     let alloc = rt.alloc();
-    let mut list = overlapping(&rt, alloc, 64);
-    let mut got = resolved_of(&rt, alloc, list.as_mut_slice());
+    let mut list = overlapping(alloc, 64)?;
+    let mut got = resolved_of(&rt, alloc, list.as_mut_slice())?;
     for (at, slot, byte) in [
         (0, 0, 0),
         (1, 0, 1),
@@ -269,7 +271,8 @@ fn many_entries_of_many_ranks_are_resolved(rt: HostRuntime) {
         len: 131_074,
     }];
     assert_eq!(rt;
-        cover_of(&rt, alloc, got.as_mut_slice()).as_slice(),
+        cover_of(&rt, alloc, got.as_mut_slice())?.as_slice(),
         want.as_slice()
     );
+    Ok(())
 }

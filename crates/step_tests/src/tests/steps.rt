@@ -7,7 +7,7 @@ ghost use Rattle.serial_spec.specs.RankSide.{wanted};
 ghost use Rattle.var_layout.specs.Unplaced.{is_unplaced};
 ghost use Rattle.collective_round.specs.Rounds.{IsGet, IsPut};
 
-use super::{NO_MEMORY, has_calls, numbered};
+use super::{has_calls, numbered};
 use collective_round::{PutEnd, get_all, put_all, put_solo};
 use nc_base::{
     Align, AttrList, Batch, BatchList, Blob, Dim, DimList, Direction, DiskCall, GotTable, Header,
@@ -15,9 +15,10 @@ use nc_base::{
     Var, VarList,
 };
 use nc_outside::{Disk, Fail as Fault, FailList, FailOp, MemDisk, OpenGate};
-use std::alloc::Global;
+use std::alloc::{AllocError, Global};
 use std::process::Abort;
 use std::sync::Wait;
+use std::test::Fail;
 use type_external::size_of;
 use var_layout::{file_end, lay_out};
 use vara_extents::{check, records_needed};
@@ -66,27 +67,27 @@ struct Dataset {
 }
 
 // The dimension x of this length, and the variable v over it without a begin.
-fn unplaced(rt: &impl Abort, alloc: Global, len: u64, kind: NcType) -> Header
-    ensures { is_unplaced result ≡ true }
+fn unplaced(alloc: Global, len: u64, kind: NcType) -> Result<Header, AllocError>
+    ensures { IfOk result (λ header. is_unplaced header ≡ true) }
 {
     let x = Dim {
-        name: Name::from_vec(vec![in alloc; b'x'].expect(rt, NO_MEMORY)),
+        name: Name::from_vec(vec![in alloc; b'x']?),
         len,
     };
     let v = Var {
-        name: Name::from_vec(vec![in alloc; b'v'].expect(rt, NO_MEMORY)),
-        dims: IdList::from_vec(vec![in alloc; 0].expect(rt, NO_MEMORY)),
+        name: Name::from_vec(vec![in alloc; b'v']?),
+        dims: IdList::from_vec(vec![in alloc; 0]?),
         attrs: AttrList::new(alloc),
         kind,
         begin: 0,
     };
-    Header {
+    Ok(Header {
         version: 1,
         records: 0,
-        dims: DimList::from_vec(vec![in alloc; x].expect(rt, NO_MEMORY)),
+        dims: DimList::from_vec(vec![in alloc; x]?),
         attrs: AttrList::new(alloc),
-        vars: VarList::from_vec(vec![in alloc; v].expect(rt, NO_MEMORY)),
-    }
+        vars: VarList::from_vec(vec![in alloc; v]?),
+    })
 }
 
 // The same with its begin, which is 80.
@@ -100,51 +101,57 @@ fn placed(rt: &impl Abort, mut header: Header) -> Header
     header
 }
 
-fn list_of(rt: &impl Abort, alloc: Global, number: u64) -> SizeList {
-    SizeList::from_vec(vec![in alloc; number].expect(rt, NO_MEMORY))
+fn list_of(alloc: Global, number: u64) -> Result<SizeList, AllocError> {
+    Ok(SizeList::from_vec(vec![in alloc; number]?))
 }
 
 /// A request for elements of v.
-fn post(rt: &impl Abort, alloc: Global, from: u64, count: u64, stride: u64, bytes: &[u8]) -> Post {
+fn post(
+    alloc: Global,
+    from: u64,
+    count: u64,
+    stride: u64,
+    bytes: &[u8],
+) -> Result<Post, AllocError> {
     let region = Region {
-        start: list_of(rt, alloc, from),
-        count: list_of(rt, alloc, count),
-        stride: list_of(rt, alloc, stride),
+        start: list_of(alloc, from)?,
+        count: list_of(alloc, count)?,
+        stride: list_of(alloc, stride)?,
         imap: SizeList::new(alloc),
         packed: true,
     };
-    Post {
+    Ok(Post {
         id: 0,
         var: 0,
         region,
-        bytes: Blob::from_vec(Vec::from_slice(alloc, bytes).expect(rt, NO_MEMORY)),
-    }
+        bytes: Blob::from_vec(Vec::from_slice(alloc, bytes)?),
+    })
 }
 
-fn batch_of_put(rt: &impl Abort, alloc: Global, post: Post) -> Batch
-    ensures { result ≡ record { puts = post ∷ []; gets = [] } }
+fn batch_of_put(alloc: Global, post: Post) -> Result<Batch, AllocError>
+    ensures { IfOk result (λ batch. batch ≡ record { puts = post ∷ []; gets = [] }) }
 {
-    Batch {
-        puts: PostList::from_vec(vec![in alloc; post].expect(rt, NO_MEMORY)),
+    Ok(Batch {
+        puts: PostList::from_vec(vec![in alloc; post]?),
         gets: PostList::new(alloc),
-    }
+    })
 }
 
-fn batch_of_get(rt: &impl Abort, alloc: Global, post: Post) -> Batch
-    ensures { result ≡ record { puts = []; gets = post ∷ [] } }
+fn batch_of_get(alloc: Global, post: Post) -> Result<Batch, AllocError>
+    ensures { IfOk result (λ batch. batch ≡ record { puts = []; gets = post ∷ [] }) }
 {
-    Batch {
+    Ok(Batch {
         puts: PostList::new(alloc),
-        gets: PostList::from_vec(vec![in alloc; post].expect(rt, NO_MEMORY)),
-    }
+        gets: PostList::from_vec(vec![in alloc; post]?),
+    })
 }
 
-fn job_of(rt: &impl Abort, alloc: Global, a: Batch, b: Batch) -> Job
-    ensures { result.batches ≡ a ∷ b ∷ [] }
+fn job_of(alloc: Global, a: Batch, b: Batch) -> Result<Job, AllocError>
+    ensures { IfOk result (λ job. job.batches ≡ a ∷ b ∷ []) }
 {
-    Job {
-        batches: BatchList::from_vec(vec![in alloc; a, b].expect(rt, NO_MEMORY)),
-    }
+    Ok(Job {
+        batches: BatchList::from_vec(vec![in alloc; a, b]?),
+    })
 }
 
 /// The elements of a region of one dimension.
@@ -209,7 +216,7 @@ fn put_two<R: Abort + Wait>(
     set: &Dataset,
     a: Post,
     b: Post,
-) -> (Result<PutEnd, StepErr>, u64)
+) -> Result<(Result<PutEnd, StepErr>, u64), Fail>
     requires sound { is_sound set.now.header ≡ true }
     requires hints { are_lawful_hints set.now.hints ≡ true }
 {
@@ -217,12 +224,7 @@ fn put_two<R: Abort + Wait>(
     is_put(rt, header, &a);
     is_put(rt, header, &b);
     is_long(rt, header, disk);
-    let job = job_of(
-        rt,
-        alloc,
-        batch_of_put(rt, alloc, a),
-        batch_of_put(rt, alloc, b),
-    );
+    let job = job_of(alloc, batch_of_put(alloc, a)?, batch_of_put(alloc, b)?)?;
     let mut records = 0;
     let end = put_all(
         rt,
@@ -234,7 +236,7 @@ fn put_two<R: Abort + Wait>(
         &set.hints,
         &OpenGate,
     );
-    (end, records)
+    Ok((end, records))
 }
 
 /// What two ranks get, one blob each.
@@ -245,7 +247,7 @@ fn get_two<R: Abort + Wait>(
     set: &Dataset,
     a: Post,
     b: Post,
-) -> Result<GotTable, StepErr>
+) -> Result<Result<GotTable, StepErr>, Fail>
     requires sound { is_sound set.now.header ≡ true }
     requires hints { are_lawful_hints set.now.hints ≡ true }
 {
@@ -254,13 +256,8 @@ fn get_two<R: Abort + Wait>(
     let len = disk.size();
     is_get(rt, header, len, &a);
     is_get(rt, header, len, &b);
-    let job = job_of(
-        rt,
-        alloc,
-        batch_of_get(rt, alloc, a),
-        batch_of_get(rt, alloc, b),
-    );
-    get_all(rt, alloc, disk, header, &job, &set.hints, &OpenGate)
+    let job = job_of(alloc, batch_of_get(alloc, a)?, batch_of_get(alloc, b)?)?;
+    Ok(get_all(rt, alloc, disk, header, &job, &set.hints, &OpenGate))
 }
 
 /// How the put of a rank alone ends.
@@ -270,25 +267,32 @@ fn put_one<R: Abort>(
     disk: &mut MemDisk,
     header: &Header,
     a: Post,
-) -> Result<PutEnd, StepErr>
+) -> Result<Result<PutEnd, StepErr>, Fail>
     requires { is_sound header.now ≡ true }
 {
     is_put(rt, header, &a);
     is_long(rt, header, disk);
-    let batch = batch_of_put(rt, alloc, a);
-    put_solo(alloc, disk, header, 3, &batch, &HINTS)
+    let batch = batch_of_put(alloc, a)?;
+    Ok(put_solo(alloc, disk, header, 3, &batch, &HINTS))
 }
 
-fn zeros(rt: &impl Abort, alloc: Global, len: usize) -> MemDisk {
-    let bytes = Blob::from_vec(vec![in alloc; 0; len].expect(rt, NO_MEMORY));
-    MemDisk::logged(alloc, bytes).expect(rt, NO_MEMORY)
+fn zeros(alloc: Global, len: usize) -> Result<MemDisk, Fail> {
+    let bytes = Blob::from_vec(vec![in alloc; 0; len]?);
+    Ok(MemDisk::logged(alloc, bytes)?)
 }
 
 /// The disk had these calls, and has these bytes behind the header.
-fn has<R: Abort>(rt: &R, alloc: Global, disk: &MemDisk, calls: &[DiskCall], tail: &[u8]) {
-    has_calls(rt, alloc, disk, calls);
-    let bytes = disk.bytes(alloc).expect(rt, NO_MEMORY);
+fn has<R: Abort>(
+    rt: &R,
+    alloc: Global,
+    disk: &MemDisk,
+    calls: &[DiskCall],
+    tail: &[u8],
+) -> Result<(), Fail> {
+    has_calls(rt, alloc, disk, calls)?;
+    let bytes = disk.bytes(alloc)?;
     assert_eq!(rt; bytes.as_slice().get(80..), Some(tail));
+    Ok(())
 }
 
 /// Four ints, put one by one.
@@ -300,34 +304,34 @@ const FOUR: [DiskCall; 4] = [
 ];
 
 #[test]
-fn two_ranks_fill_each_others_gaps(rt: HostRuntime) {
+fn two_ranks_fill_each_others_gaps(rt: HostRuntime) -> Result<(), Fail> {
     let alloc = rt.alloc();
     let set = Dataset {
-        header: placed(&rt, unplaced(&rt, alloc, 4, NcType::Int)),
+        header: placed(&rt, unplaced(alloc, 4, NcType::Int)?),
         hints: HINTS,
     };
-    let mut disk = zeros(&rt, alloc, 96);
-    let a = post(&rt, alloc, 0, 2, 2, b"\0\0\0\x01\0\0\0\x03");
-    let b = post(&rt, alloc, 1, 2, 2, b"\0\0\0\x02\0\0\0\x04");
-    let (end, records) = put_two(&rt, alloc, &mut disk, &set, a, b);
+    let mut disk = zeros(alloc, 96)?;
+    let a = post(alloc, 0, 2, 2, b"\0\0\0\x01\0\0\0\x03")?;
+    let b = post(alloc, 1, 2, 2, b"\0\0\0\x02\0\0\0\x04")?;
+    let (end, records) = put_two(&rt, alloc, &mut disk, &set, a, b)?;
     assert!(rt; end == Ok(PutEnd::Done) && records == 0);
     let tail = b"\0\0\0\x01\0\0\0\x02\0\0\0\x03\0\0\0\x04";
     has(&rt, alloc, &disk, &FOUR, tail)
 }
 
 #[test]
-fn a_shared_byte_is_told_and_nothing_is_written(rt: HostRuntime) {
+fn a_shared_byte_is_told_and_nothing_is_written(rt: HostRuntime) -> Result<(), Fail> {
     let alloc = rt.alloc();
     let set = Dataset {
-        header: placed(&rt, unplaced(&rt, alloc, 4, NcType::Int)),
+        header: placed(&rt, unplaced(alloc, 4, NcType::Int)?),
         hints: HINTS,
     };
-    let mut disk = zeros(&rt, alloc, 96);
+    let mut disk = zeros(alloc, 96)?;
     let (a, b) = (
-        post(&rt, alloc, 0, 3, 1, &[1; 12]),
-        post(&rt, alloc, 2, 2, 1, &[2; 8]),
+        post(alloc, 0, 3, 1, &[1; 12])?,
+        post(alloc, 2, 2, 1, &[2; 8])?,
     );
-    let (end, _) = put_two(&rt, alloc, &mut disk, &set, a, b);
+    let (end, _) = put_two(&rt, alloc, &mut disk, &set, a, b)?;
     let pair = Pair {
         rank1: 0,
         request1: 0,
@@ -340,18 +344,18 @@ fn a_shared_byte_is_told_and_nothing_is_written(rt: HostRuntime) {
 }
 
 #[test]
-fn the_later_rank_has_a_shared_byte(rt: HostRuntime) {
+fn the_later_rank_has_a_shared_byte(rt: HostRuntime) -> Result<(), Fail> {
     let alloc = rt.alloc();
     let set = Dataset {
-        header: placed(&rt, unplaced(&rt, alloc, 4, NcType::Int)),
+        header: placed(&rt, unplaced(alloc, 4, NcType::Int)?),
         hints: one_after_another(),
     };
-    let mut disk = zeros(&rt, alloc, 96);
+    let mut disk = zeros(alloc, 96)?;
     let (a, b) = (
-        post(&rt, alloc, 0, 3, 1, &[1; 12]),
-        post(&rt, alloc, 2, 2, 1, &[2; 8]),
+        post(alloc, 0, 3, 1, &[1; 12])?,
+        post(alloc, 2, 2, 1, &[2; 8])?,
     );
-    let (end, _) = put_two(&rt, alloc, &mut disk, &set, a, b);
+    let (end, _) = put_two(&rt, alloc, &mut disk, &set, a, b)?;
     assert!(rt; end == Ok(PutEnd::Done));
     let tail = [1, 1, 1, 1, 1, 1, 1, 1, 2, 2, 2, 2, 2, 2, 2, 2];
     has(&rt, alloc, &disk, &FOUR, &tail)
@@ -359,16 +363,16 @@ fn the_later_rank_has_a_shared_byte(rt: HostRuntime) {
 
 // Bytes 82 to 88 with a hole are of the first domain, 90 to 94 of the second one, which begins at 88.
 #[test]
-fn puts_go_domain_by_domain(rt: HostRuntime) {
+fn puts_go_domain_by_domain(rt: HostRuntime) -> Result<(), Fail> {
     let alloc = rt.alloc();
     let set = Dataset {
-        header: placed(&rt, unplaced(&rt, alloc, 8, NcType::Short)),
+        header: placed(&rt, unplaced(alloc, 8, NcType::Short)?),
         hints: two_aggregators(),
     };
-    let mut disk = zeros(&rt, alloc, 96);
-    let a = post(&rt, alloc, 1, 2, 2, b"\0\x01\0\x02");
-    let b = post(&rt, alloc, 5, 2, 1, b"\0\x05\0\x06");
-    let (end, _) = put_two(&rt, alloc, &mut disk, &set, a, b);
+    let mut disk = zeros(alloc, 96)?;
+    let a = post(alloc, 1, 2, 2, b"\0\x01\0\x02")?;
+    let b = post(alloc, 5, 2, 1, b"\0\x05\0\x06")?;
+    let (end, _) = put_two(&rt, alloc, &mut disk, &set, a, b)?;
     assert!(rt; end == Ok(PutEnd::Done));
     let calls = [
         DiskCall::Load(82, 6),
@@ -388,18 +392,15 @@ fn has_blob(rt: &impl Abort, table: &GotTable, rank: usize, bytes: &[u8]) {
 }
 
 #[test]
-fn gets_go_domain_by_domain(rt: HostRuntime) {
+fn gets_go_domain_by_domain(rt: HostRuntime) -> Result<(), Fail> {
     let alloc = rt.alloc();
     let set = Dataset {
-        header: placed(&rt, unplaced(&rt, alloc, 8, NcType::Short)),
+        header: placed(&rt, unplaced(alloc, 8, NcType::Short)?),
         hints: two_aggregators(),
     };
-    let mut disk = MemDisk::logged(alloc, numbered(&rt, alloc, 96)).expect(&rt, NO_MEMORY);
-    let (a, b) = (
-        post(&rt, alloc, 1, 2, 2, &[]),
-        post(&rt, alloc, 5, 2, 1, &[]),
-    );
-    match get_two(&rt, alloc, &mut disk, &set, a, b) {
+    let mut disk = MemDisk::logged(alloc, numbered(alloc, 96)?)?;
+    let (a, b) = (post(alloc, 1, 2, 2, &[])?, post(alloc, 5, 2, 1, &[])?);
+    match get_two(&rt, alloc, &mut disk, &set, a, b)? {
         Ok(table) => {
             has_blob(&rt, &table, 0, &[82, 83, 86, 87]);
             has_blob(&rt, &table, 1, &[90, 91, 92, 93]);
@@ -415,18 +416,15 @@ fn gets_go_domain_by_domain(rt: HostRuntime) {
 }
 
 #[test]
-fn records_grow_the_file_and_are_counted(rt: HostRuntime) {
+fn records_grow_the_file_and_are_counted(rt: HostRuntime) -> Result<(), Fail> {
     let alloc = rt.alloc();
     let set = Dataset {
-        header: placed(&rt, unplaced(&rt, alloc, 0, NcType::Short)),
+        header: placed(&rt, unplaced(alloc, 0, NcType::Short)?),
         hints: HINTS,
     };
-    let mut disk = zeros(&rt, alloc, 80);
-    let (a, b) = (
-        post(&rt, alloc, 3, 1, 1, b"\0\x07"),
-        post(&rt, alloc, 0, 0, 1, b""),
-    );
-    let (end, records) = put_two(&rt, alloc, &mut disk, &set, a, b);
+    let mut disk = zeros(alloc, 80)?;
+    let (a, b) = (post(alloc, 3, 1, 1, b"\0\x07")?, post(alloc, 0, 0, 1, b"")?);
+    let (end, records) = put_two(&rt, alloc, &mut disk, &set, a, b)?;
     assert!(rt; end == Ok(PutEnd::Done) && records == 4);
     let calls = [
         DiskCall::Grow(88),
@@ -438,42 +436,37 @@ fn records_grow_the_file_and_are_counted(rt: HostRuntime) {
 
 // The record is written, and then the disk refuses its count.
 #[test]
-fn a_refused_count_is_not_told(rt: HostRuntime) {
+fn a_refused_count_is_not_told(rt: HostRuntime) -> Result<(), Fail> {
     let alloc = rt.alloc();
     let set = Dataset {
-        header: placed(&rt, unplaced(&rt, alloc, 0, NcType::Short)),
+        header: placed(&rt, unplaced(alloc, 0, NcType::Short)?),
         hints: HINTS,
     };
     let refused = Fault {
         op: FailOp::Store,
         at: 4,
     };
-    let plan = FailList::from_vec(vec![in alloc; refused].expect(&rt, NO_MEMORY));
-    let bytes = Blob::from_vec(vec![in alloc; 0; 80].expect(&rt, NO_MEMORY));
-    let mut disk = MemDisk::failing(alloc, bytes, plan).expect(&rt, NO_MEMORY);
-    let (a, b) = (
-        post(&rt, alloc, 3, 1, 1, b"\0\x07"),
-        post(&rt, alloc, 0, 0, 1, b""),
-    );
-    let (end, records) = put_two(&rt, alloc, &mut disk, &set, a, b);
+    let plan = FailList::from_vec(vec![in alloc; refused]?);
+    let bytes = Blob::from_vec(vec![in alloc; 0; 80]?);
+    let mut disk = MemDisk::failing(alloc, bytes, plan)?;
+    let (a, b) = (post(alloc, 3, 1, 1, b"\0\x07")?, post(alloc, 0, 0, 1, b"")?);
+    let (end, records) = put_two(&rt, alloc, &mut disk, &set, a, b)?;
     assert!(rt; end == Err(StepErr::Disk) && records == 0);
     let calls = [DiskCall::Grow(88), DiskCall::Store(86, 2)];
-    has_calls(&rt, alloc, &disk, &calls);
-    let mut left = vec![in alloc; 0; 87].expect(&rt, NO_MEMORY);
-    left.push(7).expect(&rt, NO_MEMORY);
-    assert_eq!(rt;
-        disk.bytes(alloc).expect(&rt, NO_MEMORY),
-        Blob::from_vec(left)
-    );
+    has_calls(&rt, alloc, &disk, &calls)?;
+    let mut left = vec![in alloc; 0; 87]?;
+    left.push(7)?;
+    assert_eq!(rt; disk.bytes(alloc)?, Blob::from_vec(left));
+    Ok(())
 }
 
 #[test]
-fn one_rank_alone_leaves_the_count(rt: HostRuntime) {
+fn one_rank_alone_leaves_the_count(rt: HostRuntime) -> Result<(), Fail> {
     let alloc = rt.alloc();
-    let header = placed(&rt, unplaced(&rt, alloc, 0, NcType::Short));
-    let mut disk = zeros(&rt, alloc, 80);
-    let a = post(&rt, alloc, 0, 2, 3, b"\0\x05\0\x07");
-    let end = put_one(&rt, alloc, &mut disk, &header, a);
+    let header = placed(&rt, unplaced(alloc, 0, NcType::Short)?);
+    let mut disk = zeros(alloc, 80)?;
+    let a = post(alloc, 0, 2, 3, b"\0\x05\0\x07")?;
+    let end = put_one(&rt, alloc, &mut disk, &header, a)?;
     assert!(rt; end == Ok(PutEnd::Done));
     let calls = [
         DiskCall::Grow(88),

@@ -1,32 +1,31 @@
 // Calls of many boxes, against the order of their causes.
-use super::{NO_MEMORY, header_of, one};
-use nc_base::{CallErr, Code, Direction, Form, Given, Header, Part, PartList, SizeList};
+use super::{header_of, one};
+use nc_base::{CallErr, Code, Direction, Form, Given, Header, Memory, Part, PartList, SizeList};
 use std::alloc::Global;
 use std::process::Abort;
+use std::test::Fail;
 use vara_extents::check_parts;
 
 /// Two boxes of one dimension, each with its start and count.
 type Boxes = [(u64, u64); 2];
 
 /// A call on two boxes.
-fn given_of(rt: &impl Abort, alloc: Global, boxes: Boxes) -> Given {
+fn given_of(alloc: Global, boxes: Boxes) -> Result<Given, Memory> {
     let mut parts = PartList::new(alloc);
     for (start, count) in boxes {
-        parts
-            .push(Part {
-                start: one(rt, alloc, start),
-                count: one(rt, alloc, count),
-            })
-            .expect(rt, NO_MEMORY);
+        parts.push(Part {
+            start: one(alloc, start)?,
+            count: one(alloc, count)?,
+        })?;
     }
-    Given {
+    Ok(Given {
         form: Form::Varn,
         start: SizeList::new(alloc),
         count: SizeList::new(alloc),
         stride: SizeList::new(alloc),
         imap: SizeList::new(alloc),
         parts,
-    }
+    })
 }
 
 /// Two boxes are refused with this code, or accepted.
@@ -37,12 +36,13 @@ fn assert_code(
     boxes: Boxes,
     direction: Direction,
     code: Code,
-) {
-    let given = given_of(rt, alloc, boxes);
+) -> Result<(), Memory> {
+    let given = given_of(alloc, boxes)?;
     match check_parts(alloc, header, 0, &given, 0, direction) {
         Ok(()) => assert!(rt; code == Code::Ok),
         Err(refusal) => assert!(rt; refusal == CallErr::Code(code)),
     }
+    Ok(())
 }
 
 /// Of a dimension of 2000000 elements.
@@ -58,16 +58,18 @@ const PUTS: [(Boxes, Code); 8] = [
 ];
 
 #[test]
-fn causes_of_refusals_of_parts(rt: HostRuntime) {
-    let header = header_of(&rt, rt.alloc(), 2000000);
+fn causes_of_refusals_of_parts(rt: HostRuntime) -> Result<(), Fail> {
+    let header = header_of(rt.alloc(), 2000000)?;
     for (boxes, code) in PUTS {
-        assert_code(&rt, rt.alloc(), &header, boxes, Direction::Put, code);
+        assert_code(&rt, rt.alloc(), &header, boxes, Direction::Put, code)?;
     }
+    Ok(())
 }
 
 #[test]
-fn parts_of_a_get_may_share(rt: HostRuntime) {
-    let header = header_of(&rt, rt.alloc(), 4);
+fn parts_of_a_get_may_share(rt: HostRuntime) -> Result<(), Fail> {
+    let header = header_of(rt.alloc(), 4)?;
     let boxes = [(0, 3), (2, 2)];
-    assert_code(&rt, rt.alloc(), &header, boxes, Direction::Get, Code::Ok);
+    assert_code(&rt, rt.alloc(), &header, boxes, Direction::Get, Code::Ok)?;
+    Ok(())
 }
