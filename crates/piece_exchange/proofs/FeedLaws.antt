@@ -130,6 +130,30 @@ set_each {X} P xs i x y e p each r z g = by_order (nat_lt r i) (nat_lt i r) refl
         let own : y ≡ z = some_same y z (sym (entry_set xs i x y e) ∙ ap (slice_get (set xs i y)) (sym same) ∙ g) in
         subst (λ (k : ℕ). P k z) (sym same) (subst (λ (w : X). P i w) own p)
 
+-- one element more of a list was changed, in order
+pub each_more : {X : Type 0} (R : X → X → Type 0) (old now : List X) (i : ℕ) (a b : X) → slice_get old i ≡ Some a → slice_get now i ≡ Some a → R a b
+    → ((k : ℕ) (x y : X) → k < i → slice_get old k ≡ Some x → slice_get now k ≡ Some y → R x y)
+    → (k : ℕ) (x y : X) → k < i + 1 → slice_get old k ≡ Some x → slice_get (set now i b) k ≡ Some y → R x y
+each_more {X} R old now i a b e f r each k x y l g h = by_order (nat_lt k i) refl
+  where
+    by_order : (t : Bool) → nat_lt k i ≡ t → R x y
+    by_order true u =
+        let less : k < i = grind (arith, nat_tests) in
+        each k x y less g (sym (entry_set_other now i k b (λ s. absurd (omega arith))) ∙ h)
+    by_order false u =
+        let same : k ≡ i = grind (arith, nat_tests) in
+        let first : a ≡ x = some_same a x (sym e ∙ ap (slice_get old) (sym same) ∙ g) in
+        let second : b ≡ y = some_same b y (sym (entry_set now i a b f) ∙ ap (slice_get (set now i b)) (sym same) ∙ h) in
+        subst (λ (z : X). R z y) first (subst (λ (z : X). R a z) second r)
+
+pub left_more : {X : Type 0} (old now : List X) (i : ℕ) (b : X) → ((k : ℕ) → i ≤ k → slice_get now k ≡ slice_get old k) → (k : ℕ) → i + 1 ≤ k → slice_get (set now i b) k ≡ slice_get old k
+left_more old now i b left k l = entry_set_other now i k b (λ s. absurd (omega arith)) ∙ left k (omega arith)
+
+pub get_long : {X : Type 0} (xs : List X) (k : ℕ) (x : X) → slice_get xs k ≡ Some x → k < length xs
+get_long [] k x e = absurd cc
+get_long (z ∷ xs) zero x e = omega arith
+get_long (z ∷ xs) (suc k) x e = let l = get_long xs k x e in omega arith
+
 -- ---- one window of one feed
 
 pub fed_next : (ranks : ℕ) (old next : Option Turn) (t : Turn) (w v : TurnWalk) (before now : List Owned) → old ≡ Some t → IsFeedOf old w

@@ -4,5 +4,9 @@ pub mod PutLaws
 pub mod PieceLaws
 pub mod TakenLaws
 pub mod ServeLaws
+pub mod InTurnLaws
 pub mod FeedLaws
+pub mod BackLaws
+pub mod SeatLaws
 pub mod DomainTurns
+pub mod PlanLaws

@@ -283,6 +283,9 @@ pub told_nothing : (held : Option (List ℕ)) (whole : List ℕ → List ℕ) �
 told_nothing None whole = refl
 told_nothing (Some old) whole = (old, refl, nothing_put (whole old) old)
 
+pub told_kept : (held now : Option (List ℕ)) (whole : List ℕ → List ℕ) → now ≡ held → BothTold (λ old left. IsBetween old (whole old) left) held now
+told_kept held now whole e = subst (λ (m : Option (List ℕ)). BothTold (λ old left. IsBetween old (whole old) left) held m) (sym e) (told_nothing held whole)
+
 -- a window that was put in whole
 pub told_whole : (source : Source) (picked : List Owned) (from len : ℕ) (t : Told) (mid now : Option (List ℕ)) → IfSome mid (λ file. length file ≡ len) → from ≤ t.0 → t.0 + t.1 ≤ from + len
     → now ≡ after (put_window source from t picked) mid → BothTold (λ old left. IsBetween old (put_window source from t picked old) left) mid now
@@ -321,6 +324,11 @@ told_more source list picked from len t (Some old) mid now told one p low high b
       between_twice old (put_part source list from old) b.0 (put_window source from t picked b.0) d.0 b.2
           (window_between source list picked from t old b.0 one p low (subst (λ (n : ℕ). t.0 + t.1 ≤ from + n) (sym told) high) b.2) d.2,
     )
+
+pub told_between : (source : Source) (list : List Owned) (from : ℕ) (ts : List Told) (held now : Option (List ℕ)) → BothTold (λ old now. IsPutSoFar source list from ts old now) held now
+    → BothTold (λ old left. IsBetween old (put_part source list from old) left) held now
+told_between source list from ts None now b = b
+told_between source list from ts (Some old) now b = (b.0, b.1, b.2.between)
 
 pub told_end : (source : Source) (list : List Owned) (from : ℕ) (held now : Option (List ℕ)) → BothTold (λ old now. IsPutSoFar source list from [] old now) held now
     → now ≡ after (put_part source list from) held

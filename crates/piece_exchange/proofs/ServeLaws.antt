@@ -101,54 +101,54 @@ put_bytes source from len ranks room count list t ts before now held mid left x 
     ∙ ap (λ (os : List Owned). after (put_window source from t os) mid) got)
 
 -- what one window did
-pub record DidTurn {T E : Type 0} (source : Source) (from count : ℕ) (t : Told) (taken more : List Owned) (mid now : Option (List ℕ)) (made done : Option (List DiskCall))
+pub record DidTurn {T E : Type 0} (source : Source) (from count : ℕ) (t : Told) (taken more : List Owned) (mid now : Option (List ℕ)) (made drawn : Option (List DiskCall))
     (before end : Result T E) : Type 0 where
   pub took : HasTaken count taken more
   pub put : IsOk before → HasPutTaken source from t count taken more mid now end
   pub kept : IsErr before → now ≡ mid
   pub ok : OnOk end (IsOk before)
-  pub device : OnOk end (done ≡ with_end made (store_calls t))
+  pub device : OnOk end (drawn ≡ with_end made (store_calls t))
 
 next_between : {T E : Type 0} (source : Source) (from len ranks room count : ℕ) (list : List Owned) (t : Told) (prior taken more : List Owned) (held mid now : Option (List ℕ))
-    (made done : Option (List DiskCall)) (before end : Result T E)
+    (made drawn : Option (List DiskCall)) (before end : Result T E)
     → IsGiven source ranks list from len held → IsTurn list room t → from ≤ t.0 → t.0 + t.1 ≤ from + len → length taken ≡ length prior
-    → DidTurn source from count t taken more mid now made done before end
+    → DidTurn source from count t taken more mid now made drawn before end
     → (taken ≡ prior → BothTold (λ old left. IsBetween old (put_part source list from old) left) held mid)
     → more ≡ prior ++ pieces_in ranks list t → BothTold (λ old left. IsBetween old (put_part source list from old) left) held now
-next_between source from len ranks room count list t prior taken more held mid now made done (Ok x) end given turn low high many d b e =
+next_between source from len ranks room count list t prior taken more held mid now made drawn (Ok x) end given turn low high many d b e =
     let put = d.put refl in
     let r = window_pieces source from ranks count list t prior taken more mid now end put many e in
     put_between source from len ranks room count list t taken more held mid now end given turn low high put r.1 (b r.0)
-next_between source from len ranks room count list t prior taken more held mid now made done (Err x) end given turn low high many d b e =
+next_between source from len ranks room count list t prior taken more held mid now made drawn (Err x) end given turn low high many d b e =
     let r = append_parts taken d.took.got prior (pieces_in ranks list t) many (sym d.took.taken ∙ e) in
     subst (λ (m : Option (List ℕ)). BothTold (λ old left. IsBetween old (put_part source list from old) left) held m) (sym (d.kept refl)) (b r.0)
 
 next_bytes : {T E : Type 0} (source : Source) (from len ranks room count : ℕ) (list : List Owned) (t : Told) (ts : List Told) (prior taken more : List Owned) (held mid now : Option (List ℕ))
-    (made done : Option (List DiskCall)) (before end : Result T E)
+    (made drawn : Option (List DiskCall)) (before end : Result T E)
     → IsGiven source ranks list from len held → IsTurn list room t → from ≤ t.0 → t.0 + t.1 ≤ from + len → length taken ≡ length prior
-    → DidTurn source from count t taken more mid now made done before end
+    → DidTurn source from count t taken more mid now made drawn before end
     → OnOk before (taken ≡ prior → BothTold (λ old left. IsPutSoFar source list from (t ∷ ts) old left) held mid)
     → OnOk end (more ≡ prior ++ pieces_in ranks list t → BothTold (λ old left. IsPutSoFar source list from ts old left) held now)
-next_bytes source from len ranks room count list t ts prior taken more held mid now made done (Ok x) (Ok y) given turn low high many d b =
+next_bytes source from len ranks room count list t ts prior taken more held mid now made drawn (Ok x) (Ok y) given turn low high many d b =
     λ e. let put = d.put refl in
     let r = window_pieces source from ranks count list t prior taken more mid now (Ok y) put many e in
     put_bytes source from len ranks room count list t ts taken more held mid now y given turn low high put r.1 (b r.0)
-next_bytes source from len ranks room count list t ts prior taken more held mid now made done (Err x) (Ok y) given turn low high many d b = let e = d.ok in absurd cc
-next_bytes source from len ranks room count list t ts prior taken more held mid now made done before (Err y) given turn low high many d b = tt
+next_bytes source from len ranks room count list t ts prior taken more held mid now made drawn (Err x) (Ok y) given turn low high many d b = let e = d.ok in absurd cc
+next_bytes source from len ranks room count list t ts prior taken more held mid now made drawn before (Err y) given turn low high many d b = tt
 
-next_calls : {T E : Type 0} (t : Told) (ts : List Told) (whole calls made done : Option (List DiskCall)) (before end : Result T E) → OnOk end (IsOk before)
-    → OnOk end (done ≡ with_end made (store_calls t)) → OnOk before (with_end made (flat_map store_calls (t ∷ ts)) ≡ whole) → OnOk end (with_end done (flat_map store_calls ts) ≡ whole)
-next_calls t ts whole calls made done (Ok x) (Ok y) ok device b = calls_more t ts made done device ∙ b
-next_calls t ts whole calls made done (Err x) (Ok y) ok device b = absurd cc
-next_calls t ts whole calls made done before (Err y) ok device b = tt
+next_calls : {T E : Type 0} (t : Told) (ts : List Told) (whole calls made drawn : Option (List DiskCall)) (before end : Result T E) → OnOk end (IsOk before)
+    → OnOk end (drawn ≡ with_end made (store_calls t)) → OnOk before (with_end made (flat_map store_calls (t ∷ ts)) ≡ whole) → OnOk end (with_end drawn (flat_map store_calls ts) ≡ whole)
+next_calls t ts whole calls made drawn (Ok x) (Ok y) ok device b = calls_more t ts made drawn device ∙ b
+next_calls t ts whole calls made drawn (Err x) (Ok y) ok device b = absurd cc
+next_calls t ts whole calls made drawn before (Err y) ok device b = tt
 
 pub served_next : {T E : Type 0} (source : Source) (from len ranks room count : ℕ) (list begun : List Owned) (all : List Told) (w v : TurnWalk) (t : Told) (taken more : List Owned)
-    (held mid now : Option (List ℕ)) (calls made done : Option (List DiskCall)) (before end : Result T E)
+    (held mid now : Option (List ℕ)) (calls made drawn : Option (List DiskCall)) (before end : Result T E)
     → IsGiven source ranks list from len held → IsServed source from len ranks room list all w taken held mid calls made before
     → turns_ahead w ≡ t ∷ turns_ahead v → IsTurnWalk v → AreBegun (t.0 + t.1) w.entries.now begun → IsPast (t.0 + t.1) w.entries.now v.entries.now
-    → count ≡ length (pieces_in ranks begun t) → DidTurn source from count t taken more mid now made done before end
-    → IsServed source from len ranks room list all v more held now calls done end
-served_next source from len ranks room count list begun all w v t taken more held mid now calls made done before end given s e ready b past counts d =
+    → count ≡ length (pieces_in ranks begun t) → DidTurn source from count t taken more mid now made drawn before end
+    → IsServed source from len ranks room list all v more held now calls drawn end
+served_next source from len ranks room count list begun all w v t taken more held mid now calls made drawn before end given s e ready b past counts d =
     let turn = turn_now list room w v t s.here e in
     let on = s.on_part t (subst (λ (ts : List Told). In ts t) (sym e) (inl refl)) in
     let same = ap (λ (os : List Owned). length os) (pieces_served ranks list begun t (served_now list room w v t begun s.here e b)) in
@@ -163,10 +163,10 @@ served_next source from len ranks room count list begun all w v t taken more hel
       done = s.done ++ pieces_in ranks list t;
       whole = s.whole ∙ ap (λ (ts : List Told). s.done ++ pieces_of ranks list ts) e ∙ sym (append_assoc s.done (pieces_in ranks list t) (pieces_of ranks list (turns_ahead v)));
       many = omega arith;
-      between = next_between source from len ranks room count list t s.done taken more held mid now made done before end given turn on.0 on.1 s.many d s.between;
-      bytes = next_bytes source from len ranks room count list t (turns_ahead v) s.done taken more held mid now made done before end given turn on.0 on.1 s.many d
+      between = next_between source from len ranks room count list t s.done taken more held mid now made drawn before end given turn on.0 on.1 s.many d s.between;
+      bytes = next_bytes source from len ranks room count list t (turns_ahead v) s.done taken more held mid now made drawn before end given turn on.0 on.1 s.many d
           (subst (λ (ts : List Told). OnOk before (taken ≡ s.done → BothTold (λ old left. IsPutSoFar source list from ts old left) held mid)) e s.bytes);
-      device = next_calls t (turns_ahead v) (with_end calls (flat_map store_calls all)) calls made done before end d.ok d.device
+      device = next_calls t (turns_ahead v) (with_end calls (flat_map store_calls all)) calls made drawn before end d.ok d.device
           (subst (λ (ts : List Told). OnOk before (with_end made (flat_map store_calls ts) ≡ with_end calls (flat_map store_calls all))) e s.device);
     }
 

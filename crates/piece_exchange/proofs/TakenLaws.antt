@@ -1,7 +1,7 @@
 -- Pieces that were taken off a line, and laid one after another.
-use Rattle.std.proofs.Common.{◌≡◌, ℕ, ◌+◌, inl, refl, sym, ◌∙◌, ap, List, [], ◌∷◌, ◌++◌, length, append_assoc, arith}
+use Rattle.std.proofs.Common.{◌≡◌, ℕ, ◌+◌, ◌<◌, inl, refl, sym, ◌∙◌, ap, List, [], ◌∷◌, ◌++◌, length, take, get_or, append_assoc, arith}
 use Rattle.std.proofs.lemmas.Grind.{fold-append}
-use Rattle.std.proofs.lemmas.List.{append-nil, length-append}
+use Rattle.std.proofs.lemmas.List.{append-nil, length-append, take_more}
 use Rattle.std.specs.Prelude.{map}
 use Rattle.nc_base.specs.declared.plan.Owned.{Owned}
 use Rattle.serial_spec.specs.File.{written}
@@ -61,3 +61,15 @@ laid_more source lo hi n m before mid now o old buf new h e f laid =
           ∙ sym (ap (λ (cells : List Cell). write_cells old cells) (cells_more source lo hi h.got o)
           ∙ fold-append (λ f cell. written f cell.0 cell.1) old (moved_down lo (clips lo hi (map (λ p. cell_of source p) h.got))) (moved_down lo (clip lo hi (cell_of source o) ∷ [])));
     }
+
+-- one entry more of a list that is laid
+pub entries_more : (source : Source) (lo hi i : ℕ) (list : List Owned) (o : Owned) (old buf new : List ℕ) → i < length list
+    → buf ≡ write_cells old (moved_down lo (clips lo hi (map (λ p. cell_of source p) (take i list))))
+    → new ≡ write_cells buf (moved_down lo (clip lo hi (cell_of source (get_or list i o)) ∷ []))
+    → new ≡ write_cells old (moved_down lo (clips lo hi (map (λ p. cell_of source p) (take (i + 1) list))))
+entries_more source lo hi i list o old buf new l e f =
+    f
+    ∙ ap (λ (b : List ℕ). write_cells b (moved_down lo (clip lo hi (cell_of source (get_or list i o)) ∷ []))) e
+    ∙ sym (ap (λ (os : List Owned). write_cells old (moved_down lo (clips lo hi (map (λ p. cell_of source p) os)))) (take_more list i o l)
+    ∙ ap (λ (cells : List Cell). write_cells old cells) (cells_more source lo hi (take i list) (get_or list i o))
+    ∙ fold-append (λ f cell. written f cell.0 cell.1) old (moved_down lo (clips lo hi (map (λ p. cell_of source p) (take i list)))) (moved_down lo (clip lo hi (cell_of source (get_or list i o)) ∷ [])))

@@ -4,15 +4,14 @@ use Rattle.nc_base.specs.declared.plan.Extent.{Extent}
 use Rattle.nc_base.specs.declared.plan.Owned.{Owned}
 use Rattle.overlay_laws.specs.Entries.{In, Source}
 use Rattle.overlay_laws.specs.Lines.{extents, EndBelow}
-use Rattle.overlay_laws.specs.Origins.{AreFound}
 use Rattle.overlay_laws.proofs.HullLaws.{in_left, in_right, in_either}
-use Rattle.data_sieving.specs.Sieving.{AreFilled}
 use Rattle.data_sieving.specs.Serving.{IsCovered, AreBegun, IsPast}
 use Rattle.data_sieving.proofs.CoveredBytes.{in_extents}
-use Rattle.data_sieving.proofs.ReachSteps.{found_left, found_right}
 use Rattle.piece_exchange.specs.declared.walk.TurnWalk.{TurnWalk}
-use Rattle.piece_exchange.proofs.Hulls.{AreTurns, IsTurn}
+use Rattle.piece_exchange.specs.Pieces.{ArePieces}
 use Rattle.piece_exchange.specs.Turns.{Told, turns_ahead, IsTurnWalk}
+use Rattle.piece_exchange.proofs.Hulls.{AreTurns, IsTurn, LieOnPart}
+use Rattle.piece_exchange.proofs.PutLaws.{ArePicked}
 
 pub turn_end : (list : List Owned) (room : ℕ) (t : Told) → EndBelow (2 ^ 62) (extents list) → IsTurn list room t → t.0 + t.1 < 2 ^ 62
 turn_end list room t ends h =
@@ -80,19 +79,27 @@ pub served_in : (list begun : List Owned) (lo hi : ℕ) (o : Owned) → AreServe
 served_in list begun lo hi o s m =
     subst (λ (l : List Owned). In l o) (sym s.joined) (in_right s.front (begun ++ s.rest) o (in_left begun s.rest o m))
 
-pub in_served : (list begun : List Owned) (lo hi x : ℕ) (o : Owned) → AreServed list begun lo hi → In list o → lo ≤ x → x < hi → o.extent.at ≤ x
-    → x < o.extent.at + o.extent.len → In begun o
-in_served list begun lo hi x o s m l h b k =
+pub in_served : (list begun : List Owned) (lo hi : ℕ) (o : Owned) → AreServed list begun lo hi → In list o → o.extent.at < hi → lo < o.extent.at + o.extent.len → In begun o
+in_served list begun lo hi o s m b k =
     elim (in_either s.front (begun ++ s.rest) o (subst (λ (q : List Owned). In q o) s.joined m)) [
       | inl g ↦ (let e = s.ended o g in absurd (omega arith))
       | inr g ↦ elim (in_either begun s.rest o g) [ inl i ↦ i | inr i ↦ (let e = s.later o i in absurd (omega arith)) ]
     ]
 
 pub served_covered : (list begun : List Owned) (lo hi x : ℕ) → AreServed list begun lo hi → lo ≤ x → x < hi → IsCovered list x → IsCovered begun x
-served_covered list begun lo hi x s l h c = record { by = c.by; inside = in_served list begun lo hi x c.by s c.inside l h c.low c.high; low = c.low; high = c.high }
+served_covered list begun lo hi x s l h c =
+    let low = c.low in
+    let high = c.high in
+    record { by = c.by; inside = in_served list begun lo hi c.by s c.inside (omega arith) (omega arith); low = c.low; high = c.high }
 
-pub served_filled : (list begun : List Owned) (lo hi : ℕ) → AreServed list begun lo hi → AreFilled list → AreFilled begun
-served_filled list begun lo hi s f o m = f o (served_in list begun lo hi o s m)
+pub served_picked : (list begun : List Owned) (t : Told) → AreServed list begun t.0 (t.0 + t.1) → ArePicked list t begun
+served_picked list begun t s = record {
+  inside = λ o m. served_in list begun t.0 (t.0 + t.1) o s m;
+  all = λ o m b e. in_served list begun t.0 (t.0 + t.1) o s m b e;
+}
+
+pub served_are : (source : Source) (list begun : List Owned) (lo hi : ℕ) → AreServed list begun lo hi → ArePieces source list → ArePieces source begun
+served_are source list begun lo hi s h o m = h o (served_in list begun lo hi o s m)
 
 pub served_ends : (list begun : List Owned) (lo hi : ℕ) → AreServed list begun lo hi → EndBelow (2 ^ 62) (extents list) → EndBelow (2 ^ 62) (extents begun)
 served_ends list begun lo hi s h e m =
@@ -104,6 +111,25 @@ served_ends list begun lo hi s h e m =
     from_extents (o ∷ os) d (inl g) = (o, inl refl, g)
     from_extents (o ∷ os) d (inr k) = let r = from_extents os d k in (r.0, inr r.1, r.2)
 
-pub served_found : (source : Source) (list begun : List Owned) (lo hi : ℕ) → AreServed list begun lo hi → AreFound source list → AreFound source begun
-served_found source list begun lo hi s f =
-    found_left source begun s.rest (found_right source s.front (begun ++ s.rest) (subst (λ (l : List Owned). AreFound source l) s.joined f))
+-- the window that a walk gives next, with its entries
+pub record IsDue (list begun : List Owned) (room from len : ℕ) (t : Told) : Type 0 where
+  pub turn : IsTurn list room t
+  pub low : from ≤ t.0
+  pub high : t.0 + t.1 ≤ from + len
+  pub served : AreServed list begun t.0 (t.0 + t.1)
+  pub ends : EndBelow (2 ^ 62) (extents begun)
+  pub limit : t.0 + t.1 < 2 ^ 62
+
+pub due_now : (list begun : List Owned) (room from len : ℕ) (w v : TurnWalk) (t : Told) → EndBelow (2 ^ 62) (extents list) → IsAt list room w → LieOnPart from len (turns_ahead w)
+    → turns_ahead w ≡ t ∷ turns_ahead v → AreBegun (t.0 + t.1) w.entries.now begun → IsDue list begun room from len t
+due_now list begun room from len w v t ends a on e b =
+    let here = on t (subst (λ (ts : List Told). In ts t) (sym e) (inl refl)) in
+    let served = served_now list room w v t begun a e b in
+    record {
+      turn = turn_now list room w v t a e;
+      low = here.0;
+      high = here.1;
+      served = served;
+      ends = served_ends list begun t.0 (t.0 + t.1) served ends;
+      limit = turn_end list room t ends (turn_now list room w v t a e);
+    }

@@ -4,3 +4,6 @@ pub mod Plan
 pub mod Put
 pub mod Taken
 pub mod Feeds
+pub mod Helped
+pub mod Seats
+pub mod Rooms

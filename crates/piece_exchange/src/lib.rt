@@ -5,10 +5,16 @@
 //! know its pieces, and nobody has to say where a line ends.
 #![tactic(auto)]
 
+mod exchange;
+mod helper;
+mod in_turn;
+mod joining;
 mod laying;
 mod packing;
 mod plan;
+mod starting;
 mod taking;
 mod walk;
 
+pub use exchange::exchange_put;
 pub use plan::PutPlan;

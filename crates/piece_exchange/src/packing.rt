@@ -1,17 +1,19 @@
 // What the caller does: round by round it puts the pieces of all parts on their lines.
-ghost use Rattle.std.specs.Prelude.{◌≡◌, ◌+◌, ◌++◌, ◌<◌, ◌^◌, ℕ, List, [], map, length, slice_get, IfSome, IfNone, Some, All};
-ghost use Rattle.nc_base.specs.declared.plan.Owned.{Owned};
+ghost use Rattle.std.specs.Prelude.{◌≡◌, ◌+◌, ◌++◌, ◌<◌, ◌^◌, ℕ, [], length, slice_get, IfSome, IfNone, Some};
 ghost use Rattle.aggregator_rounds.specs.Pieces.{told_window};
 ghost use Rattle.overlay_laws.specs.Lines.{extents, EndBelow};
 ghost use Rattle.piece_exchange.specs.Feeds.{feed_left, turns_left, HaveFed, IsFeed};
 ghost use Rattle.piece_exchange.specs.Pieces.{of_rank, pieces_in, pieces_of};
 ghost use Rattle.piece_exchange.specs.Plan.{planned_turns, IsPlanned};
-ghost use Rattle.piece_exchange.specs.declared.packing.Feed.{Feed};
+ghost use Rattle.piece_exchange.specs.Seats.{HasFed};
+ghost use Rattle.piece_exchange.specs.declared.starting.Seat.{Seat};
 
 use crate::plan::PutPlan;
+use crate::starting::Seat;
 use crate::taking::has_piece;
 use crate::walk::{Turn, TurnWalk};
 use nc_base::{Extent, Owned};
+use nc_outside::Disk;
 use ruled_line::LinePut;
 use std::sync::Wait;
 
@@ -40,27 +42,28 @@ pub(crate) fn feed_of<'a>(
 }
 
 /// Puts all pieces: round by round, in a round by aggregator, and in a window by rank, and then by place.
-pub(crate) fn pack_all<R: Wait>(rt: &R, ranks: u32, feeds: &mut [Feed])
-    requires { (a : ℕ) (feed : Feed) → slice_get feeds.old a ≡ Some feed → IsFeed feed }
-    ensures long { length feeds.new ≡ length feeds.old }
-    ensures fed { (a : ℕ) (old new : Feed) → slice_get feeds.old a ≡ Some old → slice_get feeds.new a ≡ Some new → HaveFed ranks old new × (turns_left new ≡ []) }
+pub(crate) fn pack_all<R: Wait, D: Disk>(rt: &R, ranks: u32, seats: &mut [Seat<D>])
+    requires { (k : ℕ) (seat : Seat D) → slice_get seats.old k ≡ Some seat → IsFeed seat.feed }
+    ensures long { length seats.new ≡ length seats.old }
+    ensures fed { (k : ℕ) (old new : Seat D) → slice_get seats.old k ≡ Some old → slice_get seats.new k ≡ Some new → HasFed ranks old new }
 {
-    'rounds: while let Some(a) = least_round(feeds) {
-        pack_turn(rt, ranks, &mut feeds[a]);
+    'rounds: while let Some(k) = least_round(seats) {
+        let seat = &mut seats[k];
+        pack_turn(rt, ranks, &mut seat.feed);
     }
 }
 
 // The first of the parts whose next window is of the least round.
-fn least_round(feeds: &[Feed]) -> Option<usize>
-    ensures some { IfSome result (λ a. (a < length feeds.now) × ((feed : Feed) → slice_get feeds.now a ≡ Some feed → turns_left feed ≡ [] → ⊥)) }
-    ensures none { IfNone result ((a : ℕ) (feed : Feed) → slice_get feeds.now a ≡ Some feed → turns_left feed ≡ []) }
+fn least_round<D: Disk>(seats: &[Seat<D>]) -> Option<usize>
+    ensures some { IfSome result (λ k. (k < length seats.now) × ((seat : Seat D) → slice_get seats.now k ≡ Some seat → turns_left seat.feed ≡ [] → ⊥)) }
+    ensures none { IfNone result ((k : ℕ) (seat : Seat D) → slice_get seats.now k ≡ Some seat → turns_left seat.feed ≡ []) }
 {
     let mut least = None;
     let mut round = None;
-    for (a, feed) in feeds.iter().enumerate() {
-        let earlier = round_before(feed, round);
+    for (k, seat) in seats.iter().enumerate() {
+        let earlier = round_before(&seat.feed, round);
         if earlier.is_some() {
-            least = Some(a);
+            least = Some(k);
             round = earlier;
         }
     }

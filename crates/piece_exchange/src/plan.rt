@@ -22,6 +22,7 @@ pub(crate) struct Aggregator {
 }
 
 /// What a part is served with.
+#[derive(Drop)]
 pub(crate) struct Tools<'a, R, G> {
     pub rt: &'a R,
     pub alloc: Global,

@@ -77,9 +77,9 @@ pub(crate) fn drop_pieces<R: Wait>(rt: &R, count: usize, line: &mut LineTake<Own
     }
 }
 
-// Lays the bytes that a piece has in the hull over those of the buffer. What another thread put is known only by its type, so it is
-// tested.
-fn lay_piece(hull: Extent, piece: &Owned, batches: &[Batch], buf: &mut [u8])
+/// Lays the bytes that a piece has in the hull over those of the buffer. What another thread put is known only by its type, so it is
+/// tested.
+pub(crate) fn lay_piece(hull: Extent, piece: &Owned, batches: &[Batch], buf: &mut [u8])
     requires hull { hull.at + hull.len < 2 ^ 62 }
     requires room { length buf.old ≡ hull.len }
     ensures laid { IsPiece (source_of batches.now) piece.now → buf.new ≡ write_cells buf.old (moved_down hull.at (clip hull.at (hull.at + hull.len) (cell_of (source_of batches.now) piece.now) ∷ [])) }

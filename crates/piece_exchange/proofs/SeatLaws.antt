@@ -1,0 +1,134 @@
+-- Helpers that were started, told to go, and fed.
+use Rattle.std.proofs.Common.{◌≡◌, ℕ, ◌+◌, refl, sym, ◌∙◌, ap, subst, List, [], ◌∷◌, ◌++◌, length, map, take, Option, Some, None, Result, arith}
+use Rattle.std.proofs.lemmas.List.{append-nil, length-append, length-map, take_all}
+use Rattle.std.specs.Prelude.{slice_get, IsErrOf}
+use Rattle.nc_base.specs.declared.plan.Extent.{Extent}
+use Rattle.nc_base.specs.declared.plan.Job.{Job}
+use Rattle.nc_base.specs.declared.plan.Owned.{Owned}
+use Rattle.nc_outside.specs.Cause.{Rose}
+use Rattle.nc_outside.specs.declared.disk.DiskErr.{DiskErr}
+use Rattle.nc_outside.specs.declared.disk.DiskErr.TheVariants.{Failed}
+use Rattle.overlay_laws.specs.Entries.{In}
+use Rattle.piece_exchange.specs.Feeds.{feed_left, pieces_left_of, turns_left_of, IsFeed}
+use Rattle.piece_exchange.specs.Helped.{HasServed}
+use Rattle.piece_exchange.specs.Plan.{planned_pieces, planned_turns, source_in}
+use Rattle.piece_exchange.specs.Put.{HasPut, PartState}
+use Rattle.piece_exchange.specs.Seats.{domain_of, part_of, HasFed, IsFed, IsFresh, IsSeat, IsToldToGo}
+use Rattle.piece_exchange.specs.Turns.{turns_of}
+use Rattle.piece_exchange.specs.declared.helper.Word.TheVariants.{Go}
+use Rattle.piece_exchange.specs.declared.packing.Feed.{Feed}
+use Rattle.piece_exchange.specs.declared.plan.PutPlan.{PutPlan}
+use Rattle.piece_exchange.specs.declared.starting.Seat.{Seat}
+use Rattle.piece_exchange.specs.declared.walk.Turn.{Turn}
+use Rattle.piece_exchange.specs.declared.walk.TurnWalk.{TurnWalk}
+use Rattle.piece_exchange.proofs.BackLaws.{each_new, map_new}
+
+-- told to go, with all its pieces left
+pub record IsTold {D : Type 0} (plan : PutPlan) (seat : Seat D) : Type 0 where
+  pub seat_is : IsSeat plan seat
+  pub word : seat.helper.word.items ≡ Go ∷ []
+  pub ready : IsFeed seat.feed
+  pub line : seat.feed.line.items ≡ []
+  pub left : feed_left (length plan.job.now.batches) seat.feed ≡ planned_pieces plan (domain_of seat)
+
+go_seat : {D : Type 0} (plan : PutPlan) (old new : Seat D) → IsToldToGo old new → IsFresh plan old → IsTold plan new
+go_seat plan old new t f =
+    let s = f.seat_is in
+    record {
+      seat_is = record {
+        list = ap (λ child. child.promise.list.value) t.child ∙ s.list;
+        cover = ap (λ child. child.promise.cover.value) t.child ∙ s.cover;
+        job = ap (λ child. child.promise.job.value) t.child ∙ s.job;
+        size = ap (λ child. child.promise.size.value) t.child ∙ s.size;
+        word_of = t.of ∙ s.word_of ∙ sym (ap (λ child. child.promise.ends.value.word.of) t.child);
+        line_of = ap (λ (feed : Feed). feed.line.of) t.feed ∙ s.line_of ∙ sym (ap (λ child. child.promise.ends.value.line.of) t.child);
+      };
+      word = t.words ∙ ap (λ words. words ++ Go ∷ []) f.word;
+      ready = subst (λ (feed : Feed). IsFeed feed) (sym t.feed) f.ready;
+      line = ap (λ (feed : Feed). feed.line.items) t.feed ∙ f.line;
+      left = ap (λ (feed : Feed). feed_left (length plan.job.now.batches) feed) t.feed ∙ f.left ∙ sym (ap (λ child. planned_pieces plan child.promise.domain.value) t.child);
+    }
+
+none_left : (ranks : ℕ) (turn : Option Turn) (walk : TurnWalk) → turns_left_of turn walk ≡ [] → pieces_left_of ranks turn walk ≡ []
+none_left ranks None walk e = refl
+none_left ranks (Some t) walk e = absurd cc
+
+fed_seat : {D : Type 0} (plan : PutPlan) (old new : Seat D) → HasFed (length plan.job.now.batches) old new → IsTold plan old → IsFed plan new
+fed_seat plan old new h t =
+    let ranks = length plan.job.now.batches in
+    let s = t.seat_is in
+    record {
+      seat_is = record {
+        list = ap (λ helper. helper.child.promise.list.value) h.helper ∙ s.list;
+        cover = ap (λ helper. helper.child.promise.cover.value) h.helper ∙ s.cover;
+        job = ap (λ helper. helper.child.promise.job.value) h.helper ∙ s.job;
+        size = ap (λ helper. helper.child.promise.size.value) h.helper ∙ s.size;
+        word_of = ap (λ helper. helper.word.of) h.helper ∙ s.word_of ∙ sym (ap (λ helper. helper.child.promise.ends.value.word.of) h.helper);
+        line_of = h.fed.of ∙ s.line_of ∙ sym (ap (λ helper. helper.child.promise.ends.value.line.of) h.helper);
+      };
+      word = ap (λ helper. helper.word.items) h.helper ∙ t.word;
+      put =
+          sym (append-nil new.feed.line.items)
+          ∙ ap (λ (rest : List Owned). new.feed.line.items ++ rest) (sym (none_left ranks new.feed.turn new.feed.walk h.none))
+          ∙ h.fed.put
+          ∙ ap (λ (items : List Owned). items ++ feed_left ranks old.feed) t.line
+          ∙ t.left
+          ∙ sym (ap (λ helper. planned_pieces plan helper.child.promise.domain.value) h.helper);
+    }
+
+pub told_seats : {D : Type 0} (plan : PutPlan) (old new : List (Seat D)) → length new ≡ length old
+    → ((k : ℕ) (a b : Seat D) → slice_get old k ≡ Some a → slice_get new k ≡ Some b → IsToldToGo a b) → ((seat : Seat D) → In old seat → IsFresh plan seat)
+    → (seat : Seat D) → In new seat → IsTold plan seat
+told_seats plan old new long told fresh = each_new (λ seat. IsFresh plan seat) (λ seat. IsTold plan seat) (λ a b. IsToldToGo a b) old new long told fresh (λ a b t f. go_seat plan a b t f)
+
+pub fed_seats : {D : Type 0} (plan : PutPlan) (ranks : ℕ) (old new : List (Seat D)) → ranks ≡ length plan.job.now.batches → length new ≡ length old
+    → ((k : ℕ) (a b : Seat D) → slice_get old k ≡ Some a → slice_get new k ≡ Some b → HasFed ranks a b) → ((seat : Seat D) → In old seat → IsTold plan seat)
+    → (seat : Seat D) → In new seat → IsFed plan seat
+fed_seats {D} plan ranks old new same long fed told =
+    each_new (λ seat. IsTold plan seat) (λ seat. IsFed plan seat) (λ a b. HasFed ranks a b) old new long fed told
+    (λ a b h t. fed_seat plan a b (subst (λ (n : ℕ). HasFed n a b) same h) t)
+
+-- ---- parts and domains stay
+
+pub parts_stay : {D : Type 0} (ranks : ℕ) (first mid last : List (Seat D)) → length mid ≡ length first → length last ≡ length mid
+    → ((k : ℕ) (a b : Seat D) → slice_get first k ≡ Some a → slice_get mid k ≡ Some b → IsToldToGo a b)
+    → ((k : ℕ) (a b : Seat D) → slice_get mid k ≡ Some a → slice_get last k ≡ Some b → HasFed ranks a b)
+    → (map (λ seat. part_of seat) last ≡ map (λ seat. part_of seat) first) × (map (λ seat. domain_of seat) last ≡ map (λ seat. domain_of seat) first)
+parts_stay ranks first mid last long longer told fed = (
+  map_new (λ seat. part_of seat) (λ a b. HasFed ranks a b) mid last longer fed (λ a b h. ap (λ helper. helper.child.promise.ends.value.part) h.helper)
+      ∙ map_new (λ seat. part_of seat) (λ a b. IsToldToGo a b) first mid long told (λ a b t. ap (λ child. child.promise.ends.value.part) t.child),
+  map_new (λ seat. domain_of seat) (λ a b. HasFed ranks a b) mid last longer fed (λ a b h. ap (λ helper. helper.child.promise.domain.value) h.helper)
+      ∙ map_new (λ seat. domain_of seat) (λ a b. IsToldToGo a b) first mid long told (λ a b t. ap (λ child. child.promise.domain.value) t.child),
+)
+
+-- where a helper was started for each part, they are those of the parts and domains
+pub all_started : {D : Type 0} (seats : List (Seat D)) (rest parts : List D) (domains : List Extent) → rest ≡ [] → map (λ seat. part_of seat) seats ++ rest ≡ parts
+    → map (λ seat. domain_of seat) seats ≡ take (length seats) domains → length domains ≡ length parts
+    → (map (λ seat. part_of seat) seats ≡ parts) × (map (λ seat. domain_of seat) seats ≡ domains)
+all_started {D} seats rest parts domains none whole share long =
+    let all : map (λ seat. part_of seat) seats ≡ parts = sym (append-nil (map (λ seat. part_of seat) seats)) ∙ ap (λ (r : List D). map (λ seat. part_of seat) seats ++ r) (sym none) ∙ whole in
+    let many = length-map (λ (seat : Seat D). part_of seat) seats in
+    let same = ap (λ (ds : List D). length ds) all in
+    (all, share ∙ take_all (length seats) domains (omega arith))
+
+pub seats_few : {D : Type 0} (seats : List (Seat D)) (rest parts : List D) → map (λ seat. part_of seat) seats ++ rest ≡ parts → length seats + length rest ≡ length parts
+seats_few {D} seats rest parts whole =
+    let many = length-map (λ (seat : Seat D). part_of seat) seats in
+    let both = length-append (map (λ seat. part_of seat) seats) rest in
+    let same = ap (λ (ds : List D). length ds) whole in
+    omega arith
+
+-- ---- a helper that was joined
+
+pub joined_put : {D T : Type 0} (plan : PutPlan) (seat : Seat D) (old new : PartState) (taken : List Owned) (end : Result T DiskErr) → IsFed plan seat
+    → HasServed seat.helper.child.promise.job.value.batches seat.helper.child.promise.list.value
+    (turns_of seat.helper.child.promise.size.value (domain_of seat) seat.helper.child.promise.cover.value) old new taken end
+    → taken ≡ seat.feed.line.items
+    → HasPut (source_in plan) plan.list.now (planned_turns plan (domain_of seat)) old new end × (IsErrOf end Failed → Rose old.faults new.faults)
+joined_put plan seat old new taken end fed served same =
+    let promise = seat.helper.child.promise in
+    let by_job = subst (λ (job : Job). HasServed job.batches promise.list.value (turns_of promise.size.value (domain_of seat) promise.cover.value) old new taken end) fed.seat_is.job served in
+    let by_list = subst (λ (list : List Owned). HasServed plan.job.now.batches list (turns_of promise.size.value (domain_of seat) promise.cover.value) old new taken end) fed.seat_is.list by_job in
+    let by_size = subst (λ (size : ℕ). HasServed plan.job.now.batches plan.list.now (turns_of size (domain_of seat) promise.cover.value) old new taken end) fed.seat_is.size by_list in
+    let by_cover = subst (λ (cover : List Extent). HasServed plan.job.now.batches plan.list.now (turns_of plan.hints.now.cb_buffer (domain_of seat) cover) old new taken end) fed.seat_is.cover by_size in
+    (by_cover.put (same ∙ fed.put), by_cover.failed)
