@@ -1,10 +1,11 @@
 -- Parts that come back one after another.
-use Rattle.std.proofs.Common.{◌≡◌, ℕ, zero, suc, ◌+◌, ◌<◌, ◌≤◌, ◌⊎◌, min, get_or, inl, inr, refl, sym, ◌∙◌, ap, subst, List, [], ◌∷◌, ◌++◌, length, map, take, Some, Result, Ok, Err, arith}
-use Rattle.std.proofs.lemmas.List.{length-append, take_more}
+use Rattle.std.proofs.Common.{◌≡◌, ℕ, zero, suc, ◌+◌, ◌<◌, ◌-◌, ◌≤◌, ◌⊎◌, min, get_or, inl, inr, refl, sym, ◌∙◌, ap, subst, List, [], ◌∷◌, ◌++◌, length, map, take, drop, Some, Result, Ok, Err, arith}
+use Rattle.std.proofs.lemmas.List.{append-nil, length-append, length-drop, take_all, take_more}
+use Rattle.std.proofs.lemmas.Option.{get_or_from_slice_get, slice_get-get_or}
 use Rattle.std.proofs.lemmas.Slice.Zip.{all_zipped_more}
-use Rattle.std.specs.Prelude.{slice_get, zip, OnOk, IsErrOf, IsOk}
+use Rattle.std.specs.Prelude.{slice_get, zip, OnOk, IsErr, IsErrOf, IsOk}
 use Rattle.std.specs.List.{AllZip}
-use Rattle.core.specs.Result.{result_and}
+use Rattle.std.specs.Result.{result_and}
 use Rattle.list_laws.proofs.Places.{entry_below}
 use Rattle.nc_base.specs.declared.plan.Extent.{Extent}
 use Rattle.nc_base.specs.declared.plan.Owned.{Owned}
@@ -13,9 +14,10 @@ use Rattle.nc_outside.specs.declared.disk.DiskErr.TheVariants.{Failed}
 use Rattle.overlay_laws.specs.Entries.{In, Source}
 use Rattle.overlay_laws.proofs.HullLaws.{in_either, in_right}
 use Rattle.overlay_laws.proofs.Members.{at_in, in_at}
-use Rattle.piece_exchange.specs.Put.{HasPut, PartState, SomeZip}
+use Rattle.piece_exchange.specs.Put.{put_part, HasPut, PartState, SomeZip}
 use Rattle.piece_exchange.specs.Turns.{Told}
 use Rattle.piece_exchange.proofs.FeedLaws.{get_long}
+use Rattle.piece_exchange.proofs.PutLaws.{told_nothing}
 
 -- ---- two lists, place by place
 
@@ -141,3 +143,35 @@ both_long {A} {B} xs x ys now y e long =
     let b = length-append ys (y ∷ []) in
     let c = ap (λ (v : List B). length v) e in
     omega arith
+
+pub err_not_ok : {T E : Type 0} (P : Type 0) (r : Result T E) → IsErr r → OnOk r P
+err_not_ok P (Ok x) e = absurd cc
+err_not_ok P (Err x) e = tt
+
+-- ---- parts and domains at one place
+
+pub at_index : {X : Type 0} (xs : List X) (i k : ℕ) (d : X) → i < length xs → k ≡ i → slice_get xs k ≡ Some (get_or xs i d)
+at_index xs i k d l e = ap (λ (n : ℕ). slice_get xs n) e ∙ slice_get-get_or xs i d l
+
+pub take_at : {X : Type 0} (xs : List X) (i : ℕ) (x : X) → slice_get xs i ≡ Some x → take (i + 1) xs ≡ take i xs ++ x ∷ []
+take_at xs i x e = take_more xs i x (get_long xs i x e) ∙ ap (λ y. take i xs ++ y ∷ []) (get_or_from_slice_get xs i x x e)
+
+pub no_items : {X : Type 0} (xs : List X) → length xs ≡ 0 → xs ≡ []
+no_items [] e = refl
+no_items (x ∷ xs) e = absurd (omega arith)
+
+pub zip_same : {A B : Type 0} (Q : A × B → A → Type 0) (xs : List A) (ds : List B) → length ds ≡ length xs → ((x : A) (d : B) → Q (x, d) x) → AllZip Q (zip xs ds) xs
+zip_same Q [] [] long f = tt
+zip_same Q [] (d ∷ ds) long f = tt
+zip_same Q (x ∷ xs) [] long f = absurd (omega arith)
+zip_same Q (x ∷ xs) (d ∷ ds) long f = (f x d, zip_same Q xs ds (omega arith) f)
+
+-- nothing was done
+pub put_untouched : {T E : Type 0} (source : Source) (list : List Owned) (ts : List Told) (old : PartState) (e : E) → HasPut {T = T} source list ts old old (Err e)
+put_untouched source list ts old e = record { from = refl; len = refl; bytes = tt; between = told_nothing old.held (put_part source list old.from); device = tt; later = omega arith }
+
+-- what a vector has after its slice was lent and came back as long
+pub slice_kept : {X : Type 0} (n : ℕ) (new old : List X) → n ≡ length old → length new ≡ length old → take n (new ++ drop (length new) old) ≡ new
+slice_kept {X} n new old e l =
+    let none : drop (length new) old ≡ [] = no_items (drop (length new) old) (length-drop (length new) old ∙ omega arith) in
+    ap (λ (r : List X). take n (new ++ r)) none ∙ ap (λ (r : List X). take n r) (append-nil new) ∙ take_all n new (omega arith)

@@ -46,11 +46,11 @@ in_turn_begin source from len room list all w held calls ready entries ahead tur
 ahead_on : (from len : ℕ) (w v : TurnWalk) (t : Told) → LieOnPart from len (turns_ahead w) → turns_ahead w ≡ t ∷ turns_ahead v → (from ≤ t.0) × (t.0 + t.1 ≤ from + len)
 ahead_on from len w v t on e = on t (subst (λ (ts : List Told). In ts t) (sym e) (inl refl))
 
-pub in_turn_next : (source : Source) (from len room : ℕ) (list begun : List Owned) (all : List Told) (w v : TurnWalk) (t : Told) (held mid now : Option (List ℕ)) (calls made done : Option (List DiskCall))
+pub in_turn_next : (source : Source) (from len room : ℕ) (list begun : List Owned) (all : List Told) (w v : TurnWalk) (t : Told) (held mid now : Option (List ℕ)) (calls made drawn : Option (List DiskCall))
     → IfSome held (λ file. length file ≡ len) → IsOneValued (said_by (map (λ o. cell_of source o) list)) → IsInTurn source from len room list all w held mid calls made
     → turns_ahead w ≡ t ∷ turns_ahead v → IsTurnWalk v → AreBegun (t.0 + t.1) w.entries.now begun → IsPast (t.0 + t.1) w.entries.now v.entries.now
-    → now ≡ after (put_window source from t begun) mid → done ≡ with_end made (store_calls t) → IsInTurn source from len room list all v held now calls done
-in_turn_next source from len room list begun all w v t held mid now calls made done told one s e ready b past put device =
+    → now ≡ after (put_window source from t begun) mid → drawn ≡ with_end made (store_calls t) → IsInTurn source from len room list all v held now calls drawn
+in_turn_next source from len room list begun all w v t held mid now calls made drawn told one s e ready b past put device =
     let on = ahead_on from len w v t s.on_part e in
     let served = served_now list room w v t begun s.here e b in
     record {
@@ -58,7 +58,7 @@ in_turn_next source from len room list begun all w v t held mid now calls made d
       on_part = λ u m. s.on_part u (subst (λ (ts : List Told). In ts u) (sym e) (inr m));
       bytes = told_next source list begun from len t (turns_ahead v) held mid now told one (served_picked list begun t served) on.0 on.1
           (subst (λ (ts : List Told). BothTold (λ old left. IsPutSoFar source list from ts old left) held mid) e s.bytes) put;
-      device = calls_more t (turns_ahead v) made done device ∙ sym (ap (λ (ts : List Told). with_end made (flat_map store_calls ts)) e) ∙ s.device;
+      device = calls_more t (turns_ahead v) made drawn device ∙ sym (ap (λ (ts : List Told). with_end made (flat_map store_calls ts)) e) ∙ s.device;
     }
 
 -- a window that was cut off
@@ -77,3 +77,7 @@ in_turn_end source from len room list all w held now calls made s none = (
   told_end source list from held now (subst (λ (ts : List Told). BothTold (λ old left. IsPutSoFar source list from ts old left) held now) none s.bytes),
   sym (ap (λ (ts : List Told). with_end made (flat_map store_calls ts)) none ∙ calls_none made) ∙ s.device,
 )
+
+pub in_turn_whole : (source : Source) (from len room : ℕ) (list : List Owned) (all : List Told) (w : TurnWalk) (held now : Option (List ℕ)) (calls made : Option (List DiskCall))
+    → IsInTurn source from len room list all w held now calls made → BothTold (λ old left. IsBetween old (put_part source list from old) left) held now
+in_turn_whole source from len room list all w held now calls made s = told_between source list from (turns_ahead w) held now s.bytes

@@ -236,7 +236,6 @@ put_next source list picked from t ts old mid one p low high s = record {
   done = λ x. by_said x (said_at (said_by (turn_cells source picked from t)) x) refl;
 }
   where
-
     -- nothing is said of a byte of the hull
     by_whole : (x : ℕ) (o : Option ℕ) → said_at (said_by (part_cells source list from (length old))) x ≡ o → said_at (said_by (turn_cells source picked from t)) x ≡ None
         → t.0 ≤ x + from → x + from < t.0 + t.1 → at mid x ≡ at (put_part source list from old) x

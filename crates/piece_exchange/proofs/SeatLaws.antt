@@ -1,7 +1,8 @@
 -- Helpers that were started, told to go, and fed.
-use Rattle.std.proofs.Common.{◌≡◌, ℕ, ◌+◌, refl, sym, ◌∙◌, ap, subst, List, [], ◌∷◌, ◌++◌, length, map, take, Option, Some, None, Result, arith}
-use Rattle.std.proofs.lemmas.List.{append-nil, length-append, length-map, take_all}
-use Rattle.std.specs.Prelude.{slice_get, IsErrOf}
+use Rattle.std.proofs.Common.{◌≡◌, ℕ, ◌+◌, refl, sym, ◌∙◌, ap, inl, inr, subst, List, [], ◌∷◌, ◌++◌, length, map, take, Option, Some, None, Result, arith}
+use Rattle.std.proofs.lemmas.List.{append-nil, length-append, length-map, map-append, take_all}
+use Rattle.std.specs.Prelude.{slice_get, zip, IsErrOf}
+use Rattle.std.specs.List.{AllZip}
 use Rattle.nc_base.specs.declared.plan.Extent.{Extent}
 use Rattle.nc_base.specs.declared.plan.Job.{Job}
 use Rattle.nc_base.specs.declared.plan.Owned.{Owned}
@@ -9,10 +10,11 @@ use Rattle.nc_outside.specs.Cause.{Rose}
 use Rattle.nc_outside.specs.declared.disk.DiskErr.{DiskErr}
 use Rattle.nc_outside.specs.declared.disk.DiskErr.TheVariants.{Failed}
 use Rattle.overlay_laws.specs.Entries.{In}
+use Rattle.overlay_laws.proofs.HullLaws.{in_either}
 use Rattle.piece_exchange.specs.Feeds.{feed_left, pieces_left_of, turns_left_of, IsFeed}
 use Rattle.piece_exchange.specs.Helped.{HasServed}
 use Rattle.piece_exchange.specs.Plan.{planned_pieces, planned_turns, source_in}
-use Rattle.piece_exchange.specs.Put.{HasPut, PartState}
+use Rattle.piece_exchange.specs.Put.{HasPut, PartState, SomeZip}
 use Rattle.piece_exchange.specs.Seats.{domain_of, part_of, HasFed, IsFed, IsFresh, IsSeat, IsToldToGo}
 use Rattle.piece_exchange.specs.Turns.{turns_of}
 use Rattle.piece_exchange.specs.declared.helper.Word.TheVariants.{Go}
@@ -21,7 +23,7 @@ use Rattle.piece_exchange.specs.declared.plan.PutPlan.{PutPlan}
 use Rattle.piece_exchange.specs.declared.starting.Seat.{Seat}
 use Rattle.piece_exchange.specs.declared.walk.Turn.{Turn}
 use Rattle.piece_exchange.specs.declared.walk.TurnWalk.{TurnWalk}
-use Rattle.piece_exchange.proofs.BackLaws.{each_new, map_new}
+use Rattle.piece_exchange.proofs.BackLaws.{each_new, map_new, some_mapped, take_at, zip_mapped}
 
 -- told to go, with all its pieces left
 pub record IsTold {D : Type 0} (plan : PutPlan) (seat : Seat D) : Type 0 where
@@ -107,13 +109,13 @@ pub all_started : {D : Type 0} (seats : List (Seat D)) (rest parts : List D) (do
     → (map (λ seat. part_of seat) seats ≡ parts) × (map (λ seat. domain_of seat) seats ≡ domains)
 all_started {D} seats rest parts domains none whole share long =
     let all : map (λ seat. part_of seat) seats ≡ parts = sym (append-nil (map (λ seat. part_of seat) seats)) ∙ ap (λ (r : List D). map (λ seat. part_of seat) seats ++ r) (sym none) ∙ whole in
-    let many = length-map (λ (seat : Seat D). part_of seat) seats in
+    let many = length-map seats (λ (seat : Seat D). part_of seat) in
     let same = ap (λ (ds : List D). length ds) all in
     (all, share ∙ take_all (length seats) domains (omega arith))
 
 pub seats_few : {D : Type 0} (seats : List (Seat D)) (rest parts : List D) → map (λ seat. part_of seat) seats ++ rest ≡ parts → length seats + length rest ≡ length parts
 seats_few {D} seats rest parts whole =
-    let many = length-map (λ (seat : Seat D). part_of seat) seats in
+    let many = length-map seats (λ (seat : Seat D). part_of seat) in
     let both = length-append (map (λ seat. part_of seat) seats) rest in
     let same = ap (λ (ds : List D). length ds) whole in
     omega arith
@@ -132,3 +134,77 @@ joined_put plan seat old new taken end fed served same =
     let by_size = subst (λ (size : ℕ). HasServed plan.job.now.batches plan.list.now (turns_of size (domain_of seat) promise.cover.value) old new taken end) fed.seat_is.size by_list in
     let by_cover = subst (λ (cover : List Extent). HasServed plan.job.now.batches plan.list.now (turns_of plan.hints.now.cb_buffer (domain_of seat) cover) old new taken end) fed.seat_is.cover by_size in
     (by_cover.put (same ∙ fed.put), by_cover.failed)
+
+-- ---- all of them
+
+-- the seats that were started, as they were told to go and fed
+pub record AreDone {D : Type 0} (ranks : ℕ) (first mid last : List (Seat D)) (parts : List D) (domains : List Extent) : Type 0 where
+  pub of_parts : map (λ seat. part_of seat) first ≡ parts
+  pub of_domains : map (λ seat. domain_of seat) first ≡ domains
+  pub long : length mid ≡ length first
+  pub longer : length last ≡ length mid
+  pub told : (k : ℕ) (a b : Seat D) → slice_get first k ≡ Some a → slice_get mid k ≡ Some b → IsToldToGo a b
+  pub fed : (k : ℕ) (a b : Seat D) → slice_get mid k ≡ Some a → slice_get last k ≡ Some b → HasFed ranks a b
+
+pub all_put : {D : Type 0} (ranks : ℕ) (first mid last : List (Seat D)) (parts back : List D) (domains : List Extent) (Q : D × Extent → D → Type 0) → AreDone ranks first mid last parts domains
+    → AllZip (λ seat new. Q (part_of seat, domain_of seat) new) last back → AllZip Q (zip parts domains) back
+all_put {D} ranks first mid last parts back domains Q d h =
+    let stay = parts_stay ranks first mid last d.long d.longer d.told d.fed in
+    subst (λ (ds : List Extent). AllZip Q (zip parts ds) back) (stay.1 ∙ d.of_domains)
+    (subst (λ (ps : List D). AllZip Q (zip ps (map (λ seat. domain_of seat) last)) back) (stay.0 ∙ d.of_parts)
+    (zip_mapped (λ seat. part_of seat) (λ seat. domain_of seat) Q last back h))
+
+pub all_failed : {D : Type 0} (ranks : ℕ) (first mid last : List (Seat D)) (parts back : List D) (domains : List Extent) (R : D → D → Type 0) → AreDone ranks first mid last parts domains
+    → SomeZip (λ seat new. R (part_of seat) new) last back → SomeZip R parts back
+all_failed {D} ranks first mid last parts back domains R d h =
+    let stay = parts_stay ranks first mid last d.long d.longer d.told d.fed in
+    subst (λ (ps : List D). SomeZip R ps back) (stay.0 ∙ d.of_parts) (some_mapped (λ seat. part_of seat) R last back h)
+
+-- ---- one helper more was started
+
+pub crew_parts : {D : Type 0} (seats now : List (Seat D)) (seat : Seat D) (rest yielded : List D) (part : D) → now ≡ seats ++ seat ∷ [] → rest ≡ [] → part_of seat ≡ part
+    → map (λ s. part_of s) seats ++ rest ≡ yielded → map (λ s. part_of s) now ++ rest ≡ yielded ++ part ∷ []
+crew_parts {D} seats now seat rest yielded part e none is whole =
+    let all : map (λ s. part_of s) seats ≡ yielded = sym (append-nil (map (λ s. part_of s) seats)) ∙ ap (λ (r : List D). map (λ s. part_of s) seats ++ r) (sym none) ∙ whole in
+    ap (λ (r : List D). map (λ s. part_of s) now ++ r) none
+    ∙ append-nil (map (λ s. part_of s) now)
+    ∙ ap (λ (ss : List (Seat D)). map (λ s. part_of s) ss) e
+    ∙ map-append (λ (s : Seat D). part_of s) seats (seat ∷ [])
+    ∙ ap (λ (r : List D). r ++ part_of seat ∷ []) all
+    ∙ ap (λ (p : D). yielded ++ p ∷ []) is
+
+pub crew_domains : {D : Type 0} (seats now : List (Seat D)) (seat : Seat D) (domains : List Extent) (domain : Extent) → now ≡ seats ++ seat ∷ [] → domain_of seat ≡ domain
+    → slice_get domains (length seats) ≡ Some domain → map (λ s. domain_of s) seats ≡ take (length seats) domains → map (λ s. domain_of s) now ≡ take (length now) domains
+crew_domains {D} seats now seat domains domain e is at share =
+    let long : length now ≡ length seats + 1 = ap (λ (ss : List (Seat D)). length ss) e ∙ length-append seats (seat ∷ []) in
+    ap (λ (ss : List (Seat D)). map (λ s. domain_of s) ss) e
+    ∙ map-append (λ (s : Seat D). domain_of s) seats (seat ∷ [])
+    ∙ ap (λ (r : List Extent). r ++ domain_of seat ∷ []) share
+    ∙ ap (λ (d : Extent). take (length seats) domains ++ d ∷ []) is
+    ∙ sym (take_at domains (length seats) domain at)
+    ∙ ap (λ (n : ℕ). take n domains) (sym long)
+
+pub crew_fresh : {D : Type 0} (plan : PutPlan) (seats now : List (Seat D)) (seat : Seat D) → now ≡ seats ++ seat ∷ [] → ((s : Seat D) → In seats s → IsFresh plan s) → IsFresh plan seat
+    → (s : Seat D) → In now s → IsFresh plan s
+crew_fresh {D} plan seats now seat e all fresh s m =
+    elim (in_either seats (seat ∷ []) s (subst (λ (ss : List (Seat D)). In ss s) e m)) [
+      | inl g ↦ all s g
+      | inr (inl is) ↦ subst (λ (t : Seat D). IsFresh plan t) is fresh
+      | inr (inr g) ↦ absurd g
+    ]
+
+pub done_by : {D : Type 0} (ranks : ℕ) (first lent mid again last : List (Seat D)) (rest parts : List D) (domains : List Extent) → lent ≡ first → again ≡ mid
+    → length mid ≡ length lent → ((k : ℕ) (a b : Seat D) → slice_get lent k ≡ Some a → slice_get mid k ≡ Some b → IsToldToGo a b)
+    → length last ≡ length again → ((k : ℕ) (a b : Seat D) → slice_get again k ≡ Some a → slice_get last k ≡ Some b → HasFed ranks a b)
+    → rest ≡ [] → map (λ seat. part_of seat) first ++ rest ≡ parts → map (λ seat. domain_of seat) first ≡ take (length first) domains → length domains ≡ length parts
+    → AreDone ranks first mid last parts domains
+done_by {D} ranks first lent mid again last rest parts domains e f long told longer fed none whole share one_each =
+    let started = all_started first rest parts domains none whole share one_each in
+    record {
+      of_parts = started.0;
+      of_domains = started.1;
+      long = long ∙ ap (λ (ss : List (Seat D)). length ss) e;
+      longer = longer ∙ ap (λ (ss : List (Seat D)). length ss) f;
+      told = subst (λ (ss : List (Seat D)). (k : ℕ) (a b : Seat D) → slice_get ss k ≡ Some a → slice_get mid k ≡ Some b → IsToldToGo a b) e told;
+      fed = subst (λ (ss : List (Seat D)). (k : ℕ) (a b : Seat D) → slice_get ss k ≡ Some a → slice_get last k ≡ Some b → HasFed ranks a b) f fed;
+    }

@@ -46,15 +46,14 @@ pub fn exchange_put<R: Threads + Wait + Sync, D: Disk, G: Gate>(
     ensures failed { IsErrOf result.1 Failed → SomeZip (λ old new. Rose (D.faults old) (D.faults new)) parts.items result.0.items }
 {
     let tools = Tools { rt, alloc, gate };
-    let mut parts = parts;
-    if plan.hints.threads {
-        let (back, end) = put_on_threads(&tools, plan, domains, parts);
-        if let Some(end) = end {
-            return (back, end);
-        }
-        parts = back;
+    if !plan.hints.threads {
+        return put_in_turn(&tools, plan, domains, parts);
     }
-    put_in_turn(&tools, plan, domains, parts)
+    let (back, end) = put_on_threads(&tools, plan, domains, parts);
+    if let Some(end) = end {
+        return (back, end);
+    }
+    put_in_turn(&tools, plan, domains, back)
 }
 
 // The puts by helpers. None where one can't be started: then nothing was done, and the parts come back as they were.

@@ -54,11 +54,7 @@ pub(crate) fn join_all<R: Threads, D: Disk>(
 }
 
 // Joins a helper, and ends its lines. What was taken is what was put, so the part has it.
-fn join_one<R: Threads, D: Disk>(
-    rt: &R,
-    plan: &PutPlan,
-    seat: Seat<D>,
-) -> (D, Result<(), DiskErr>)
+fn join_one<R: Threads, D: Disk>(rt: &R, plan: &PutPlan, seat: Seat<D>) -> (D, Result<(), DiskErr>)
     requires { IsFed plan.now seat }
     ensures put { HasPut (source_in plan.now) plan.now.list.now (planned_turns plan.now (domain_of seat.entry))
         (record { from = D.from (part_of seat.entry); len = D.len (part_of seat.entry); held = D.held (part_of seat.entry); calls = D.calls (part_of seat.entry); faults = D.faults (part_of seat.entry) })

@@ -26,11 +26,7 @@ pub(crate) struct Feed<'a> {
 }
 
 /// The caller's end of a line, and all pieces of a domain to be put on it.
-pub(crate) fn feed_of<'a>(
-    plan: &PutPlan<'a>,
-    domain: Extent,
-    line: LinePut<Owned>,
-) -> Feed<'a>
+pub(crate) fn feed_of<'a>(plan: &PutPlan<'a>, domain: Extent, line: LinePut<Owned>) -> Feed<'a>
     requires plan { IsPlanned plan.now }
     ensures ready { IsFeed result }
     ensures line { result.line ≡ line }

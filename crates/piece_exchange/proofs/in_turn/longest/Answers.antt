@@ -1,5 +1,5 @@
 -- One domain more.
-use Rattle.std.proofs.Common.{◌∙◌, subst, sym, List, min, arith, ◌≤◌, rules}
+use Rattle.std.proofs.Common.{sym, subst, List, arith, get_or}
 use Rattle.std.proofs.lemmas.List.{take_all}
 use Rattle.nc_base.specs.declared.plan.Extent.{Extent}
 use Rattle.overlay_laws.specs.Entries.{In}
@@ -10,7 +10,9 @@ abbrev none : Extent
 none = record { at = 0; len = 0 }
 
 pub loop-domain-preserved : goal.loop-domain-preserved
-loop-domain-preserved c = ?
+loop-domain-preserved c =
+    longest_more c.args.plan.now.hints.now.cb_buffer c.loop-domain.domain-index c.args.domains.now none c.loop-domain.longest _ c.loop-domain-test.true c.loop-domain.invariant
+    (omega arith) (omega arith)
 
 pub returns : goal.returns
 returns c = λ d m.
