@@ -1,5 +1,5 @@
 -- A part whose windows are overlaid with the entries, one after another.
-use Rattle.std.proofs.Common.{◌≡◌, ℕ, ◌+◌, ◌<◌, ◌≤◌, inl, inr, refl, sym, ◌∙◌, ap, subst, List, [], ◌∷◌, length, true, Option, Some, None, arith}
+use Rattle.std.proofs.Common.{◌≡◌, ℕ, ◌+◌, ◌≤◌, inl, inr, refl, sym, ◌∙◌, ap, subst, List, [], ◌∷◌, length, Option}
 use Rattle.std.specs.Prelude.{map, flat_map, IfSome}
 use Rattle.nc_base.specs.declared.plan.Owned.{Owned}
 use Rattle.nc_base.specs.declared.step.DiskCall.{DiskCall}
@@ -18,7 +18,7 @@ use Rattle.piece_exchange.proofs.Hulls.{AreTurns, HaveWindows, IsTurn, LieOnPart
 use Rattle.piece_exchange.proofs.PieceLaws.{pieces_found}
 use Rattle.piece_exchange.proofs.PutLaws.{IsPutSoFar, told_begin, told_between, told_end, told_more, told_next}
 use Rattle.piece_exchange.proofs.ServeLaws.{calls_more, calls_none}
-use Rattle.piece_exchange.proofs.TurnLaws.{AreServed, IsAt, at_begin, at_next, served_are, served_covered, served_now, served_picked, turn_now}
+use Rattle.piece_exchange.proofs.TurnLaws.{AreServed, IsAt, at_begin, at_next, served_are, served_covered, served_now, served_picked}
 
 -- the entries that may have bytes in a window fill it
 pub served_filled : (source : Source) (list begun : List Owned) (room : ℕ) (t : Told) → AreServed list begun t.0 (t.0 + t.1) → ArePieces source list → IsTurn list room t

@@ -1,5 +1,5 @@
 -- What a plan says of the windows of a domain.
-use Rattle.std.proofs.Common.{ℕ, ◌≤◌, min, List}
+use Rattle.std.proofs.Common.{ℕ, min, List}
 use Rattle.nc_base.specs.declared.plan.Batch.{Batch}
 use Rattle.nc_base.specs.declared.plan.Extent.{Extent}
 use Rattle.nc_base.specs.declared.plan.Owned.{Owned}

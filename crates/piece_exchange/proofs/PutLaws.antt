@@ -15,7 +15,6 @@ use Rattle.overlay_laws.specs.Entries.{In, Source, cell_of}
 use Rattle.overlay_laws.specs.Windows.{clips, IsPart}
 use Rattle.overlay_laws.proofs.SaidLaws.{cells_long, one_said, said_is, same_file}
 use Rattle.overlay_laws.proofs.WindowLaws.{clips_from, clips_in, clips_within, moved_said, none_below, none_past, within_lowered, within_more}
-use Rattle.data_sieving.specs.Serving.{IsCovered}
 use Rattle.piece_exchange.specs.Put.{put_part}
 use Rattle.piece_exchange.specs.Taken.{cells_in, put_window}
 use Rattle.piece_exchange.specs.Turns.{Told}

@@ -1,5 +1,5 @@
 -- The helpers that were started, told to go, fed and joined.
-use Rattle.std.proofs.Common.{◌≡◌, ◌∙◌, ◌++◌, ℕ, List, [], sym, ap, subst, length, take, drop, Some, Result, rules, arith}
+use Rattle.std.proofs.Common.{◌≡◌, ◌∙◌, ◌++◌, ℕ, List, sym, ap, subst, length, take, drop, Some, rules, arith}
 use Rattle.std.proofs.lemmas.Grind.{common_steps}
 use Rattle.std.specs.Prelude.{slice_get}
 use Rattle.std.specs.List.{AllZip}
@@ -12,7 +12,7 @@ use Rattle.piece_exchange.specs.Put.{HasPut, PartState, SomeZip}
 use Rattle.piece_exchange.specs.Seats.{domain_of, part_of, HasFed, IsToldToGo}
 use Rattle.piece_exchange.specs.declared.starting.Seat.{Seat}
 use Rattle.piece_exchange.proofs.BackLaws.{no_items, slice_kept}
-use Rattle.piece_exchange.proofs.SeatLaws.{AreDone, all_failed, all_put, done_by, fed_seats, told_seats}
+use Rattle.piece_exchange.proofs.SeatLaws.{all_failed, all_put, done_by, fed_seats, told_seats}
 use Rattle.piece_exchange.proofs.exchange.put_in_scope.Goals as goal
 
 pub pack_all-requires-after_bounds : goal.pack_all-requires-after_bounds

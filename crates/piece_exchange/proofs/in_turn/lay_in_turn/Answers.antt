@@ -1,5 +1,5 @@
 -- Each window is overlaid with the entries' bytes.
-use Rattle.std.proofs.Common.{◌≡◌, ◌+◌, ◌∙◌, refl, sym, subst, length, min, ℕ, List, arith}
+use Rattle.std.proofs.Common.{◌≡◌, ◌+◌, ◌∙◌, refl, sym, subst, min, ℕ, List, arith}
 use Rattle.nc_base.specs.declared.plan.Batch.{Batch}
 use Rattle.nc_outside.specs.Told.{after, BothTold}
 use Rattle.overlay_laws.specs.Changes.{IsBetween}

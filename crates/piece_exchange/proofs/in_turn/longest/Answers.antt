@@ -1,5 +1,5 @@
 -- One domain more.
-use Rattle.std.proofs.Common.{sym, subst, List, arith, get_or}
+use Rattle.std.proofs.Common.{sym, subst, List, arith}
 use Rattle.std.proofs.lemmas.List.{take_all}
 use Rattle.nc_base.specs.declared.plan.Extent.{Extent}
 use Rattle.overlay_laws.specs.Entries.{In}

@@ -1,5 +1,5 @@
 -- One part more was served.
-use Rattle.std.proofs.Common.{◌≡◌, ◌+◌, ◌<◌, ◌≤◌, ◌∙◌, ◌++◌, ◌∷◌, [], min, sym, ap, subst, length, append_assoc, get_or, List, Result, rules, arith}
+use Rattle.std.proofs.Common.{◌≡◌, ◌<◌, ◌∙◌, ◌++◌, ◌∷◌, [], sym, ap, subst, length, append_assoc, get_or, List, Result, rules, arith}
 use Rattle.std.proofs.lemmas.Grind.{common_steps}
 use Rattle.std.specs.Prelude.{zip}
 use Rattle.std.specs.List.{AllZip}

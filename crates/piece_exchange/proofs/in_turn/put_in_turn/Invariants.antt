@@ -1,5 +1,5 @@
 -- The parts so far were served, up to the first fault.
-use Rattle.std.proofs.Common.{◌≡◌, ◌++◌, length, vec_capacity, vec_len}
+use Rattle.std.proofs.Common.{◌≡◌, ◌++◌, length, vec_capacity}
 use Rattle.std.specs.Prelude.{zip, IsErrOf}
 use Rattle.std.specs.List.{AllZip}
 use Rattle.nc_outside.specs.Cause.{Rose}

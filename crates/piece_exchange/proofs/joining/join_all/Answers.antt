@@ -1,5 +1,5 @@
 -- One helper more was joined.
-use Rattle.std.proofs.Common.{◌≡◌, ◌∙◌, ◌++◌, ◌∷◌, [], inl, inr, sym, ap, subst, append_assoc, Result}
+use Rattle.std.proofs.Common.{◌∙◌, ◌++◌, ◌∷◌, [], inl, inr, sym, ap, subst, append_assoc, Result}
 use Rattle.std.specs.Prelude.{IsErrOf, IsOk, OnOk}
 use Rattle.nc_outside.specs.Cause.{Rose}
 use Rattle.nc_outside.specs.declared.disk.DiskErr.{DiskErr}

@@ -1,5 +1,5 @@
 -- One helper more was told.
-use Rattle.std.proofs.Common.{◌≡◌, refl, sym, ◌∙◌, get_or, length-set, arith}
+use Rattle.std.proofs.Common.{refl, sym, ◌∙◌, get_or, length-set, arith}
 use Rattle.std.proofs.lemmas.Option.{slice_get-get_or}
 use Rattle.piece_exchange.specs.Seats.{IsToldToGo}
 use Rattle.piece_exchange.proofs.FeedLaws.{each_more, get_long, left_more}

@@ -1,6 +1,5 @@
 -- Each window is served by the pieces that are planned for it.
-use Rattle.std.proofs.Common.{◌≡◌, ◌+◌, ◌∙◌, inl, inr, refl, sym, ap, subst, length, min, ℕ, List, arith}
-use Rattle.std.specs.Prelude.{IsOk}
+use Rattle.std.proofs.Common.{◌∙◌, inl, inr, refl, ap, subst, length, min, ℕ, List, arith}
 use Rattle.nc_base.specs.declared.plan.Batch.{Batch}
 use Rattle.aggregator_rounds.specs.Pieces.{told_window}
 use Rattle.piece_exchange.specs.Pieces.{pieces_in}

@@ -1,5 +1,5 @@
 -- Each helper was told nothing yet.
-use Rattle.std.proofs.Common.{◌≡◌, ◌∙◌, ◌++◌, sym, ap}
+use Rattle.std.proofs.Common.{◌∙◌, ◌++◌, sym, ap}
 use Rattle.piece_exchange.proofs.BackLaws.{middle_in}
 use Rattle.piece_exchange.proofs.starting.stop_all.Goals as goal
 
