@@ -1,0 +1,173 @@
+-- What of a part's pieces is left to be put, as its windows are gone over.
+use Rattle.std.proofs.Common.{◌≡◌, ℕ, zero, suc, ◌+◌, ◌<◌, ◌≤◌, inl, inr, refl, sym, ◌∙◌, ap, subst, List, [], ◌∷◌, ◌++◌, length, set, Bool, true, false, Option, Some, None, append_assoc, arith}
+use Rattle.std.proofs.lemmas.Bool.Decides.{nat_tests}
+use Rattle.std.proofs.lemmas.List.{append-nil, length-append}
+use Rattle.std.specs.Prelude.{flat_map, nat_lt, slice_get, IfSome, IfNone}
+use Rattle.std.specs.List.{range_with_len}
+use Rattle.list_laws.proofs.Places.{entry_set, entry_set_other}
+use Rattle.nc_base.specs.declared.plan.Owned.{Owned}
+use Rattle.overlay_laws.specs.Entries.{In}
+use Rattle.aggregator_rounds.specs.Pieces.{told_window}
+use Rattle.data_sieving.specs.Serving.{AreBegun, IsPast}
+use Rattle.piece_exchange.specs.Feeds.{pieces_left_of, turns_left_of, AreApart, IsAhead, IsFeedOf}
+use Rattle.piece_exchange.specs.Pieces.{of_rank, pieces_in, pieces_of}
+use Rattle.piece_exchange.specs.Turns.{Told, turns_ahead, IsTurnWalk}
+use Rattle.piece_exchange.specs.declared.walk.Turn.{Turn}
+use Rattle.piece_exchange.specs.declared.walk.TurnWalk.{TurnWalk}
+use Rattle.piece_exchange.proofs.PieceLaws.{pieces_served}
+use Rattle.piece_exchange.proofs.TurnLaws.{AreServed, served_ends}
+
+-- ---- one rank more
+
+flat_next : {X : Type 0} (f : ℕ → List X) (a n : ℕ) → flat_map f (range_with_len a (suc n)) ≡ flat_map f (range_with_len a n) ++ f (a + n)
+flat_next f a zero = let same : a ≡ a + zero = omega arith in append-nil (f a) ∙ ap f same
+flat_next f a (suc n) =
+    let same : a + 1 + n ≡ a + suc n = omega arith in
+    ap (λ xs. f a ++ xs) (flat_next f (a + 1) n)
+    ∙ sym (append_assoc (f a) (flat_map f (range_with_len (a + 1) n)) (f (a + 1 + n)))
+    ∙ ap (λ (k : ℕ). (f a ++ flat_map f (range_with_len (a + 1) n)) ++ f k) same
+
+pub ranks_next : (r k : ℕ) (list : List Owned) (t : Told) (before mid now : List Owned) → mid ≡ before ++ pieces_in r list t → now ≡ mid ++ of_rank t.0 (t.0 + t.1) r list → k ≡ r + 1
+    → now ≡ before ++ pieces_in k list t
+ranks_next r k list t before mid now e f g =
+    let next : k ≡ suc r = omega arith in
+    let same : 0 + r ≡ r = omega arith in
+    f
+    ∙ ap (λ (os : List Owned). os ++ of_rank t.0 (t.0 + t.1) r list) e
+    ∙ append_assoc before (pieces_in r list t) (of_rank t.0 (t.0 + t.1) r list)
+    ∙ ap (λ (os : List Owned). before ++ os)
+    (ap (λ (n : ℕ). pieces_in r list t ++ of_rank t.0 (t.0 + t.1) n list) (sym same)
+    ∙ sym (flat_next (λ n. of_rank t.0 (t.0 + t.1) n list) 0 r) ∙ ap (λ (n : ℕ). pieces_in n list t) (sym next))
+
+-- ---- one window more
+
+begun_served : (list begun : List Owned) (lo hi : ℕ) → AreBegun hi list begun → AreServed list begun lo hi
+begun_served list begun lo hi b = record { front = []; rest = b.rest; joined = b.joined; ended = λ o m. absurd m; later = b.later }
+
+past_served : (list later : List Owned) (p lo hi : ℕ) → IsPast p list later → p ≤ lo → AreServed list later lo hi
+past_served list later p lo hi h l = record {
+  front = h.front;
+  rest = [];
+  joined = h.joined ∙ ap (λ (os : List Owned). h.front ++ os) (sym (append-nil later));
+  ended = λ o m. (let e = h.ended o m in omega arith);
+  later = λ o m. absurd m;
+}
+
+pieces_past : (ranks p : ℕ) (list later : List Owned) (ts : List Told) → IsPast p list later → ((u : Told) → In ts u → p ≤ u.0)
+    → pieces_of ranks list ts ≡ pieces_of ranks later ts
+pieces_past ranks p list later [] h l = refl
+pieces_past ranks p list later (t ∷ ts) h l =
+    (λ i. sym (pieces_served ranks list later t (past_served list later p t.0 (t.0 + t.1) h (l t (inl refl)))) i ++ pieces_of ranks list ts)
+    ∙ ap (λ (os : List Owned). pieces_in ranks later t ++ os) (pieces_past ranks p list later ts h (λ u m. l u (inr m)))
+
+-- what is left after a window
+pub left_next : (ranks : ℕ) (next : Option Turn) (w v : TurnWalk) → AreApart (turns_ahead w)
+    → IfNone next (turns_ahead w ≡ []) → IfSome next (λ t. turns_ahead w ≡ told_window t.window ∷ turns_ahead v)
+    → IfSome next (λ t. AreBegun (t.window.hull.at + t.window.hull.len) w.entries.now t.entries.now)
+    → IfSome next (λ t. IsPast (t.window.hull.at + t.window.hull.len) w.entries.now v.entries.now)
+    → pieces_left_of ranks next v ≡ pieces_of ranks w.entries.now (turns_ahead w)
+left_next ranks None w v apart none some begun past = sym (ap (λ (ts : List Told). pieces_of ranks w.entries.now ts) none)
+left_next ranks (Some t) w v apart none some begun past =
+    let told = told_window t.window in
+    let order : AreApart (told ∷ turns_ahead v) = subst (λ (ts : List Told). AreApart ts) some apart in
+    sym (ap (λ (ts : List Told). pieces_of ranks w.entries.now ts) some
+    ∙ (λ i. sym (pieces_served ranks w.entries.now t.entries.now told (begun_served w.entries.now t.entries.now told.0 (told.0 + told.1) begun)) i ++ pieces_of ranks w.entries.now (turns_ahead v))
+    ∙ ap (λ (os : List Owned). pieces_in ranks t.entries.now told ++ os) (pieces_past ranks (told.0 + told.1) w.entries.now v.entries.now (turns_ahead v) past order.0))
+
+pub feed_next : (next : Option Turn) (w v : TurnWalk) → IsTurnWalk w → AreApart (turns_ahead w)
+    → IfSome next (λ _. IsTurnWalk v) → IfSome next (λ t. turns_ahead w ≡ told_window t.window ∷ turns_ahead v)
+    → IfSome next (λ t. AreBegun (t.window.hull.at + t.window.hull.len) w.entries.now t.entries.now)
+    → IsFeedOf next v
+feed_next None w v walk apart ready some begun = tt
+feed_next (Some t) w v walk apart ready some begun =
+    let told = told_window t.window in
+    let order : AreApart (told ∷ turns_ahead v) = subst (λ (ts : List Told). AreApart ts) some apart in
+    record {
+      walk = ready;
+      apart = order.1;
+      ends = served_ends w.entries.now t.entries.now told.0 (told.0 + told.1) (begun_served w.entries.now t.entries.now told.0 (told.0 + told.1) begun) walk.ends;
+      limit = walk.limit told (subst (λ (ts : List Told). In ts told) (sym some) (inl refl));
+    }
+
+pub fewer_next : (next : Option Turn) (w v : TurnWalk) (t : Told) → IfSome next (λ t. turns_ahead w ≡ told_window t.window ∷ turns_ahead v)
+    → length (turns_left_of next v) < length (t ∷ turns_ahead w)
+fewer_next None w v t some = omega arith
+fewer_next (Some u) w v t some = let same = ap (λ (ts : List Told). length ts) some in omega arith
+
+-- ---- many feeds
+
+pub fewer_all : {X Y : Type 0} (f : X → List Y) (xs : List X) (i : ℕ) (x y : X) → slice_get xs i ≡ Some x → length (f y) < length (f x)
+    → length (flat_map f (set xs i y)) < length (flat_map f xs)
+fewer_all f [] i x y e h = absurd cc
+fewer_all f (z ∷ xs) zero x y e h =
+    let same : z ≡ x = cc in
+    let long = ap (λ w. length (f w)) same in
+    let a = length-append (f z) (flat_map f xs) in
+    let b = length-append (f y) (flat_map f xs) in
+    omega arith
+fewer_all f (z ∷ xs) (suc i) x y e h =
+    let rest = fewer_all f xs i x y e h in
+    let a = length-append (f z) (flat_map f xs) in
+    let b = length-append (f z) (flat_map f (set xs i y)) in
+    omega arith
+
+some_same : {X : Type 0} (x y : X) → Some x ≡ Some y → x ≡ y
+some_same x y e = cc
+
+-- an element changed, of which the changed one is so
+pub set_each : {X : Type 0} (P : ℕ → X → Type 0) (xs : List X) (i : ℕ) (x y : X) → slice_get xs i ≡ Some x → P i y → ((r : ℕ) (z : X) → slice_get xs r ≡ Some z → P r z)
+    → (r : ℕ) (z : X) → slice_get (set xs i y) r ≡ Some z → P r z
+set_each {X} P xs i x y e p each r z g = by_order (nat_lt r i) (nat_lt i r) refl refl
+  where
+    other : (r ≡ i → ⊥) → P r z
+    other n = each r z (sym (entry_set_other xs i r y n) ∙ g)
+
+    by_order : (s t : Bool) → nat_lt r i ≡ s → nat_lt i r ≡ t → P r z
+    by_order true t u v = let l : r < i = grind (arith, nat_tests) in other (λ s. absurd (omega arith))
+    by_order false true u v = let l : i < r = grind (arith, nat_tests) in other (λ s. absurd (omega arith))
+    by_order false false u v =
+        let same : r ≡ i = grind (arith, nat_tests) in
+        let own : y ≡ z = some_same y z (sym (entry_set xs i x y e) ∙ ap (slice_get (set xs i y)) (sym same) ∙ g) in
+        subst (λ (k : ℕ). P k z) (sym same) (subst (λ (w : X). P i w) own p)
+
+-- one element more of a list was changed, in order
+pub each_more : {X : Type 0} (R : X → X → Type 0) (old now : List X) (i : ℕ) (a b : X) → slice_get old i ≡ Some a → slice_get now i ≡ Some a → R a b
+    → ((k : ℕ) (x y : X) → k < i → slice_get old k ≡ Some x → slice_get now k ≡ Some y → R x y)
+    → (k : ℕ) (x y : X) → k < i + 1 → slice_get old k ≡ Some x → slice_get (set now i b) k ≡ Some y → R x y
+each_more {X} R old now i a b e f r each k x y l g h = by_order (nat_lt k i) refl
+  where
+    by_order : (t : Bool) → nat_lt k i ≡ t → R x y
+    by_order true u =
+        let less : k < i = grind (arith, nat_tests) in
+        each k x y less g (sym (entry_set_other now i k b (λ s. absurd (omega arith))) ∙ h)
+    by_order false u =
+        let same : k ≡ i = grind (arith, nat_tests) in
+        let first : a ≡ x = some_same a x (sym e ∙ ap (slice_get old) (sym same) ∙ g) in
+        let second : b ≡ y = some_same b y (sym (entry_set now i a b f) ∙ ap (slice_get (set now i b)) (sym same) ∙ h) in
+        subst (λ (z : X). R z y) first (subst (λ (z : X). R a z) second r)
+
+pub left_more : {X : Type 0} (old now : List X) (i : ℕ) (b : X) → ((k : ℕ) → i ≤ k → slice_get now k ≡ slice_get old k) → (k : ℕ) → i + 1 ≤ k → slice_get (set now i b) k ≡ slice_get old k
+left_more old now i b left k l = entry_set_other now i k b (λ s. absurd (omega arith)) ∙ left k (omega arith)
+
+pub get_long : {X : Type 0} (xs : List X) (k : ℕ) (x : X) → slice_get xs k ≡ Some x → k < length xs
+get_long [] k x e = absurd cc
+get_long (z ∷ xs) zero x e = omega arith
+get_long (z ∷ xs) (suc k) x e = let l = get_long xs k x e in omega arith
+
+-- ---- one window of one feed
+
+pub fed_next : (ranks : ℕ) (old next : Option Turn) (t : Turn) (w v : TurnWalk) (before now : List Owned) → old ≡ Some t → IsFeedOf old w
+    → now ≡ before ++ pieces_in ranks t.entries.now (told_window t.window) → (AreApart (turns_ahead w) → pieces_left_of ranks next v ≡ pieces_of ranks w.entries.now (turns_ahead w))
+    → now ++ pieces_left_of ranks next v ≡ before ++ pieces_left_of ranks old w
+fed_next ranks old next t w v before now is ready put left =
+    let ahead : IsAhead t w = subst (λ (o : Option Turn). IsFeedOf o w) is ready in
+    let rest = pieces_left_of ranks next v in
+    ap (λ (os : List Owned). os ++ rest) put
+    ∙ append_assoc before (pieces_in ranks t.entries.now (told_window t.window)) rest
+    ∙ ap (λ (os : List Owned). before ++ (pieces_in ranks t.entries.now (told_window t.window) ++ os)) (left ahead.apart)
+    ∙ sym (ap (λ (o : Option Turn). before ++ pieces_left_of ranks o w) is)
+
+pub fewer_left : (old next : Option Turn) (t : Turn) (w v : TurnWalk) → old ≡ Some t → IfSome next (λ t. turns_ahead w ≡ told_window t.window ∷ turns_ahead v)
+    → length (turns_left_of next v) < length (turns_left_of old w)
+fewer_left old next t w v is some =
+    subst (λ (o : Option Turn). length (turns_left_of next v) < length (turns_left_of o w)) (sym is) (fewer_next next w v (told_window t.window) some)

@@ -1,0 +1,12 @@
+pub mod Hulls
+pub mod TurnLaws
+pub mod PutLaws
+pub mod PieceLaws
+pub mod TakenLaws
+pub mod ServeLaws
+pub mod InTurnLaws
+pub mod FeedLaws
+pub mod BackLaws
+pub mod SeatLaws
+pub mod DomainTurns
+pub mod PlanLaws

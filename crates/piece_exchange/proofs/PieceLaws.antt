@@ -1,0 +1,202 @@
+-- The pieces of a window are those of the entries that a walk gives with it, and have each covered byte of it.
+use Rattle.std.proofs.Common.{◌≡◌, ℕ, zero, suc, ◌+◌, ◌<◌, ◌≤◌, ◌⊎◌, inl, inr, refl, sym, ◌∙◌, ap, List, [], ◌∷◌, ◌++◌, length, take, get_or, Bool, true, false, cond, ◌&&◌, arith}
+use Rattle.std.proofs.lemmas.List.{append-nil, length-append, take_more}
+use Rattle.std.specs.Prelude.{filter, flat_map, nat_lt, nat_le, ◌==◌}
+use Rattle.std.specs.List.{range_with_len}
+use Rattle.std.proofs.lemmas.Bool.{ltb-true, ltb-false, eqb-true, lt-ltb, le-ltb, leb-true, le-leb, lt-leb}
+use Rattle.std.proofs.lemmas.List.Elements.{filter-append}
+use Rattle.nc_base.specs.declared.plan.Owned.{Owned}
+use Rattle.overlay_laws.specs.Entries.{In, Source}
+use Rattle.overlay_laws.specs.Origins.{AreFound}
+use Rattle.overlay_laws.proofs.HullLaws.{filter_in, in_flat, flat_in, in_range}
+use Rattle.list_laws.proofs.Truth.{equal_true}
+use Rattle.overlay_laws.proofs.Members.{in_filter}
+use Rattle.overlay_laws.proofs.WalkLaws.{filter_none}
+use Rattle.data_sieving.specs.Serving.{IsCovered}
+use Rattle.piece_exchange.specs.Pieces.{meets, of_rank, pieces_in, ArePieces}
+use Rattle.piece_exchange.specs.Turns.{Told}
+use Rattle.piece_exchange.proofs.PutLaws.{ArePicked}
+use Rattle.piece_exchange.proofs.TurnLaws.{AreServed}
+
+-- ---- tests
+
+and_false : (a b : Bool) → b ≡ false → (a && b) ≡ false
+and_false true b e = e
+and_false false b e = refl
+
+both : (a b : Bool) → a ≡ true → b ≡ true → (a && b) ≡ true
+both true b e f = f
+both false b e f = absurd cc
+
+-- an entry that ends before a window, or begins after it, has no byte in it
+ended_out : (lo hi : ℕ) (o : Owned) → o.extent.at + o.extent.len ≤ lo → meets lo hi o ≡ false
+ended_out lo hi o h = and_false (nat_lt o.extent.at hi) (nat_lt lo (o.extent.at + o.extent.len)) (le-ltb lo (o.extent.at + o.extent.len) h)
+
+later_out : (lo hi : ℕ) (o : Owned) → hi ≤ o.extent.at → meets lo hi o ≡ false
+later_out lo hi o h = ap (λ (t : Bool). t && nat_lt lo (o.extent.at + o.extent.len)) (le-ltb o.extent.at hi h)
+
+-- ---- lists that are filtered
+
+flat_same : {X Y : Type 0} (f g : X → List Y) (xs : List X) → ((x : X) → f x ≡ g x) → flat_map f xs ≡ flat_map g xs
+flat_same f g [] h = refl
+flat_same f g (x ∷ xs) h = (λ i. h x i ++ flat_map f xs) ∙ ap (λ r. g x ++ r) (flat_same f g xs h)
+
+-- ---- the pieces of a window
+
+rank_served : (list begun : List Owned) (lo hi r : ℕ) → AreServed list begun lo hi → of_rank lo hi r begun ≡ of_rank lo hi r list
+rank_served list begun lo hi r s =
+    sym (ap (λ (es : List Owned). of_rank lo hi r es) s.joined
+    ∙ filter-append t s.front (begun ++ s.rest)
+    ∙ ap (λ (es : List Owned). es ++ filter t (begun ++ s.rest)) (filter_none t s.front (λ o m. and_false (o.rank == r) (meets lo hi o) (ended_out lo hi o (s.ended o m))))
+    ∙ filter-append t begun s.rest
+    ∙ ap (λ (es : List Owned). filter t begun ++ es) (filter_none t s.rest (λ o m. and_false (o.rank == r) (meets lo hi o) (later_out lo hi o (s.later o m))))
+    ∙ append-nil (filter t begun))
+  where
+    t : Owned → Bool
+    t o = o.rank == r && meets lo hi o
+
+pub pieces_served : (ranks : ℕ) (list begun : List Owned) (t : Told) → AreServed list begun t.0 (t.0 + t.1) → pieces_in ranks begun t ≡ pieces_in ranks list t
+pieces_served ranks list begun t s =
+    flat_same (λ r. of_rank t.0 (t.0 + t.1) r begun) (λ r. of_rank t.0 (t.0 + t.1) r list) (range_with_len 0 ranks) (λ r. rank_served list begun t.0 (t.0 + t.1) r s)
+
+pub piece_from : (ranks : ℕ) (list : List Owned) (t : Told) (o : Owned) → In (pieces_in ranks list t) o → In list o
+piece_from ranks list t o m =
+    let r = flat_in (λ r. of_rank t.0 (t.0 + t.1) r list) (range_with_len 0 ranks) o m in
+    (filter_in (λ o. o.rank == r.0 && meets t.0 (t.0 + t.1) o) list o r.2).0
+
+pub pieces_are : (source : Source) (ranks : ℕ) (list : List Owned) (t : Told) → ArePieces source list → ArePieces source (pieces_in ranks list t)
+pieces_are source ranks list t h o m = h o (piece_from ranks list t o m)
+
+pub pieces_found : (source : Source) (list : List Owned) → ArePieces source list → AreFound source list
+pieces_found source [] h = tt
+pieces_found source (o ∷ list) h = ((h o (inl refl)).found, pieces_found source list (λ p m. h p (inr m)))
+
+pub in_pieces : (ranks : ℕ) (list : List Owned) (t : Told) (o : Owned) → In list o → o.rank < ranks → o.extent.at < t.0 + t.1 → t.0 < o.extent.at + o.extent.len
+    → In (pieces_in ranks list t) o
+in_pieces ranks list t o m r b e =
+    in_flat (λ r. of_rank t.0 (t.0 + t.1) r list) (range_with_len 0 ranks) o.rank o (in_range 0 ranks o.rank (omega arith) (omega arith))
+    (in_filter (λ p. p.rank == o.rank && meets t.0 (t.0 + t.1) p) list o m
+    (both (o.rank == o.rank) (meets t.0 (t.0 + t.1) o) (equal_true o.rank o.rank refl)
+    (both (nat_lt o.extent.at (t.0 + t.1)) (nat_lt t.0 (o.extent.at + o.extent.len)) (lt-ltb o.extent.at (t.0 + t.1) b) (lt-ltb t.0 (o.extent.at + o.extent.len) e))))
+
+pub pieces_picked : (ranks : ℕ) (list : List Owned) (t : Told) → ((o : Owned) → In list o → o.rank < ranks) → ArePicked list t (pieces_in ranks list t)
+pieces_picked ranks list t below = record {
+  inside = λ o m. piece_from ranks list t o m;
+  all = λ o m b e. in_pieces ranks list t o m (below o m) b e;
+}
+
+pub pieces_covered : (ranks : ℕ) (list : List Owned) (t : Told) (x : ℕ) → ((o : Owned) → In list o → o.rank < ranks) → t.0 ≤ x → x < t.0 + t.1 → IsCovered list x
+    → IsCovered (pieces_in ranks list t) x
+pieces_covered ranks list t x below l h c =
+    let low = c.low in
+    let high = c.high in
+    record { by = c.by; inside = in_pieces ranks list t c.by c.inside (below c.by c.inside) (omega arith) (omega arith); low = c.low; high = c.high }
+
+-- ---- how many they are
+
+-- the rank is one of n from a on
+abbrev is_among : ℕ → ℕ → ℕ → Bool
+is_among a n k = nat_le a k && nat_lt k (a + n)
+
+-- ... and the entry has a byte from lo to hi
+abbrev pub of_some_rank : ℕ → ℕ → ℕ → ℕ → Owned → Bool
+of_some_rank a n lo hi o = is_among a n o.rank && meets lo hi o
+
+first_rank : (a n k : ℕ) → (((k == a) ≡ true) × (is_among (a + 1) n k ≡ false) × (is_among a (suc n) k ≡ true)) ⊎ (((k == a) ≡ false) × (is_among (a + 1) n k ≡ is_among a (suc n) k))
+first_rank a n k = by_test (k == a) refl
+  where
+    by_test : (t : Bool) → (k == a) ≡ t
+        → (((k == a) ≡ true) × (is_among (a + 1) n k ≡ false) × (is_among a (suc n) k ≡ true)) ⊎ (((k == a) ≡ false) × (is_among (a + 1) n k ≡ is_among a (suc n) k))
+    by_test true e =
+        let same : k ≡ a = eqb-true _ _ e in
+        inl (e, ap (λ (t : Bool). t && nat_lt k (a + 1 + n)) (lt-leb (a + 1) k (omega arith)), both (nat_le a k) (nat_lt k (a + suc n)) (le-leb a k (omega arith)) (lt-ltb k (a + suc n) (omega arith)))
+    by_test false e =
+        let end : a + 1 + n ≡ a + suc n = omega arith in
+        inr (e, ap (λ (m : ℕ). nat_le (a + 1) k && nat_lt k m) end ∙ ap (λ (t : Bool). t && nat_lt k (a + suc n)) (by_place (nat_lt a k) refl))
+      where
+        by_place : (t : Bool) → nat_lt a k ≡ t → nat_le (a + 1) k ≡ nat_le a k
+        by_place true f = let l : a < k = ltb-true _ _ f in le-leb (a + 1) k (omega arith) ∙ sym (le-leb a k (omega arith))
+        by_place false f =
+            let l : k ≤ a = ltb-false _ _ f in
+            let less : k < a = less_than (nat_lt k a) refl l in
+            lt-leb (a + 1) k (omega arith) ∙ sym (lt-leb a k (omega arith))
+          where
+            no_both : (t : Bool) → t ≡ true → t ≡ false → ⊥
+            no_both t h k = cc
+
+            less_than : (t : Bool) → nat_lt k a ≡ t → k ≤ a → k < a
+            less_than true g l = ltb-true _ _ g
+            less_than false g l =
+                let m : a ≤ k = ltb-false _ _ g in
+                absurd (no_both (k == a) (equal_true k a (omega arith)) e)
+
+one_rank : (u v w m : Bool) (a b c : List Owned) (o : Owned) → ((u ≡ true) × (v ≡ false) × (w ≡ true)) ⊎ ((u ≡ false) × (v ≡ w)) → length a + length b ≡ length c
+    → length (cond (u && m) (o ∷ a) a) + length (cond (v && m) (o ∷ b) b) ≡ length (cond (w && m) (o ∷ c) c)
+one_rank true false true true a b c o d r = omega arith
+one_rank true false true false a b c o d r = r
+one_rank false true true true a b c o d r = omega arith
+one_rank false true true false a b c o d r = r
+one_rank false false false m a b c o d r = r
+one_rank true true w m a b c o (inl d) r = absurd cc
+one_rank true true w m a b c o (inr d) r = absurd cc
+one_rank true false false m a b c o (inl d) r = absurd cc
+one_rank true false false m a b c o (inr d) r = absurd cc
+one_rank false true false m a b c o (inl d) r = absurd cc
+one_rank false true false m a b c o (inr d) r = absurd cc
+one_rank false false true m a b c o (inl d) r = absurd cc
+one_rank false false true m a b c o (inr d) r = absurd cc
+
+more_ranks : (a n lo hi : ℕ) (list : List Owned)
+    → length (of_rank lo hi a list) + length (filter (of_some_rank (a + 1) n lo hi) list) ≡ length (filter (of_some_rank a (suc n) lo hi) list)
+more_ranks a n lo hi [] = refl
+more_ranks a n lo hi (o ∷ list) =
+    one_rank (o.rank == a) (is_among (a + 1) n o.rank) (is_among a (suc n) o.rank) (meets lo hi o) (of_rank lo hi a list) (filter (of_some_rank (a + 1) n lo hi) list)
+    (filter (of_some_rank a (suc n) lo hi) list) o (first_rank a n o.rank) (more_ranks a n lo hi list)
+
+no_ranks : (a lo hi : ℕ) (list : List Owned) → length (filter (of_some_rank a 0 lo hi) list) ≡ 0
+no_ranks a lo hi list = ap (λ (os : List Owned). length os) (filter_none (of_some_rank a 0 lo hi) list (λ o m. none o (nat_le a o.rank) refl))
+  where
+    none : (o : Owned) (t : Bool) → nat_le a o.rank ≡ t → of_some_rank a 0 lo hi o ≡ false
+    none o true e =
+        let low : a ≤ o.rank = leb-true a o.rank e in
+        ap (λ (t : Bool). (nat_le a o.rank && t) && meets lo hi o) (le-ltb o.rank (a + 0) (omega arith)) ∙ ap (λ (t : Bool). t && meets lo hi o) (and_false (nat_le a o.rank) false refl)
+    none o false e = ap (λ (t : Bool). (t && nat_lt o.rank (a + 0)) && meets lo hi o) e
+
+counted : (a n lo hi : ℕ) (list : List Owned) → length (flat_map (λ r. of_rank lo hi r list) (range_with_len a n)) ≡ length (filter (of_some_rank a n lo hi) list)
+counted a zero lo hi list = sym (no_ranks a lo hi list)
+counted a (suc n) lo hi list =
+    length-append (of_rank lo hi a list) (flat_map (λ r. of_rank lo hi r list) (range_with_len (a + 1) n))
+    ∙ ap (λ (k : ℕ). length (of_rank lo hi a list) + k) (counted (a + 1) n lo hi list)
+    ∙ more_ranks a n lo hi list
+
+-- one pass over the entries counts them
+pub pieces_many : (ranks : ℕ) (list : List Owned) (t : Told) → length (pieces_in ranks list t) ≡ length (filter (of_some_rank 0 ranks t.0 (t.0 + t.1)) list)
+pieces_many ranks list t = counted 0 ranks t.0 (t.0 + t.1) list
+
+same_test : (ranks lo hi : ℕ) (o : Owned) → of_some_rank 0 ranks lo hi o ≡ (nat_lt o.rank ranks && meets lo hi o)
+same_test ranks lo hi o =
+    let low : nat_le 0 o.rank ≡ true = le-leb 0 o.rank (omega arith) in
+    let end : 0 + ranks ≡ ranks = omega arith in
+    (λ i. (low i && nat_lt o.rank (end i)) && meets lo hi o)
+
+-- one entry more is counted, or not
+pub counted_more : (ranks lo hi i n : ℕ) (list : List Owned) (o : Owned) → i < length list → n ≡ length (filter (of_some_rank 0 ranks lo hi) (take i list))
+    → (nat_lt (get_or list i o).rank ranks && meets lo hi (get_or list i o)) ≡ true → n + 1 ≡ length (filter (of_some_rank 0 ranks lo hi) (take (i + 1) list))
+counted_more ranks lo hi i n list o l e test =
+    sym (ap (λ (os : List Owned). length (filter (of_some_rank 0 ranks lo hi) os)) (take_more list i o l)
+    ∙ ap (λ (os : List Owned). length os) (filter-append (of_some_rank 0 ranks lo hi) (take i list) (get_or list i o ∷ []))
+    ∙ length-append (filter (of_some_rank 0 ranks lo hi) (take i list)) (filter (of_some_rank 0 ranks lo hi) (get_or list i o ∷ []))
+    ∙ ap (λ (b : Bool). length (filter (of_some_rank 0 ranks lo hi) (take i list)) + length (cond b (get_or list i o ∷ []) [])) (same_test ranks lo hi (get_or list i o) ∙ test)
+    ∙ ap (λ (k : ℕ). k + 1) (sym e))
+
+pub counted_same : (ranks lo hi i n : ℕ) (list : List Owned) (o : Owned) → i < length list → n ≡ length (filter (of_some_rank 0 ranks lo hi) (take i list))
+    → (nat_lt (get_or list i o).rank ranks && meets lo hi (get_or list i o)) ≡ false → n ≡ length (filter (of_some_rank 0 ranks lo hi) (take (i + 1) list))
+counted_same ranks lo hi i n list o l e test =
+    sym (ap (λ (os : List Owned). length (filter (of_some_rank 0 ranks lo hi) os)) (take_more list i o l)
+    ∙ ap (λ (os : List Owned). length os) (filter-append (of_some_rank 0 ranks lo hi) (take i list) (get_or list i o ∷ []))
+    ∙ length-append (filter (of_some_rank 0 ranks lo hi) (take i list)) (filter (of_some_rank 0 ranks lo hi) (get_or list i o ∷ []))
+    ∙ ap (λ (b : Bool). length (filter (of_some_rank 0 ranks lo hi) (take i list)) + length (cond b (get_or list i o ∷ []) [])) (same_test ranks lo hi (get_or list i o) ∙ test)
+    ∙ none (length (filter (of_some_rank 0 ranks lo hi) (take i list))) ∙ sym e)
+  where
+    none : (k : ℕ) → k + 0 ≡ k
+    none k = omega arith

@@ -1,0 +1,210 @@
+-- Helpers that were started, told to go, and fed.
+use Rattle.std.proofs.Common.{◌≡◌, ℕ, ◌+◌, refl, sym, ◌∙◌, ap, inl, inr, subst, List, [], ◌∷◌, ◌++◌, length, map, take, Option, Some, None, Result, arith}
+use Rattle.std.proofs.lemmas.List.{append-nil, length-append, length-map, map-append, take_all}
+use Rattle.std.specs.Prelude.{slice_get, zip, IsErrOf}
+use Rattle.std.specs.List.{AllZip}
+use Rattle.nc_base.specs.declared.plan.Extent.{Extent}
+use Rattle.nc_base.specs.declared.plan.Job.{Job}
+use Rattle.nc_base.specs.declared.plan.Owned.{Owned}
+use Rattle.nc_outside.specs.Cause.{Rose}
+use Rattle.nc_outside.specs.declared.disk.DiskErr.{DiskErr}
+use Rattle.nc_outside.specs.declared.disk.DiskErr.TheVariants.{Failed}
+use Rattle.overlay_laws.specs.Entries.{In}
+use Rattle.overlay_laws.proofs.HullLaws.{in_either}
+use Rattle.piece_exchange.specs.Feeds.{feed_left, pieces_left_of, turns_left_of, IsFeed}
+use Rattle.piece_exchange.specs.Helped.{HasServed}
+use Rattle.piece_exchange.specs.Plan.{planned_pieces, planned_turns, source_in}
+use Rattle.piece_exchange.specs.Put.{HasPut, PartState, SomeZip}
+use Rattle.piece_exchange.specs.Seats.{domain_of, part_of, HasFed, IsFed, IsFresh, IsSeat, IsToldToGo}
+use Rattle.piece_exchange.specs.Turns.{turns_of}
+use Rattle.piece_exchange.specs.declared.helper.Word.TheVariants.{Go}
+use Rattle.piece_exchange.specs.declared.packing.Feed.{Feed}
+use Rattle.piece_exchange.specs.declared.plan.PutPlan.{PutPlan}
+use Rattle.piece_exchange.specs.declared.starting.Seat.{Seat}
+use Rattle.piece_exchange.specs.declared.walk.Turn.{Turn}
+use Rattle.piece_exchange.specs.declared.walk.TurnWalk.{TurnWalk}
+use Rattle.piece_exchange.proofs.BackLaws.{each_new, map_new, some_mapped, take_at, zip_mapped}
+
+-- told to go, with all its pieces left
+pub record IsTold {D : Type 0} (plan : PutPlan) (seat : Seat D) : Type 0 where
+  pub seat_is : IsSeat plan seat
+  pub word : seat.helper.word.items ≡ Go ∷ []
+  pub ready : IsFeed seat.feed
+  pub line : seat.feed.line.items ≡ []
+  pub left : feed_left (length plan.job.now.batches) seat.feed ≡ planned_pieces plan (domain_of seat)
+
+go_seat : {D : Type 0} (plan : PutPlan) (old new : Seat D) → IsToldToGo old new → IsFresh plan old → IsTold plan new
+go_seat plan old new t f =
+    let s = f.seat_is in
+    record {
+      seat_is = record {
+        list = ap (λ child. child.promise.list.value) t.child ∙ s.list;
+        cover = ap (λ child. child.promise.cover.value) t.child ∙ s.cover;
+        job = ap (λ child. child.promise.job.value) t.child ∙ s.job;
+        size = ap (λ child. child.promise.size.value) t.child ∙ s.size;
+        word_of = t.of ∙ s.word_of ∙ sym (ap (λ child. child.promise.ends.value.word.of) t.child);
+        line_of = ap (λ (feed : Feed). feed.line.of) t.feed ∙ s.line_of ∙ sym (ap (λ child. child.promise.ends.value.line.of) t.child);
+      };
+      word = t.words ∙ ap (λ words. words ++ Go ∷ []) f.word;
+      ready = subst (λ (feed : Feed). IsFeed feed) (sym t.feed) f.ready;
+      line = ap (λ (feed : Feed). feed.line.items) t.feed ∙ f.line;
+      left = ap (λ (feed : Feed). feed_left (length plan.job.now.batches) feed) t.feed ∙ f.left ∙ sym (ap (λ child. planned_pieces plan child.promise.domain.value) t.child);
+    }
+
+none_left : (ranks : ℕ) (turn : Option Turn) (walk : TurnWalk) → turns_left_of turn walk ≡ [] → pieces_left_of ranks turn walk ≡ []
+none_left ranks None walk e = refl
+none_left ranks (Some t) walk e = absurd cc
+
+fed_seat : {D : Type 0} (plan : PutPlan) (old new : Seat D) → HasFed (length plan.job.now.batches) old new → IsTold plan old → IsFed plan new
+fed_seat plan old new h t =
+    let ranks = length plan.job.now.batches in
+    let s = t.seat_is in
+    record {
+      seat_is = record {
+        list = ap (λ helper. helper.child.promise.list.value) h.helper ∙ s.list;
+        cover = ap (λ helper. helper.child.promise.cover.value) h.helper ∙ s.cover;
+        job = ap (λ helper. helper.child.promise.job.value) h.helper ∙ s.job;
+        size = ap (λ helper. helper.child.promise.size.value) h.helper ∙ s.size;
+        word_of = ap (λ helper. helper.word.of) h.helper ∙ s.word_of ∙ sym (ap (λ helper. helper.child.promise.ends.value.word.of) h.helper);
+        line_of = h.fed.of ∙ s.line_of ∙ sym (ap (λ helper. helper.child.promise.ends.value.line.of) h.helper);
+      };
+      word = ap (λ helper. helper.word.items) h.helper ∙ t.word;
+      put =
+          sym (append-nil new.feed.line.items)
+          ∙ ap (λ (rest : List Owned). new.feed.line.items ++ rest) (sym (none_left ranks new.feed.turn new.feed.walk h.none))
+          ∙ h.fed.put
+          ∙ ap (λ (items : List Owned). items ++ feed_left ranks old.feed) t.line
+          ∙ t.left
+          ∙ sym (ap (λ helper. planned_pieces plan helper.child.promise.domain.value) h.helper);
+    }
+
+pub told_seats : {D : Type 0} (plan : PutPlan) (old new : List (Seat D)) → length new ≡ length old
+    → ((k : ℕ) (a b : Seat D) → slice_get old k ≡ Some a → slice_get new k ≡ Some b → IsToldToGo a b) → ((seat : Seat D) → In old seat → IsFresh plan seat)
+    → (seat : Seat D) → In new seat → IsTold plan seat
+told_seats plan old new long told fresh = each_new (λ seat. IsFresh plan seat) (λ seat. IsTold plan seat) (λ a b. IsToldToGo a b) old new long told fresh (λ a b t f. go_seat plan a b t f)
+
+pub fed_seats : {D : Type 0} (plan : PutPlan) (ranks : ℕ) (old new : List (Seat D)) → ranks ≡ length plan.job.now.batches → length new ≡ length old
+    → ((k : ℕ) (a b : Seat D) → slice_get old k ≡ Some a → slice_get new k ≡ Some b → HasFed ranks a b) → ((seat : Seat D) → In old seat → IsTold plan seat)
+    → (seat : Seat D) → In new seat → IsFed plan seat
+fed_seats {D} plan ranks old new same long fed told =
+    each_new (λ seat. IsTold plan seat) (λ seat. IsFed plan seat) (λ a b. HasFed ranks a b) old new long fed told
+    (λ a b h t. fed_seat plan a b (subst (λ (n : ℕ). HasFed n a b) same h) t)
+
+-- ---- parts and domains stay
+
+pub parts_stay : {D : Type 0} (ranks : ℕ) (first mid last : List (Seat D)) → length mid ≡ length first → length last ≡ length mid
+    → ((k : ℕ) (a b : Seat D) → slice_get first k ≡ Some a → slice_get mid k ≡ Some b → IsToldToGo a b)
+    → ((k : ℕ) (a b : Seat D) → slice_get mid k ≡ Some a → slice_get last k ≡ Some b → HasFed ranks a b)
+    → (map (λ seat. part_of seat) last ≡ map (λ seat. part_of seat) first) × (map (λ seat. domain_of seat) last ≡ map (λ seat. domain_of seat) first)
+parts_stay ranks first mid last long longer told fed = (
+  map_new (λ seat. part_of seat) (λ a b. HasFed ranks a b) mid last longer fed (λ a b h. ap (λ helper. helper.child.promise.ends.value.part) h.helper)
+      ∙ map_new (λ seat. part_of seat) (λ a b. IsToldToGo a b) first mid long told (λ a b t. ap (λ child. child.promise.ends.value.part) t.child),
+  map_new (λ seat. domain_of seat) (λ a b. HasFed ranks a b) mid last longer fed (λ a b h. ap (λ helper. helper.child.promise.domain.value) h.helper)
+      ∙ map_new (λ seat. domain_of seat) (λ a b. IsToldToGo a b) first mid long told (λ a b t. ap (λ child. child.promise.domain.value) t.child),
+)
+
+-- where a helper was started for each part, they are those of the parts and domains
+pub all_started : {D : Type 0} (seats : List (Seat D)) (rest parts : List D) (domains : List Extent) → rest ≡ [] → map (λ seat. part_of seat) seats ++ rest ≡ parts
+    → map (λ seat. domain_of seat) seats ≡ take (length seats) domains → length domains ≡ length parts
+    → (map (λ seat. part_of seat) seats ≡ parts) × (map (λ seat. domain_of seat) seats ≡ domains)
+all_started {D} seats rest parts domains none whole share long =
+    let all : map (λ seat. part_of seat) seats ≡ parts = sym (append-nil (map (λ seat. part_of seat) seats)) ∙ ap (λ (r : List D). map (λ seat. part_of seat) seats ++ r) (sym none) ∙ whole in
+    let many = length-map seats (λ (seat : Seat D). part_of seat) in
+    let same = ap (λ (ds : List D). length ds) all in
+    (all, share ∙ take_all (length seats) domains (omega arith))
+
+pub seats_few : {D : Type 0} (seats : List (Seat D)) (rest parts : List D) → map (λ seat. part_of seat) seats ++ rest ≡ parts → length seats + length rest ≡ length parts
+seats_few {D} seats rest parts whole =
+    let many = length-map seats (λ (seat : Seat D). part_of seat) in
+    let both = length-append (map (λ seat. part_of seat) seats) rest in
+    let same = ap (λ (ds : List D). length ds) whole in
+    omega arith
+
+-- ---- a helper that was joined
+
+pub joined_put : {D T : Type 0} (plan : PutPlan) (seat : Seat D) (old new : PartState) (taken : List Owned) (end : Result T DiskErr) → IsFed plan seat
+    → HasServed seat.helper.child.promise.job.value.batches seat.helper.child.promise.list.value
+    (turns_of seat.helper.child.promise.size.value (domain_of seat) seat.helper.child.promise.cover.value) old new taken end
+    → taken ≡ seat.feed.line.items
+    → HasPut (source_in plan) plan.list.now (planned_turns plan (domain_of seat)) old new end × (IsErrOf end Failed → Rose old.faults new.faults)
+joined_put plan seat old new taken end fed served same =
+    let promise = seat.helper.child.promise in
+    let by_job = subst (λ (job : Job). HasServed job.batches promise.list.value (turns_of promise.size.value (domain_of seat) promise.cover.value) old new taken end) fed.seat_is.job served in
+    let by_list = subst (λ (list : List Owned). HasServed plan.job.now.batches list (turns_of promise.size.value (domain_of seat) promise.cover.value) old new taken end) fed.seat_is.list by_job in
+    let by_size = subst (λ (size : ℕ). HasServed plan.job.now.batches plan.list.now (turns_of size (domain_of seat) promise.cover.value) old new taken end) fed.seat_is.size by_list in
+    let by_cover = subst (λ (cover : List Extent). HasServed plan.job.now.batches plan.list.now (turns_of plan.hints.now.cb_buffer (domain_of seat) cover) old new taken end) fed.seat_is.cover by_size in
+    (by_cover.put (same ∙ fed.put), by_cover.failed)
+
+-- ---- all of them
+
+-- the seats that were started, as they were told to go and fed
+pub record AreDone {D : Type 0} (ranks : ℕ) (first mid last : List (Seat D)) (parts : List D) (domains : List Extent) : Type 0 where
+  pub of_parts : map (λ seat. part_of seat) first ≡ parts
+  pub of_domains : map (λ seat. domain_of seat) first ≡ domains
+  pub long : length mid ≡ length first
+  pub longer : length last ≡ length mid
+  pub told : (k : ℕ) (a b : Seat D) → slice_get first k ≡ Some a → slice_get mid k ≡ Some b → IsToldToGo a b
+  pub fed : (k : ℕ) (a b : Seat D) → slice_get mid k ≡ Some a → slice_get last k ≡ Some b → HasFed ranks a b
+
+pub all_put : {D : Type 0} (ranks : ℕ) (first mid last : List (Seat D)) (parts back : List D) (domains : List Extent) (Q : D × Extent → D → Type 0) → AreDone ranks first mid last parts domains
+    → AllZip (λ seat new. Q (part_of seat, domain_of seat) new) last back → AllZip Q (zip parts domains) back
+all_put {D} ranks first mid last parts back domains Q d h =
+    let stay = parts_stay ranks first mid last d.long d.longer d.told d.fed in
+    subst (λ (ds : List Extent). AllZip Q (zip parts ds) back) (stay.1 ∙ d.of_domains)
+    (subst (λ (ps : List D). AllZip Q (zip ps (map (λ seat. domain_of seat) last)) back) (stay.0 ∙ d.of_parts)
+    (zip_mapped (λ seat. part_of seat) (λ seat. domain_of seat) Q last back h))
+
+pub all_failed : {D : Type 0} (ranks : ℕ) (first mid last : List (Seat D)) (parts back : List D) (domains : List Extent) (R : D → D → Type 0) → AreDone ranks first mid last parts domains
+    → SomeZip (λ seat new. R (part_of seat) new) last back → SomeZip R parts back
+all_failed {D} ranks first mid last parts back domains R d h =
+    let stay = parts_stay ranks first mid last d.long d.longer d.told d.fed in
+    subst (λ (ps : List D). SomeZip R ps back) (stay.0 ∙ d.of_parts) (some_mapped (λ seat. part_of seat) R last back h)
+
+-- ---- one helper more was started
+
+pub crew_parts : {D : Type 0} (seats now : List (Seat D)) (seat : Seat D) (rest yielded : List D) (part : D) → now ≡ seats ++ seat ∷ [] → rest ≡ [] → part_of seat ≡ part
+    → map (λ s. part_of s) seats ++ rest ≡ yielded → map (λ s. part_of s) now ++ rest ≡ yielded ++ part ∷ []
+crew_parts {D} seats now seat rest yielded part e none is whole =
+    let all : map (λ s. part_of s) seats ≡ yielded = sym (append-nil (map (λ s. part_of s) seats)) ∙ ap (λ (r : List D). map (λ s. part_of s) seats ++ r) (sym none) ∙ whole in
+    ap (λ (r : List D). map (λ s. part_of s) now ++ r) none
+    ∙ append-nil (map (λ s. part_of s) now)
+    ∙ ap (λ (ss : List (Seat D)). map (λ s. part_of s) ss) e
+    ∙ map-append (λ (s : Seat D). part_of s) seats (seat ∷ [])
+    ∙ ap (λ (r : List D). r ++ part_of seat ∷ []) all
+    ∙ ap (λ (p : D). yielded ++ p ∷ []) is
+
+pub crew_domains : {D : Type 0} (seats now : List (Seat D)) (seat : Seat D) (domains : List Extent) (domain : Extent) → now ≡ seats ++ seat ∷ [] → domain_of seat ≡ domain
+    → slice_get domains (length seats) ≡ Some domain → map (λ s. domain_of s) seats ≡ take (length seats) domains → map (λ s. domain_of s) now ≡ take (length now) domains
+crew_domains {D} seats now seat domains domain e is at share =
+    let long : length now ≡ length seats + 1 = ap (λ (ss : List (Seat D)). length ss) e ∙ length-append seats (seat ∷ []) in
+    ap (λ (ss : List (Seat D)). map (λ s. domain_of s) ss) e
+    ∙ map-append (λ (s : Seat D). domain_of s) seats (seat ∷ [])
+    ∙ ap (λ (r : List Extent). r ++ domain_of seat ∷ []) share
+    ∙ ap (λ (d : Extent). take (length seats) domains ++ d ∷ []) is
+    ∙ sym (take_at domains (length seats) domain at)
+    ∙ ap (λ (n : ℕ). take n domains) (sym long)
+
+pub crew_fresh : {D : Type 0} (plan : PutPlan) (seats now : List (Seat D)) (seat : Seat D) → now ≡ seats ++ seat ∷ [] → ((s : Seat D) → In seats s → IsFresh plan s) → IsFresh plan seat
+    → (s : Seat D) → In now s → IsFresh plan s
+crew_fresh {D} plan seats now seat e all fresh s m =
+    elim (in_either seats (seat ∷ []) s (subst (λ (ss : List (Seat D)). In ss s) e m)) [
+      | inl g ↦ all s g
+      | inr (inl is) ↦ subst (λ (t : Seat D). IsFresh plan t) is fresh
+      | inr (inr g) ↦ absurd g
+    ]
+
+pub done_by : {D : Type 0} (ranks : ℕ) (first lent mid again last : List (Seat D)) (rest parts : List D) (domains : List Extent) → lent ≡ first → again ≡ mid
+    → length mid ≡ length lent → ((k : ℕ) (a b : Seat D) → slice_get lent k ≡ Some a → slice_get mid k ≡ Some b → IsToldToGo a b)
+    → length last ≡ length again → ((k : ℕ) (a b : Seat D) → slice_get again k ≡ Some a → slice_get last k ≡ Some b → HasFed ranks a b)
+    → rest ≡ [] → map (λ seat. part_of seat) first ++ rest ≡ parts → map (λ seat. domain_of seat) first ≡ take (length first) domains → length domains ≡ length parts
+    → AreDone ranks first mid last parts domains
+done_by {D} ranks first lent mid again last rest parts domains e f long told longer fed none whole share one_each =
+    let started = all_started first rest parts domains none whole share one_each in
+    record {
+      of_parts = started.0;
+      of_domains = started.1;
+      long = long ∙ ap (λ (ss : List (Seat D)). length ss) e;
+      longer = longer ∙ ap (λ (ss : List (Seat D)). length ss) f;
+      told = subst (λ (ss : List (Seat D)). (k : ℕ) (a b : Seat D) → slice_get ss k ≡ Some a → slice_get mid k ≡ Some b → IsToldToGo a b) e told;
+      fed = subst (λ (ss : List (Seat D)). (k : ℕ) (a b : Seat D) → slice_get ss k ≡ Some a → slice_get last k ≡ Some b → HasFed ranks a b) f fed;
+    }

@@ -1,0 +1,100 @@
+-- The helpers that were started, told to go, fed and joined.
+use Rattle.std.proofs.Common.{◌≡◌, ◌∙◌, ◌++◌, ℕ, List, sym, ap, subst, length, take, drop, Some, rules, arith}
+use Rattle.std.proofs.lemmas.Grind.{common_steps}
+use Rattle.std.specs.Prelude.{slice_get}
+use Rattle.std.specs.List.{AllZip}
+use Rattle.nc_base.specs.declared.plan.Extent.{Extent}
+use Rattle.nc_outside.specs.Cause.{Rose}
+use Rattle.overlay_laws.specs.Entries.{In}
+use Rattle.overlay_laws.proofs.Members.{at_in}
+use Rattle.piece_exchange.specs.Plan.{planned_turns, source_in}
+use Rattle.piece_exchange.specs.Put.{HasPut, PartState, SomeZip}
+use Rattle.piece_exchange.specs.Seats.{domain_of, part_of, HasFed, IsToldToGo}
+use Rattle.piece_exchange.specs.declared.starting.Seat.{Seat}
+use Rattle.piece_exchange.proofs.BackLaws.{no_items, slice_kept}
+use Rattle.piece_exchange.proofs.SeatLaws.{all_failed, all_put, done_by, fed_seats, told_seats}
+use Rattle.piece_exchange.proofs.exchange.put_in_scope.Goals as goal
+
+pub pack_all-requires-after_bounds : goal.pack_all-requires-after_bounds
+pack_all-requires-after_bounds g c κs within =
+    let first = c.start_all.new.crew.seats.items in
+    let mid = c.tell_all.new.seats in
+    let n : c.start_all.new.crew.seats.len ≡ length first = first_of (search rules, grind (arith, common_steps)) in
+    let lent = c.deref_mut.ensures.value in
+    let long : length mid ≡ length first = c.tell_all.ensures.long ∙ ap (λ (ss : List (Seat g.row.D.Denot)). length ss) lent in
+    let again : c.deref_mut-2.result.now ≡ mid = c.deref_mut-2.ensures.value ∙ slice_kept c.start_all.new.crew.seats.len mid first n long in
+    let told = subst (λ (ss : List (Seat g.row.D.Denot)). (k : ℕ) (a b : Seat g.row.D.Denot) → slice_get ss k ≡ Some a → slice_get mid k ≡ Some b → IsToldToGo a b) lent c.tell_all.ensures.told in
+    λ k seat e.
+    (told_seats c.args.plan.now first mid long told c.start_all.ensures.seats seat
+    (at_in mid k seat (subst (λ (ss : List (Seat g.row.D.Denot)). slice_get ss k ≡ Some seat) again e))).ready
+
+pub join_all-end-requires-clause-seats : goal.join_all-end-requires-clause-seats
+join_all-end-requires-clause-seats g c κs within =
+    let first = c.start_all.new.crew.seats.items in
+    let mid = c.tell_all.new.seats in
+    let last = c.pack_all.new.seats in
+    let count = c.start_all.new.crew.seats.len in
+    let n : count ≡ length first = first_of (search rules, grind (arith, common_steps)) in
+    let lent = c.deref_mut.ensures.value in
+    let long : length mid ≡ length first = c.tell_all.ensures.long ∙ ap (λ (ss : List (Seat g.row.D.Denot)). length ss) lent in
+    let kept = slice_kept count mid first n long in
+    let again : c.deref_mut-2.result.now ≡ mid = c.deref_mut-2.ensures.value ∙ kept in
+    let told = subst (λ (ss : List (Seat g.row.D.Denot)). (k : ℕ) (a b : Seat g.row.D.Denot) → slice_get ss k ≡ Some a → slice_get mid k ≡ Some b → IsToldToGo a b) lent c.tell_all.ensures.told in
+    let fed = subst (λ (ss : List (Seat g.row.D.Denot)). (k : ℕ) (a b : Seat g.row.D.Denot) → slice_get ss k ≡ Some a → slice_get last k ≡ Some b → HasFed c.len.result a b) again c.pack_all.ensures.fed in
+    let longer : length last ≡ length mid = c.pack_all.ensures.long ∙ ap (λ (ss : List (Seat g.row.D.Denot)). length ss) again in
+    let before : length (take count (mid ++ drop (length mid) first)) ≡ length mid = ap (λ (ss : List (Seat g.row.D.Denot)). length ss) kept in
+    let whole = slice_kept count last (take count (mid ++ drop (length mid) first)) (n ∙ sym long ∙ sym before) (longer ∙ sym before) in
+    λ seat m.
+    fed_seats c.args.plan.now c.len.result mid last c.len.ensures longer fed (told_seats c.args.plan.now first mid long told c.start_all.ensures.seats) seat
+    (subst (λ (ss : List (Seat g.row.D.Denot)). In ss seat) whole m)
+
+pub returns-clause-put : goal.returns-clause-put
+returns-clause-put g c =
+    let plan = c.args.plan.now in
+    let first = c.start_all.new.crew.seats.items in
+    let mid = c.tell_all.new.seats in
+    let last = c.pack_all.new.seats in
+    let count = c.start_all.new.crew.seats.len in
+    let back = c.join_all-end.new.back.items in
+    let n : count ≡ length first = first_of (search rules, grind (arith, common_steps)) in
+    let empty : length c.start_all.new.crew.rest.items ≡ 0 = first_of (search rules, grind (arith, common_steps)) in
+    let lent = c.deref_mut.ensures.value in
+    let long : length mid ≡ length first = c.tell_all.ensures.long ∙ ap (λ (ss : List (Seat g.row.D.Denot)). length ss) lent in
+    let kept = slice_kept count mid first n long in
+    let again : c.deref_mut-2.result.now ≡ mid = c.deref_mut-2.ensures.value ∙ kept in
+    let longer : length last ≡ length mid = c.pack_all.ensures.long ∙ ap (λ (ss : List (Seat g.row.D.Denot)). length ss) again in
+    let before : length (take count (mid ++ drop (length mid) first)) ≡ length mid = ap (λ (ss : List (Seat g.row.D.Denot)). length ss) kept in
+    let whole = slice_kept count last (take count (mid ++ drop (length mid) first)) (n ∙ sym long ∙ sym before) (longer ∙ sym before) in
+    let state : g.row.D.Denot → PartState
+    = λ d. record { from = g.D.Disk.from d; len = g.D.Disk.len d; held = g.D.Disk.held d; calls = g.D.Disk.calls d; faults = g.D.Disk.faults d } in
+    let Put : g.row.D.Denot × Extent → g.row.D.Denot → Type 0
+    = λ p d. HasPut (source_in plan) plan.list.now (planned_turns plan p.1) (state p.0) (state d) c.join_all-end.result in
+    all_put c.len.result first mid last c.args.parts.items back c.args.domains.now Put
+    (done_by c.len.result first c.deref_mut.result.now mid c.deref_mut-2.result.now last c.start_all.new.crew.rest.items c.args.parts.items c.args.domains.now lent again
+    c.tell_all.ensures.long c.tell_all.ensures.told c.pack_all.ensures.long c.pack_all.ensures.fed (no_items c.start_all.new.crew.rest.items empty)
+    c.start_all.ensures.parts c.start_all.ensures.domains c.requires.one_each)
+    (subst (λ (ss : List (Seat g.row.D.Denot)). AllZip (λ seat d. Put (part_of seat, domain_of seat) d) ss back) whole c.join_all-end.ensures.put)
+
+pub returns-clause-failed : goal.returns-clause-failed
+returns-clause-failed g c =
+    let first = c.start_all.new.crew.seats.items in
+    let mid = c.tell_all.new.seats in
+    let last = c.pack_all.new.seats in
+    let count = c.start_all.new.crew.seats.len in
+    let back = c.join_all-end.new.back.items in
+    let n : count ≡ length first = first_of (search rules, grind (arith, common_steps)) in
+    let empty : length c.start_all.new.crew.rest.items ≡ 0 = first_of (search rules, grind (arith, common_steps)) in
+    let lent = c.deref_mut.ensures.value in
+    let long : length mid ≡ length first = c.tell_all.ensures.long ∙ ap (λ (ss : List (Seat g.row.D.Denot)). length ss) lent in
+    let kept = slice_kept count mid first n long in
+    let again : c.deref_mut-2.result.now ≡ mid = c.deref_mut-2.ensures.value ∙ kept in
+    let longer : length last ≡ length mid = c.pack_all.ensures.long ∙ ap (λ (ss : List (Seat g.row.D.Denot)). length ss) again in
+    let before : length (take count (mid ++ drop (length mid) first)) ≡ length mid = ap (λ (ss : List (Seat g.row.D.Denot)). length ss) kept in
+    let whole = slice_kept count last (take count (mid ++ drop (length mid) first)) (n ∙ sym long ∙ sym before) (longer ∙ sym before) in
+    let Failing : g.row.D.Denot → g.row.D.Denot → Type 0 = λ a b. Rose (g.D.Disk.faults a) (g.D.Disk.faults b) in
+    λ f.
+    all_failed c.len.result first mid last c.args.parts.items back c.args.domains.now Failing
+    (done_by c.len.result first c.deref_mut.result.now mid c.deref_mut-2.result.now last c.start_all.new.crew.rest.items c.args.parts.items c.args.domains.now lent again
+    c.tell_all.ensures.long c.tell_all.ensures.told c.pack_all.ensures.long c.pack_all.ensures.fed (no_items c.start_all.new.crew.rest.items empty)
+    c.start_all.ensures.parts c.start_all.ensures.domains c.requires.one_each)
+    (subst (λ (ss : List (Seat g.row.D.Denot)). SomeZip (λ seat d. Failing (part_of seat) d) ss back) whole (c.join_all-end.ensures.failed f))

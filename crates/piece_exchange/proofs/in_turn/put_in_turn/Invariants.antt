@@ -1,0 +1,22 @@
+-- The parts so far were served, up to the first fault.
+use Rattle.std.proofs.Common.{◌≡◌, ◌++◌, length, vec_capacity}
+use Rattle.std.specs.Prelude.{zip, IsErrOf}
+use Rattle.std.specs.List.{AllZip}
+use Rattle.nc_outside.specs.Cause.{Rose}
+use Rattle.nc_outside.specs.declared.disk.DiskErr.TheVariants.{Failed}
+use Rattle.piece_exchange.specs.Plan.{planned_turns, source_in}
+use Rattle.piece_exchange.specs.Put.{HasPut, SomeZip}
+use Rattle.piece_exchange.proofs.in_turn.put_in_turn.Given as goal
+
+abbrev pub invariant-loop-part : goal.invariant-loop-part
+invariant-loop-part g l = record {
+  all : l.yielded ++ l.part-iterator.rest.items ≡ l.fn.parts.items;
+  long : length l.back.items ≡ length l.yielded;
+  room : vec_capacity l.back ≡ vec_capacity l.initial.back;
+  buf : length l.buf.items ≡ length l.initial.buf.items;
+  put : AllZip
+      (λ p new. HasPut (source_in l.plan) l.plan.list.now (planned_turns l.plan p.1)
+      (record { from = g.D.Disk.from p.0; len = g.D.Disk.len p.0; held = g.D.Disk.held p.0; calls = g.D.Disk.calls p.0; faults = g.D.Disk.faults p.0 })
+      (record { from = g.D.Disk.from new; len = g.D.Disk.len new; held = g.D.Disk.held new; calls = g.D.Disk.calls new; faults = g.D.Disk.faults new }) l.end) (zip l.yielded l.domains) l.back.items;
+  failed : IsErrOf l.end Failed → SomeZip (λ old new. Rose (g.D.Disk.faults old) (g.D.Disk.faults new)) l.yielded l.back.items;
+}

@@ -1,0 +1,9 @@
+pub mod Turns
+pub mod Pieces
+pub mod Plan
+pub mod Put
+pub mod Taken
+pub mod Feeds
+pub mod Helped
+pub mod Seats
+pub mod Rooms

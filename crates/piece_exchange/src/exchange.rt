@@ -1,0 +1,144 @@
+// The puts of a collective step, on a disk in parts.
+ghost use Rattle.std.specs.Prelude.{◌≡◌, ◌≤◌, ℕ, length, slice_get, vec_capacity, zip, IsErrOf, IfOk, IfSome, IfNone, Some};
+ghost use Rattle.std.specs.List.{AllZip};
+ghost use Rattle.nc_base.specs.declared.plan.Extent.{Extent};
+ghost use Rattle.nc_outside.specs.Cause.{Rose};
+ghost use Rattle.nc_outside.specs.declared.disk.DiskErr.TheVariants.{Failed};
+ghost use Rattle.piece_exchange.specs.Plan.{planned_turns, source_in, IsDomainOf, IsPlanned};
+ghost use Rattle.piece_exchange.specs.Put.{HasPut, SomeZip};
+ghost use Rattle.piece_exchange.specs.Rooms.{HasRooms};
+
+use crate::in_turn::put_in_turn;
+use crate::joining::{join_all, tell_all};
+use crate::packing::pack_all;
+use crate::plan::{PutPlan, Tools};
+use crate::starting::{Crew, give_back, start_all, stop_all};
+use nc_base::{Extent, Memory};
+use nc_outside::{Disk, DiskErr, Gate};
+use std::alloc::Global;
+use std::sync::Wait;
+use std::thread;
+use std::thread::{Scope, Threads};
+
+/// Does the puts of a plan on the parts of a disk. Each part is served by a helper of its own, over the domain at its place, and the
+/// pieces go to it over a line of so many items as the hints say. Where the hints have no threads, or one can't be had, the parts are
+/// served in turn, under the same clauses.
+///
+/// The parts come back in order. Refused, each byte of a part is old or new, and the fault is the first of the parts'; `Memory` comes
+/// also where a list of the parts or a buffer can't be had, before anything is done.
+pub fn exchange_put<R: Threads + Wait + Sync, D: Disk, G: Gate>(
+    rt: &R,
+    alloc: Global,
+    plan: &PutPlan,
+    domains: &[Extent],
+    parts: Vec<D>,
+    gate: &G,
+) -> (Vec<D>, Result<(), DiskErr>)
+    requires plan { IsPlanned plan.now }
+    requires line_low { 1 ≤ plan.now.hints.now.line_room }
+    requires line_high { plan.now.hints.now.line_room ≤ 64 }
+    requires few { length domains.now ≤ 64 }
+    requires one_each { length domains.now ≡ length parts.items }
+    requires domains { (k : ℕ) (part : D) (domain : Extent) → slice_get parts.items k ≡ Some part → slice_get domains.now k ≡ Some domain → IsDomainOf plan.now.list.now (D.from part) (D.len part) domain }
+    ensures put { AllZip (λ p new. HasPut (source_in plan.now) plan.now.list.now (planned_turns plan.now p.1)
+        (record { from = D.from p.0; len = D.len p.0; held = D.held p.0; calls = D.calls p.0; faults = D.faults p.0 })
+        (record { from = D.from new; len = D.len new; held = D.held new; calls = D.calls new; faults = D.faults new }) result.1) (zip parts.items domains.now) result.0.items }
+    ensures failed { IsErrOf result.1 Failed → SomeZip (λ old new. Rose (D.faults old) (D.faults new)) parts.items result.0.items }
+{
+    let tools = Tools { rt, alloc, gate };
+    if !plan.hints.threads {
+        return put_in_turn(&tools, plan, domains, parts);
+    }
+    let (back, end) = put_on_threads(&tools, plan, domains, parts);
+    if let Some(end) = end {
+        return (back, end);
+    }
+    put_in_turn(&tools, plan, domains, back)
+}
+
+// The puts by helpers. None where one can't be started: then nothing was done, and the parts come back as they were.
+fn put_on_threads<R: Threads + Wait + Sync, D: Disk, G: Gate>(
+    tools: &Tools<R, G>,
+    plan: &PutPlan,
+    domains: &[Extent],
+    parts: Vec<D>,
+) -> (Vec<D>, Option<Result<(), DiskErr>>)
+    requires plan { IsPlanned plan.now }
+    requires line_low { 1 ≤ plan.now.hints.now.line_room }
+    requires line_high { plan.now.hints.now.line_room ≤ 64 }
+    requires few { length domains.now ≤ 64 }
+    requires one_each { length domains.now ≡ length parts.items }
+    requires domains { (k : ℕ) (part : D) (domain : Extent) → slice_get parts.items k ≡ Some part → slice_get domains.now k ≡ Some domain → IsDomainOf plan.now.list.now (D.from part) (D.len part) domain }
+    ensures put { IfSome result.1 (λ end. AllZip (λ p new. HasPut (source_in plan.now) plan.now.list.now (planned_turns plan.now p.1)
+        (record { from = D.from p.0; len = D.len p.0; held = D.held p.0; calls = D.calls p.0; faults = D.faults p.0 })
+        (record { from = D.from new; len = D.len new; held = D.held new; calls = D.calls new; faults = D.faults new }) end) (zip parts.items domains.now) result.0.items) }
+    ensures failed { IfSome result.1 (λ end. IsErrOf end Failed → SomeZip (λ old new. Rose (D.faults old) (D.faults new)) parts.items result.0.items) }
+    ensures kept { IfNone result.1 (result.0.items ≡ parts.items) }
+{
+    let Ok((crew, back)) = make_rooms(tools.alloc, parts.len()) else {
+        return (parts, None);
+    };
+    thread::scope(
+        thread::scope_env(),
+        tools.rt,
+        |scope| -> (Vec<D>, Option<Result<(), DiskErr>>)
+            requires { IsPlanned plan.now × (1 ≤ plan.now.hints.now.line_room) × (plan.now.hints.now.line_room ≤ 64) × (length domains.now ≤ 64) × (length domains.now ≡ length parts.items)
+                × ((k : ℕ) (part : D) (domain : Extent) → slice_get parts.items k ≡ Some part → slice_get domains.now k ≡ Some domain → IsDomainOf plan.now.list.now (D.from part) (D.len part) domain)
+                × HasRooms (length parts.items) crew.seats.items crew.rest.items back.items (vec_capacity crew.seats) (vec_capacity crew.rest) (vec_capacity back) }
+            ensures put { IfSome result.1 (λ end. AllZip (λ p new. HasPut (source_in plan.entry.now) plan.entry.now.list.now (planned_turns plan.entry.now p.1)
+                (record { from = D.from p.0; len = D.len p.0; held = D.held p.0; calls = D.calls p.0; faults = D.faults p.0 })
+                (record { from = D.from new; len = D.len new; held = D.held new; calls = D.calls new; faults = D.faults new }) end) (zip parts.items domains.entry.now) result.0.items) }
+            ensures failed { IfSome result.1 (λ end. IsErrOf end Failed → SomeZip (λ old new. Rose (D.faults old) (D.faults new)) parts.items result.0.items) }
+            ensures kept { IfNone result.1 (result.0.items ≡ parts.items) }
+        { put_in_scope(scope, tools, plan, domains, parts, crew, back) },
+    )
+}
+
+// Room for so many helpers, and for their parts.
+fn make_rooms<'a, D: Disk>(alloc: Global, count: usize) -> Result<(Crew<'a, D>, Vec<D>), Memory>
+    ensures { IfOk result (λ rooms. HasRooms count rooms.0.seats.items rooms.0.rest.items rooms.1.items (vec_capacity rooms.0.seats) (vec_capacity rooms.0.rest) (vec_capacity rooms.1)) }
+{
+    let crew = Crew {
+        seats: Vec::with_capacity(alloc, count)?,
+        rest: Vec::with_capacity(alloc, count)?,
+    };
+    Ok((crew, Vec::with_capacity(alloc, count)?))
+}
+
+// Starts a helper for each part, and does the puts where all were started. Else those that were started are told to stop.
+fn put_in_scope<'s, E, R: Threads + Wait + Sync, D: Disk + 's, G: Gate>(
+    scope: &'s Scope<'s, E>,
+    tools: &'s Tools<'s, R, G>,
+    plan: &'s PutPlan<'s>,
+    domains: &[Extent],
+    parts: Vec<D>,
+    crew: Crew<'s, D>,
+    back: Vec<D>,
+) -> (Vec<D>, Option<Result<(), DiskErr>>)
+    requires plan { IsPlanned plan.now }
+    requires line_low { 1 ≤ plan.now.hints.now.line_room }
+    requires line_high { plan.now.hints.now.line_room ≤ 64 }
+    requires few { length domains.now ≤ 64 }
+    requires one_each { length domains.now ≡ length parts.items }
+    requires domains { (k : ℕ) (part : D) (domain : Extent) → slice_get parts.items k ≡ Some part → slice_get domains.now k ≡ Some domain → IsDomainOf plan.now.list.now (D.from part) (D.len part) domain }
+    requires rooms { HasRooms (length parts.items) crew.seats.items crew.rest.items back.items (vec_capacity crew.seats) (vec_capacity crew.rest) (vec_capacity back) }
+    ensures put { IfSome result.1 (λ end. AllZip (λ p new. HasPut (source_in plan.now) plan.now.list.now (planned_turns plan.now p.1)
+        (record { from = D.from p.0; len = D.len p.0; held = D.held p.0; calls = D.calls p.0; faults = D.faults p.0 })
+        (record { from = D.from new; len = D.len new; held = D.held new; calls = D.calls new; faults = D.faults new }) end) (zip parts.items domains.now) result.0.items) }
+    ensures failed { IfSome result.1 (λ end. IsErrOf end Failed → SomeZip (λ old new. Rose (D.faults old) (D.faults new)) parts.items result.0.items) }
+    ensures kept { IfNone result.1 (result.0.items ≡ parts.items) }
+{
+    let mut crew = crew;
+    let mut back = back;
+    start_all(scope, tools, plan, domains, parts, &mut crew);
+    let Crew { mut seats, rest } = crew;
+    if !rest.is_empty() {
+        stop_all(tools.rt, plan, seats, &mut back);
+        give_back(rest, &mut back);
+        return (back, None);
+    }
+    tell_all(tools.rt, &mut seats);
+    pack_all(tools.rt, plan.job.batches.len() as u32, &mut seats);
+    let end = join_all(tools.rt, plan, seats, &mut back);
+    (back, Some(end))
+}

@@ -1,0 +1,20 @@
+//! Collective puts on a disk in parts. Each part is served by an aggregator, a helper thread of its own, and the pieces of the puts go to
+//! it over a line. (Thakur, Gropp and Lusk, "Data Sieving and Collective I/O in ROMIO", 1999, section 5; threads and lines are our choice)
+//!
+//! Helper and caller each go over the windows of a part by a walk of their own over what is lent to both, which does not change. So both
+//! know its pieces, and nobody has to say where a line ends.
+#![tactic(auto)]
+
+mod exchange;
+mod helper;
+mod in_turn;
+mod joining;
+mod laying;
+mod packing;
+mod plan;
+mod starting;
+mod taking;
+mod walk;
+
+pub use exchange::exchange_put;
+pub use plan::PutPlan;

@@ -1,0 +1,30 @@
+// What an exchange is lent.
+use nc_base::{Extent, ExtentList, Hints, Job, OwnedList};
+use std::alloc::Global;
+
+/// What the puts of a collective step come to. All aggregators are lent it.
+#[derive(Clone, Copy, Drop)]
+pub struct PutPlan<'a> {
+    /// The entries of the puts, sorted by place.
+    pub list: &'a OwnedList,
+    /// The cover of the entries.
+    pub cover: &'a ExtentList,
+    /// The puts, one batch for each rank.
+    pub job: &'a Job,
+    pub hints: &'a Hints,
+}
+
+/// An aggregator by its number, and the bytes of the file that it serves.
+#[derive(Clone, Copy, Debug, PartialEq, Eq)]
+pub(crate) struct Aggregator {
+    pub number: u32,
+    pub domain: Extent,
+}
+
+/// What a part is served with.
+#[derive(Drop)]
+pub(crate) struct Tools<'a, R, G> {
+    pub rt: &'a R,
+    pub alloc: Global,
+    pub gate: &'a G,
+}
