@@ -2,3 +2,6 @@
 
 mod scripts;
 mod summaries;
+
+/// What a test says that has no memory.
+const NO_MEMORY: &str = "memory";

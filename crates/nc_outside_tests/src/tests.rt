@@ -5,18 +5,20 @@ use nc_outside::{
     Deaf, Disk, DiskCallList, DiskErr, Fail, FailList, FailOp, Failed, Gate, MeetGate, MemDisk,
     MemSink, MemSource, OpenGate, Point, Sink, Source, Told,
 };
-use std::alloc::{AllocError, Global};
+use std::alloc::Global;
 use std::process::Abort;
 use std::sync::Wait;
-use std::test::Fail as TestFail;
 use std::thread;
 
-fn blob(alloc: Global, bytes: &[u8]) -> Result<Blob, AllocError> {
-    Ok(Blob::from_vec(Vec::from_slice(alloc, bytes)?))
+/// What a test says that has no memory.
+const NO_MEMORY: &str = "memory";
+
+fn blob(rt: &impl Abort, alloc: Global, bytes: &[u8]) -> Blob {
+    Blob::from_vec(Vec::from_slice(alloc, bytes).expect(rt, NO_MEMORY))
 }
 
-fn plan(alloc: Global, entries: &[Fail]) -> Result<FailList, AllocError> {
-    Ok(FailList::from_vec(Vec::from_slice(alloc, entries)?))
+fn plan(rt: &impl Abort, alloc: Global, entries: &[Fail]) -> FailList {
+    FailList::from_vec(Vec::from_slice(alloc, entries).expect(rt, NO_MEMORY))
 }
 
 // A write inside the disk.
@@ -61,7 +63,7 @@ fn append<R: Abort>(rt: &R, disk: &mut MemDisk, other: MemDisk) {
 }
 
 #[test]
-fn a_write_that_fails_leaves_the_bytes_before_its_place(rt: HostRuntime) -> Result<(), TestFail> {
+fn a_write_that_fails_leaves_the_bytes_before_its_place(rt: HostRuntime) {
     let alloc = rt.alloc();
     let table: [(u64, [u8; 8]); 4] = [
         (3, [9, 9, 9, 9, 9, 9, 9, 9]),
@@ -74,23 +76,28 @@ fn a_write_that_fails_leaves_the_bytes_before_its_place(rt: HostRuntime) -> Resu
             op: FailOp::Store,
             at,
         };
-        let entries = plan(alloc, &[entry])?;
-        let mut disk = MemDisk::failing(alloc, blob(alloc, &[9; 8])?, entries)?;
+        let entries = plan(&rt, alloc, &[entry]);
+        let mut disk = MemDisk::failing(alloc, blob(&rt, alloc, &[9; 8]), entries).expect(
+            &rt, NO_MEMORY,
+        );
         let told = store(&rt, alloc, &mut disk, 3, &[1, 2, 3, 4]);
         assert_eq!(rt; told, at == 7, "at {at}");
-        assert_eq!(rt; disk.bytes(alloc)?.as_slice(), want.as_slice(), "at {at}");
+        assert_eq!(rt;
+            disk.bytes(alloc).expect(&rt, NO_MEMORY).as_slice(),
+            want.as_slice(),
+            "at {at}"
+        );
         assert_eq!(rt; disk.faults(), u64::from(at < 7), "at {at}");
         assert!(rt; store(&rt, alloc, &mut disk, 3, &[1, 2, 3, 4]));
         assert_eq!(rt;
-            disk.bytes(alloc)?.as_slice(),
+            disk.bytes(alloc).expect(&rt, NO_MEMORY).as_slice(),
             [9, 9, 9, 1, 2, 3, 4, 9].as_slice()
         );
     }
-    Ok(())
 }
 
 #[test]
-fn each_kind_of_entry_fails_one_call(rt: HostRuntime) -> Result<(), TestFail> {
+fn each_kind_of_entry_fails_one_call(rt: HostRuntime) {
     let alloc = rt.alloc();
     // An entry, and how many calls fail: a start, a growth to 12, a read of 2 to 5, a write of 2 to 5, a split at 4.
     let table: [(FailOp, u64, u64); 10] = [
@@ -106,8 +113,10 @@ fn each_kind_of_entry_fails_one_call(rt: HostRuntime) -> Result<(), TestFail> {
         (FailOp::Split, 4, 1),
     ];
     for (op, at, want) in table {
-        let entries = plan(alloc, &[Fail { op, at }])?;
-        let mut disk = MemDisk::failing(alloc, blob(alloc, &[9; 8])?, entries)?;
+        let entries = plan(&rt, alloc, &[Fail { op, at }]);
+        let mut disk = MemDisk::failing(alloc, blob(&rt, alloc, &[9; 8]), entries).expect(
+            &rt, NO_MEMORY,
+        );
         let started = disk.start(alloc, "d.nc", false).is_ok();
         assert_eq!(rt; started, op != FailOp::Start || want == 0);
         let grown = grow(&rt, alloc, &mut disk, 12);
@@ -125,22 +134,27 @@ fn each_kind_of_entry_fails_one_call(rt: HostRuntime) -> Result<(), TestFail> {
         assert_eq!(rt; disk.size(), 0);
         assert_eq!(rt; disk.faults(), want, "at {at}");
     }
-    Ok(())
 }
 
 #[test]
-fn a_logged_disk_is_split_and_joined(rt: HostRuntime) -> Result<(), TestFail> {
+fn a_logged_disk_is_split_and_joined(rt: HostRuntime) {
     let alloc = rt.alloc();
-    let mut disk = MemDisk::logged(alloc, blob(alloc, b"abcdefgh")?)?;
+    let mut disk = MemDisk::logged(alloc, blob(&rt, alloc, b"abcdefgh")).expect(&rt, NO_MEMORY);
     assert!(rt; store(&rt, alloc, &mut disk, 2, b"CD"));
     let mut rest = split(&rt, alloc, &mut disk, 5).unwrap_or(MemDisk::new(
         alloc,
         Blob::new(alloc),
-    )?);
-    assert_eq!(rt; disk.bytes(alloc)?.as_slice(), b"abCDe".as_slice());
-    assert_eq!(rt; rest.bytes(alloc)?.as_slice(), b"fgh".as_slice());
+    ).expect(&rt, NO_MEMORY));
+    assert_eq!(rt;
+        disk.bytes(alloc).expect(&rt, NO_MEMORY).as_slice(),
+        b"abCDe".as_slice()
+    );
+    assert_eq!(rt;
+        rest.bytes(alloc).expect(&rt, NO_MEMORY).as_slice(),
+        b"fgh".as_slice()
+    );
     assert_eq!(rt; rest.first_place(), 5);
-    assert!(rt; rest.calls(alloc)? == Some(DiskCallList::new(alloc)));
+    assert!(rt; rest.calls(alloc).expect(&rt, NO_MEMORY) == Some(DiskCallList::new(alloc)));
     let mut into = [0; 2];
     assert!(rt; load(&rt, alloc, &mut rest, 6, &mut into));
     assert_eq!(rt; into, *b"gh");
@@ -159,12 +173,11 @@ fn a_logged_disk_is_split_and_joined(rt: HostRuntime) -> Result<(), TestFail> {
         DiskCall::Grow(10),
         DiskCall::Load(1, 9),
     ];
-    let calls = DiskCallList::from_vec(Vec::from_slice(alloc, &want)?);
-    assert!(rt; disk.calls(alloc)? == Some(calls));
+    let calls = DiskCallList::from_vec(Vec::from_slice(alloc, &want).expect(&rt, NO_MEMORY));
+    assert!(rt; disk.calls(alloc).expect(&rt, NO_MEMORY) == Some(calls));
     assert_eq!(rt; disk.faults(), 0);
-    let silent = MemDisk::new(alloc, blob(alloc, b"ab")?)?;
-    assert!(rt; silent.calls(alloc)?.is_none());
-    Ok(())
+    let silent = MemDisk::new(alloc, blob(&rt, alloc, b"ab")).expect(&rt, NO_MEMORY);
+    assert!(rt; silent.calls(alloc).expect(&rt, NO_MEMORY).is_none());
 }
 
 // Entries on both sides of place 4.
@@ -188,18 +201,20 @@ const ENTRIES: [Fail; 4] = [
 ];
 
 // Two disks side by side, of which the second begins at place 4.
-fn split_at_4<R: Abort>(rt: &R, alloc: Global) -> Result<(MemDisk, MemDisk), TestFail> {
-    let entries = plan(alloc, &ENTRIES)?;
-    let mut disk = MemDisk::failing(alloc, blob(alloc, b"abcdefgh")?, entries)?;
-    let none = MemDisk::new(alloc, Blob::new(alloc))?;
+fn split_at_4<R: Abort>(rt: &R, alloc: Global) -> (MemDisk, MemDisk) {
+    let entries = plan(rt, alloc, &ENTRIES);
+    let mut disk = MemDisk::failing(alloc, blob(rt, alloc, b"abcdefgh"), entries).expect(
+        rt, NO_MEMORY,
+    );
+    let none = MemDisk::new(alloc, Blob::new(alloc)).expect(rt, NO_MEMORY);
     let rest = split(rt, alloc, &mut disk, 4).unwrap_or(none);
-    Ok((disk, rest))
+    (disk, rest)
 }
 
 #[test]
-fn a_split_hands_entries_over(rt: HostRuntime) -> Result<(), TestFail> {
+fn a_split_hands_entries_over(rt: HostRuntime) {
     let alloc = rt.alloc();
-    let (mut disk, mut second) = split_at_4(&rt, alloc)?;
+    let (mut disk, mut second) = split_at_4(&rt, alloc);
     // The entry at 1 stayed, and the split's went along.
     assert!(rt; !load(&rt, alloc, &mut disk, 0, &mut [0; 4]));
     assert!(rt; load(&rt, alloc, &mut disk, 0, &mut [0; 4]));
@@ -207,15 +222,14 @@ fn a_split_hands_entries_over(rt: HostRuntime) -> Result<(), TestFail> {
     assert_eq!(rt; second.faults(), 1);
     append(&rt, &mut disk, second);
     assert_eq!(rt; disk.faults(), 2);
-    Ok(())
 }
 
 #[test]
-fn entries_that_are_left_come_back(rt: HostRuntime) -> Result<(), TestFail> {
+fn entries_that_are_left_come_back(rt: HostRuntime) {
     let alloc = rt.alloc();
-    let (mut disk, mut second) = split_at_4(&rt, alloc)?;
+    let (mut disk, mut second) = split_at_4(&rt, alloc);
     assert!(rt; split(&rt, alloc, &mut second, 6).is_none());
-    let none = MemDisk::new(alloc, Blob::new(alloc))?;
+    let none = MemDisk::new(alloc, Blob::new(alloc)).expect(&rt, NO_MEMORY);
     let mut third = split(&rt, alloc, &mut second, 6).unwrap_or(none);
     assert_eq!(rt; third.faults(), 0);
     assert!(rt; !load(&rt, alloc, &mut third, 6, &mut [0; 1]));
@@ -223,10 +237,12 @@ fn entries_that_are_left_come_back(rt: HostRuntime) -> Result<(), TestFail> {
     append(&rt, &mut disk, second);
     assert_eq!(rt; disk.faults(), 2);
     assert!(rt; !store(&rt, alloc, &mut disk, 2, b"CDEF"));
-    assert_eq!(rt; disk.bytes(alloc)?.as_slice(), b"abCDefgh".as_slice());
+    assert_eq!(rt;
+        disk.bytes(alloc).expect(&rt, NO_MEMORY).as_slice(),
+        b"abCDefgh".as_slice()
+    );
     assert!(rt; store(&rt, alloc, &mut disk, 2, b"CDEF"));
     assert_eq!(rt; disk.faults(), 3);
-    Ok(())
 }
 
 // A split, a write past it and the way back, through the bound.
@@ -243,26 +259,28 @@ fn past_a_split<D: Disk>(disk: &mut D, alloc: Global, at: u64) -> Result<(), Dis
 fn send<T: Send + Drop>(_value: T) {}
 
 #[test]
-fn a_disk_is_used_through_its_bound(rt: HostRuntime) -> Result<(), TestFail> {
+fn a_disk_is_used_through_its_bound(rt: HostRuntime) {
     let alloc = rt.alloc();
-    let mut disk = MemDisk::new(alloc, blob(alloc, b"abcd")?)?;
+    let mut disk = MemDisk::new(alloc, blob(&rt, alloc, b"abcd")).expect(&rt, NO_MEMORY);
     let from = disk.first_place();
     let len = disk.size();
     assert!(rt; from == 0 && len == 4);
     assert!(rt; past_a_split(&mut disk, alloc, 2).is_ok());
-    assert_eq!(rt; disk.bytes(alloc)?.as_slice(), b"ab!d".as_slice());
+    assert_eq!(rt;
+        disk.bytes(alloc).expect(&rt, NO_MEMORY).as_slice(),
+        b"ab!d".as_slice()
+    );
     send(disk);
-    Ok(())
 }
 
 #[test]
-fn a_disk_of_many_pieces(rt: HostRuntime) -> Result<(), TestFail> {
+fn a_disk_of_many_pieces(rt: HostRuntime) {
     let alloc = rt.alloc();
-    let mut disk = MemDisk::new(alloc, Blob::new(alloc))?;
+    let mut disk = MemDisk::new(alloc, Blob::new(alloc)).expect(&rt, NO_MEMORY);
     assert!(rt; grow(&rt, alloc, &mut disk, 20_000));
     for turn in 0..10_000 {
         let at = 19_998 - 2 * turn;
-        let none = MemDisk::new(alloc, Blob::new(alloc))?;
+        let none = MemDisk::new(alloc, Blob::new(alloc)).expect(&rt, NO_MEMORY);
         let rest = split(&rt, alloc, &mut disk, at).unwrap_or(none);
         append(&rt, &mut disk, rest);
     }
@@ -273,14 +291,13 @@ fn a_disk_of_many_pieces(rt: HostRuntime) -> Result<(), TestFail> {
     assert!(rt; into == bytes);
     assert!(rt; grow(&rt, alloc, &mut disk, 20_001));
     assert_eq!(rt; disk.size(), 20_001);
-    Ok(())
 }
 
 #[test]
-fn a_sink_takes_what_it_has_room_for(rt: HostRuntime) -> Result<(), TestFail> {
+fn a_sink_takes_what_it_has_room_for(rt: HostRuntime) {
     let alloc = rt.alloc();
-    let failing = IdList::from_vec(Vec::from_slice(alloc, &[1])?);
-    let mut sink = MemSink::new(alloc, 4, failing)?;
+    let failing = IdList::from_vec(Vec::from_slice(alloc, &[1]).expect(&rt, NO_MEMORY));
+    let mut sink = MemSink::new(alloc, 4, failing).expect(&rt, NO_MEMORY);
     let table: [(&[u8], Result<usize, Failed>); 6] = [
         (b"abc", Ok(3)),
         (b"de", Err(Failed)),
@@ -293,14 +310,13 @@ fn a_sink_takes_what_it_has_room_for(rt: HostRuntime) -> Result<(), TestFail> {
         assert!(rt; sink.give(piece) == want);
     }
     assert_eq!(rt; sink.bytes(), b"abcd".as_slice());
-    Ok(())
 }
 
 #[test]
-fn a_source_gives_its_bytes_in_order(rt: HostRuntime) -> Result<(), TestFail> {
+fn a_source_gives_its_bytes_in_order(rt: HostRuntime) {
     let alloc = rt.alloc();
-    let failing = IdList::from_vec(Vec::from_slice(alloc, &[1])?);
-    let mut source = MemSource::new(blob(alloc, b"hello")?, failing);
+    let failing = IdList::from_vec(Vec::from_slice(alloc, &[1]).expect(&rt, NO_MEMORY));
+    let mut source = MemSource::new(blob(&rt, alloc, b"hello"), failing);
     let table: [(usize, Result<usize, Failed>, [u8; 4]); 6] = [
         (2, Ok(2), *b"he.."),
         (4, Err(Failed), *b"...."),
@@ -315,7 +331,6 @@ fn a_source_gives_its_bytes_in_order(rt: HostRuntime) -> Result<(), TestFail> {
         assert!(rt; source.take(&mut into[..room]) == want);
         assert_eq!(rt; into, bytes);
     }
-    Ok(())
 }
 
 const FIRST: Point = Point::RankStep(0, 0);
@@ -367,12 +382,11 @@ fn hand_on<S: Source, K: Sink>(source: &mut S, sink: &mut K) -> Result<usize, Fa
 }
 
 #[test]
-fn a_source_and_a_sink_are_used_through_their_bounds(rt: HostRuntime) -> Result<(), TestFail> {
+fn a_source_and_a_sink_are_used_through_their_bounds(rt: HostRuntime) {
     let alloc = rt.alloc();
-    let mut source = MemSource::new(blob(alloc, b"hello")?, IdList::new(alloc));
-    let mut sink = MemSink::new(alloc, 3, IdList::new(alloc))?;
+    let mut source = MemSource::new(blob(&rt, alloc, b"hello"), IdList::new(alloc));
+    let mut sink = MemSink::new(alloc, 3, IdList::new(alloc)).expect(&rt, NO_MEMORY);
     assert!(rt; hand_on(&mut source, &mut sink) == Ok(3));
     assert!(rt; hand_on(&mut source, &mut sink) == Err(Failed));
     assert_eq!(rt; sink.bytes(), b"hel".as_slice());
-    Ok(())
 }

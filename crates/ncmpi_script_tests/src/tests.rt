@@ -6,9 +6,11 @@ mod whole;
 
 use nc_base::{Call, Script, ScriptKind};
 use ncmpi_script::read_script;
-use std::alloc::{AllocError, Global};
+use std::alloc::Global;
 use std::process::Abort;
-use std::test::Fail;
+
+/// What a test says that has no memory.
+const NO_MEMORY: &str = "memory";
 
 // The fault of a text.
 fn fault(alloc: Global, text: &[u8]) -> Option<(u32, ScriptKind)> {
@@ -37,11 +39,13 @@ fn read<R: Abort>(rt: &R, alloc: Global, table: &[&str]) {
 }
 
 // A line between others.
-fn of_lines(alloc: Global, before: &str, line: &str, after: &str) -> Result<Vec<u8>, AllocError> {
-    let mut text = Vec::from_slice(alloc, before.as_bytes())?;
-    text.extend_from_slice(line.as_bytes())?;
-    text.extend_from_slice(after.as_bytes())?;
-    Ok(text)
+fn of_lines(rt: &impl Abort, alloc: Global, before: &str, line: &str, after: &str) -> Vec<u8> {
+    let mut text = Vec::from_slice(alloc, before.as_bytes()).expect(rt, NO_MEMORY);
+    text.extend_from_slice(line.as_bytes())
+        .expect(rt, NO_MEMORY);
+    text.extend_from_slice(after.as_bytes())
+        .expect(rt, NO_MEMORY);
+    text
 }
 
 // Each line, which has this number behind these lines, is refused for that cause.
@@ -51,16 +55,15 @@ fn line_refused<R: Abort>(
     before: &str,
     number: u32,
     table: &[(&str, ScriptKind)],
-) -> Result<(), Fail> {
+) {
     for (line, kind) in table {
-        let text = of_lines(alloc, before, line, "\n")?;
+        let text = of_lines(rt, alloc, before, line, "\n");
         assert_eq!(rt;
             fault(alloc, text.as_slice()),
             Some((number, *kind)),
             "{line}"
         );
     }
-    Ok(())
 }
 
 // The calls of a rank.

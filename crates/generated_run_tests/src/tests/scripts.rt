@@ -1,15 +1,16 @@
 // Made scripts.
 
+use super::NO_MEMORY;
 use generated_run::make_script;
 use nc_base::{Call, Given, PostKind, Script, SizeList, Values};
-use std::alloc::{AllocError, Global};
+use std::alloc::Global;
+use std::process::Abort;
 use std::test::Fail;
 
 /// The call of this number of a rank.
-fn call_of(script: &Script, rank: usize, number: usize) -> Result<&Call, Fail> {
-    let own = script.calls.as_slice().get(rank).ok_or("rank")?;
-    let call = own.as_slice().get(number).ok_or("call")?;
-    Ok(call)
+fn call_of<'a>(rt: &impl Abort, script: &'a Script, rank: usize, number: usize) -> &'a Call {
+    let own = script.calls.as_slice().get(rank).expect(rt, "rank");
+    own.as_slice().get(number).expect(rt, "call")
 }
 
 /// The id, region and values of a call that posts a put by way of the buffer.
@@ -26,29 +27,28 @@ fn posted(call: &Call) -> Result<(u32, &Given, &Values), Fail> {
     }
 }
 
-fn region(alloc: Global, sizes: [u64; 3]) -> Result<SizeList, AllocError> {
-    Ok(SizeList::from_vec(Vec::from_slice(alloc, sizes.as_slice())?))
+fn region(rt: &impl Abort, alloc: Global, sizes: [u64; 3]) -> SizeList {
+    SizeList::from_vec(Vec::from_slice(alloc, sizes.as_slice()).expect(rt, NO_MEMORY))
 }
 
 #[test]
-fn each_of_eight_ranks_has_seven_calls(rt: HostRuntime) -> Result<(), Fail> {
-    let script = make_script(rt.alloc(), 0, 1)?;
+fn each_of_eight_ranks_has_seven_calls(rt: HostRuntime) {
+    let script = make_script(rt.alloc(), 0, 1).expect(&rt, NO_MEMORY);
     assert_eq!(rt; script.ranks, 8);
     assert_eq!(rt; script.calls.len(), 8);
     assert!(rt; script.calls.as_slice().iter().all(|own| own.len() == 7));
-    assert_eq!(rt; *call_of(&script, 0, 0)?, Call::Attach { size: 65536 });
-    assert_eq!(rt; *call_of(&script, 7, 6)?, Call::Detach);
-    Ok(())
+    assert_eq!(rt; *call_of(&rt, &script, 0, 0), Call::Attach { size: 65536 });
+    assert_eq!(rt; *call_of(&rt, &script, 7, 6), Call::Detach);
 }
 
 #[test]
 fn the_last_rank_puts_the_last_rows(rt: HostRuntime) -> Result<(), Fail> {
     let alloc = rt.alloc();
     let script = make_script(alloc, 0, 1)?;
-    let (id, given, values) = posted(call_of(&script, 7, 1)?)?;
+    let (id, given, values) = posted(call_of(&rt, &script, 7, 1))?;
     assert_eq!(rt; id, 0);
-    assert_eq!(rt; given.start, region(alloc, [0, 157, 0])?);
-    assert_eq!(rt; given.count, region(alloc, [1, 23, 360])?);
+    assert_eq!(rt; given.start, region(&rt, alloc, [0, 157, 0]));
+    assert_eq!(rt; given.count, region(&rt, alloc, [1, 23, 360]));
     let Values::Bits(bits) = values else {
         return Err(Fail::from("bits"));
     };
@@ -62,10 +62,10 @@ fn the_last_rank_puts_the_last_rows(rt: HostRuntime) -> Result<(), Fail> {
 fn the_second_record_has_the_next_ids(rt: HostRuntime) -> Result<(), Fail> {
     let alloc = rt.alloc();
     let script = make_script(alloc, 5, 2)?;
-    let (id, given, values) = posted(call_of(&script, 0, 5)?)?;
+    let (id, given, values) = posted(call_of(&rt, &script, 0, 5))?;
     assert_eq!(rt; id, 3);
-    assert_eq!(rt; given.start, region(alloc, [1, 0, 0])?);
-    assert_eq!(rt; given.count, region(alloc, [1, 22, 360])?);
+    assert_eq!(rt; given.start, region(&rt, alloc, [1, 0, 0]));
+    assert_eq!(rt; given.count, region(&rt, alloc, [1, 22, 360]));
     let Values::Numbers(numbers) = values else {
         return Err(Fail::from("numbers"));
     };
@@ -77,7 +77,7 @@ fn the_second_record_has_the_next_ids(rt: HostRuntime) -> Result<(), Fail> {
 fn values_begin_again_behind_the_greatest(rt: HostRuntime) -> Result<(), Fail> {
     let alloc = rt.alloc();
     let script = make_script(alloc, 8_388_600, 1)?;
-    let (_, _, values) = posted(call_of(&script, 0, 1)?)?;
+    let (_, _, values) = posted(call_of(&rt, &script, 0, 1))?;
     let Values::Bits(bits) = values else {
         return Err(Fail::from("bits"));
     };
@@ -86,7 +86,7 @@ fn values_begin_again_behind_the_greatest(rt: HostRuntime) -> Result<(), Fail> {
         (Some(0x3FFF_FFFF), Some(0x3F80_0000))
     );
     let script = make_script(alloc, 19_999, 1)?;
-    let (_, _, values) = posted(call_of(&script, 0, 2)?)?;
+    let (_, _, values) = posted(call_of(&rt, &script, 0, 2))?;
     let Values::Numbers(numbers) = values else {
         return Err(Fail::from("numbers"));
     };
@@ -101,12 +101,12 @@ fn values_begin_again_behind_the_greatest(rt: HostRuntime) -> Result<(), Fail> {
 fn a_rank_gets_its_column_of_each_record(rt: HostRuntime) -> Result<(), Fail> {
     let alloc = rt.alloc();
     let script = make_script(alloc, 0, 2)?;
-    let Call::Get { all, var, given } = call_of(&script, 7, 8)? else {
+    let Call::Get { all, var, given } = call_of(&rt, &script, 7, 8) else {
         return Err(Fail::from("a get"));
     };
     assert!(rt; *all);
     assert_eq!(rt; var.as_slice(), b"precip".as_slice());
-    assert_eq!(rt; given.start, region(alloc, [0, 0, 315])?);
-    assert_eq!(rt; given.count, region(alloc, [2, 180, 1])?);
+    assert_eq!(rt; given.start, region(&rt, alloc, [0, 0, 315]));
+    assert_eq!(rt; given.count, region(&rt, alloc, [2, 180, 1]));
     Ok(())
 }

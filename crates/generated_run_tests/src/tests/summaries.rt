@@ -4,25 +4,25 @@ ghost use Rattle.serial_spec.specs.HeaderGrammar.{is_sound};
 ghost use Rattle.script_spec.specs.Generator.{has_counts};
 ghost use Rattle.var_layout.specs.Unplaced.{is_unplaced};
 
+use super::NO_MEMORY;
 use generated_run::{made_law, make_script, summary_text};
 use nc_base::{
     Align, Answer, AnswerList, AnswerTable, BitList, Code, Header, Item, ItemList, Mark, MarkList,
-    Memory, NumberList, Script, Values,
+    NumberList, Script, Values,
 };
-use std::alloc::{AllocError, Global};
+use std::alloc::Global;
 use std::process::Abort;
-use std::test::Fail;
 use var_layout::lay_out;
 
 /// A made script.
-fn made(alloc: Global, seed: u64, size: u32) -> Result<Script, Memory>
+fn made(rt: &impl Abort, alloc: Global, seed: u64, size: u32) -> Script
     requires some { 1 ≤ size }
     requires few { size ≤ 64 }
-    ensures counted { IfOk result (λ script. has_counts script ≡ true) }
-    ensures unplaced { IfOk result (λ script. is_unplaced script.header ≡ true) }
+    ensures counted { has_counts result ≡ true }
+    ensures unplaced { is_unplaced result.header ≡ true }
 {
     made_law();
-    make_script(alloc, seed, size)
+    make_script(alloc, seed, size).expect(rt, NO_MEMORY)
 }
 
 /// The header with its begins.
@@ -54,40 +54,52 @@ fn given(alloc: Global, values: Values) -> Answer {
 }
 
 /// The answer of a wait: one put is done, the other refused.
-fn waited(alloc: Global) -> Result<Answer, Memory> {
+fn waited(rt: &impl Abort, alloc: Global) -> Answer {
     let mut answer = answer(alloc, Code::Ok);
-    answer.items.push(Item {
-        id: 0,
-        code: Code::Ok,
-        values: None,
-    })?;
-    answer.items.push(Item {
-        id: 1,
-        code: Code::ERange,
-        values: None,
-    })?;
-    Ok(answer)
+    answer
+        .items
+        .push(Item {
+            id: 0,
+            code: Code::Ok,
+            values: None,
+        })
+        .expect(rt, NO_MEMORY);
+    answer
+        .items
+        .push(Item {
+            id: 1,
+            code: Code::ERange,
+            values: None,
+        })
+        .expect(rt, NO_MEMORY);
+    answer
 }
 
 /// The answers of a rank whose script has one record.
-fn answers_of_rank(alloc: Global) -> Result<AnswerList, Memory> {
+fn answers_of_rank(rt: &impl Abort, alloc: Global) -> AnswerList {
     let mut answers = AnswerList::new(alloc);
-    answers.push(answer(alloc, Code::Ok))?;
-    answers.push(answer(alloc, Code::Ok))?;
-    answers.push(answer(alloc, Code::Ok))?;
-    answers.push(waited(alloc)?)?;
-    let bits = BitList::from_vec(vec![in alloc; 7, 1]?);
-    answers.push(given(alloc, Values::Bits(bits)))?;
-    let numbers = NumberList::from_vec(vec![in alloc; -12, 2]?);
-    answers.push(given(alloc, Values::Numbers(numbers)))?;
-    answers.push(answer(alloc, Code::Ok))?;
-    Ok(answers)
+    answers.push(answer(alloc, Code::Ok)).expect(rt, NO_MEMORY);
+    answers.push(answer(alloc, Code::Ok)).expect(rt, NO_MEMORY);
+    answers.push(answer(alloc, Code::Ok)).expect(rt, NO_MEMORY);
+    answers.push(waited(rt, alloc)).expect(rt, NO_MEMORY);
+    let bits = BitList::from_vec(vec![in alloc; 7, 1].expect(rt, NO_MEMORY));
+    answers
+        .push(given(alloc, Values::Bits(bits)))
+        .expect(rt, NO_MEMORY);
+    let numbers = NumberList::from_vec(vec![in alloc; -12, 2].expect(rt, NO_MEMORY));
+    answers
+        .push(given(alloc, Values::Numbers(numbers)))
+        .expect(rt, NO_MEMORY);
+    answers.push(answer(alloc, Code::Ok)).expect(rt, NO_MEMORY);
+    answers
 }
 
 /// Two meetings, and a call of a rank alone.
-fn order(alloc: Global) -> Result<MarkList, AllocError> {
-    let marks = vec![in alloc; Mark::Meet(0), Mark::Meet(1), Mark::Solo(1, 3)]?;
-    Ok(MarkList::from_vec(marks))
+fn order(rt: &impl Abort, alloc: Global) -> MarkList {
+    let marks = vec![in alloc; Mark::Meet(0), Mark::Meet(1), Mark::Solo(1, 3)].expect(
+        rt, NO_MEMORY,
+    );
+    MarkList::from_vec(marks)
 }
 
 // Of 22 rows of 360 put, and of 180 of either variable got.
@@ -104,14 +116,15 @@ file 160
 ";
 
 #[test]
-fn what_a_rank_did_is_summed_up(rt: HostRuntime) -> Result<(), Fail> {
+fn what_a_rank_did_is_summed_up(rt: HostRuntime) {
     let alloc = rt.alloc();
-    let script = made(alloc, 7, 1)?;
-    let header = laid_out(&rt, made(alloc, 7, 1)?.header);
-    let order = order(alloc)?;
+    let script = made(&rt, alloc, 7, 1);
+    let header = laid_out(&rt, made(&rt, alloc, 7, 1).header);
+    let order = order(&rt, alloc);
     let mut answers = AnswerTable::new(alloc);
-    answers.push(answers_of_rank(alloc)?)?;
-    let text = summary_text(alloc, 7, 1, &script, &header, &order, &answers)?;
+    answers
+        .push(answers_of_rank(&rt, alloc))
+        .expect(&rt, NO_MEMORY);
+    let text = summary_text(alloc, 7, 1, &script, &header, &order, &answers).expect(&rt, NO_MEMORY);
     assert_eq!(rt; text.as_slice(), TOLD);
-    Ok(())
 }

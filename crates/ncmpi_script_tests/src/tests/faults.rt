@@ -1,7 +1,6 @@
 // One text for each cause of a fault, and texts with two faults.
 use super::{fault, line_refused, read, refused};
 use nc_base::{LimitName, ScriptKind};
-use std::test::Fail;
 
 const HEADS: [(&str, u32, ScriptKind); 14] = [
     ("# a remark\n \t\r\n", 1, ScriptKind::NoHead),
@@ -132,8 +131,8 @@ const FORMS: [(&str, ScriptKind); 40] = [
 ];
 
 #[test]
-fn faults_of_definitions_are_told(rt: HostRuntime) -> Result<(), Fail> {
-    line_refused(&rt, rt.alloc(), DEFINED, 7, &WORDS)?;
+fn faults_of_definitions_are_told(rt: HostRuntime) {
+    line_refused(&rt, rt.alloc(), DEFINED, 7, &WORDS);
     line_refused(&rt, rt.alloc(), DEFINED, 7, &FORMS)
 }
 
@@ -156,9 +155,9 @@ const CLASSIC: [(&str, ScriptKind); 6] = [
 ];
 
 #[test]
-fn faults_of_ranks_and_versions_are_told(rt: HostRuntime) -> Result<(), Fail> {
-    line_refused(&rt, rt.alloc(), "create 1\n", 2, &RANKS)?;
-    line_refused(&rt, rt.alloc(), "create 1\n", 2, &CLASSIC)?;
+fn faults_of_ranks_and_versions_are_told(rt: HostRuntime) {
+    line_refused(&rt, rt.alloc(), "create 1\n", 2, &RANKS);
+    line_refused(&rt, rt.alloc(), "create 1\n", 2, &CLASSIC);
     line_refused(&rt, rt.alloc(), "create 2\n", 2, &CLASSIC)
 }
 
@@ -180,7 +179,7 @@ const ADDED: [(&str, ScriptKind); 12] = [
 ];
 
 #[test]
-fn faults_of_what_is_added_are_told(rt: HostRuntime) -> Result<(), Fail> {
+fn faults_of_what_is_added_are_told(rt: HostRuntime) {
     line_refused(&rt, rt.alloc(), OPENED, 7, &ADDED)
 }
 
@@ -289,8 +288,8 @@ const SAID: [(&str, ScriptKind); 44] = [
 ];
 
 #[test]
-fn faults_of_the_words_of_calls_are_told(rt: HostRuntime) -> Result<(), Fail> {
-    line_refused(&rt, rt.alloc(), CALLED, 7, &NAMED)?;
+fn faults_of_the_words_of_calls_are_told(rt: HostRuntime) {
+    line_refused(&rt, rt.alloc(), CALLED, 7, &NAMED);
     line_refused(&rt, rt.alloc(), CALLED, 7, &SAID)
 }
 

@@ -1,24 +1,24 @@
 // The limits of a text: what stands at one is read, and what passes it is told at its line.
-use super::{fault, line_refused, of_lines, read};
+use super::{NO_MEMORY, fault, line_refused, of_lines, read};
 use nc_base::{LimitName, ScriptKind};
-use std::alloc::{AllocError, Global};
+use std::alloc::Global;
 use std::process::Abort;
-use std::test::Fail;
 
 // The lines of `count` names, the first of which is d0, between these words.
 fn numbered(
+    rt: &impl Abort,
     alloc: Global,
     head: &str,
     before: &str,
     after: &str,
     count: u32,
-) -> Result<String, AllocError> {
-    let mut text = String::from_str(alloc, head)?;
+) -> String {
+    let mut text = String::from_str(alloc, head).expect(rt, NO_MEMORY);
     for n in 0..count {
-        let line = format!(in alloc; "{before}d{n}{after}\n")?;
-        text.push_str(line.as_str())?;
+        let line = format!(in alloc; "{before}d{n}{after}\n").expect(rt, NO_MEMORY);
+        text.push_str(line.as_str()).expect(rt, NO_MEMORY);
     }
-    Ok(text)
+    text
 }
 
 const PAST_DIMS: [(&str, ScriptKind); 4] = [
@@ -29,11 +29,11 @@ const PAST_DIMS: [(&str, ScriptKind); 4] = [
 ];
 
 #[test]
-fn a_dataset_has_up_to_1024_dimensions(rt: HostRuntime) -> Result<(), Fail> {
+fn a_dataset_has_up_to_1024_dimensions(rt: HostRuntime) {
     let alloc = rt.alloc();
-    let most = numbered(alloc, "create 1\n", "dim ", " 1", 1024)?;
-    line_refused(&rt, alloc, most.as_str(), 1026, &PAST_DIMS)?;
-    let added = numbered(alloc, "open\n", "dim ", " 1", 1024)?;
+    let most = numbered(&rt, alloc, "create 1\n", "dim ", " 1", 1024);
+    line_refused(&rt, alloc, most.as_str(), 1026, &PAST_DIMS);
+    let added = numbered(&rt, alloc, "open\n", "dim ", " 1", 1024);
     line_refused(&rt, alloc, added.as_str(), 1026, &PAST_DIMS)
 }
 
@@ -44,11 +44,11 @@ const PAST_VARS: [(&str, ScriptKind); 3] = [
 ];
 
 #[test]
-fn a_dataset_has_up_to_8192_variables(rt: HostRuntime) -> Result<(), Fail> {
+fn a_dataset_has_up_to_8192_variables(rt: HostRuntime) {
     let alloc = rt.alloc();
-    let most = numbered(alloc, "create 1\n", "var int ", " []", 8192)?;
-    line_refused(&rt, alloc, most.as_str(), 8194, &PAST_VARS)?;
-    let added = numbered(alloc, "open\n", "var int ", " []", 8192)?;
+    let most = numbered(&rt, alloc, "create 1\n", "var int ", " []", 8192);
+    line_refused(&rt, alloc, most.as_str(), 8194, &PAST_VARS);
+    let added = numbered(&rt, alloc, "open\n", "var int ", " []", 8192);
     line_refused(&rt, alloc, added.as_str(), 8194, &PAST_VARS)
 }
 
@@ -86,40 +86,38 @@ const SHAPES: [(&str, Option<ScriptKind>, Option<ScriptKind>); 5] = [
 ];
 
 // The fault of this line behind these, if it has one.
-fn fault_of(
-    alloc: Global,
-    before: &str,
-    line: &str,
-) -> Result<Option<(u32, ScriptKind)>, AllocError> {
-    let text = of_lines(alloc, before, line, "\nranks 1\ndata\nend\n")?;
-    Ok(fault(alloc, text.as_slice()))
+fn fault_of(rt: &impl Abort, alloc: Global, before: &str, line: &str) -> Option<(u32, ScriptKind)> {
+    let text = of_lines(rt, alloc, before, line, "\nranks 1\ndata\nend\n");
+    fault(alloc, text.as_slice())
 }
 
 #[test]
-fn a_variable_has_up_to_32_dimensions(rt: HostRuntime) -> Result<(), Fail> {
+fn a_variable_has_up_to_32_dimensions(rt: HostRuntime) {
     for (line, created, opened) in &SHAPES {
-        let found = fault_of(rt.alloc(), DEFINED, line)?;
+        let found = fault_of(&rt, rt.alloc(), DEFINED, line);
         assert_eq!(rt; found, created.map(|kind| (4, kind)), "{line}");
-        let found = fault_of(rt.alloc(), OPENED, line)?;
+        let found = fault_of(&rt, rt.alloc(), OPENED, line);
         assert_eq!(rt; found, opened.map(|kind| (4, kind)), "{line}");
     }
-    Ok(())
 }
 
 // The text with so many of a piece between its lines.
 fn filled(
+    rt: &impl Abort,
     alloc: Global,
     before: &str,
     piece: &str,
     count: u32,
     after: &str,
-) -> Result<Vec<u8>, AllocError> {
-    let mut text = Vec::from_slice(alloc, before.as_bytes())?;
+) -> Vec<u8> {
+    let mut text = Vec::from_slice(alloc, before.as_bytes()).expect(rt, NO_MEMORY);
     for _ in 0..count {
-        text.extend_from_slice(piece.as_bytes())?;
+        text.extend_from_slice(piece.as_bytes())
+            .expect(rt, NO_MEMORY);
     }
-    text.extend_from_slice(after.as_bytes())?;
-    Ok(text)
+    text.extend_from_slice(after.as_bytes())
+        .expect(rt, NO_MEMORY);
+    text
 }
 
 // Sequences of as many values as a script may have, and of numbers past 64 bits.
@@ -149,16 +147,17 @@ const PAST_ELEMENTS: [(&str, &str, &str, Option<ScriptKind>); 8] = [
 ];
 
 #[test]
-fn a_call_has_up_to_2_to_the_20_values(rt: HostRuntime) -> Result<(), Fail> {
+fn a_call_has_up_to_2_to_the_20_values(rt: HostRuntime) {
     let alloc = rt.alloc();
     for (opens, piece, rest, wanted) in &PAST_ELEMENTS {
-        let before = format!(in alloc; "create 1\nranks 1\ndata\n0 put_var v {opens}")?;
-        let after = format!(in alloc; "{rest}\nend\n")?;
-        let text = filled(alloc, before.as_str(), piece, 1 << 20, after.as_str())?;
+        let before = format!(in alloc; "create 1\nranks 1\ndata\n0 put_var v {opens}").expect(
+            &rt, NO_MEMORY,
+        );
+        let after = format!(in alloc; "{rest}\nend\n").expect(&rt, NO_MEMORY);
+        let text = filled(&rt, alloc, before.as_str(), piece, 1 << 20, after.as_str());
         let found = fault(alloc, text.as_slice());
         assert_eq!(rt; found, wanted.map(|kind| (4, kind)), "{opens}{rest}");
     }
-    Ok(())
 }
 
 const SEQUENCES: [(&str, ScriptKind); 4] = [
@@ -169,7 +168,7 @@ const SEQUENCES: [(&str, ScriptKind); 4] = [
 ];
 
 #[test]
-fn the_count_of_a_sequence_is_looked_at_first(rt: HostRuntime) -> Result<(), Fail> {
+fn the_count_of_a_sequence_is_looked_at_first(rt: HostRuntime) {
     line_refused(&rt, rt.alloc(), "create 1\nranks 1\ndata\n", 4, &SEQUENCES)
 }
 
@@ -192,58 +191,58 @@ const PAST_VALUES: [(&str, Option<(u32, ScriptKind)>); 6] = [
 ];
 
 #[test]
-fn a_script_has_up_to_2_to_the_24_values(rt: HostRuntime) -> Result<(), Fail> {
+fn a_script_has_up_to_2_to_the_24_values(rt: HostRuntime) {
     let alloc = rt.alloc();
     for (after, wanted) in &PAST_VALUES {
         let text = filled(
+            &rt,
             alloc,
             "create 1\nranks 1\natt : a char \"",
             "a",
             1 << 24,
             after,
-        )?;
+        );
         assert_eq!(rt; fault(alloc, text.as_slice()), *wanted, "{after}");
     }
-    Ok(())
 }
 
 #[test]
-fn a_call_has_up_to_1024_parts(rt: HostRuntime) -> Result<(), Fail> {
+fn a_call_has_up_to_1024_parts(rt: HostRuntime) {
     let alloc = rt.alloc();
     let before = "create 1\nranks 1\ndata\n0 put_varn v 1024";
-    let most = filled(alloc, before, " [] []", 1024, "\nend\n")?;
+    let most = filled(&rt, alloc, before, " [] []", 1024, "\nend\n");
     assert_eq!(rt; fault(alloc, most.as_slice()), None);
-    let short = filled(alloc, before, " [] []", 1023, " []\nend\n")?;
+    let short = filled(&rt, alloc, before, " [] []", 1023, " []\nend\n");
     assert_eq!(rt;
         fault(alloc, short.as_slice()),
         Some((4, ScriptKind::MissingWord))
     );
-    Ok(())
 }
 
 #[test]
-fn a_name_has_up_to_256_characters(rt: HostRuntime) -> Result<(), Fail> {
+fn a_name_has_up_to_256_characters(rt: HostRuntime) {
     let alloc = rt.alloc();
     let most = filled(
+        &rt,
         alloc,
         "create 1\nranks 1\ndim d",
         "i",
         255,
         " 1\ndata\nend\n",
-    )?;
+    );
     assert_eq!(rt; fault(alloc, most.as_slice()), None);
     let more = filled(
+        &rt,
         alloc,
         "create 1\nranks 1\ndim d",
         "i",
         256,
         " 1\ndata\nend\n",
-    )?;
+    );
     assert_eq!(rt;
         fault(alloc, more.as_slice()),
         Some((3, ScriptKind::BadName))
     );
-    Ok(())
 }
 
 const LINES: ScriptKind = ScriptKind::Limit(LimitName::Lines);
@@ -270,40 +269,39 @@ const PAST_LINES: [(&str, &str, u32, ScriptKind); 7] = [
 ];
 
 #[test]
-fn a_text_has_up_to_2_to_the_20_lines(rt: HostRuntime) -> Result<(), Fail> {
+fn a_text_has_up_to_2_to_the_20_lines(rt: HostRuntime) {
     let alloc = rt.alloc();
     let most = filled(
+        &rt,
         alloc,
         "create 1\nranks 1\ndata\n",
         "\n",
         (1 << 20) - 4,
         "end\n",
-    )?;
+    );
     assert_eq!(rt; fault(alloc, most.as_slice()), None);
     for (before, after, line, kind) in &PAST_LINES {
-        let text = filled(alloc, before, "\n", 1 << 20, after)?;
+        let text = filled(&rt, alloc, before, "\n", 1 << 20, after);
         assert_eq!(rt;
             fault(alloc, text.as_slice()),
             Some((*line, *kind)),
             "{before}"
         );
     }
-    Ok(())
 }
 
 #[test]
-fn a_text_has_up_to_2_to_the_26_bytes(rt: HostRuntime) -> Result<(), Fail> {
+fn a_text_has_up_to_2_to_the_26_bytes(rt: HostRuntime) {
     let alloc = rt.alloc();
-    let most = filled(alloc, "", " ", 1 << 26, "")?;
+    let most = filled(&rt, alloc, "", " ", 1 << 26, "");
     assert_eq!(rt;
         fault(alloc, most.as_slice()),
         Some((1, ScriptKind::NoHead))
     );
-    let mut more = filled(alloc, "\n", " ", (1 << 26) - 1, "")?;
-    more.push(0xff)?;
+    let mut more = filled(&rt, alloc, "\n", " ", (1 << 26) - 1, "");
+    more.push(0xff).expect(&rt, NO_MEMORY);
     assert_eq!(rt;
         fault(alloc, more.as_slice()),
         Some((1, ScriptKind::Limit(LimitName::Script)))
     );
-    Ok(())
 }

@@ -1,10 +1,9 @@
 // The values of calls and of attributes, in each of their forms.
-use super::{calls_of, line_refused, of_lines};
-use nc_base::{BitList, Blob, Call, Memory, NcType, NumberList, ScriptKind, Values};
+use super::{NO_MEMORY, calls_of, line_refused, of_lines};
+use nc_base::{BitList, Blob, Call, NcType, NumberList, ScriptKind, Values};
 use ncmpi_script::read_script;
 use std::alloc::Global;
 use std::process::Abort;
-use std::test::Fail;
 
 // What values are.
 #[derive(Clone, Copy)]
@@ -14,14 +13,20 @@ enum Said {
     Bits(&'static [u64]),
 }
 
-fn values_of(alloc: Global, said: Said) -> Result<Values, Memory> {
+fn values_of(rt: &impl Abort, alloc: Global, said: Said) -> Values {
     match said {
         Said::Numbers(list) => {
-            let list = Vec::from_slice(alloc, list)?;
-            Ok(Values::Numbers(NumberList::from_vec(list)))
+            let list = Vec::from_slice(alloc, list).expect(rt, NO_MEMORY);
+            Values::Numbers(NumberList::from_vec(list))
         }
-        Said::Text(text) => Ok(Values::Text(Blob::from_vec(Vec::from_slice(alloc, text)?))),
-        Said::Bits(list) => Ok(Values::Bits(BitList::from_vec(Vec::from_slice(alloc, list)?))),
+        Said::Text(text) => {
+            let text = Vec::from_slice(alloc, text).expect(rt, NO_MEMORY);
+            Values::Text(Blob::from_vec(text))
+        }
+        Said::Bits(list) => {
+            let list = Vec::from_slice(alloc, list).expect(rt, NO_MEMORY);
+            Values::Bits(BitList::from_vec(list))
+        }
     }
 }
 
@@ -58,31 +63,30 @@ const OF_CALLS: [(&str, Said); 20] = [
 ];
 
 // A put of these values reads as that.
-fn put_of<R: Abort>(rt: &R, alloc: Global, words: &str, said: Said) -> Result<(), Fail> {
+fn put_of<R: Abort>(rt: &R, alloc: Global, words: &str, said: Said) {
     let text = of_lines(
+        rt,
         alloc,
         "create 1\nranks 1\ndata\n0 put_var v ",
         words,
         "\nend\n",
-    )?;
+    );
     let Ok(script) = read_script(alloc, text.as_slice()) else {
         panic!(rt; "{words} are no values");
     };
-    let wanted = values_of(alloc, said)?;
+    let wanted = values_of(rt, alloc, said);
     let read = match calls_of(&script, 0) {
         [Call::Put { values, .. }] => *values == wanted,
         _ => false,
     };
     assert!(rt; read, "{words}");
-    Ok(())
 }
 
 #[test]
-fn values_of_calls_are_those_of_their_words(rt: HostRuntime) -> Result<(), Fail> {
+fn values_of_calls_are_those_of_their_words(rt: HostRuntime) {
     for (words, said) in &OF_CALLS {
-        put_of(&rt, rt.alloc(), words, *said)?;
+        put_of(&rt, rt.alloc(), words, *said);
     }
-    Ok(())
 }
 
 const OF_ATTRIBUTES: [(&str, NcType, u64, &[u8]); 24] = [
@@ -148,13 +152,14 @@ const OF_ATTRIBUTES: [(&str, NcType, u64, &[u8]); 24] = [
 ];
 
 // An attribute of these words has that type, so many values, and these bytes.
-fn attribute_of<R: Abort>(
-    rt: &R,
-    alloc: Global,
-    words: &str,
-    wanted: (NcType, u64, &[u8]),
-) -> Result<(), Fail> {
-    let text = of_lines(alloc, "create 5\nranks 1\natt : a ", words, "\ndata\nend\n")?;
+fn attribute_of<R: Abort>(rt: &R, alloc: Global, words: &str, wanted: (NcType, u64, &[u8])) {
+    let text = of_lines(
+        rt,
+        alloc,
+        "create 5\nranks 1\natt : a ",
+        words,
+        "\ndata\nend\n",
+    );
     let Ok(script) = read_script(alloc, text.as_slice()) else {
         panic!(rt; "{words} are no values");
     };
@@ -163,15 +168,13 @@ fn attribute_of<R: Abort>(
         _ => false,
     };
     assert!(rt; read, "{words}");
-    Ok(())
 }
 
 #[test]
-fn values_of_attributes_are_in_external_form(rt: HostRuntime) -> Result<(), Fail> {
+fn values_of_attributes_are_in_external_form(rt: HostRuntime) {
     for (words, kind, count, bytes) in &OF_ATTRIBUTES {
-        attribute_of(&rt, rt.alloc(), words, (*kind, *count, bytes))?;
+        attribute_of(&rt, rt.alloc(), words, (*kind, *count, bytes));
     }
-    Ok(())
 }
 
 const OUT_OF_TYPE: [(&str, ScriptKind); 33] = [
@@ -214,6 +217,6 @@ const OUT_OF_TYPE: [(&str, ScriptKind); 33] = [
 ];
 
 #[test]
-fn values_that_do_not_fit_a_type_are_refused(rt: HostRuntime) -> Result<(), Fail> {
+fn values_that_do_not_fit_a_type_are_refused(rt: HostRuntime) {
     line_refused(&rt, rt.alloc(), "create 5\nranks 1\n", 3, &OUT_OF_TYPE)
 }

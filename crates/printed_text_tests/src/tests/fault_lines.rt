@@ -1,25 +1,18 @@
 // Lines that tell a fault.
 
+use super::NO_MEMORY;
 use nc_base::{HeaderErr, LayoutErr, LimitName, RedefErr, ScriptErr, ScriptKind};
 use printed_text::{disk_line, header_line, layout_line, redef_line, script_line, usage_line};
 use std::alloc::Global;
 use std::process::Abort;
-use std::test::Fail;
 
-fn told_of_script<R: Abort>(
-    rt: &R,
-    alloc: Global,
-    line: u32,
-    kind: ScriptKind,
-    told: &str,
-) -> Result<(), Fail> {
-    let text = script_line(alloc, &ScriptErr { line, kind })?;
+fn told_of_script<R: Abort>(rt: &R, alloc: Global, line: u32, kind: ScriptKind, told: &str) {
+    let text = script_line(alloc, &ScriptErr { line, kind }).expect(rt, NO_MEMORY);
     assert_eq!(rt; text.as_slice(), told.as_bytes());
-    Ok(())
 }
 
 #[test]
-fn faults_of_scripts_are_told(rt: HostRuntime) -> Result<(), Fail> {
+fn faults_of_scripts_are_told(rt: HostRuntime) {
     for (line, kind, told) in [
         (
             8,
@@ -38,13 +31,12 @@ fn faults_of_scripts_are_told(rt: HostRuntime) -> Result<(), Fail> {
             "ncrun: script line 5: limit of parts\n",
         ),
     ] {
-        told_of_script(&rt, rt.alloc(), line, kind, told)?;
+        told_of_script(&rt, rt.alloc(), line, kind, told);
     }
-    Ok(())
 }
 
 #[test]
-fn faults_of_headers_are_told(rt: HostRuntime) -> Result<(), Fail> {
+fn faults_of_headers_are_told(rt: HostRuntime) {
     for (fault, told) in [
         (
             HeaderErr::Truncated(68),
@@ -59,35 +51,34 @@ fn faults_of_headers_are_told(rt: HostRuntime) -> Result<(), Fail> {
             "ncrun: header has shared bytes of variables 0 and 1\n",
         ),
     ] {
-        let text = header_line(rt.alloc(), &fault)?;
+        let text = header_line(rt.alloc(), &fault).expect(&rt, NO_MEMORY);
         assert_eq!(rt; text.as_slice(), told.as_bytes());
     }
-    Ok(())
 }
 
 #[test]
-fn faults_of_layouts_are_told(rt: HostRuntime) -> Result<(), Fail> {
-    let large = layout_line(rt.alloc(), &LayoutErr::VarSize(2))?;
+fn faults_of_layouts_are_told(rt: HostRuntime) {
+    let large = layout_line(rt.alloc(), &LayoutErr::VarSize(2)).expect(&rt, NO_MEMORY);
     assert_eq!(rt;
         large.as_slice(),
         b"ncrun: variable 2 is too large\n".as_slice()
     );
-    let far = redef_line(rt.alloc(), &RedefErr::Layout(LayoutErr::BeginRange(0)))?;
+    let far = redef_line(rt.alloc(), &RedefErr::Layout(LayoutErr::BeginRange(0))).expect(
+        &rt, NO_MEMORY,
+    );
     assert_eq!(rt;
         far.as_slice(),
         b"ncrun: variable 0 begins too far\n".as_slice()
     );
-    Ok(())
 }
 
 #[test]
-fn faults_of_redefinitions_are_told(rt: HostRuntime) -> Result<(), Fail> {
-    let text = redef_line(rt.alloc(), &RedefErr::Taken(3))?;
+fn faults_of_redefinitions_are_told(rt: HostRuntime) {
+    let text = redef_line(rt.alloc(), &RedefErr::Taken(3)).expect(&rt, NO_MEMORY);
     assert_eq!(rt;
         text.as_slice(),
         b"ncrun: redefinition 3: name taken\n".as_slice()
     );
-    Ok(())
 }
 
 #[test]

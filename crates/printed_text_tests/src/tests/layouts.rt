@@ -1,13 +1,13 @@
 // Where variables lie.
 
+use super::NO_MEMORY;
 use super::datasets::{four_ints, laid_out, one_record};
 use printed_text::offsets_text;
-use std::test::Fail;
 
 #[test]
-fn a_record_variable_is_told(rt: HostRuntime) -> Result<(), Fail> {
-    let header = laid_out(&rt, one_record(rt.alloc())?);
-    let text = offsets_text(rt.alloc(), &header)?;
+fn a_record_variable_is_told(rt: HostRuntime) {
+    let header = laid_out(&rt, one_record(&rt, rt.alloc()));
+    let text = offsets_text(rt.alloc(), &header).expect(&rt, NO_MEMORY);
     let told = b"// file format: CDF-1
 file header:
   size = 80 bytes
@@ -22,13 +22,12 @@ record variables:
     size in bytes = 2
 ";
     assert_eq!(rt; text.as_slice(), told.as_slice());
-    Ok(())
 }
 
 #[test]
-fn a_fixed_variable_is_told(rt: HostRuntime) -> Result<(), Fail> {
-    let header = laid_out(&rt, four_ints(rt.alloc())?);
-    let text = offsets_text(rt.alloc(), &header)?;
+fn a_fixed_variable_is_told(rt: HostRuntime) {
+    let header = laid_out(&rt, four_ints(&rt, rt.alloc()));
+    let text = offsets_text(rt.alloc(), &header).expect(&rt, NO_MEMORY);
     let told = b"// file format: CDF-1
 file header:
   size = 80 bytes
@@ -43,5 +42,4 @@ fixed-size variables:
 record variables:
 ";
     assert_eq!(rt; text.as_slice(), told.as_slice());
-    Ok(())
 }

@@ -2,6 +2,7 @@
 ghost use Rattle.std.specs.Prelude.{◌≡◌, true};
 ghost use Rattle.serial_spec.specs.HeaderGrammar.{is_sound};
 
+use super::NO_MEMORY;
 use super::datasets::{four_ints, laid_out, one_record, two_reals};
 use nc_base::{
     Answer, AnswerList, AnswerTable, AttrList, BitList, Call, CallList, CallTable, Choice, Code,
@@ -9,9 +10,8 @@ use nc_base::{
     NumberList, OverlapRule, Pair, PartList, PostKind, RunEnd, Script, SizeList, Values, VarList,
 };
 use printed_text::run_text;
-use std::alloc::{AllocError, Global};
+use std::alloc::Global;
 use std::process::Abort;
-use std::test::Fail;
 
 const HINTS: Hints = Hints {
     cb_nodes: 1,
@@ -38,31 +38,31 @@ fn region(alloc: Global, form: Form) -> Given {
     }
 }
 
-fn put_all(alloc: Global, letter: u8) -> Result<Call, AllocError> {
-    Ok(Call::Put {
+fn put_all(rt: &impl Abort, alloc: Global, letter: u8) -> Call {
+    Call::Put {
         all: true,
-        var: Name::from_vec(vec![in alloc; letter]?),
+        var: Name::from_vec(vec![in alloc; letter].expect(rt, NO_MEMORY)),
         given: region(alloc, Form::Vara),
         values: Values::Numbers(NumberList::new(alloc)),
-    })
+    }
 }
 
-fn get_all(alloc: Global, letter: u8) -> Result<Call, AllocError> {
-    Ok(Call::Get {
+fn get_all(rt: &impl Abort, alloc: Global, letter: u8) -> Call {
+    Call::Get {
         all: true,
-        var: Name::from_vec(vec![in alloc; letter]?),
+        var: Name::from_vec(vec![in alloc; letter].expect(rt, NO_MEMORY)),
         given: region(alloc, Form::Var),
-    })
+    }
 }
 
-fn iget(alloc: Global, letter: u8, id: u32) -> Result<Call, AllocError> {
-    Ok(Call::Post {
+fn iget(rt: &impl Abort, alloc: Global, letter: u8, id: u32) -> Call {
+    Call::Post {
         id,
         kind: PostKind::Iget,
-        var: Name::from_vec(vec![in alloc; letter]?),
+        var: Name::from_vec(vec![in alloc; letter].expect(rt, NO_MEMORY)),
         given: region(alloc, Form::Var1),
         values: Values::Numbers(NumberList::new(alloc)),
-    })
+    }
 }
 
 /// An answer of a code alone.
@@ -76,8 +76,8 @@ fn answer(alloc: Global, code: Code) -> Answer {
     }
 }
 
-fn bits(alloc: Global, pattern: u64) -> Result<Option<Values>, AllocError> {
-    Ok(Some(Values::Bits(BitList::from_vec(vec![in alloc; pattern]?))))
+fn bits(rt: &impl Abort, alloc: Global, pattern: u64) -> Option<Values> {
+    Some(Values::Bits(BitList::from_vec(vec![in alloc; pattern].expect(rt, NO_MEMORY))))
 }
 
 /// A script of these calls, one list for each rank.
@@ -100,13 +100,17 @@ fn script(alloc: Global, ranks: u32, calls: Vec<CallList>) -> Script {
 }
 
 /// The end of a run of one rank.
-fn end_of_one(alloc: Global, answers: Vec<Answer>, pending: u64) -> Result<RunEnd, AllocError> {
-    Ok(RunEnd {
-        order: MarkList::from_vec(vec![in alloc; Mark::Meet(0), Mark::Solo(0, 12)]?),
-        answers: AnswerTable::from_vec(vec![in alloc; AnswerList::from_vec(answers)]?),
-        pending: SizeList::from_vec(vec![in alloc; pending]?),
+fn end_of_one(rt: &impl Abort, alloc: Global, answers: Vec<Answer>, pending: u64) -> RunEnd {
+    RunEnd {
+        order: MarkList::from_vec(vec![in alloc; Mark::Meet(0), Mark::Solo(0, 12)].expect(
+            rt, NO_MEMORY,
+        )),
+        answers: AnswerTable::from_vec(vec![in alloc; AnswerList::from_vec(answers)].expect(
+            rt, NO_MEMORY,
+        )),
+        pending: SizeList::from_vec(vec![in alloc; pending].expect(rt, NO_MEMORY)),
         fault: None,
-    })
+    }
 }
 
 /// The text of a run of one rank, up to the dataset's layout.
@@ -117,38 +121,47 @@ fn told<R: Abort>(
     calls: Vec<Call>,
     end: &RunEnd,
     text: &[u8],
-) -> Result<(), Fail>
+)
     requires { is_sound header.now ≡ true }
 {
-    let script = script(alloc, 1, vec![in alloc; CallList::from_vec(calls)]?);
-    let whole = run_text(alloc, &script, header, end)?;
+    let script = script(
+        alloc,
+        1,
+        vec![in alloc; CallList::from_vec(calls)].expect(rt, NO_MEMORY),
+    );
+    let whole = run_text(alloc, &script, header, end).expect(rt, NO_MEMORY);
     assert!(rt; whole.as_slice().starts_with(text));
-    Ok(())
 }
 
-fn two_puts(alloc: Global) -> Result<Script, AllocError> {
-    let first = CallList::from_vec(vec![in alloc; put_all(alloc, b'v')?]?);
-    let second = CallList::from_vec(vec![in alloc; put_all(alloc, b'v')?]?);
-    Ok(script(alloc, 2, vec![in alloc; first, second]?))
+fn two_puts(rt: &impl Abort, alloc: Global) -> Script {
+    let first = CallList::from_vec(vec![in alloc; put_all(rt, alloc, b'v')].expect(rt, NO_MEMORY));
+    let second = CallList::from_vec(vec![in alloc; put_all(rt, alloc, b'v')].expect(rt, NO_MEMORY));
+    script(
+        alloc,
+        2,
+        vec![in alloc; first, second].expect(rt, NO_MEMORY),
+    )
 }
 
-fn end_of_two(alloc: Global) -> Result<RunEnd, AllocError> {
-    let first = AnswerList::from_vec(vec![in alloc; answer(alloc, Code::Ok)]?);
-    let second = AnswerList::from_vec(vec![in alloc; answer(alloc, Code::Ok)]?);
-    Ok(RunEnd {
-        order: MarkList::from_vec(vec![in alloc; Mark::Meet(0)]?),
-        answers: AnswerTable::from_vec(vec![in alloc; first, second]?),
-        pending: SizeList::from_vec(vec![in alloc; 0, 0]?),
+fn end_of_two(rt: &impl Abort, alloc: Global) -> RunEnd {
+    let first = AnswerList::from_vec(vec![in alloc; answer(alloc, Code::Ok)].expect(rt, NO_MEMORY));
+    let second = AnswerList::from_vec(vec![in alloc; answer(alloc, Code::Ok)].expect(
+        rt, NO_MEMORY,
+    ));
+    RunEnd {
+        order: MarkList::from_vec(vec![in alloc; Mark::Meet(0)].expect(rt, NO_MEMORY)),
+        answers: AnswerTable::from_vec(vec![in alloc; first, second].expect(rt, NO_MEMORY)),
+        pending: SizeList::from_vec(vec![in alloc; 0, 0].expect(rt, NO_MEMORY)),
         fault: None,
-    })
+    }
 }
 
 #[test]
-fn two_ranks_are_told(rt: HostRuntime) -> Result<(), Fail> {
-    let header = laid_out(&rt, four_ints(rt.alloc())?);
-    let script = two_puts(rt.alloc())?;
-    let end = end_of_two(rt.alloc())?;
-    let text = run_text(rt.alloc(), &script, &header, &end)?;
+fn two_ranks_are_told(rt: HostRuntime) {
+    let header = laid_out(&rt, four_ints(&rt, rt.alloc()));
+    let script = two_puts(&rt, rt.alloc());
+    let end = end_of_two(&rt, rt.alloc());
+    let text = run_text(rt.alloc(), &script, &header, &end).expect(&rt, NO_MEMORY);
     let told = b"ranks 2
 order m0
 rank 0
@@ -171,27 +184,26 @@ fixed-size variables:
 record variables:
 ";
     assert_eq!(rt; text.as_slice(), told.as_slice());
-    Ok(())
 }
 
 /// A get of a float and one of a double.
-fn two_gets(alloc: Global) -> Result<Vec<Call>, AllocError> {
-    Ok(vec![in alloc; get_all(alloc, b'f')?, get_all(alloc, b'd')?]?)
+fn two_gets(rt: &impl Abort, alloc: Global) -> Vec<Call> {
+    vec![in alloc; get_all(rt, alloc, b'f'), get_all(rt, alloc, b'd')].expect(rt, NO_MEMORY)
 }
 
-fn two_patterns(alloc: Global) -> Result<Vec<Answer>, AllocError> {
+fn two_patterns(rt: &impl Abort, alloc: Global) -> Vec<Answer> {
     let mut single = answer(alloc, Code::Ok);
-    single.values = bits(alloc, 0x7fc00001)?;
+    single.values = bits(rt, alloc, 0x7fc00001);
     let mut double = answer(alloc, Code::Ok);
-    double.values = bits(alloc, 0x3ff0000000000000)?;
-    Ok(vec![in alloc; single, double]?)
+    double.values = bits(rt, alloc, 0x3ff0000000000000);
+    vec![in alloc; single, double].expect(rt, NO_MEMORY)
 }
 
 #[test]
-fn bits_have_the_digits_of_their_type(rt: HostRuntime) -> Result<(), Fail> {
+fn bits_have_the_digits_of_their_type(rt: HostRuntime) {
     let alloc = rt.alloc();
-    let header = laid_out(&rt, two_reals(alloc)?);
-    let end = end_of_one(alloc, two_patterns(alloc)?, 0)?;
+    let header = laid_out(&rt, two_reals(&rt, alloc));
+    let end = end_of_one(&rt, alloc, two_patterns(&rt, alloc), 0);
     let text = b"ranks 1
 order m0 s0.12
 rank 0
@@ -200,36 +212,36 @@ rank 0
 pending 0
 // file format: CDF-1
 ";
-    told(&rt, alloc, &header, two_gets(alloc)?, &end, text)
+    told(&rt, alloc, &header, two_gets(&rt, alloc), &end, text)
 }
 
 /// Two gets that are posted, and a wait for three ids.
-fn posts_and_wait(alloc: Global) -> Result<Vec<Call>, AllocError> {
+fn posts_and_wait(rt: &impl Abort, alloc: Global) -> Vec<Call> {
     let wait = Call::Wait {
         all: true,
         choice: Choice::Every,
     };
-    Ok(vec![in alloc; iget(alloc, b'f', 7)?, iget(alloc, b'd', 2)?, wait]?)
+    vec![in alloc; iget(rt, alloc, b'f', 7), iget(rt, alloc, b'd', 2), wait].expect(rt, NO_MEMORY)
 }
 
 fn item(id: u32, code: Code, values: Option<Values>) -> Item {
     Item { id, code, values }
 }
 
-fn three_items(alloc: Global) -> Result<Vec<Answer>, AllocError> {
-    let single = item(7, Code::Ok, bits(alloc, 0xab)?);
-    let double = item(2, Code::Ok, bits(alloc, 0xab)?);
+fn three_items(rt: &impl Abort, alloc: Global) -> Vec<Answer> {
+    let single = item(7, Code::Ok, bits(rt, alloc, 0xab));
+    let double = item(2, Code::Ok, bits(rt, alloc, 0xab));
     let other = item(5, Code::EInvalRequest, None);
     let mut waited = answer(alloc, Code::Ok);
-    waited.items = ItemList::from_vec(vec![in alloc; single, double, other]?);
-    Ok(vec![in alloc; answer(alloc, Code::Ok), answer(alloc, Code::Ok), waited]?)
+    waited.items = ItemList::from_vec(vec![in alloc; single, double, other].expect(rt, NO_MEMORY));
+    vec![in alloc; answer(alloc, Code::Ok), answer(alloc, Code::Ok), waited].expect(rt, NO_MEMORY)
 }
 
 #[test]
-fn items_of_a_wait_are_told(rt: HostRuntime) -> Result<(), Fail> {
+fn items_of_a_wait_are_told(rt: HostRuntime) {
     let alloc = rt.alloc();
-    let header = laid_out(&rt, two_reals(alloc)?);
-    let end = end_of_one(alloc, three_items(alloc)?, 3)?;
+    let header = laid_out(&rt, two_reals(&rt, alloc));
+    let end = end_of_one(&rt, alloc, three_items(&rt, alloc), 3);
     let text = b"ranks 1
 order m0 s0.12
 rank 0
@@ -242,11 +254,11 @@ rank 0
 pending 3
 // file format: CDF-1
 ";
-    told(&rt, alloc, &header, posts_and_wait(alloc)?, &end, text)
+    told(&rt, alloc, &header, posts_and_wait(&rt, alloc), &end, text)
 }
 
 /// Two puts that share a byte, of which the second is refused by itself too, and the length of a dimension.
-fn shared(alloc: Global) -> Result<Vec<Answer>, AllocError> {
+fn shared(rt: &impl Abort, alloc: Global) -> Vec<Answer> {
     let pair = Pair {
         rank1: 0,
         request1: 0,
@@ -260,21 +272,21 @@ fn shared(alloc: Global) -> Result<Vec<Answer>, AllocError> {
     second.pair = Some(pair);
     let mut length = answer(alloc, Code::Ok);
     length.number = Some(3);
-    Ok(vec![in alloc; first, second, length]?)
+    vec![in alloc; first, second, length].expect(rt, NO_MEMORY)
 }
 
-fn puts_and_length(alloc: Global) -> Result<Vec<Call>, AllocError> {
+fn puts_and_length(rt: &impl Abort, alloc: Global) -> Vec<Call> {
     let length = Call::InqDim {
-        name: Name::from_vec(vec![in alloc; b't']?),
+        name: Name::from_vec(vec![in alloc; b't'].expect(rt, NO_MEMORY)),
     };
-    Ok(vec![in alloc; put_all(alloc, b's')?, put_all(alloc, b's')?, length]?)
+    vec![in alloc; put_all(rt, alloc, b's'), put_all(rt, alloc, b's'), length].expect(rt, NO_MEMORY)
 }
 
 #[test]
-fn shared_bytes_are_told(rt: HostRuntime) -> Result<(), Fail> {
+fn shared_bytes_are_told(rt: HostRuntime) {
     let alloc = rt.alloc();
-    let header = laid_out(&rt, one_record(alloc)?);
-    let end = end_of_one(alloc, shared(alloc)?, 0)?;
+    let header = laid_out(&rt, one_record(&rt, alloc));
+    let end = end_of_one(&rt, alloc, shared(&rt, alloc), 0);
     let text = b"ranks 1
 order m0 s0.12
 rank 0
@@ -284,5 +296,5 @@ rank 0
 pending 0
 // file format: CDF-1
 ";
-    told(&rt, alloc, &header, puts_and_length(alloc)?, &end, text)
+    told(&rt, alloc, &header, puts_and_length(&rt, alloc), &end, text)
 }

@@ -1,27 +1,22 @@
 // Values.
 
+use super::NO_MEMORY;
 use nc_base::{BitList, Blob, NumberList, Values};
 use printed_text::words::push_values;
 use std::alloc::Global;
 use std::process::Abort;
-use std::test::Fail;
 
-fn printed<R: Abort>(
-    rt: &R,
-    alloc: Global,
-    digits: u8,
-    values: &Values,
-    text: &[u8],
-) -> Result<(), Fail> {
+fn printed<R: Abort>(rt: &R, alloc: Global, digits: u8, values: &Values, text: &[u8]) {
     let mut out = Vec::new(alloc);
-    push_values(&mut out, digits, values)?;
+    push_values(&mut out, digits, values).expect(rt, NO_MEMORY);
     assert_eq!(rt; out.as_slice(), text);
-    Ok(())
 }
 
 #[test]
-fn numbers_are_printed(rt: HostRuntime) -> Result<(), Fail> {
-    let numbers = Vec::from_slice(rt.alloc(), &[0, -10000, 18446744073709551615])?;
+fn numbers_are_printed(rt: HostRuntime) {
+    let numbers = Vec::from_slice(rt.alloc(), &[0, -10000, 18446744073709551615]).expect(
+        &rt, NO_MEMORY,
+    );
     let values = Values::Numbers(NumberList::from_vec(numbers));
     printed(
         &rt,
@@ -33,10 +28,10 @@ fn numbers_are_printed(rt: HostRuntime) -> Result<(), Fail> {
 }
 
 #[test]
-fn bits_are_printed(rt: HostRuntime) -> Result<(), Fail> {
-    let bits = Vec::from_slice(rt.alloc(), &[0x7fc00001, 0])?;
+fn bits_are_printed(rt: HostRuntime) {
+    let bits = Vec::from_slice(rt.alloc(), &[0x7fc00001, 0]).expect(&rt, NO_MEMORY);
     let values = Values::Bits(BitList::from_vec(bits));
-    printed(&rt, rt.alloc(), 8, &values, b" x7FC00001 x00000000")?;
+    printed(&rt, rt.alloc(), 8, &values, b" x7FC00001 x00000000");
     printed(
         &rt,
         rt.alloc(),
@@ -47,8 +42,8 @@ fn bits_are_printed(rt: HostRuntime) -> Result<(), Fail> {
 }
 
 #[test]
-fn a_text_is_printed(rt: HostRuntime) -> Result<(), Fail> {
-    let bytes = Vec::from_slice(rt.alloc(), b"a b~\"\\\n\t\x00\x7f\xe9")?;
+fn a_text_is_printed(rt: HostRuntime) {
+    let bytes = Vec::from_slice(rt.alloc(), b"a b~\"\\\n\t\x00\x7f\xe9").expect(&rt, NO_MEMORY);
     let values = Values::Text(Blob::from_vec(bytes));
     printed(
         &rt,
