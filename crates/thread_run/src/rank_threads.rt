@@ -350,7 +350,7 @@ fn tell_all<R: Wait>(rt: &R, ones: &mut [Resident])
 }
 
 /// Lets the threads go, serves them, and ends the run by what they came to.
-fn run_started<R: Threads + Wait, D: Disk, G: Gate, T: Told>(
+fn run_started<R: Threads + Wait + Sync, D: Disk, G: Gate, T: Told>(
     rt: &R,
     alloc: Global,
     disk: &mut D,

@@ -25,6 +25,7 @@ use rank_items::SentItem;
 use ruled_line::{InTake, LinePutList};
 use std::alloc::Global;
 use std::sync::Wait;
+use std::thread::Threads;
 
 /// Why nothing more is done.
 #[derive(Clone, Copy)]
@@ -40,7 +41,7 @@ enum Halt {
 /// arrives, a meeting as the last of its offers arrives, and each offer gets one item on the line of its number. After a fault, or
 /// an arrival that no rank of a script makes, nothing more is done, and each offer without a reply gets a stop. `told` is told of each
 /// step before any of its replies is put; want of memory there is that of the step.
-pub fn serve<R: Wait, D: Disk, G: Gate, T: Told>(
+pub fn serve<R: Threads + Wait + Sync, D: Disk, G: Gate, T: Told>(
     rt: &R,
     alloc: Global,
     disk: &mut D,
@@ -138,7 +139,7 @@ fn stranger_of(halt: Halt) -> Option<u32>
 }
 
 /// Serves from a desk at which nothing arrived.
-fn open_desk<R: Wait, D: Disk, G: Gate, T: Told>(
+fn open_desk<R: Threads + Wait + Sync, D: Disk, G: Gate, T: Told>(
     rt: &R,
     alloc: Global,
     disk: &mut D,
@@ -178,7 +179,7 @@ fn open_desk<R: Wait, D: Disk, G: Gate, T: Told>(
 }
 
 /// Does what arrives until each number has ended, or a fault or a strange arrival. Each offer that is held then has a stop.
-fn serve_all<R: Wait, D: Disk, G: Gate, T: Told>(
+fn serve_all<R: Threads + Wait + Sync, D: Disk, G: Gate, T: Told>(
     rt: &R,
     alloc: Global,
     disk: &mut D,

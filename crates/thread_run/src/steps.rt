@@ -23,11 +23,12 @@ use nc_outside::{Disk, Gate, Told};
 use ruled_line::LinePutList;
 use std::alloc::Global;
 use std::sync::Wait;
+use std::thread::Threads;
 use turn_run::{meet_on_file, note_step, solo_reply};
 
 impl Desk {
     /// Does what an arrival brings that is not strange. After an error each offer that is held, and the one that arrived, has a stop.
-    pub(crate) fn arrive<R: Wait, D: Disk, G: Gate, T: Told>(
+    pub(crate) fn arrive<R: Threads + Wait + Sync, D: Disk, G: Gate, T: Told>(
         &mut self,
         rt: &R,
         alloc: Global,
@@ -177,7 +178,7 @@ impl Desk {
     }
 
     /// Does the meeting whose offers are held. After an error each of them has a stop.
-    fn do_together<R: Wait, D: Disk, G: Gate, T: Told>(
+    fn do_together<R: Threads + Wait + Sync, D: Disk, G: Gate, T: Told>(
         &mut self,
         rt: &R,
         alloc: Global,
@@ -230,7 +231,7 @@ impl Desk {
     }
 
     /// Does the meeting whose offers are held, and puts their replies.
-    fn reply_together<R: Wait, D: Disk, G: Gate, T: Told>(
+    fn reply_together<R: Threads + Wait + Sync, D: Disk, G: Gate, T: Told>(
         &mut self,
         rt: &R,
         alloc: Global,

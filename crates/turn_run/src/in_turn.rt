@@ -31,12 +31,13 @@ use nc_outside::{Deaf, Disk, Gate, Told};
 use rank_core::Names;
 use std::alloc::Global;
 use std::sync::Wait;
+use std::thread::Threads;
 
 /// Runs the ranks of a script on one thread. Each goes on until it meets the others; a meeting is done when all have come to it, and
 /// then rank 0 goes on first. The last thing done is the close, which raises the record count to the greatest that a rank knows.
 ///
 /// With a fault the run ends in that step, and the order has the finished ones.
-pub fn run_in_turn<R: Wait, D: Disk, G: Gate>(
+pub fn run_in_turn<R: Threads + Wait + Sync, D: Disk, G: Gate>(
     rt: &R,
     alloc: Global,
     disk: &mut D,
@@ -59,7 +60,7 @@ pub fn run_in_turn<R: Wait, D: Disk, G: Gate>(
 /// close is not told.
 ///
 /// Where there is no memory to tell a step, the run ends with that fault, and the order doesn't have that step either.
-pub fn run_in_turn_told<R: Wait, D: Disk, G: Gate, T: Told>(
+pub fn run_in_turn_told<R: Threads + Wait + Sync, D: Disk, G: Gate, T: Told>(
     rt: &R,
     alloc: Global,
     disk: &mut D,
@@ -114,7 +115,7 @@ fn seats_of<'a>(
 }
 
 /// Makes the calls of all ranks, and closes the file.
-fn make_calls<R: Wait, D: Disk, G: Gate, T: Told>(
+fn make_calls<R: Threads + Wait + Sync, D: Disk, G: Gate, T: Told>(
     rt: &R,
     alloc: Global,
     disk: &mut D,
@@ -158,7 +159,7 @@ fn make_calls<R: Wait, D: Disk, G: Gate, T: Told>(
 }
 
 /// Holds the meetings of all ranks, one after another, until all calls are made.
-fn hold_meetings<R: Wait, D: Disk, G: Gate, T: Told>(
+fn hold_meetings<R: Threads + Wait + Sync, D: Disk, G: Gate, T: Told>(
     rt: &R,
     alloc: Global,
     disk: &mut D,
@@ -211,7 +212,7 @@ fn hold_meetings<R: Wait, D: Disk, G: Gate, T: Told>(
 }
 
 /// Each rank goes on until it meets the others, or has made its calls.
-fn arrive_all<R: Wait, D: Disk, G: Gate, T: Told>(
+fn arrive_all<R: Threads + Wait + Sync, D: Disk, G: Gate, T: Told>(
     rt: &R,
     alloc: Global,
     disk: &mut D,

@@ -35,9 +35,10 @@ use nc_base::{
 use nc_outside::{Disk, Gate, Told};
 use std::alloc::Global;
 use std::sync::Wait;
+use std::thread::Threads;
 
 /// Does the meeting whose offers the ranks hold, and lets each hear its reply.
-pub(crate) fn meet<R: Wait, D: Disk, G: Gate, T: Told>(
+pub(crate) fn meet<R: Threads + Wait + Sync, D: Disk, G: Gate, T: Told>(
     rt: &R,
     alloc: Global,
     disk: &mut D,
@@ -151,7 +152,7 @@ fn known_by(offer: &Offer) -> u64
 }
 
 /// The puts of a meeting, its record count, and its gets: the pair that all ranks are told, and the bytes for each rank.
-pub fn meet_on_file<R: Wait, D: Disk, G: Gate>(
+pub fn meet_on_file<R: Threads + Wait + Sync, D: Disk, G: Gate>(
     rt: &R,
     alloc: Global,
     disk: &mut D,

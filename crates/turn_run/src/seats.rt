@@ -33,6 +33,7 @@ use nc_outside::{Disk, Gate, Point, Told};
 use rank_core::{Names, Rank};
 use std::alloc::Global;
 use std::sync::Wait;
+use std::thread::Threads;
 
 /// A rank of a run with its answers so far. Its next call is the one after those that it has answered.
 #[derive(Drop)]
@@ -59,7 +60,7 @@ impl<'a> Seat<'a> {
 
     /// Goes on until the rank meets the others, or has made its calls. Its solo offers are done at once, and leave the file's count of
     /// `records` as it is.
-    pub(crate) fn arrive<R: Wait, D: Disk, G: Gate, T: Told>(
+    pub(crate) fn arrive<R: Threads + Wait + Sync, D: Disk, G: Gate, T: Told>(
         &mut self,
         rt: &R,
         alloc: Global,
