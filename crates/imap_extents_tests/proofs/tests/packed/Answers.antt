@@ -5,9 +5,9 @@ use Rattle.imap_extents_tests.proofs.PackedRegions.{packed_mapped}
 use Rattle.imap_extents_tests.proofs.tests.packed.Goals as goal
 
 pub returns : goal.returns
-returns c =
+returns g c =
     record {
       mapped =
-          subst (λ (count : List ℕ). IsMapped (record { start = c.in_ok-sizes.field-0; count = count; stride = c.in_ok-sizes-3.field-0; imap = c.new.result; packed = true }))
-          (sym c.in_ok-sizes-2.ensures) (packed_mapped c.in_ok-sizes.field-0 c.in_ok-sizes-3.field-0 c.new.result c.args.count c.requires);
+          subst (λ (count : List ℕ). IsMapped (record { start = c.sizes.result; count = count; stride = c.sizes-3.result; imap = c.new.result; packed = true }))
+          (sym c.sizes-2.ensures) (packed_mapped c.sizes.result c.sizes-3.result c.new.result c.args.count c.requires);
     }
