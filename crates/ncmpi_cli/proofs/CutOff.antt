@@ -14,12 +14,12 @@ use Rattle.serial_spec.specs.Torn.{IsCutRun}
 use Rattle.rank_meeting.specs.Run.{HasCut}
 use Rattle.ncmpi_cli.specs.Faults.{IsCutFile, IsMadeUnready, MadeCutOff, WasCutOff}
 use Rattle.ncmpi_cli.specs.Generated.{script_made}
-use Rattle.ncmpi_cli.specs.Headline.{Asks, created_header}
-use Rattle.ncmpi_cli.specs.Opening.{IsNotReady, IsReady}
+use Rattle.dataset_start.specs.Dataset.{Asks, created_header}
+use Rattle.dataset_start.specs.Opening.{IsNotReady, IsReady}
 use Rattle.ncmpi_cli.proofs.Made.{made_alone, made_fresh}
-use Rattle.ncmpi_cli.proofs.NotReady.{not_laid}
+use Rattle.dataset_start.proofs.NotReady.{not_laid}
 use Rattle.ncmpi_cli.proofs.Ran.{can_have_begun}
-use Rattle.ncmpi_cli.proofs.Ready.{header-kept}
+use Rattle.dataset_start.proofs.Ready.{header-kept}
 
 -- the file, where it is told
 pub cut_file : (fault : StepErr) (script : Script) (header : Header) (held_before held_mid held_after : Option (List ℕ)) (calls_before calls_mid : Option (List DiskCall))

@@ -4,11 +4,11 @@ use Rattle.std.specs.Prelude.{IfSome}
 use Rattle.nc_base.specs.declared.errors.HeaderErr.{HeaderErr}
 use Rattle.serial_spec.specs.HeaderGrammar.{HasFault}
 use Rattle.script_spec.specs.Texts.{header_line}
-use Rattle.ncmpi_cli.specs.Headline.{front, TellsHeader}
+use Rattle.dataset_start.specs.Dataset.{front, TellsHeader}
 use Rattle.ncmpi_cli.specs.Listing.{IsFaultyFront, IsSoundFront}
-use Rattle.ncmpi_cli.specs.Stops.{IsOfHeader, line_of, status_of}
-use Rattle.ncmpi_cli.specs.declared.stop.Stop.{Stop}
-use Rattle.ncmpi_cli.specs.declared.stop.Stop.TheVariants as stops
+use Rattle.dataset_start.specs.Stops.{IsOfHeader, line_of, status_of}
+use Rattle.dataset_start.specs.declared.stop.Stop.{Stop}
+use Rattle.dataset_start.specs.declared.stop.Stop.TheVariants as stops
 
 module _ (held : Option (List ℕ)) where
   abbrev HasHeaderFault : HeaderErr → Type 0

@@ -18,13 +18,14 @@ use Rattle.script_spec.specs.Texts.{header_line, layout_line, redef_line, run_te
 use Rattle.generated_run.proofs.LawfulLaws.{made_counted, made_lawful}
 use Rattle.generated_run.proofs.MadeLaws.{made_laid}
 use Rattle.ncmpi_cli.specs.Generated.{IsMadeStatus, IsSummed, new_end, RanMade, script_made}
-use Rattle.ncmpi_cli.specs.Headline.{align_of, created_header, end_of_run, IsDone, IsKept, TellsDataset}
-use Rattle.ncmpi_cli.specs.Opening.{IsReady}
-use Rattle.ncmpi_cli.specs.Stops.{IsOfDataset, line_of, status_of}
-use Rattle.ncmpi_cli.specs.declared.stop.Stop.{Stop}
-use Rattle.ncmpi_cli.specs.declared.stop.Stop.TheVariants as stops
+use Rattle.ncmpi_cli.specs.Headline.{end_of_run, IsDone}
+use Rattle.dataset_start.specs.Dataset.{align_of, created_header, IsKept, TellsDataset}
+use Rattle.dataset_start.specs.Opening.{IsReady}
+use Rattle.dataset_start.specs.Stops.{IsOfDataset, line_of, status_of}
+use Rattle.dataset_start.specs.declared.stop.Stop.{Stop}
+use Rattle.dataset_start.specs.declared.stop.Stop.TheVariants as stops
 use Rattle.ncmpi_cli.proofs.Ran.{done, nobody_read}
-use Rattle.ncmpi_cli.proofs.Ready.{file-kept, header-kept}
+use Rattle.dataset_start.proofs.Ready.{file-kept, header-kept}
 
 -- ---- what is so of the script
 

@@ -14,9 +14,10 @@ use Rattle.serial_spec.specs.SerialEnd.{End, serial_from, start}
 use Rattle.script_spec.specs.Texts.{run_text, watch_text}
 use Rattle.script_spec.specs.ScriptGrammar.{Reads}
 use Rattle.rank_meeting.specs.Begun.{HasBegun}
-use Rattle.ncmpi_cli.specs.Headline.{Asks, BeginsFor, IsDone, Ran, with_counts}
-use Rattle.ncmpi_cli.specs.Opening.{first_calls, CanHaveBegun, IsReady}
-use Rattle.ncmpi_cli.proofs.Ready.{same_script}
+use Rattle.ncmpi_cli.specs.Headline.{BeginsFor, IsDone, Ran, with_counts}
+use Rattle.dataset_start.specs.Dataset.{Asks}
+use Rattle.dataset_start.specs.Opening.{first_calls, CanHaveBegun, IsReady}
+use Rattle.dataset_start.proofs.Ready.{same_script}
 
 -- ---- a file that is told
 

@@ -6,11 +6,11 @@ use Rattle.nc_base.specs.declared.step.Mark.{Mark}
 use Rattle.ncmpi_cli.specs.Ends.{HasReadings, watchers_of}
 use Rattle.ncmpi_cli.specs.Headline.{GivesText}
 use Rattle.ncmpi_cli.specs.Readings.{readings_of}
-use Rattle.ncmpi_cli.specs.Stops.{status_of}
+use Rattle.dataset_start.specs.Stops.{status_of}
 use Rattle.ncmpi_cli.specs.Watching.{AreReadings}
-use Rattle.ncmpi_cli.specs.Words.{Asked}
-use Rattle.ncmpi_cli.specs.declared.stop.Stop.{Stop}
-use Rattle.ncmpi_cli.specs.declared.stop.Stop.TheVariants as stops
+use Rattle.program_words.specs.Words.{Asked}
+use Rattle.dataset_start.specs.declared.stop.Stop.{Stop}
+use Rattle.dataset_start.specs.declared.stop.Stop.TheVariants as stops
 use Rattle.ncmpi_cli.specs.declared.watching.Seen.{Seen}
 
 -- ---- where no text is given

@@ -8,12 +8,12 @@ use Rattle.nc_outside.specs.Cause.{Rose}
 use Rattle.script_spec.specs.ScriptGrammar.{fault_of, Reads}
 use Rattle.script_spec.specs.Texts.{script_line}
 use Rattle.serial_spec.specs.Redefinition.{layout_fault}
-use Rattle.ncmpi_cli.specs.Headline.{align_of, Asks, AsksFor, IsBadDataset, IsFaultyFile, IsRight, IsSoundFile, IsWrong, refusal, TellsDataset, TellsHeader, TellsRedefinition}
-use Rattle.ncmpi_cli.specs.Opening.{IsFaultless}
-use Rattle.ncmpi_cli.specs.Stops.{line_of, status_of}
-use Rattle.ncmpi_cli.specs.declared.stop.Stop.{Stop}
-use Rattle.ncmpi_cli.specs.declared.stop.Stop.TheVariants as stops
-use Rattle.ncmpi_cli.proofs.Ready.{false-true, same_script}
+use Rattle.dataset_start.specs.Dataset.{align_of, Asks, AsksFor, IsBadDataset, IsFaultyFile, IsRight, IsSoundFile, IsWrong, refusal, TellsDataset, TellsHeader, TellsRedefinition}
+use Rattle.dataset_start.specs.Opening.{IsFaultless}
+use Rattle.dataset_start.specs.Stops.{line_of, status_of}
+use Rattle.dataset_start.specs.declared.stop.Stop.{Stop}
+use Rattle.dataset_start.specs.declared.stop.Stop.TheVariants as stops
+use Rattle.dataset_start.proofs.Ready.{false-true, same_script}
 
 -- ---- a text that is read is refused by nothing
 

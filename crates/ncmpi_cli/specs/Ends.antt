@@ -14,11 +14,12 @@ use Rattle.serial_spec.specs.DeviceCalls.{head_load}
 use Rattle.rank_meeting.specs.Begun.{HasBegun}
 use Rattle.ncmpi_cli.specs.Faults.{EndsEarly, MadeEndsEarly, MadeWantsMemory, WantsMemory}
 use Rattle.ncmpi_cli.specs.Generated.{IsMadeStatus, MadeFront, MadeWhole, script_made}
-use Rattle.ncmpi_cli.specs.Headline.{AsksFor, BeginsFor, GivesLine, GivesText, IsBadDataset, IsRight, IsWrong, RanToSink, RanWell, refusal, TellsHeader}
+use Rattle.ncmpi_cli.specs.Headline.{BeginsFor, GivesLine, GivesText, RanToSink, RanWell}
+use Rattle.dataset_start.specs.Dataset.{AsksFor, IsBadDataset, IsRight, IsWrong, refusal, TellsHeader}
 use Rattle.ncmpi_cli.specs.Listing.{IsFaultyFront, IsListStatus, IsOfReadHeader, IsSoundFront, ListsFront, ListsWhole}
-use Rattle.ncmpi_cli.specs.Opening.{CanHaveBegun}
+use Rattle.dataset_start.specs.Opening.{CanHaveBegun}
 use Rattle.ncmpi_cli.specs.Watching.{AreReadings}
-use Rattle.ncmpi_cli.specs.Words.{Asked, run, offsets, generate}
+use Rattle.program_words.specs.Words.{Asked, run, offsets, generate}
 
 pub record Seen : Type 0 where
   pub left : Option (List ℕ)

@@ -12,7 +12,7 @@ use Rattle.serial_spec.specs.DeviceCalls.{all_calls}
 use Rattle.serial_spec.specs.History.{IsLegal}
 use Rattle.serial_spec.specs.SerialEnd.{End, serial}
 use Rattle.script_spec.specs.Generator.{made_script, summary_text}
-use Rattle.ncmpi_cli.specs.Headline.{created_header}
+use Rattle.dataset_start.specs.Dataset.{created_header}
 
 -- the script that the seed makes, with so many records
 unfoldable pub script_made : ℕ → ℕ → Script

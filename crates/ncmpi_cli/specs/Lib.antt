@@ -1,12 +1,7 @@
-pub mod Limits
-pub mod Words
-pub mod Forms
-pub mod Stops
 pub mod Headline
 pub mod Watching
 pub mod BeforeRun
 pub mod Readings
-pub mod Opening
 pub mod Listing
 pub mod Generated
 pub mod Faults

@@ -8,8 +8,8 @@ use Rattle.nc_base.specs.declared.header.Header.{Header}
 use Rattle.nc_outside.specs.Told.{with_end}
 use Rattle.serial_spec.specs.HeaderGrammar.{HasFault}
 use Rattle.script_spec.specs.Texts.{offsets_text}
-use Rattle.ncmpi_cli.specs.Headline.{front}
-use Rattle.ncmpi_cli.specs.Opening.{IsOpened}
+use Rattle.dataset_start.specs.Dataset.{front}
+use Rattle.dataset_start.specs.Opening.{IsOpened}
 
 abbrev pub Lists : Option (List ℕ) → List ℕ → Type 0
 Lists held text = (header : Header) × (IsOpened held header × (text ≡ offsets_text header))

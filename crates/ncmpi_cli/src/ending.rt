@@ -5,13 +5,12 @@ ghost use Rattle.nc_outside.specs.Cause.{Rose};
 ghost use Rattle.serial_spec.specs.HeaderGrammar.{is_sound};
 ghost use Rattle.ncmpi_cli.specs.Headline.{GivesLine, GivesText};
 ghost use Rattle.ncmpi_cli.specs.Readings as spec;
-ghost use Rattle.ncmpi_cli.specs.Stops.{fixed_line_of, line_of, status_of};
+ghost use Rattle.dataset_start.specs.Stops.{fixed_line_of, line_of, status_of};
 
-use crate::stop::Stop;
-use crate::streams::give_all;
 use crate::top::Outcome;
 use crate::watcher_lines::push_watchers;
 use crate::watching::{Seen, WatchedRun};
+use dataset_start::{Stop, give_all};
 use nc_base::{Blob, Header, MarkList, Memory, ReadingTable, RunEnd, Script};
 use nc_outside::Sink;
 use printed_text::run_text;

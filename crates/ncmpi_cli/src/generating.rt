@@ -10,13 +10,12 @@ ghost use Rattle.serial_spec.specs.Layout.{end_of};
 ghost use Rattle.ncmpi_cli.specs.Faults.{MadeEndsEarly, MadeWantsMemory};
 ghost use Rattle.ncmpi_cli.specs.Generated.{IsMadeStatus, MadeFront, MadeWhole, script_made};
 ghost use Rattle.ncmpi_cli.specs.Headline.{GivesLine};
-ghost use Rattle.ncmpi_cli.specs.Opening.{IsNotReady, IsReady};
-ghost use Rattle.ncmpi_cli.specs.Stops.{IsOfDataset, line_of_status, status_of};
+ghost use Rattle.dataset_start.specs.Opening.{IsNotReady, IsReady};
+ghost use Rattle.dataset_start.specs.Stops.{IsOfDataset, line_of_status, status_of};
 
-use crate::beginning::{Begun, make_ready};
 use crate::ending::{give, tell};
-use crate::stop::Stop;
 use crate::top::Outcome;
+use dataset_start::{Begun, Stop, make_ready};
 use generated_run::{make_script, summary_text};
 use nc_base::{Header, MarkList, ReadingTable, RunEnd, Script, StepErr};
 use nc_outside::{Disk, Gate, Sink};

@@ -5,14 +5,14 @@ ghost use Rattle.nc_outside.specs.Told.{after};
 ghost use Rattle.nc_outside.specs.Cause.{Rose};
 ghost use Rattle.serial_spec.specs.DeviceCalls.{head_load};
 ghost use Rattle.serial_spec.specs.HeaderGrammar.{HasFault};
-ghost use Rattle.ncmpi_cli.specs.Headline.{front, GivesLine, TellsHeader};
+ghost use Rattle.ncmpi_cli.specs.Headline.{GivesLine};
+ghost use Rattle.dataset_start.specs.Dataset.{front, TellsHeader};
 ghost use Rattle.ncmpi_cli.specs.Listing.{IsFaultyFront, IsListStatus, IsOfReadHeader, IsSoundFront, Lists, ListsFront, ListsWhole};
-ghost use Rattle.ncmpi_cli.specs.Stops.{IsOfHeader, line_of_status};
+ghost use Rattle.dataset_start.specs.Stops.{IsOfHeader, line_of_status};
 
 use crate::ending::{give, tell};
-use crate::opening::read_header;
-use crate::stop::Stop;
 use crate::top::Outcome;
+use dataset_start::{Stop, read_header};
 use nc_base::{Blob, MarkList, ReadingTable};
 use nc_outside::{Disk, Sink};
 use printed_text::offsets_text;

@@ -1,8 +1,8 @@
 use Rattle.std.proofs.Common.{◌∙◌, refl, subst, sym}
-use Rattle.ncmpi_cli.specs.Headline.{IsKept}
+use Rattle.dataset_start.specs.Dataset.{IsKept}
 use Rattle.ncmpi_cli.proofs.Made.{made_is, made_kept, never_four, never_told}
 use Rattle.ncmpi_cli.proofs.CutOff.{made_unready, unready_made}
-use Rattle.ncmpi_cli.proofs.NotReady.{on_err}
+use Rattle.dataset_start.proofs.NotReady.{on_err}
 use Rattle.ncmpi_cli.proofs.generating.begin_made.Goals as goal
 
 pub make_ready-requires-clause-kept : goal.make_ready-requires-clause-kept

@@ -3,7 +3,7 @@ use Rattle.std.specs.Prelude.{Err}
 use Rattle.nc_base.specs.declared.run.RunEnd.{RunEnd}
 use Rattle.nc_base.specs.declared.script.Script.{Script}
 use Rattle.nc_base.specs.declared.step.StepErr.TheVariants as fault
-use Rattle.ncmpi_cli.specs.declared.stop.Stop.{Stop}
+use Rattle.dataset_start.specs.declared.stop.Stop.{Stop}
 use Rattle.serial_spec.specs.Lawful.{is_lawful}
 use Rattle.script_spec.specs.Generator.{has_counts, summary_text}
 use Rattle.ncmpi_cli.proofs.CutOff.{made_cut}

@@ -3,8 +3,8 @@ use Rattle.std.specs.Prelude.{Err}
 use Rattle.nc_base.specs.declared.run.RunEnd.{RunEnd}
 use Rattle.nc_base.specs.declared.script.Script.{Script}
 use Rattle.nc_base.specs.declared.step.StepErr.TheVariants as fault
-use Rattle.ncmpi_cli.specs.declared.stop.Stop.{Stop}
-use Rattle.ncmpi_cli.specs.declared.stop.Stop.TheVariants as stops
+use Rattle.dataset_start.specs.declared.stop.Stop.{Stop}
+use Rattle.dataset_start.specs.declared.stop.Stop.TheVariants as stops
 use Rattle.script_spec.specs.Texts.{run_text, watch_text}
 use Rattle.script_laws.proofs.LawfulLaws.{read_lawful}
 use Rattle.ncmpi_cli.specs.Readings.{pairs_of, readings_of, whole_text}

@@ -1,8 +1,8 @@
 use Rattle.std.proofs.Common.{◌≡◌, ap, option_map, None, refl, rules, Some, sym, ◌∙◌}
-use Rattle.ncmpi_cli.specs.declared.command.Form.TheVariants as form
-use Rattle.ncmpi_cli.specs.Forms.{asked_of}
-use Rattle.ncmpi_cli.specs.Words.{form_of, generate, offsets, run, texts}
-use Rattle.ncmpi_cli.specs.declared.stop.Stop.TheVariants as stops
+use Rattle.program_words.specs.declared.command.Form.TheVariants as form
+use Rattle.program_words.specs.Forms.{asked_of}
+use Rattle.program_words.specs.Words.{form_of, generate, offsets, run, texts}
+use Rattle.dataset_start.specs.declared.stop.Stop.TheVariants as stops
 use Rattle.ncmpi_cli.proofs.Asking.{ends, wanting}
 use Rattle.ncmpi_cli.proofs.Reading.{told_by_no_text, untold, unwatched, watched}
 use Rattle.ncmpi_cli.proofs.top.ncrun.Goals as goal

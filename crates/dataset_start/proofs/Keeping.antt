@@ -1,0 +1,77 @@
+-- What a script keeps that was read or made.
+use Rattle.std.proofs.Common.{◌≡◌, ℕ, ◌^◌, ◌≤◌, Bool, true, false, List, [], ◌∷◌, length, refl, ◌==◌, eqb-true}
+use Rattle.std.specs.Prelude.{if◌then◌else◌}
+use Rattle.std.specs.List.{list_all}
+use Rattle.std.proofs.lemmas.Bool.{leb-true}
+use Rattle.list_laws.proofs.Truth.{and_first, and_second}
+use Rattle.nc_base.specs.declared.script.Extra.{Extra}
+use Rattle.nc_base.specs.declared.script.Script.{Script}
+use Rattle.serial_spec.specs.Lawful.{are_lawful_hints, is_empty, is_lawful_extra, is_lawful_header, is_whole_extra, is_within}
+use Rattle.script_spec.specs.ScriptGrammar.{Reads}
+use Rattle.script_laws.proofs.HeaderLaws.{read_unplaced, read_writable}
+use Rattle.script_laws.proofs.LawfulLaws.{read_lawful, read_whole}
+use Rattle.dataset_start.specs.Dataset.{IsKept}
+
+pub read_kept : (text : List ℕ) (script : Script) → Reads text script → IsKept script
+read_kept text script r = record {
+  lawful = read_lawful text script r;
+  whole = read_whole text script r;
+  unplaced = read_unplaced text script r;
+  writable = read_writable text script r;
+}
+
+pub kept_hints : (script : Script) → IsKept script → are_lawful_hints script.hints ≡ true
+kept_hints script k =
+    and_second _ _ (and_first _ _ (and_first _ _ (and_first _ _ (and_first _ _ (and_first _ _ (and_first _ _ (and_first _ _ (and_first _ _ (and_first _ _ k.lawful)))))))))
+
+-- ---- the size of a window
+
+within : (low high n : ℕ) → is_within low high n ≡ true → (low ≤ n) × (n ≤ high)
+within low high n h = (leb-true low n (and_first _ _ h), leb-true n high (and_second _ _ h))
+
+pub kept_wr_buffer : (script : Script) → IsKept script → (1 ≤ script.hints.wr_buffer) × (script.hints.wr_buffer ≤ 2 ^ 25)
+kept_wr_buffer script k =
+    within 1 (2 ^ 25) script.hints.wr_buffer (and_second _ _ (and_first _ _ (and_first _ _ (and_first _ _ (and_first _ _ (kept_hints script k))))))
+
+-- ---- the alignments, and the record count
+
+pub kept_header_align : (script : Script) → IsKept script → (4 ≤ script.hints.header_align) × (script.hints.header_align ≤ 1048576)
+kept_header_align script k =
+    within 4 1048576 script.hints.header_align (and_first _ _ (and_second _ _ (and_first _ _ (and_first _ _ (kept_hints script k)))))
+
+pub kept_var_align : (script : Script) → IsKept script → (4 ≤ script.hints.var_align) × (script.hints.var_align ≤ 1048576)
+kept_var_align script k = within 4 1048576 script.hints.var_align (and_first _ _ (and_second _ _ (and_first _ _ (kept_hints script k))))
+
+kept_header : (script : Script) → IsKept script → is_lawful_header script ≡ true
+kept_header script k =
+    and_second _ _ (and_first _ _ (and_first _ _ (and_first _ _ (and_first _ _ (and_first _ _ (and_first _ _ (and_first _ _ (and_first _ _ k.lawful))))))))
+
+pub kept_records : (script : Script) → IsKept script → script.header.records ≡ 0
+kept_records script k = eqb-true script.header.records 0 (and_first _ _ (kept_header script k))
+
+-- ---- what it adds to an existing dataset
+
+pub kept_extras : (script : Script) → IsKept script → list_all is_lawful_extra script.extra ≡ true
+kept_extras script k = and_second _ _ (and_first _ _ (and_first _ _ (and_first _ _ (and_first _ _ (and_first _ _ k.lawful)))))
+
+pub kept_whole_extras : (script : Script) → IsKept script → list_all is_whole_extra script.extra ≡ true
+kept_whole_extras script k = and_second _ _ k.whole
+
+-- a test of which the first case holds
+chosen : (b x y : Bool) → b ≡ true → (if b then x else y) ≡ true → x ≡ true
+chosen true x y e h = h
+chosen false x y e h = absurd (clash e)
+  where
+    clash : false ≡ true → ⊥
+    clash t = cc
+
+none_there : (extras : List Extra) → is_empty extras ≡ true → (length extras == 0) ≡ true
+none_there [] h = refl
+none_there (x ∷ extras) h = absurd (clash h)
+  where
+    clash : false ≡ true → ⊥
+    clash t = cc
+
+-- a script that creates a dataset adds nothing
+pub kept_created : (script : Script) → IsKept script → script.fresh ≡ true → (length script.extra == 0) ≡ true
+kept_created script k f = none_there script.extra (and_second _ _ (chosen script.fresh _ _ f (and_second _ _ (kept_header script k))))

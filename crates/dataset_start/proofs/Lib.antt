@@ -1,0 +1,9 @@
+pub mod Taken
+pub mod Keeping
+pub mod Created
+pub mod Opened
+pub mod Redefined
+pub mod Redefinable
+pub mod Ready
+pub mod NotReady
+pub mod Untold

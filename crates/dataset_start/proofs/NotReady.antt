@@ -1,0 +1,259 @@
+-- A dataset that was not made ready.
+use Rattle.std.proofs.Common.{◌≡◌, ℕ, ◌≤◌, ◌==◌, max, ◌⊎◌, inl, inr, refl, sym, ◌∙◌, ap, subst, List, [], length, Bool, true, false, Option, Some, None, arith}
+use Rattle.std.specs.Prelude.{Result, Ok, Err, OnErr}
+use Rattle.std.proofs.lemmas.Grind.{common_steps}
+use Rattle.nc_base.specs.declared.header.Header as head
+use Rattle.nc_base.specs.declared.script.Extra.{Extra}
+use Rattle.nc_base.specs.declared.script.Script as script_type
+use Rattle.nc_outside.specs.DiskState.{PartlyWritten}
+use Rattle.nc_outside.specs.Told.{after, BothTold}
+use Rattle.serial_spec.specs.File.{at, longer, written}
+use Rattle.serial_spec.specs.HeaderGrammar.{canon, header_len}
+use Rattle.serial_spec.specs.Layout.{end_of}
+use Rattle.serial_spec.specs.SerialEnd.{start}
+use Rattle.serial_spec.specs.Redefinition.{redefined}
+use Rattle.serial_spec.specs.Torn.{IsBegun, IsLengthened, IsTornCreation, IsTornRedefinition}
+use Rattle.serial_spec.proofs.FileLaws.{at-longer}
+use Rattle.overlay_laws.specs.Changes.{IsBetween}
+use Rattle.fill_records.proofs.TornLaws.{filled_long}
+use Rattle.redef_laws.specs.Applied.{IsApplied}
+use Rattle.redef_laws.specs.Shifted.{new_end}
+use Rattle.redef_mover.specs.Relocation.{KeepsPlaces}
+use Rattle.dataset_start.specs.Dataset.{created_header, header_of_run, AreHeadersOf}
+use Rattle.dataset_start.specs.Opening.{filled_if, IsCutRedefinition, IsNotReady, IsOpened, IsPartlyOpened, IsPartlyRedefined}
+use Rattle.dataset_start.proofs.Created.{front-of-zeros}
+use Rattle.dataset_start.proofs.Ready.{begun, false-true, header-changed, header-kept, start-created}
+
+pub on_err : {T E P : Type 0} (r : Result T E) → P → OnErr r P
+on_err (Ok x) p = tt
+on_err (Err e) p = p
+
+pub err_as : {T E P Q : Type 0} (r : Result T E) → (P → Q) → OnErr r P → OnErr r Q
+err_as (Ok x) f p = tt
+err_as (Err e) f p = f p
+
+told_as : {A : Type 0} (R S : A → A → Type 0) (held now : Option A) → ((old left : A) → R old left → S old left) → BothTold R held now → BothTold S held now
+told_as R S None now f b = b
+told_as R S (Some old) now f b = (b.0, b.1, f old b.0 b.2)
+
+longer_long : (file : List ℕ) (n : ℕ) → length (longer file n) ≡ max (length file) n
+longer_long file n = grind (arith, common_steps)
+
+-- ---- a dataset that is created
+
+-- nothing was done
+pub not_started : (header whole : List ℕ) (held : Option (List ℕ)) → BothTold (λ old left. IsTornCreation header whole old left) held held
+not_started header whole None = refl
+not_started header whole (Some file) = (file, refl, inl refl)
+
+-- the start was refused, which may have emptied the file
+pub start_refused : (header whole : List ℕ) (held now : Option (List ℕ)) → (now ≡ held) ⊎ (now ≡ after (λ _. []) held)
+    → BothTold (λ old left. IsTornCreation header whole old left) held now
+start_refused header whole None now (inl e) = e
+start_refused header whole None now (inr e) = e
+start_refused header whole (Some file) now (inl e) = (file, e, inl refl)
+start_refused header whole (Some file) now (inr e) = ([], e, inr (record { short = omega arith; each = λ x l. absurd (omega arith) }))
+
+-- some zeros are there
+pub grow_refused : (bytes : List ℕ) (size end : ℕ) (held mid now : Option (List ℕ)) → size ≤ end → mid ≡ after (λ _. []) held
+    → now ≡ after (λ file. longer file size) mid → BothTold (λ old left. IsTornCreation bytes (longer bytes end) old left) held now
+grow_refused bytes size end None mid now few e g = g ∙ ap (λ (t : Option (List ℕ)). after (λ file. longer file size) t) e
+grow_refused bytes size end (Some file) mid now few e g = (
+  longer [] size,
+  g ∙ ap (λ (t : Option (List ℕ)). after (λ f. longer f size) t) e,
+  inr (record {
+    short = (let one = longer_long [] size in let two = longer_long bytes end in omega arith);
+    each = λ x l. inl (at-longer [] size x);
+  }),
+)
+
+-- the header is there in part
+head_part : (bytes left : List ℕ) (end : ℕ) → length bytes ≤ end → PartlyWritten 0 bytes (longer [] end) left → IsBegun bytes (longer bytes end) left
+head_part bytes left end fits p = record {
+  short = (let same = p.len ∙ ap (λ (f : List ℕ). length f) (front-of-zeros bytes end fits) in omega arith);
+  each = λ x l. by_byte x (p.each x);
+}
+  where
+    by_byte : (x : ℕ) → (at left x ≡ at (longer [] end) x) ⊎ (at left x ≡ at (written (longer [] end) 0 bytes) x)
+        → (at left x ≡ 0) ⊎ (at left x ≡ at bytes x) ⊎ (at left x ≡ at (longer bytes end) x)
+    by_byte x (inl e) = inl (e ∙ at-longer [] end x)
+    by_byte x (inr e) = inr (inr (e ∙ ap (λ (f : List ℕ). at f x) (front-of-zeros bytes end fits)))
+
+pub head_refused : (bytes other : List ℕ) (size end place : ℕ) (held mid grown now : Option (List ℕ)) → length bytes ≤ end → size ≡ end → place ≡ 0 → other ≡ bytes
+    → mid ≡ after (λ _. []) held → grown ≡ after (λ file. longer file size) mid → BothTold (PartlyWritten place other) grown now
+    → BothTold (λ old left. IsTornCreation bytes (longer bytes end) old left) held now
+head_refused bytes other size end place held mid grown now fits s p o e g b =
+    by_held held (g ∙ ap (λ (t : Option (List ℕ)). after (λ file. longer file size) t) e)
+    (subst (λ (n : ℕ). BothTold (PartlyWritten n bytes) grown now) p (subst (λ (c : List ℕ). BothTold (PartlyWritten place c) grown now) o b))
+  where
+    by_held : (t : Option (List ℕ)) → grown ≡ after (λ file. longer file size) (after (λ _. []) t) → BothTold (PartlyWritten 0 bytes) grown now
+        → BothTold (λ old left. IsTornCreation bytes (longer bytes end) old left) t now
+    by_held None f c = subst (λ (m : Option (List ℕ)). BothTold (PartlyWritten 0 bytes) m now) f c
+    by_held (Some file) f c =
+        let d : BothTold (PartlyWritten 0 bytes) (Some (longer [] size)) now = subst (λ (m : Option (List ℕ)). BothTold (PartlyWritten 0 bytes) m now) f c in
+        (d.0, d.1, inr (head_part bytes d.0 end fits (subst (λ (n : ℕ). PartlyWritten 0 bytes (longer [] n) d.0) s d.2)))
+
+-- ---- what is not ready
+
+as_created : (script : script_type.Script) (file left : List ℕ) → script.fresh ≡ true
+    → IsTornCreation (canon (created_header script)) (start script (created_header script) file) file left → IsNotReady script file left
+as_created script file left f t = record { created = λ _. t; opened = λ o. absurd (false-true script.fresh o f) }
+
+-- the layout was refused
+pub not_laid : (script : script_type.Script) (held : Option (List ℕ)) → script.fresh ≡ true → BothTold (IsNotReady script) held held
+not_laid script None f = refl
+not_laid script (Some file) f = (file, refl, as_created script file file f (inl refl))
+
+begun_file : head.Header → List ℕ
+begun_file header = longer (canon header) (end_of header (header_len header) 0)
+
+filled_as_long : (asked : Bool) (header : head.Header) → length (filled_if asked header (begun_file header)) ≡ length (begun_file header)
+unfolding begun_file
+filled_as_long false header = refl
+filled_as_long true header = filled_long header (longer (canon header) (end_of header (header_len header) 0)) (let l = longer_long (canon header) (end_of header (header_len header) 0) in omega arith)
+
+start_as_long : (script : script_type.Script) (header : head.Header) (file : List ℕ) → script.fresh ≡ true → length (start script header file) ≡ length (begun_file header)
+unfolding begun_file
+start_as_long script header file f = ap (λ (g : List ℕ). length g) (start-created script header file f) ∙ filled_as_long script.filled header
+
+-- the creation was cut off before the fill
+begun_more : (script : script_type.Script) (header : head.Header) (file left : List ℕ) → script.fresh ≡ true
+    → IsTornCreation (canon header) (longer (canon header) (end_of header (header_len header) 0)) file left → IsTornCreation (canon header) (start script header file) file left
+unfolding begun_file
+begun_more script header file left f (inl e) = inl e
+begun_more script header file left f (inr b) = inr (record {
+  short = (let same = start_as_long script header file f in let few = b.short in omega arith);
+  each = λ x l. by_byte x (b.each x l);
+})
+  where
+    by_byte : (x : ℕ) → (at left x ≡ 0) ⊎ (at left x ≡ at (canon header) x) ⊎ (at left x ≡ at (longer (canon header) (end_of header (header_len header) 0)) x)
+        → (at left x ≡ 0) ⊎ (at left x ≡ at (canon header) x) ⊎ (at left x ≡ at (start script header file) x)
+    by_byte x (inl e) = inl e
+    by_byte x (inr (inl e)) = inr (inl e)
+    by_byte x (inr (inr e)) = inr (inl (e ∙ at-longer (canon header) (end_of header (header_len header) 0) x))
+
+pub create_refused : (script : script_type.Script) (header : head.Header) (held now : Option (List ℕ)) → script.fresh ≡ true → header ≡ created_header script
+    → BothTold (λ old left. IsTornCreation (canon header) (longer (canon header) (end_of header (header_len header) 0)) old left) held now
+    → BothTold (IsNotReady script) held now
+create_refused script header held now f h b =
+    told_as (λ old left. IsTornCreation (canon header) (longer (canon header) (end_of header (header_len header) 0)) old left) (IsNotReady script) held now
+    (λ old left t. as_created script old left f (subst (λ (k : head.Header). IsTornCreation (canon k) (start script k old) old left) h (begun_more script header old left f t))) b
+
+-- the fill was cut off
+filled_part : (script : script_type.Script) (header : head.Header) (file left : List ℕ) → script.fresh ≡ true
+    → IsBetween (longer (canon header) (end_of header (header_len header) 0)) (filled_if script.filled header (longer (canon header) (end_of header (header_len header) 0))) left
+    → IsBegun (canon header) (start script header file) left
+unfolding begun_file
+filled_part script header file left f b = record {
+  short = (let same = start_as_long script header file f in let few = b.len in omega arith);
+  each = λ x l. by_byte x (b.each x);
+}
+  where
+    by_byte : (x : ℕ)
+        → (at left x ≡ at (longer (canon header) (end_of header (header_len header) 0)) x)
+        ⊎ (at left x ≡ at (filled_if script.filled header (longer (canon header) (end_of header (header_len header) 0))) x)
+        → (at left x ≡ 0) ⊎ (at left x ≡ at (canon header) x) ⊎ (at left x ≡ at (start script header file) x)
+    by_byte x (inl e) = inr (inl (e ∙ at-longer (canon header) (end_of header (header_len header) 0) x))
+    by_byte x (inr e) = inr (inr (e ∙ sym (ap (λ (g : List ℕ). at g x) (start-created script header file f))))
+
+pub fill_refused : (script : script_type.Script) (header : head.Header) (held mid now : Option (List ℕ)) → script.fresh ≡ true → header ≡ created_header script
+    → mid ≡ after (λ _. longer (canon header) (end_of header (header_len header) 0)) held
+    → BothTold (λ old left. IsBetween old (filled_if script.filled header old) left) mid now → BothTold (IsNotReady script) held now
+fill_refused script header None mid now f h e b = subst (λ (m : Option (List ℕ)). BothTold (λ old left. IsBetween old (filled_if script.filled header old) left) m now) e b
+fill_refused script header (Some file) mid now f h e b =
+    by_told (subst (λ (m : Option (List ℕ)). BothTold (λ old left. IsBetween old (filled_if script.filled header old) left) m now) e b)
+  where
+    by_told : BothTold (λ old left. IsBetween old (filled_if script.filled header old) left) (Some (longer (canon header) (end_of header (header_len header) 0))) now
+        → BothTold (IsNotReady script) (Some file) now
+    by_told c = (
+      c.0,
+      c.1,
+      as_created script file c.0 f
+          (subst (λ (k : head.Header). IsTornCreation (canon k) (start script k file) file c.0) h (inr (filled_part script header file c.0 f c.2))),
+    )
+
+-- an existing dataset
+pub open_refused : (script : script_type.Script) (held now : Option (List ℕ)) → script.fresh ≡ false → BothTold (IsPartlyOpened script) held now
+    → BothTold (IsNotReady script) held now
+open_refused script held now f b =
+    told_as (IsPartlyOpened script) (IsNotReady script) held now
+    (λ old left p. record { created = λ c. absurd (false-true script.fresh f c); opened = λ _. p }) b
+
+-- ---- a dataset that is opened
+
+-- nothing was changed
+pub not_opened : (script : script_type.Script) (held now : Option (List ℕ)) → now ≡ held → BothTold (IsPartlyOpened script) held now
+not_opened script held now e = subst (λ (m : Option (List ℕ)). BothTold (IsPartlyOpened script) held m) (sym e) (by_held held)
+  where
+    by_held : (t : Option (List ℕ)) → BothTold (IsPartlyOpened script) t t
+    by_held None = refl
+    by_held (Some file) = (file, refl, inl refl)
+
+heads_of : (script : script_type.Script) (old header : head.Header) (file : List ℕ) → script.fresh ≡ false → IsOpened (Some file) old
+    → ((length script.extra == 0) ≡ true → header ≡ old) → ((length script.extra == 0) ≡ false → IsApplied old script.extra header) → AreHeadersOf script file old header
+heads_of script old header file f o same changed = record {
+  created = λ c. absurd (false-true script.fresh f c);
+  opened = λ _. begun (Some file) old o;
+  made = by_extras (length script.extra == 0) refl;
+}
+  where
+    by_extras : (b : Bool) → (length script.extra == 0) ≡ b → header ≡ header_of_run script old
+    by_extras true e = same e ∙ sym (header-kept script old e)
+    by_extras false e = header-changed script old header e (changed e)
+
+pub lengthen_refused : (script : script_type.Script) (header : head.Header) (held mid now : Option (List ℕ)) → script.fresh ≡ false → (length script.extra == 0) ≡ true
+    → IsOpened held header → mid ≡ held → BothTold (IsLengthened (end_of header (header_len header) header.records)) mid now → BothTold (IsPartlyOpened script) held now
+lengthen_refused script header held mid now f x o e b =
+    by_held held o (subst (λ (m : Option (List ℕ)). BothTold (IsLengthened (end_of header (header_len header) header.records)) m now) e b)
+  where
+    by_held : (t : Option (List ℕ)) → IsOpened t header → BothTold (IsLengthened (end_of header (header_len header) header.records)) t now → BothTold (IsPartlyOpened script) t now
+    by_held None p c = c
+    by_held (Some file) p c = (
+      c.0,
+      c.1,
+      inr (
+        header,
+        header,
+        heads_of script header header file f p (λ _. refl) (λ s. absurd (false-true (length script.extra == 0) s x)),
+        record { kept = λ _. c.2; moved = λ s. absurd (false-true (length script.extra == 0) s x) },
+      ),
+    )
+
+pub redefine_refused : (script : script_type.Script) (old : head.Header) (held mid now : Option (List ℕ)) → script.fresh ≡ false → (length script.extra == 0) ≡ false
+    → IsOpened held old → mid ≡ held → BothTold (IsPartlyRedefined old script.extra) mid now → BothTold (IsPartlyOpened script) held now
+redefine_refused script old held mid now f x o e b =
+    by_held held o (subst (λ (m : Option (List ℕ)). BothTold (IsPartlyRedefined old script.extra) m now) e b)
+  where
+    by_part : (file left : List ℕ) → IsOpened (Some file) old → IsPartlyRedefined old script.extra file left → IsPartlyOpened script file left
+    by_part file left p (inl same) = inl same
+    by_part file left p (inr (new, a, t)) =
+        inr (
+          old,
+          new,
+          heads_of script old new file f p (λ s. absurd (false-true (length script.extra == 0) x s)) (λ _. a),
+          record { kept = λ s. absurd (false-true (length script.extra == 0) x s); moved = λ _. t },
+        )
+
+    by_held : (t : Option (List ℕ)) → IsOpened t old → BothTold (IsPartlyRedefined old script.extra) t now → BothTold (IsPartlyOpened script) t now
+    by_held None p c = c
+    by_held (Some file) p c = (c.0, c.1, by_part file c.0 p c.2)
+
+-- ---- a redefinition
+
+pub not_redefined : (old : head.Header) (extras : List Extra) (held : Option (List ℕ)) → BothTold (IsPartlyRedefined old extras) held held
+not_redefined old extras None = refl
+not_redefined old extras (Some file) = (file, refl, inl refl)
+
+both_parts : {A : Type 0} (R S : A → A → Type 0) (held now : Option A) → BothTold R held now → BothTold S held now → BothTold (λ old left. R old left × S old left) held now
+both_parts R S None now r s = r
+both_parts R S (Some old) now r s =
+    let there : Some s.0 ≡ Some r.0 = sym s.1 ∙ r.1 in
+    let same : s.0 ≡ r.0 = cc in
+    (r.0, r.1, (r.2, subst (λ left. S old left) same s.2))
+
+pub relocate_refused : (old new : head.Header) (extras : List Extra) (held now : Option (List ℕ)) → IsApplied old extras new
+    → BothTold (λ file left. IsTornRedefinition (header_len new) (new_end old new) file (redefined file old new) left) held now → BothTold (KeepsPlaces old new) held now
+    → BothTold (IsPartlyRedefined old extras) held now
+relocate_refused old new extras held now a b k =
+    told_as (IsCutRedefinition old new) (IsPartlyRedefined old extras) held now (λ file left t. inr (new, a, t))
+    (both_parts (λ file left. IsTornRedefinition (header_len new) (new_end old new) file (redefined file old new) left) (KeepsPlaces old new) held now b k)

@@ -1,0 +1,131 @@
+-- The front of a file that is opened, and the file made longer.
+use Rattle.std.proofs.Common.{◌≡◌, ℕ, ◌^◌, ◌≤◌, ◌<◌, List, [], ◌++◌, length, take, drop, min, Option, Some, None, refl, sym, ap, inl, inr, ◌⊎◌, subst, ◌∙◌, arith}
+use Rattle.std.specs.Prelude.{IfSome, Result, Ok, Err}
+use Rattle.std.specs.Result.{IsErrAnd}
+use Rattle.std.proofs.lemmas.Bool.{cases_lt}
+use Rattle.nc_base.specs.declared.step.DiskCall.{DiskCall}
+use Rattle.nc_outside.specs.Told.{after, with_end}
+use Rattle.serial_spec.specs.DeviceCalls.{head_load}
+use Rattle.std.proofs.lemmas.List.{take-append-drop, take_all}
+use Rattle.nc_base.specs.declared.errors.HeaderErr.{HeaderErr}
+use Rattle.dataset_start.specs.Dataset as headline
+use Rattle.dataset_start.specs.Opening.{IsOpened}
+use Rattle.dataset_start.specs.Stops.{stop_of_header}
+use Rattle.dataset_start.specs.declared.stop.Stop.{Stop}
+use Rattle.dataset_start.specs.declared.stop.Stop.TheVariants.{Header, Memory}
+use Rattle.nc_base.specs.declared.errors.HeaderErr.TheVariants as fault
+use Rattle.nc_base.specs.declared.header.Header as head
+use Rattle.serial_spec.specs.HeaderGrammar.{first_check, HasFault, Spells}
+use Rattle.serial_spec.proofs.FaultLaws.{fault_only}
+use Rattle.serial_spec.proofs.OnceLaws.{spells_once}
+use Rattle.cdf_header.specs.Decoding.{BeginsWith}
+
+-- ---- a header that stands at a front, and a fault, exclude each other
+
+other : (header : head.Header) (bytes : List ℕ) (n : ℕ) (e : HeaderErr) → BeginsWith bytes header n
+    → (h : head.Header) (front rest : List ℕ) → bytes ≡ front ++ rest → Spells h front → first_check h ≡ Some e → ⊥
+other header bytes n e b h front rest s t f =
+    let same : header ≡ h = (spells_once header h (take n bytes) front (drop n bytes) rest b.0 t (take-append-drop n bytes ∙ s)).0 in
+    clash (sym b.2 ∙ ap first_check same ∙ f)
+  where
+    clash : None ≡ Some e → ⊥
+    clash x = cc
+
+-- ---- one header stands at a front
+
+pub begins_once : (header other : head.Header) (bytes : List ℕ) (n m : ℕ) → BeginsWith bytes header n → BeginsWith bytes other m → header ≡ other
+begins_once header other bytes n m b c =
+    (spells_once header other (take n bytes) (take m bytes) (drop n bytes) (drop m bytes) b.0 c.0 (take-append-drop n bytes ∙ sym (take-append-drop m bytes))).0
+
+pub no_fault : (header : head.Header) (bytes : List ℕ) (n : ℕ) → BeginsWith bytes header n → (e : HeaderErr) → HasFault bytes e → ⊥
+no_fault header bytes n b e (inl field) = clash (sym b.1 ∙ fault_only bytes e field)
+  where
+    clash : None ≡ Some e → ⊥
+    clash x = cc
+no_fault header bytes n b e (inr (h, front, rest, s, t, u, f)) = other header bytes n e b h front rest s t f
+
+-- ---- the front that is read
+
+-- as many bytes as there are, and no more than the front has, are the front
+pub front_is : (bytes : List ℕ) (n : ℕ) → n ≡ min (length bytes) (2 ^ 20) → take n (drop 0 bytes) ≡ headline.front bytes
+front_is bytes n e = by_size (cases_lt (2 ^ 20) (length bytes))
+  where
+    by_size : (2 ^ 20 < length bytes) ⊎ (length bytes ≤ 2 ^ 20) → take n (drop 0 bytes) ≡ headline.front bytes
+    by_size (inl h) = let own : n ≡ 2 ^ 20 = omega (arith, e, h) in ap (λ (k : ℕ). take k bytes) own
+    by_size (inr h) =
+        let own : n ≡ length bytes = omega (arith, e, h) in
+        ap (λ (k : ℕ). take k bytes) own ∙ take_all (length bytes) bytes (omega arith) ∙ sym (take_all (2 ^ 20) bytes h)
+
+-- what is read of a file that is told
+pub read_front : (held : Option (List ℕ)) (len n : ℕ) (read : List ℕ) → IfSome held (λ bytes. length bytes ≡ len) → n ≡ min len (2 ^ 20)
+    → IfSome held (λ bytes. read ≡ take n (drop 0 bytes)) → IfSome held (λ file. read ≡ headline.front file)
+read_front None len n read told e h = tt
+read_front (Some file) len n read told e h = h ∙ front_is file n (e ∙ ap (λ (k : ℕ). min k (2 ^ 20)) (sym told))
+
+-- ---- what the front that was read tells of the file
+
+pub opened : (held : Option (List ℕ)) (bytes : List ℕ) (header : head.Header) (n : ℕ) → IfSome held (λ file. bytes ≡ headline.front file) → length bytes ≤ 2 ^ 20
+    → BeginsWith bytes header n → IsOpened held header
+opened None bytes header n e few b =
+    record { file = bytes; told = tt; count = n; begins = subst (λ (t : List ℕ). BeginsWith t header n) (sym (take_all (2 ^ 20) bytes few)) b }
+opened (Some file) bytes header n e few b =
+    record { file = file; told = refl; count = n; begins = subst (λ (t : List ℕ). BeginsWith t header n) e b }
+
+pub faultless : (held : Option (List ℕ)) (bytes : List ℕ) (header : head.Header) (n : ℕ) → IfSome held (λ file. bytes ≡ headline.front file)
+    → BeginsWith bytes header n → IfSome held (λ file. (e : HeaderErr) → HasFault (headline.front file) e → ⊥)
+faultless None bytes header n e b = tt
+faultless (Some file) bytes header n e b = no_fault header (headline.front file) n (subst (λ (t : List ℕ). BeginsWith t header n) e b)
+
+same_header : (err e : HeaderErr) → Header e ≡ stop_of_header err → err ≡ e
+same_header fault.NotCdf e h = cc
+same_header fault.BadVersion e h = cc
+same_header (fault.Truncated x) e h = cc
+same_header (fault.BadTag x) e h = cc
+same_header (fault.BadType x) e h = cc
+same_header (fault.BadNumber x) e h = cc
+same_header fault.TwoRecordDims e h = cc
+same_header (fault.RecordDimNotFirst v) e h = cc
+same_header (fault.BadDimId v) e h = cc
+same_header fault.Streaming e h = cc
+same_header fault.TooLarge e h = cc
+same_header (fault.Shared v w) e h = cc
+same_header fault.Memory e h = absurd cc
+
+no_memory : (err e : HeaderErr) → Header e ≡ stop_of_header err → err ≡ fault.Memory → ⊥
+no_memory err e h m = clash (h ∙ ap stop_of_header m)
+  where
+    clash : Header e ≡ Memory → ⊥
+    clash x = cc
+
+of_fault : (held : Option (List ℕ)) (bytes : List ℕ) (e : HeaderErr) → IfSome held (λ file. bytes ≡ headline.front file) → HasFault bytes e
+    → IfSome held (λ file. HasFault (headline.front file) e)
+of_fault None bytes e f h = tt
+of_fault (Some file) bytes e f h = subst (λ (t : List ℕ). HasFault t e) f h
+
+-- the fault that ended the opening is that of the file's header
+pub tells : (held : Option (List ℕ)) (bytes : List ℕ) (result : Result head.Header Stop) (err e : HeaderErr) → IfSome held (λ file. bytes ≡ headline.front file)
+    → (err ≡ fault.Memory) ⊎ HasFault bytes err → IsErrAnd result (λ stop. stop ≡ stop_of_header err) → result ≡ Err (Header e)
+    → IfSome held (λ file. HasFault (headline.front file) e)
+tells held bytes (Ok header) err e f why s r = absurd s
+tells held bytes (Err stop) err e f why s r = by_cause why
+  where
+    same : Header e ≡ stop_of_header err
+    same = cc
+
+    by_cause : (err ≡ fault.Memory) ⊎ HasFault bytes err → IfSome held (λ file. HasFault (headline.front file) e)
+    by_cause (inl m) = absurd (no_memory err e same m)
+    by_cause (inr h) = of_fault held bytes e f (subst (λ (x : HeaderErr). HasFault bytes x) (same_header err e same) h)
+
+-- ---- the calls of an opening
+
+pub begun_calls : (held mid : Option (List ℕ)) (before begun now : Option (List DiskCall)) → mid ≡ held → begun ≡ after (λ _. []) before
+    → IfSome mid (λ file. now ≡ with_end begun (head_load file)) → IfSome held (λ file. now ≡ after (λ _. head_load file) before)
+begun_calls held mid before begun now same b h = by_held held (subst (λ (t : Option (List ℕ)). IfSome t (λ file. now ≡ with_end begun (head_load file))) same h)
+  where
+    from_none : (calls : List DiskCall) (old : Option (List DiskCall)) → with_end (after (λ _. []) old) calls ≡ after (λ _. calls) old
+    from_none calls None = refl
+    from_none calls (Some others) = refl
+
+    by_held : (t : Option (List ℕ)) → IfSome t (λ file. now ≡ with_end begun (head_load file)) → IfSome t (λ file. now ≡ after (λ _. head_load file) before)
+    by_held None g = tt
+    by_held (Some file) g = g ∙ ap (λ (c : Option (List DiskCall)). with_end c (head_load file)) b ∙ from_none (head_load file) before

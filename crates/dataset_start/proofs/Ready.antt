@@ -1,0 +1,376 @@
+-- A dataset that is ready for the ranks.
+use Rattle.std.proofs.Common.{◌≡◌, ℕ, ◌≤◌, ◌==◌, ◌++◌, Bool, true, false, List, [], ◌∷◌, length, Option, Some, None, inl, inr, refl, sym, ap, subst, append_assoc, eqb-true, ◌∙◌, arith}
+use Rattle.std.specs.Prelude.{IfErr, IfOk, IfSome, Result, Ok, Err}
+use Rattle.std.specs.Result.{IsErrAnd}
+use Rattle.nc_base.specs.declared.errors.HeaderErr.{HeaderErr}
+use Rattle.nc_base.specs.declared.errors.RedefErr.{RedefErr}
+use Rattle.nc_base.specs.declared.header.Header as head
+use Rattle.nc_base.specs.declared.script.Extra.{Extra}
+use Rattle.nc_base.specs.declared.script.Script as script_type
+use Rattle.nc_base.specs.declared.step.DiskCall.{DiskCall}
+use Rattle.nc_base.specs.declared.step.DiskCall.TheVariants.{Grow, Store}
+use Rattle.nc_outside.specs.Told.{after, with_end}
+use Rattle.nc_outside.proofs.ToldLaws.{after-after, after-same}
+use Rattle.serial_spec.specs.DeviceCalls.{grow_to, head_load, move_calls, opening_calls, redefining_calls, zero_calls}
+use Rattle.serial_spec.specs.File.{longer}
+use Rattle.serial_spec.specs.Fill.{filled}
+use Rattle.serial_spec.specs.HeaderGrammar.{canon, HasFault, header_len, is_sound}
+use Rattle.serial_spec.specs.Layout.{end_of}
+use Rattle.serial_spec.specs.Redefinition.{brought, layout_fault, redefined, redefined_fault, redefined_header}
+use Rattle.serial_spec.specs.SerialEnd.{start}
+use Rattle.serial_spec.proofs.FileLaws.{longer-enough}
+use Rattle.cdf_header.specs.Decoding.{BeginsWith}
+use Rattle.redef_laws.specs.Applied.{IsApplied}
+use Rattle.redef_laws.specs.Shifted.{new_end}
+use Rattle.redef_mover.specs.Relocation.{relocation_calls}
+use Rattle.script_spec.specs.ScriptGrammar.{Reads}
+use Rattle.dataset_start.specs.Dataset.{align_of, created_header, front, header_of_run, redefinition_fault, HasRedefinitionFault, IsSoundFile, TellsDataset}
+use Rattle.dataset_start.specs.Opening.{fill_calls_if, filled_if, first_calls, opened_calls, IsFaultless, IsOpened, IsReady}
+use Rattle.dataset_start.specs.Stops.{line_of, status_of, IsOfHeader, IsOfRedefinition}
+use Rattle.dataset_start.specs.declared.stop.Stop.{Stop}
+use Rattle.dataset_start.specs.declared.stop.Stop.TheVariants as stops
+use Rattle.dataset_start.proofs.Opened.{begins_once}
+use Rattle.dataset_start.proofs.Redefinable.{redefined_sound}
+use Rattle.dataset_start.proofs.Redefined.{long_enough, same_end}
+
+pub false-true : (b : Bool) → b ≡ false → b ≡ true → ⊥
+false-true b e f = clash (sym e ∙ f)
+  where
+    clash : false ≡ true → ⊥
+    clash x = cc
+
+-- ---- nothing is added to a dataset, or something
+
+abbrev AddsNothing : script_type.Script → Bool → Type 0
+AddsNothing script b = (length script.extra == 0) ≡ b
+
+pub no_extras : (script : script_type.Script) → script.extra ≡ [] → (length script.extra == 0) ≡ true
+no_extras script e = ap (λ (x : List Extra). length x == 0) e
+
+pub some_extras : (script : script_type.Script) → (script.extra ≡ [] → ⊥) → (length script.extra == 0) ≡ false
+some_extras script h = by_test (length script.extra == 0) refl
+  where
+    nothing : (extras : List Extra) → length extras ≡ 0 → extras ≡ []
+    nothing [] e = refl
+    nothing (x ∷ extras) e = absurd (omega (arith, e))
+
+    by_test : (b : Bool) → (length script.extra == 0) ≡ b → (length script.extra == 0) ≡ false
+    by_test false e = e
+    by_test true e = absurd (h (nothing script.extra (eqb-true (length script.extra) 0 e)))
+
+pub header-kept : (script : script_type.Script) (old : head.Header) → AddsNothing script true → header_of_run script old ≡ old
+header-kept script old x = ap (λ (b : Bool). elim b [ true ↦ old | false ↦ redefined_header old script.extra ]) x
+
+pub header-changed : (script : script_type.Script) (old new : head.Header) → AddsNothing script false → IsApplied old script.extra new → new ≡ header_of_run script old
+header-changed script old new x a = a.made ∙ sym (ap (λ (b : Bool). elim b [ true ↦ old | false ↦ redefined_header old script.extra ]) x)
+
+pub file-kept : (script : script_type.Script) (old new : head.Header) (file : List ℕ) → AddsNothing script true → brought script old new file ≡ file
+file-kept script old new file x = ap (λ (b : Bool). elim b [ true ↦ file | false ↦ redefined file old new ]) x
+
+file-changed : (script : script_type.Script) (old new : head.Header) (file : List ℕ) → AddsNothing script false → brought script old new file ≡ redefined file old new
+file-changed script old new file x = ap (λ (b : Bool). elim b [ true ↦ file | false ↦ redefined file old new ]) x
+
+first-calls : (script : script_type.Script) (old new : head.Header) (file : List ℕ) (b : Bool) → AddsNothing script b
+    → first_calls script old new file ≡ elim b [ true ↦ opening_calls script new file | false ↦ redefining_calls script.hints old new file ]
+first-calls script old new file b x =
+    ap (λ (c : Bool). elim c [ true ↦ opening_calls script new file | false ↦ redefining_calls script.hints old new file ]) x
+
+fault-none : (script : script_type.Script) (old : head.Header) → AddsNothing script true → redefinition_fault script old ≡ None
+fault-none script old x = ap (λ (b : Bool). elim b [ true ↦ None | false ↦ redefined_fault old script.extra ]) x
+
+fault-some : (script : script_type.Script) (old : head.Header) → AddsNothing script false → redefinition_fault script old ≡ redefined_fault old script.extra
+fault-some script old x = ap (λ (b : Bool). elim b [ true ↦ None | false ↦ redefined_fault old script.extra ]) x
+
+some-none : (e : RedefErr) (o : Option RedefErr) → o ≡ Some e → o ≡ None → ⊥
+some-none e o f g = clash (sym f ∙ g)
+  where
+    clash : Some e ≡ None → ⊥
+    clash x = cc
+
+-- ---- the file before the ranks begin
+
+pub start-created : (script : script_type.Script) (header : head.Header) (file : List ℕ) → script.fresh ≡ true
+    → start script header file ≡ filled_if script.filled header (longer (canon header) (end_of header (header_len header) 0))
+start-created script header file f = ap (λ (b : Bool). elim b [ false ↦ longer file (end_of header (header_len header) header.records) | true ↦ begun ]) f ∙ by_filled script.filled
+  where
+    whole : List ℕ
+    whole = longer (canon header) (end_of header (header_len header) 0)
+
+    begun : List ℕ
+    begun = elim (script.filled) [ false ↦ longer (canon header) (end_of header (header_len header) 0) | true ↦ filled header (longer (canon header) (end_of header (header_len header) 0)) ]
+
+    by_filled : (b : Bool) → elim b [ false ↦ longer (canon header) (end_of header (header_len header) 0) | true ↦ filled header (longer (canon header) (end_of header (header_len header) 0)) ]
+        ≡ filled_if b header (longer (canon header) (end_of header (header_len header) 0))
+    by_filled true = refl
+    by_filled false = refl
+
+start-opened : (script : script_type.Script) (header : head.Header) (file : List ℕ) → script.fresh ≡ false
+    → start script header file ≡ longer file (end_of header (header_len header) header.records)
+start-opened script header file f = rw f refl
+
+-- ---- the calls before the ranks begin
+
+created-calls : script_type.Script → head.Header → List DiskCall
+created-calls script header = Grow (end_of header (header_len header) 0) ∷ Store 0 (header_len header) ∷ fill_calls_if script.filled script.hints header
+
+opening-created : (script : script_type.Script) (header : head.Header) (file : List ℕ) → script.fresh ≡ true
+    → opening_calls script header file ≡ created-calls script header
+unfolding created-calls
+opening-created script header file f = rw f refl
+
+opening-opened : (script : script_type.Script) (header : head.Header) (file : List ℕ) → script.fresh ≡ false
+    → opening_calls script header file ≡ opened_calls header file
+opening-opened script header file f = rw f refl
+
+calls-created : (script : script_type.Script) (header : head.Header) (held : Option (List ℕ)) (before mid now : Option (List DiskCall)) → script.fresh ≡ true
+    → AddsNothing script true
+    → mid ≡ after (λ _. Grow (end_of header (header_len header) 0) ∷ Store 0 (header_len header) ∷ []) before
+    → now ≡ with_end mid (fill_calls_if script.filled script.hints header)
+    → IfSome held (λ bytes. now ≡ after (λ _. first_calls script header header bytes) before)
+unfolding created-calls
+calls-created script header None before mid now f x m n = tt
+calls-created script header (Some bytes) before mid now f x m n =
+    n ∙ ap (λ (c : Option (List DiskCall)). with_end c (fill_calls_if script.filled script.hints header)) m ∙ together before
+  where
+    together : (old : Option (List DiskCall))
+        → with_end (after (λ _. Grow (end_of header (header_len header) 0) ∷ Store 0 (header_len header) ∷ []) old) (fill_calls_if script.filled script.hints header)
+        ≡ after (λ _. first_calls script header header bytes) old
+    together None = refl
+    together (Some calls) = ap (λ (c : List DiskCall). Some c) (sym (opening-created script header bytes f) ∙ sym (first-calls script header header bytes true x))
+
+extended : (before mid now : Option (List DiskCall)) (first more : List DiskCall) → mid ≡ after (λ _. first) before → now ≡ with_end mid more
+    → now ≡ after (λ _. first ++ more) before
+extended None mid now first more m n = n ∙ ap (λ (c : Option (List DiskCall)). with_end c more) m
+extended (Some calls) mid now first more m n = n ∙ ap (λ (c : Option (List DiskCall)). with_end c more) m
+
+calls-opened : (script : script_type.Script) (header : head.Header) (held : Option (List ℕ)) (before mid now : Option (List DiskCall)) → script.fresh ≡ false
+    → AddsNothing script true → IfSome held (λ file. mid ≡ after (λ _. head_load file) before)
+    → IfSome held (λ file. now ≡ with_end mid (grow_to (length file) (end_of header (header_len header) header.records)))
+    → IfSome held (λ bytes. now ≡ after (λ _. first_calls script header header bytes) before)
+calls-opened script header None before mid now f x m n = tt
+calls-opened script header (Some bytes) before mid now f x m n =
+    extended before mid now (head_load bytes) (grow_to (length bytes) (end_of header (header_len header) header.records)) m n
+    ∙ ap (λ (c : List DiskCall). after (λ _. c) before) (sym (opening-opened script header bytes f) ∙ sym (first-calls script header header bytes true x))
+
+joined-calls : (script : script_type.Script) (old new : head.Header) (file : List ℕ)
+    → head_load file ++ relocation_calls script.hints.wr_buffer old new file ≡ redefining_calls script.hints old new file
+joined-calls script old new file =
+    four (head_load file) (grow_to (length file) (new_end old new)) (move_calls script.hints.wr_buffer old new) (zero_calls script.hints.wr_buffer old new)
+    (Store 0 (header_len new) ∷ [])
+  where
+    four : (h g m z s : List DiskCall) → h ++ (g ++ m ++ z ++ s) ≡ h ++ g ++ m ++ z ++ s
+    four h g m z s =
+        sym (append_assoc h (g ++ m ++ z) s)
+        ∙ ap (λ (t : List DiskCall). t ++ s) (sym (append_assoc h (g ++ m) z) ∙ ap (λ (t : List DiskCall). t ++ z) (sym (append_assoc h g m)))
+
+calls-redefined : (script : script_type.Script) (old new : head.Header) (held : Option (List ℕ)) (before mid now : Option (List DiskCall)) → AddsNothing script false
+    → IfSome held (λ file. mid ≡ after (λ _. head_load file) before)
+    → IfSome held (λ file. now ≡ with_end mid (relocation_calls script.hints.wr_buffer old new file))
+    → IfSome held (λ bytes. now ≡ after (λ _. first_calls script old new bytes) before)
+calls-redefined script old new None before mid now x m n = tt
+calls-redefined script old new (Some bytes) before mid now x m n =
+    extended before mid now (head_load bytes) (relocation_calls script.hints.wr_buffer old new bytes) m n
+    ∙ ap (λ (c : List DiskCall). after (λ _. c) before) (joined-calls script old new bytes ∙ sym (first-calls script old new bytes false x))
+
+-- what is held, or nothing where nothing is told
+abbrev told : Option (List ℕ) → List ℕ
+told None = []
+told (Some file) = file
+
+told-is : (held : Option (List ℕ)) → IfSome held (λ bytes. bytes ≡ told held)
+told-is None = tt
+told-is (Some file) = refl
+
+-- ---- a new dataset
+
+pub ready-created : (script : script_type.Script) (header : head.Header) (before mid now : Option (List ℕ)) (calls_before calls_mid calls_now : Option (List DiskCall))
+    → script.fresh ≡ true → AddsNothing script true
+    → header ≡ created_header script → is_sound header ≡ true → layout_fault script.header (align_of script.hints) ≡ None
+    → mid ≡ after (λ _. longer (canon header) (end_of header (header_len header) 0)) before → now ≡ after (filled_if script.filled header) mid
+    → calls_mid ≡ after (λ _. Grow (end_of header (header_len header) 0) ∷ Store 0 (header_len header) ∷ []) calls_before
+    → calls_now ≡ with_end calls_mid (fill_calls_if script.filled script.hints header)
+    → IsReady script header before now calls_before calls_now
+ready-created script header before mid now calls_before calls_mid calls_now f x h s l e g m n = record {
+  old = header;
+  file = told before;
+  held = told-is before;
+  heads = record { created = λ _. h; opened = λ o. absurd (false-true script.fresh o f); made = sym (header-kept script header x) };
+  sound = s;
+  faultless = record { created = λ _. l; opened = λ o. absurd (false-true script.fresh o f) };
+  bytes =
+      g ∙ ap (λ (t : Option (List ℕ)). after (filled_if script.filled header) t) e
+      ∙ after-after (filled_if script.filled header) (λ _. longer (canon header) (end_of header (header_len header) 0)) before
+      ∙ after-same (λ _. filled_if script.filled header (longer (canon header) (end_of header (header_len header) 0)))
+      (λ file. start script header (brought script header header file)) before
+      (λ file. sym (start-created script header (brought script header header file) f));
+  calls = calls-created script header before calls_before calls_mid calls_now f x m n;
+}
+
+-- ---- an existing dataset
+
+-- the header at the front of what is held
+pub begun : (held : Option (List ℕ)) (header : head.Header) → IsOpened held header → IfSome held (λ file. (n : ℕ) × BeginsWith (front file) header n)
+begun None header o = tt
+begun (Some file) header o = (o.count, subst (λ (t : List ℕ). BeginsWith (front t) header o.count) (sym o.told) o.begins)
+
+-- where nothing is at fault in the header, and it refuses nothing, nothing is at fault
+sound-file : (script : script_type.Script) (old : head.Header) (held : Option (List ℕ)) → IsOpened held old → redefinition_fault script old ≡ None
+    → IfSome held (λ file. (e : HeaderErr) → HasFault (front file) e → ⊥) → IfSome held (IsSoundFile script)
+sound-file script old None o r n = tt
+sound-file script old (Some file) o r n = record { header = n; redefinition = refuses }
+  where
+    refuses : (e : RedefErr) → HasRedefinitionFault script file e → ⊥
+    refuses e h =
+        let b = begun (Some file) old o in
+        let same : h.old ≡ old = begins_once h.old old (front file) h.count b.0 h.begins b.1 in
+        some-none e (redefinition_fault script h.old) h.refuses (ap (λ (x : head.Header). redefinition_fault script x) same ∙ r)
+
+opened-faultless : (script : script_type.Script) (old : head.Header) (held : Option (List ℕ)) → script.fresh ≡ false → IsOpened held old
+    → redefinition_fault script old ≡ None → IfSome held (λ file. (e : HeaderErr) → HasFault (front file) e → ⊥) → IsFaultless script held
+opened-faultless script old held f o r n =
+    record { created = λ c. absurd (false-true script.fresh f c); opened = λ _. sound-file script old held o r n }
+
+pub ready-kept : (script : script_type.Script) (header : head.Header) (before mid now : Option (List ℕ)) (calls_before calls_mid calls_now : Option (List DiskCall))
+    → script.fresh ≡ false → AddsNothing script true → IsOpened before header → is_sound header ≡ true
+    → IfSome before (λ file. (e : HeaderErr) → HasFault (front file) e → ⊥) → mid ≡ before
+    → now ≡ after (λ file. longer file (end_of header (header_len header) header.records)) mid
+    → IfSome before (λ file. calls_mid ≡ after (λ _. head_load file) calls_before)
+    → IfSome mid (λ file. calls_now ≡ with_end calls_mid (grow_to (length file) (end_of header (header_len header) header.records)))
+    → IsReady script header before now calls_before calls_now
+ready-kept script header before mid now calls_before calls_mid calls_now f x o s n h e m k = record {
+  old = header;
+  file = o.file;
+  held = o.told;
+  heads = record { created = λ c. absurd (false-true script.fresh f c); opened = λ _. (o.count, o.begins); made = sym (header-kept script header x) };
+  sound = s;
+  faultless = opened-faultless script header before f o (fault-none script header x) n;
+  bytes = e ∙ ap (λ (t : Option (List ℕ)). after (λ file. longer file (end_of header (header_len header) header.records)) t) h
+      ∙ after-same (λ file. longer file (end_of header (header_len header) header.records)) (λ file. start script header (brought script header header file)) before
+      (λ file. sym (start-opened script header (brought script header header file) f
+      ∙ ap (λ (t : List ℕ). longer t (end_of header (header_len header) header.records)) (file-kept script header header file x)));
+  calls = calls-opened script header before calls_before calls_mid calls_now f x m
+      (subst (λ (t : Option (List ℕ)). IfSome t (λ file. calls_now ≡ with_end calls_mid (grow_to (length file) (end_of header (header_len header) header.records)))) h k);
+}
+
+-- the redefined file is as long as its end
+redefined-start : (script : script_type.Script) (old new : head.Header) (file : List ℕ) → script.fresh ≡ false → AddsNothing script false → IsApplied old script.extra new
+    → start script new (brought script old new file) ≡ redefined file old new
+redefined-start script old new file f x a =
+    start-opened script new (brought script old new file) f
+    ∙ ap (λ (t : List ℕ). longer t (end_of new (header_len new) new.records)) (file-changed script old new file x)
+    ∙ longer-enough (redefined file old new) (end_of new (header_len new) new.records)
+    (omega (arith, same_end old new script.extra a.made, long_enough old new file))
+
+ready-redefined : (script : script_type.Script) (old new : head.Header) (before mid now : Option (List ℕ)) (calls_before calls_mid calls_now : Option (List DiskCall))
+    → script.fresh ≡ false → AddsNothing script false → IsOpened before old
+    → IfSome before (λ file. (e : HeaderErr) → HasFault (front file) e → ⊥) → mid ≡ before → IsApplied old script.extra new
+    → now ≡ after (λ file. redefined file old new) mid
+    → IfSome before (λ file. calls_mid ≡ after (λ _. head_load file) calls_before)
+    → IfSome mid (λ file. calls_now ≡ with_end calls_mid (relocation_calls script.hints.wr_buffer old new file))
+    → IsReady script new before now calls_before calls_now
+ready-redefined script old new before mid now calls_before calls_mid calls_now f x o n h a e m k = record {
+  old = old;
+  file = o.file;
+  held = o.told;
+  heads = record { created = λ c. absurd (false-true script.fresh f c); opened = λ _. (o.count, o.begins); made = header-changed script old new x a };
+  sound = redefined_sound old new script.extra a;
+  faultless = opened-faultless script old before f o (fault-some script old x ∙ a.faultless) n;
+  bytes = e ∙ ap (λ (t : Option (List ℕ)). after (λ file. redefined file old new) t) h
+      ∙ after-same (λ file. redefined file old new) (λ file. start script new (brought script old new file)) before
+      (λ file. sym (redefined-start script old new file f x a));
+  calls = calls-redefined script old new before calls_before calls_mid calls_now x m
+      (subst (λ (t : Option (List ℕ)). IfSome t (λ file. calls_now ≡ with_end calls_mid (relocation_calls script.hints.wr_buffer old new file))) h k);
+}
+
+pub redefined-ready : (script : script_type.Script) (old : head.Header) (before mid now : Option (List ℕ)) (calls_before calls_mid calls_now : Option (List DiskCall))
+    (result : Result head.Header Stop) → script.fresh ≡ false → AddsNothing script false → IsOpened before old
+    → IfSome before (λ file. (e : HeaderErr) → HasFault (front file) e → ⊥) → mid ≡ before → IfOk result (λ new. IsApplied old script.extra new)
+    → IfOk result (λ new. now ≡ after (λ file. redefined file old new) mid)
+    → IfSome before (λ file. calls_mid ≡ after (λ _. head_load file) calls_before)
+    → IfOk result (λ new. IfSome mid (λ file. calls_now ≡ with_end calls_mid (relocation_calls script.hints.wr_buffer old new file)))
+    → IfOk result (λ new. IsReady script new before now calls_before calls_now)
+redefined-ready script old before mid now calls_before calls_mid calls_now (Ok new) f x o n h a e m k =
+    ready-redefined script old new before mid now calls_before calls_mid calls_now f x o n h a e m k
+redefined-ready script old before mid now calls_before calls_mid calls_now (Err stop) f x o n h a e m k = tt
+
+pub redefined_long : (old : head.Header) (len : ℕ) (extras : List Extra) (result : Result head.Header Stop)
+    → IfOk result (λ new. IsApplied old extras new) → IfOk result (λ new. new_end old new ≤ len)
+    → IfOk result (λ new. end_of new (header_len new) new.records ≤ len)
+redefined_long old len extras (Ok new) a h = omega (arith, same_end old new extras a.made, h)
+redefined_long old len extras (Err stop) a h = tt
+
+-- ---- what is wrong with it
+
+bad-header-stop : (script : script_type.Script) (held : Option (List ℕ)) (stop : Stop) → script.fresh ≡ false
+    → ((e : HeaderErr) → stop ≡ stops.Header e → IfSome held (λ file. HasFault (front file) e)) → IsOfHeader stop
+    → status_of stop ≡ 4 → IfSome (line_of stop) (TellsDataset script held)
+bad-header-stop script held (stops.Header e) f h o s =
+    record { created = λ c. absurd (false-true script.fresh f c); opened = λ _. inl (e, (h e refl, refl)) }
+bad-header-stop script held stops.Disk f h o s = absurd (omega (arith, s))
+bad-header-stop script held stops.Memory f h o s = absurd (omega (arith, s))
+bad-header-stop script held stops.Usage f h o s = absurd o
+bad-header-stop script held (stops.Script e) f h o s = absurd o
+bad-header-stop script held (stops.Layout e) f h o s = absurd o
+bad-header-stop script held (stops.Redefinition e) f h o s = absurd o
+bad-header-stop script held stops.Source f h o s = absurd o
+
+pub bad-header : {T U : Type 0} (script : script_type.Script) (held : Option (List ℕ)) (result : Result T Stop) (err : Stop) (left : Result U Stop) → script.fresh ≡ false
+    → result ≡ Err err → ((e : HeaderErr) → result ≡ Err (stops.Header e) → IfSome held (λ file. HasFault (front file) e)) → IfErr result IsOfHeader
+    → IsErrAnd left (λ stop. stop ≡ err)
+    → IfErr left (λ stop. status_of stop ≡ 4 → IfSome (line_of stop) (TellsDataset script held))
+bad-header script held result err (Ok x) f r h o e = tt
+bad-header script held (Ok x) err (Err stop) f r h o e = absurd cc
+bad-header script held (Err other) err (Err stop) f r h o e =
+    let same : other ≡ stop = let t : other ≡ err = cc in t ∙ sym e in
+    bad-header-stop script held stop f (λ x s. h x (ap (λ (y : Stop). Err y) (same ∙ s))) (subst IsOfHeader same o)
+
+redefinition-told : (script : script_type.Script) (old : head.Header) (held : Option (List ℕ)) (e : RedefErr) → AddsNothing script false → IsOpened held old
+    → redefined_fault old script.extra ≡ Some e → IfSome held (λ file. HasRedefinitionFault script file e)
+redefinition-told script old None e x o r = tt
+redefinition-told script old (Some file) e x o r =
+    let b = begun (Some file) old o in
+    record { old = old; count = b.0; begins = b.1; refuses = fault-some script old x ∙ r }
+
+bad-redefinition-stop : (script : script_type.Script) (old : head.Header) (held : Option (List ℕ)) (stop : Stop) → script.fresh ≡ false → AddsNothing script false
+    → IsOpened held old → ((e : RedefErr) → stop ≡ stops.Redefinition e → redefined_fault old script.extra ≡ Some e) → IsOfRedefinition stop
+    → status_of stop ≡ 4 → IfSome (line_of stop) (TellsDataset script held)
+bad-redefinition-stop script old held (stops.Redefinition e) f x p h o s =
+    record { created = λ c. absurd (false-true script.fresh f c); opened = λ _. inr (e, (redefinition-told script old held e x p (h e refl), refl)) }
+bad-redefinition-stop script old held stops.Disk f x p h o s = absurd (omega (arith, s))
+bad-redefinition-stop script old held stops.Memory f x p h o s = absurd (omega (arith, s))
+bad-redefinition-stop script old held stops.Usage f x p h o s = absurd o
+bad-redefinition-stop script old held (stops.Script e) f x p h o s = absurd o
+bad-redefinition-stop script old held (stops.Header e) f x p h o s = absurd o
+bad-redefinition-stop script old held (stops.Layout e) f x p h o s = absurd o
+bad-redefinition-stop script old held stops.Source f x p h o s = absurd o
+
+pub bad-redefinition : (script : script_type.Script) (old : head.Header) (held : Option (List ℕ)) (result : Result head.Header Stop) → script.fresh ≡ false
+    → AddsNothing script false → IsOpened held old
+    → ((e : RedefErr) → result ≡ Err (stops.Redefinition e) → redefined_fault old script.extra ≡ Some e) → IfErr result IsOfRedefinition
+    → IfErr result (λ stop. status_of stop ≡ 4 → IfSome (line_of stop) (TellsDataset script held))
+bad-redefinition script old held (Ok header) f x p h o = tt
+bad-redefinition script old held (Err stop) f x p h o = bad-redefinition-stop script old held stop f x p (λ e s. h e (ap (λ (y : Stop). Err y) s)) o
+
+-- ---- one text has one script
+
+pub same_script : (text : List ℕ) (a b : script_type.Script) → Reads text a → Reads text b → a ≡ b
+same_script text a b r s = let e : Ok a ≡ Ok b = sym r ∙ s in cc
+
+pub of_any : {Q : Type 0} (left : Option (List ℕ)) (script : script_type.Script) → IfSome left (λ text. Reads text script) → (script.fresh ≡ true → Q)
+    → IfSome left (λ text. (s : script_type.Script) → Reads text s → s.fresh ≡ true → Q)
+of_any None script r h = tt
+of_any (Some text) script r h = λ s q f. h (ap (λ (x : script_type.Script). x.fresh) (same_script text script s r q) ∙ f)
+
+-- a created dataset has no record
+pub created_long : (script : script_type.Script) (header : head.Header) (len : ℕ) → script.header.records ≡ 0 → header ≡ created_header script
+    → len ≡ end_of header (header_len header) 0 → end_of header (header_len header) header.records ≤ len
+created_long script header len r h l =
+    let none : header.records ≡ 0 = ap (λ (x : head.Header). x.records) h ∙ r in
+    let same : end_of header (header_len header) header.records ≡ end_of header (header_len header) 0 = ap (λ (n : ℕ). end_of header (header_len header) n) none in
+    omega (arith, same, l)
+
+pub unlaid : {T Q : Type 0} (left : Option (List ℕ)) (script : script_type.Script) (result : Result T Stop) (err : Stop) → IfSome left (λ text. Reads text script)
+    → IsErrAnd result (λ stop. stop ≡ err) → (status_of err ≡ 4 → script.fresh ≡ true → Q)
+    → IfErr result (λ stop. status_of stop ≡ 4 → IfSome left (λ text. (s : script_type.Script) → Reads text s → s.fresh ≡ true → Q))
+unlaid left script (Ok x) err r e h = tt
+unlaid left script (Err stop) err r e h = λ s. of_any left script r (λ f. h (ap status_of (sym e) ∙ s) f)

@@ -1,0 +1,27 @@
+// The script that the source has.
+ghost use Rattle.std.specs.Prelude.{◌≡◌, [], IfOk, IfErr, OnOk, IfSome, IsErrOf};
+ghost use Rattle.nc_outside.specs.Told.{after};
+ghost use Rattle.nc_outside.specs.Cause.{Rose};
+ghost use Rattle.dataset_start.specs.Dataset.{Asks, IsRead, refusal};
+ghost use Rattle.dataset_start.specs.Stops.{line_of, status_of, IsOfTaking};
+
+use crate::stop::Stop;
+use crate::streams::take_all;
+use nc_base::Script;
+use nc_outside::Source;
+use ncmpi_script::read_script;
+use std::alloc::Global;
+
+/// Takes the source to its end, and reads the script that it has.
+pub(crate) fn take_script<S: Source>(alloc: Global, source: &mut S) -> Result<Script, Stop>
+    ensures asks { IfOk result (λ script. Asks (S.left source.old) script) }
+    ensures read { IfOk result IsRead }
+    ensures taken { OnOk result (S.left source.new ≡ after (λ _. []) (S.left source.old)) }
+    ensures refused { IfErr result (λ stop. status_of stop ≡ 3 → IfSome (S.left source.old) (λ text. refusal text ≡ line_of stop)) }
+    ensures source { IsErrOf result Stop.Source → Rose (S.faults source.old) (S.faults source.new) }
+    ensures only { IfErr result IsOfTaking }
+{
+    let text = take_all(alloc, source)?;
+    let script = read_script(alloc, &text)?;
+    Ok(script)
+}

@@ -1,6 +1,0 @@
-use Rattle.std.proofs.Common.{◌∙◌, rules}
-use Rattle.ncmpi_cli.proofs.Digits.{natural}
-use Rattle.ncmpi_cli.proofs.command.natural.Goals as goal
-
-pub returns-then-is_digits : goal.returns-then-is_digits
-returns-then-is_digits c = c.ok.ensures.value ∙ natural c.args.word.now c.parse.result (search rules) c.parse.ensures.value.0

@@ -1,5 +1,0 @@
-use Rattle.ncmpi_cli.proofs.Commands.{parsed}
-use Rattle.ncmpi_cli.proofs.command.parsed.Goals as goal
-
-pub returns-in-Ok : goal.returns-in-Ok
-returns-in-Ok c = parsed _ _ c.in-Ok.matches c.options_in.result c.in_ok-command.ensures c.in-Ok.ensures.kinds c.in-Ok.ensures.matches c.options_in.ensures

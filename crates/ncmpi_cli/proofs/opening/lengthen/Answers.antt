@@ -1,6 +1,0 @@
-use Rattle.std.proofs.Common.{arith}
-use Rattle.var_layout.proofs.ElementPlaces.{sound_end}
-use Rattle.ncmpi_cli.proofs.opening.lengthen.Goals as goal
-
-pub end_of-end-requires-clause-below : goal.end_of-end-requires-clause-below
-end_of-end-requires-clause-below g c = sound_end c.args.header.now c.args.header.now.records c.requires.sound (omega arith)

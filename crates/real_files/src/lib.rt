@@ -1,0 +1,10 @@
+//! The real source, sink and disk: standard input, standard output, and a file of the system.
+#![tactic(auto)]
+
+mod file_disk;
+mod std_sink;
+mod std_source;
+
+pub use file_disk::FileDisk;
+pub use std_sink::StdSink;
+pub use std_source::StdSource;
