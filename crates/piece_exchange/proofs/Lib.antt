@@ -10,3 +10,5 @@ pub mod BackLaws
 pub mod SeatLaws
 pub mod DomainTurns
 pub mod PlanLaws
+pub mod CollectLaws
+pub mod ReadLaws

@@ -7,3 +7,5 @@ pub mod Feeds
 pub mod Helped
 pub mod Seats
 pub mod Rooms
+pub mod Blobs
+pub mod Logs

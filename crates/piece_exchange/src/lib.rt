@@ -5,6 +5,7 @@
 //! know its pieces, and nobody has to say where a line ends.
 #![tactic(auto)]
 
+mod collecting;
 mod exchange;
 mod helper;
 mod in_turn;
