@@ -18,7 +18,8 @@ use Rattle.overlay_laws.proofs.Members.{in_filter}
 use Rattle.overlay_laws.proofs.WalkLaws.{filter_joined}
 use Rattle.data_sieving.specs.Serving.{buffer_cell, part_in}
 use Rattle.piece_exchange.specs.Blobs.{blob_at, of_request, with_blob, AreAsLong, FitTable}
-use Rattle.piece_exchange.proofs.TurnLaws.{served_in, AreServed}
+use Rattle.piece_exchange.specs.Cursor.{AreServed}
+use Rattle.piece_exchange.proofs.TurnLaws.{served_in}
 
 -- ---- the entries of a request
 

@@ -1,4 +1,3 @@
-pub mod Hulls
 pub mod TurnLaws
 pub mod PutLaws
 pub mod PieceLaws

@@ -20,7 +20,8 @@ use Rattle.piece_exchange.specs.Blobs.{blob_at, got_in_hull, of_request, FitTabl
 use Rattle.piece_exchange.specs.Logs.{log_cells, told_in, HasCollectedLog, Log}
 use Rattle.piece_exchange.specs.Turns.{Told}
 use Rattle.piece_exchange.proofs.CollectLaws.{fit_request, in_request, request_in}
-use Rattle.piece_exchange.proofs.TurnLaws.{in_served, served_in, AreServed}
+use Rattle.piece_exchange.specs.Cursor.{AreServed}
+use Rattle.piece_exchange.proofs.TurnLaws.{in_served, served_in}
 
 -- ---- one hull
 

@@ -17,7 +17,7 @@ use Rattle.piece_exchange.specs.Plan.{planned_pieces, planned_turns, source_in}
 use Rattle.piece_exchange.specs.Put.{HasPut, PartState, SomeZip}
 use Rattle.piece_exchange.specs.Seats.{domain_of, part_of, HasFed, IsFed, IsFresh, IsSeat, IsToldToGo}
 use Rattle.piece_exchange.specs.Turns.{turns_of}
-use Rattle.piece_exchange.specs.declared.helper.Word.TheVariants.{Go}
+use Rattle.piece_exchange.specs.declared.crew.Word.TheVariants.{Go}
 use Rattle.piece_exchange.specs.declared.packing.Feed.{Feed}
 use Rattle.piece_exchange.specs.declared.plan.PutPlan.{PutPlan}
 use Rattle.piece_exchange.specs.declared.starting.Seat.{Seat}
@@ -43,7 +43,7 @@ go_seat plan old new t f =
         job = ap (λ child. child.promise.job.value) t.child ∙ s.job;
         size = ap (λ child. child.promise.size.value) t.child ∙ s.size;
         word_of = t.of ∙ s.word_of ∙ sym (ap (λ child. child.promise.ends.value.word.of) t.child);
-        line_of = ap (λ (feed : Feed). feed.line.of) t.feed ∙ s.line_of ∙ sym (ap (λ child. child.promise.ends.value.line.of) t.child);
+        line_of = ap (λ (feed : Feed). feed.line.of) t.feed ∙ s.line_of ∙ sym (ap (λ child. child.promise.ends.value.lines.line.of) t.child);
       };
       word = t.words ∙ ap (λ words. words ++ Go ∷ []) f.word;
       ready = subst (λ (feed : Feed). IsFeed feed) (sym t.feed) f.ready;
@@ -66,7 +66,7 @@ fed_seat plan old new h t =
         job = ap (λ helper. helper.child.promise.job.value) h.helper ∙ s.job;
         size = ap (λ helper. helper.child.promise.size.value) h.helper ∙ s.size;
         word_of = ap (λ helper. helper.word.of) h.helper ∙ s.word_of ∙ sym (ap (λ helper. helper.child.promise.ends.value.word.of) h.helper);
-        line_of = h.fed.of ∙ s.line_of ∙ sym (ap (λ helper. helper.child.promise.ends.value.line.of) h.helper);
+        line_of = h.fed.of ∙ s.line_of ∙ sym (ap (λ helper. helper.child.promise.ends.value.lines.line.of) h.helper);
       };
       word = ap (λ helper. helper.word.items) h.helper ∙ t.word;
       put =

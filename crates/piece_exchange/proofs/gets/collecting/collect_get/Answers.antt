@@ -3,7 +3,7 @@ use Rattle.std.proofs.Common.{◌+◌, ◌∙◌, rules, arith}
 use Rattle.std.proofs.lemmas.Grind.{common_steps}
 use Rattle.data_sieving.specs.Serving.{buffer_cell}
 use Rattle.piece_exchange.proofs.CollectLaws.{rank_in, collected}
-use Rattle.piece_exchange.proofs.collecting.collect_get.Goals as goal
+use Rattle.piece_exchange.proofs.gets.collecting.collect_get.Goals as goal
 
 pub returns : goal.returns
 returns c =

@@ -3,7 +3,7 @@ use Rattle.std.proofs.Common.{◌≡◌, ℕ, ◌+◌, take, map}
 use Rattle.serial_spec.specs.Said.{write_cells}
 use Rattle.data_sieving.specs.Serving.{buffer_cell}
 use Rattle.piece_exchange.specs.Blobs.{blob_at, of_request, AreAsLong}
-use Rattle.piece_exchange.proofs.collecting.collect_all.Given as goal
+use Rattle.piece_exchange.proofs.gets.collecting.collect_all.Given as goal
 
 abbrev pub invariant-loop-entry : goal.invariant-loop-entry
 invariant-loop-entry l = record {

@@ -8,7 +8,7 @@ use Rattle.data_sieving.specs.Serving.{buffer_cell}
 use Rattle.data_sieving.proofs.SplitSteps.{entry_ends}
 use Rattle.piece_exchange.specs.Blobs.{blob_at, of_request}
 use Rattle.piece_exchange.proofs.CollectLaws.{fit_as_long, collected_more, collected_long}
-use Rattle.piece_exchange.proofs.collecting.collect_all.Goals as goal
+use Rattle.piece_exchange.proofs.gets.collecting.collect_all.Goals as goal
 
 abbrev none : Owned
 none = record { extent = record { at = 0; len = 0 }; rank = 0; request = 0; slot = 0; from = 0 }
