@@ -16,6 +16,7 @@ use Rattle.overlay_laws.specs.Entries.{In}
 use Rattle.overlay_laws.proofs.HullLaws.{filter_in}
 use Rattle.overlay_laws.proofs.Members.{in_filter}
 use Rattle.overlay_laws.proofs.WalkLaws.{filter_joined}
+use Rattle.data_sieving.specs.Sieving.{AreFilled}
 use Rattle.data_sieving.specs.Serving.{buffer_cell, part_in}
 use Rattle.piece_exchange.specs.Blobs.{blob_at, of_request, with_blob, AreAsLong, FitTable}
 use Rattle.piece_exchange.specs.Cursor.{AreServed}
@@ -55,6 +56,9 @@ fit_as_long old now list h fit o m = subst (λ (n : ℕ). o.from + o.extent.len 
 
 pub fit_served : (table : List (List (List ℕ))) (list begun : List Owned) (lo hi : ℕ) → AreServed list begun lo hi → FitTable table list → FitTable table begun
 fit_served table list begun lo hi s fit o m = fit o (served_in list begun lo hi o s m)
+
+pub filled_served : (list begun : List Owned) (lo hi : ℕ) → AreServed list begun lo hi → AreFilled list → AreFilled begun
+filled_served list begun lo hi s f o m = f o (served_in list begun lo hi o s m)
 
 -- ---- one entry more
 

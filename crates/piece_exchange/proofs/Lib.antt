@@ -11,3 +11,9 @@ pub mod DomainTurns
 pub mod PlanLaws
 pub mod CollectLaws
 pub mod ReadLaws
+pub mod TakeLaws
+pub mod PartReads
+pub mod TurnReads
+pub mod CrewLaws
+pub mod FetchLaws
+pub mod ShelfLaws

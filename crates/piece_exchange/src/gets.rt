@@ -2,6 +2,7 @@
 mod collecting;
 mod exchange;
 mod helper;
+mod in_turn;
 mod joining;
 mod reading;
 mod shelf;

@@ -1,13 +1,131 @@
-// Bytes of hulls, copied into the blobs of their entries.
-ghost use Rattle.std.specs.Prelude.{◌≡◌, ◌+◌, ◌^◌, ◌<◌, ◌≤◌, length};
+// What the calling thread does: round by round it takes the hulls off the lines, and copies their bytes into the blobs of the entries.
+ghost use Rattle.std.specs.Prelude.{◌≡◌, ◌+◌, ◌^◌, ◌<◌, ◌≤◌, ℕ, [], length, slice_get, IfSome, IfNone, IsTrue, None, Some};
 ghost use Rattle.serial_spec.specs.File.{written};
 ghost use Rattle.overlay_laws.specs.Lines.{extents, EndBelow};
+ghost use Rattle.aggregator_rounds.specs.Pieces.{told_window};
 ghost use Rattle.data_sieving.specs.Sieving.{AreFilled};
 ghost use Rattle.data_sieving.specs.Serving.{buffer_cell};
-ghost use Rattle.piece_exchange.specs.Blobs.{blob_at, with_blob, AreAsLong, FitTable, HasCollected};
+ghost use Rattle.piece_exchange.specs.Blobs.{blob_at, with_blob, AreAsLong, FitTable, HasCollected, HaveOnePlaces};
+ghost use Rattle.piece_exchange.specs.Gets.{IsGetPlanned};
+ghost use Rattle.piece_exchange.specs.Logs.{HasTakenTurn, HaveTakenTurns, IsKept, IsShelfIn};
+ghost use Rattle.piece_exchange.specs.Shelves.{turns_due};
+ghost use Rattle.piece_exchange.specs.declared.gets.starting.ReadSeat.{ReadSeat};
 
+use crate::gets::reading::Reading;
+use crate::gets::shelf::Shelf;
+use crate::gets::starting::ReadSeat;
+use crate::plan::GetPlan;
+use crate::walk::Turn;
 use data_sieving::collect_entry;
-use nc_base::{BlobList, Extent, Owned};
+use nc_base::{Blob, BlobList, Extent, Owned};
+use nc_outside::Disk;
+use std::sync::Wait;
+
+/// Takes the hulls of all windows: round by round, and in a round by aggregator. It answers whether each came.
+pub(crate) fn take_all<R: Wait, D: Disk>(
+    rt: &R,
+    plan: &GetPlan,
+    seats: &mut [ReadSeat<D>],
+    table: &mut [BlobList],
+) -> bool
+    requires plan { IsGetPlanned plan.now }
+    requires one_place { HaveOnePlaces plan.now.list.now }
+    requires ready { (k : ℕ) (seat : ReadSeat D) → slice_get seats.old k ≡ Some seat → IsShelfIn plan.now.list.now seat.shelf }
+    requires fit { FitTable table.old plan.now.list.now }
+    ensures long { length seats.new ≡ length seats.old }
+    ensures kept { (k : ℕ) (old new : ReadSeat D) → slice_get seats.old k ≡ Some old → slice_get seats.new k ≡ Some new → IsKept old new }
+    ensures none { (k : ℕ) (seat : ReadSeat D) → slice_get seats.new k ≡ Some seat → turns_due seat.shelf ≡ [] }
+    ensures blobs { AreAsLong table.old table.new }
+    ensures taken { IsTrue result → HaveTakenTurns plan.now.list.now seats.old seats.new table.old table.new }
+{
+    let mut whole = true;
+    'rounds: while let Some(k) = least_round(seats) {
+        let seat = &mut seats[k];
+        let taken = take_turn(rt, plan, &mut seat.shelf, table);
+        whole = whole && taken;
+    }
+    whole
+}
+
+// The first of the helpers whose next window is of the least round.
+fn least_round<D: Disk>(seats: &[ReadSeat<D>]) -> Option<usize>
+    ensures some { IfSome result (λ k. (k < length seats.now) × ((seat : ReadSeat D) → slice_get seats.now k ≡ Some seat → turns_due seat.shelf ≡ [] → ⊥)) }
+    ensures none { IfNone result ((k : ℕ) (seat : ReadSeat D) → slice_get seats.now k ≡ Some seat → turns_due seat.shelf ≡ []) }
+{
+    let mut least = None;
+    let mut round = None;
+    for (k, seat) in seats.iter().enumerate() {
+        let earlier = round_before(&seat.shelf, round);
+        if earlier.is_some() {
+            least = Some(k);
+            round = earlier;
+        }
+    }
+    least
+}
+
+// The round of the next window of a helper, where it has one that is earlier.
+fn round_before(shelf: &Shelf, than: Option<u64>) -> Option<u64>
+    ensures some { IfSome result (λ _. turns_due shelf.now ≡ [] → ⊥) }
+    ensures none { IfNone result (than ≡ None → turns_due shelf.now ≡ []) }
+{
+    let round = shelf.turn?.window.round;
+    match than {
+        Some(other) if other <= round => None,
+        _ => Some(round),
+    }
+}
+
+/// Takes the hull of the next window of a helper, if it has one, and copies the entries' bytes out of it. It answers whether it came.
+pub(crate) fn take_turn<R: Wait>(
+    rt: &R,
+    plan: &GetPlan,
+    shelf: &mut Shelf,
+    table: &mut [BlobList],
+) -> bool
+    requires plan { IsGetPlanned plan.now }
+    requires one_place { HaveOnePlaces plan.now.list.now }
+    requires ready { IsShelfIn plan.now.list.now shelf.old }
+    requires fit { FitTable table.old plan.now.list.now }
+    ensures ready { IsShelfIn plan.now.list.now shelf.new }
+    ensures of { shelf.new.line.of ≡ shelf.old.line.of }
+    ensures blobs { AreAsLong table.old table.new }
+    ensures fewer { (turns_due shelf.old ≡ [] → ⊥) → length (turns_due shelf.new) < length (turns_due shelf.old) }
+    ensures taken { IsTrue result → HasTakenTurn plan.now.list.now shelf.old shelf.new table.old table.new }
+{
+    let Some(turn) = shelf.turn else {
+        return true;
+    };
+    match shelf.line.take(rt) {
+        Reading::Hull(blob) => {
+            let came = collect_hull(&turn, &blob, table);
+            shelf.spare.put(rt, blob);
+            shelf.turn = shelf.walk.next_turn();
+            came
+        }
+        Reading::Ended => {
+            shelf.turn = None;
+            false
+        }
+    }
+}
+
+// Copies the entries' bytes out of those of a window's hull. What another thread put is known only by its type, so its length is tested.
+fn collect_hull(turn: &Turn, bytes: &Blob, table: &mut [BlobList]) -> bool
+    requires hull { turn.now.window.hull.at + turn.now.window.hull.len < 2 ^ 62 }
+    requires ends { EndBelow (2 ^ 62) (extents turn.now.entries.now) }
+    requires filled { AreFilled turn.now.entries.now }
+    requires fit { FitTable table.old turn.now.entries.now }
+    ensures long { IsTrue result → length bytes.now ≡ turn.now.window.hull.len }
+    ensures collected { IsTrue result → HasCollected turn.now.window.hull.at (turn.now.window.hull.at + turn.now.window.hull.len) bytes.now turn.now.entries.now table.old table.new }
+    ensures blobs { AreAsLong table.old table.new }
+{
+    let whole = bytes.len() as u64 == turn.window.hull.len;
+    if whole {
+        collect_all(turn.window.hull, turn.entries, bytes.as_slice(), table);
+    }
+    whole
+}
 
 /// Copies the bytes that entries have in a hull out of the hull's, one entry after another.
 pub(crate) fn collect_all(hull: Extent, entries: &[Owned], buf: &[u8], table: &mut [BlobList])
