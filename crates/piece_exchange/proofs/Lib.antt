@@ -9,3 +9,6 @@ pub mod BackLaws
 pub mod SeatLaws
 pub mod DomainTurns
 pub mod PlanLaws
+pub mod CrewLaws
+pub mod FetchLaws
+pub mod ShelfLaws
