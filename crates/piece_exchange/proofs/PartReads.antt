@@ -1,11 +1,14 @@
 -- The windows of all parts, each read of its own part, are the file's bytes of all entries.
-use Rattle.std.proofs.Common.{◌≡◌, ℕ, ◌+◌, ◌-◌, ◌^◌, ◌<◌, ◌≤◌, ◌⊎◌, inl, inr, refl, sym, ◌∙◌, ap, subst, List, [], ◌∷◌, ◌++◌, length, map, take, Bool, Option, Some, None, Result, Ok, Err, arith}
+use Rattle.std.proofs.Common.{◌≡◌, ℕ, ◌+◌, ◌-◌, ◌^◌, ◌<◌, ◌≤◌, ◌⊎◌, inl, inr, refl, sym, ◌∙◌, ap, subst, List, [], ◌∷◌, ◌++◌, length, map, take, Option, Some, None, Result, Ok, Err, arith}
 use Rattle.std.proofs.lemmas.List.{append-nil, length-map}
-use Rattle.std.specs.Prelude.{slice_get, zip, IfSome, IsOk, IsTrue, OnOk}
+use Rattle.std.specs.Prelude.{slice_get, zip, IfErr, IfSome, IsErrOf, IsOk, OnOk}
 use Rattle.std.specs.List.{AllZip}
+use Rattle.std.specs.Result.{result_and}
 use Rattle.list_laws.proofs.Places.{entry_below}
 use Rattle.nc_base.specs.declared.plan.Extent.{Extent}
 use Rattle.nc_base.specs.declared.plan.Owned.{Owned}
+use Rattle.nc_outside.specs.declared.disk.DiskErr.{DiskErr}
+use Rattle.nc_outside.specs.declared.disk.DiskErr.TheVariants.{Failed, Memory}
 use Rattle.serial_spec.specs.File.{at, read}
 use Rattle.serial_spec.proofs.CellLaws.{read_at, read_same}
 use Rattle.overlay_laws.specs.Entries.{In}
@@ -264,18 +267,24 @@ all_got_later turns state (p ∷ pairs) (d ∷ back) end came ok h =
     (got_later (turns p) (state p.0) (state d) end came ok h.0, all_got_later turns state pairs back end came ok h.1)
 
 pub all_read : {D T E : Type 0} (from : D → ℕ) (held : D → Option (List ℕ)) (plan : GetPlan) (first mid last : List (ReadSeat D)) (parts : List D) (domains : List Extent)
-    (old now : List (List (List ℕ))) (end came : Result T E) (whole : Bool) → AreTaken first mid last parts domains → ((seat : ReadSeat D) → In mid seat → IsReady plan seat)
+    (old now : List (List (List ℕ))) (end came : Result T E) → AreTaken first mid last parts domains → ((seat : ReadSeat D) → In mid seat → IsReady plan seat)
     → ((k : ℕ) (seat : ReadSeat D) → slice_get last k ≡ Some seat → turns_due seat.shelf ≡ [])
-    → OnOk came (IsOk end × IsTrue whole) → (IsTrue whole → HaveTakenTurns plan.list.now mid last old now)
+    → OnOk came (HaveTakenTurns plan.list.now mid last old now)
     → OnOk end ((seat : ReadSeat D) → In last seat → AreRead (get_turns plan (domain_of seat)) (from (part_of seat)) (held (part_of seat)) seat.shelf.line.items)
-    → OnOk came (HasReadParts from held plan (zip parts domains) old now)
-all_read from held plan first mid last parts domains old now end (Err x) whole t ready none ok taken read = tt
-all_read from held plan first mid last parts domains old now (Err y) (Ok x) whole t ready none ok taken read = absurd cc
-all_read {D} from held plan first mid last parts domains old now (Ok y) (Ok x) whole t ready none ok taken read =
+    → OnOk (result_and end came) (HasReadParts from held plan (zip parts domains) old now)
+all_read from held plan first mid last parts domains old now (Err x) came t ready none taken read = tt
+all_read from held plan first mid last parts domains old now (Ok y) (Err x) t ready none taken read = tt
+all_read {D} from held plan first mid last parts domains old now (Ok y) (Ok x) t ready none taken read =
     let stay = last_parts first mid last parts domains t in
     subst (λ (ds : List Extent). HasReadParts from held plan (zip parts ds) old now) stay.1
     (subst (λ (ps : List D). HasReadParts from held plan (zip ps (map (λ seat. domain_of seat) last)) old now) stay.0
-    (seats_read from held plan mid last old now t.longer ready t.kept none (taken ok.1) read))
+    (seats_read from held plan mid last old now t.longer ready t.kept none taken read))
+
+-- want of memory is no fault
+pub and_memory : {T : Type 0} (end came : Result T DiskErr) → IfErr came (λ e. e ≡ Memory) → IsErrOf (result_and end came) Failed → IsErrOf end Failed
+and_memory (Err x) came h f = f
+and_memory (Ok y) (Ok x) h f = absurd cc
+and_memory (Ok y) (Err x) h f = absurd cc
 
 -- as many lists of blobs as before
 pub rows_long : (old now : List (List (List ℕ))) → AreAsLong old now → length now ≡ length old
@@ -284,6 +293,6 @@ rows_long old now h =
     ∙ ap (λ (rows : List (List ℕ)). length rows) h
     ∙ length-map old (λ (blobs : List (List ℕ)). map (λ (blob : List ℕ). length blob) blobs)
 
-pub first_ok : {T E : Type 0} (end came : Result T E) (whole : Bool) → OnOk came (IsOk end × IsTrue whole) → OnOk came (IsOk end)
-first_ok end (Err x) whole ok = tt
-first_ok end (Ok x) whole ok = ok.0
+-- nothing was read
+pub got_untouched : {T E : Type 0} (ts : List Told) (old : PartState) (e : E) → HasGot {T = T} ts old old (Err e)
+got_untouched ts old e = record { from = refl; len = refl; held = refl; device = tt; later = omega arith }

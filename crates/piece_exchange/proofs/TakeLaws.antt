@@ -1,15 +1,20 @@
 -- Hulls that are taken off the lines of helpers, one after another.
-use Rattle.std.proofs.Common.{◌≡◌, ℕ, ◌-◌, ◌<◌, min, inl, inr, refl, sym, ◌∙◌, ap, subst, List, [], ◌∷◌, ◌++◌, length, map, set, Bool, true, false, Option, Some, None, append_assoc, arith}
+use Rattle.std.proofs.Common.{◌≡◌, ℕ, ◌+◌, ◌-◌, ◌<◌, min, inl, inr, refl, sym, ◌∙◌, ap, subst, List, [], ◌∷◌, ◌++◌, length, map, set, Bool, true, false, Option, Some, None, Result, Ok, Err, append_assoc, arith}
 use Rattle.std.proofs.lemmas.List.{append-nil, length-map, map-append}
 use Rattle.std.proofs.lemmas.Option.{same_Some}
-use Rattle.std.specs.Prelude.{slice_get, ◌==◌, IfSome}
+use Rattle.std.specs.Prelude.{slice_get, ◌==◌, IfErr, IfSome, OnOk}
+use Rattle.std.specs.Result.{result_and}
 use borrow.Author.Tests.{eqb-true, eqb-false}
 use Rattle.list_laws.proofs.Places.{entry_below, entry_set, entry_set_other}
 use Rattle.nc_base.specs.declared.plan.Owned.{Owned}
+use Rattle.nc_outside.specs.declared.disk.DiskErr.{DiskErr}
+use Rattle.nc_outside.specs.declared.disk.DiskErr.TheVariants.{Memory}
 use Rattle.serial_spec.specs.File.{read}
 use Rattle.overlay_laws.specs.Entries.{In}
 use Rattle.overlay_laws.proofs.HullLaws.{in_either, in_left, in_right}
 use Rattle.piece_exchange.specs.Shelves.{domain_of, turns_due, IsFresh, IsReadSeat, IsSent, IsShelf, IsToldToGo}
+use Rattle.piece_exchange.specs.Blobs.{FitTable, HasCollected, HaveOnePlaces}
+use Rattle.piece_exchange.specs.Cursor.{AreServed}
 use Rattle.piece_exchange.specs.Gets.{get_turns, reading_of, AreRead}
 use Rattle.piece_exchange.specs.Logs.{told_in, HasTaken, HasTakenOf, HasTakenTurn, HaveTakenTurns, IsKept, IsShelfIn, IsTakenOf, Log}
 use Rattle.piece_exchange.specs.Turns.{Told}
@@ -21,7 +26,7 @@ use Rattle.piece_exchange.specs.declared.gets.starting.ReadSeat.{ReadSeat}
 use Rattle.piece_exchange.specs.declared.plan.GetPlan.{GetPlan}
 use Rattle.piece_exchange.proofs.BackLaws.{each_new}
 use Rattle.piece_exchange.proofs.FeedLaws.{get_long, set_each}
-use Rattle.piece_exchange.proofs.ReadLaws.{log_joined}
+use Rattle.piece_exchange.proofs.ReadLaws.{hull_collected, log_joined, log_one}
 
 -- ---- hulls of one helper
 
@@ -35,6 +40,17 @@ taken_twice first second old mid new f g = record {
       ∙ ap (λ (is : List Reading). is ++ map (λ e. Hull e.1) second) f.items
       ∙ append_assoc old.line.items (map (λ e. Hull e.1) first) (map (λ e. Hull e.1) second)
       ∙ ap (λ (is : List Reading). old.line.items ++ is) (sym (map-append (λ (e : Told × List ℕ). Hull e.1) first second));
+}
+
+-- a hull that came, where it is as long as it is to be
+pub taken_turn : {T E : Type 0} (list begun : List Owned) (t : Told) (bytes : List ℕ) (old new : Shelf) (before now : List (List (List ℕ))) (came : Result T E)
+    → t ∷ turns_due new ≡ turns_due old → new.line.items ≡ old.line.items ++ Hull bytes ∷ [] → HaveOnePlaces list → FitTable before list → AreServed list begun t.0 (t.0 + t.1)
+    → OnOk came (length bytes ≡ t.1) → OnOk came (HasCollected t.0 (t.0 + t.1) bytes begun before now) → OnOk came (HasTakenTurn list old new before now)
+taken_turn list begun t bytes old new before now (Err e) turns items once fit served long got = tt
+taken_turn list begun t bytes old new before now (Ok x) turns items once fit served long got = record {
+  own = (t, bytes) ∷ [];
+  taken = record { turns = turns; items = items };
+  collected = log_one list t bytes before now (hull_collected t.0 t.1 bytes list begun before now long once fit served got);
 }
 
 -- ---- one hull more of one of the helpers
@@ -105,6 +121,17 @@ taken_more {D} list olds mids k mid new before between now long at h t = record 
       inside = r.inside;
     }
 
+pub taken_on : {D T E : Type 0} (list : List Owned) (olds mids : List (ReadSeat D)) (k : ℕ) (mid new : ReadSeat D) (before between now : List (List (List ℕ))) (end came : Result T E)
+    → length mids ≡ length olds → slice_get mids k ≡ Some mid → OnOk end (HaveTakenTurns list olds mids before between) → OnOk came (HasTakenTurn list mid.shelf new.shelf between now)
+    → OnOk (result_and end came) (HaveTakenTurns list olds (set mids k new) before now)
+taken_on list olds mids k mid new before between now (Err x) came long at h t = tt
+taken_on list olds mids k mid new before between now (Ok y) (Err x) long at h t = tt
+taken_on list olds mids k mid new before between now (Ok y) (Ok x) long at h t = taken_more list olds mids k mid new before between now long at h t
+
+pub both_memory : {T : Type 0} (end came : Result T DiskErr) → IfErr end (λ e. e ≡ Memory) → IfErr came (λ e. e ≡ Memory) → IfErr (result_and end came) (λ e. e ≡ Memory)
+both_memory (Err x) came h g = h
+both_memory (Ok y) came h g = g
+
 pub kept_more : {D : Type 0} (old mid new : ReadSeat D) → IsKept old mid → new.helper ≡ mid.helper → new.shelf.line.of ≡ mid.shelf.line.of → IsKept old new
 kept_more old mid new k helper of = record { helper = helper ∙ k.helper; of = of ∙ k.of }
 
@@ -137,9 +164,9 @@ each_read from file (u ∷ own) h e (inr m) = each_read from file own (rest h) e
         → map (λ e. Hull e.1) own ≡ map (λ t. reading_of from file t) (told_in own)
     rest g = cc
 
-items_read : (from : ℕ) (held : Option (List ℕ)) (own : Log) (items : List Reading) → items ≡ map (λ e. Hull e.1) own → AreRead (told_in own) from held items
+pub items_read : (from : ℕ) (held : Option (List ℕ)) (own : Log) (items : List Reading) → items ≡ map (λ e. Hull e.1) own → AreRead (told_in own) from held items
     → IfSome held (λ file. (e : Told × List ℕ) → In own e → e.1 ≡ read file (e.0.0 - from) e.0.1)
-items_read from held own items is read = by_held held (read.whole long)
+items_read from held own items is taken = by_held held (taken.whole long)
   where
     long : length items ≡ length (told_in own)
     long = ap (λ (rs : List Reading). length rs) is ∙ length-map own (λ (e : Told × List ℕ). Hull e.1) ∙ sym (length-map own (λ (e : Told × List ℕ). e.0))

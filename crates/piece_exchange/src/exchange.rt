@@ -22,8 +22,8 @@ use std::thread;
 use std::thread::{Scope, Threads};
 
 /// Does the puts of a plan on the parts of a disk. Each part is served by a helper of its own, over the domain at its place, and the
-/// pieces go to it over a line of so many items as the hints say. Where the hints have no threads, or one can't be had, or there is one part alone, the
-/// parts are served in turn, under the same clauses.
+/// pieces go to it over a line of so many items as the hints say. Where the hints have no threads, or there is one part alone, or a
+/// thread can't be had, the parts are served in turn, under the same clauses.
 ///
 /// The parts come back in order. Refused, each byte of a part is old or new, and the fault is the first of the parts'; `Memory` comes
 /// also where a list of the parts or a buffer can't be had, before anything is done.

@@ -1,8 +1,8 @@
 // What the calling thread does: round by round it takes the hulls off the lines, and copies their bytes into the blobs of the entries.
-ghost use Rattle.std.specs.Prelude.{◌≡◌, ◌+◌, ◌^◌, ◌<◌, ◌≤◌, ℕ, [], length, slice_get, IfSome, IfNone, IsTrue, None, Some};
+ghost use Rattle.std.specs.Prelude.{◌≡◌, ◌+◌, ◌^◌, ◌<◌, ◌≤◌, ℕ, [], length, slice_get, IfErr, IfNone, IfSome, None, OnOk, Some};
 ghost use Rattle.serial_spec.specs.File.{written};
+ghost use Rattle.nc_outside.specs.declared.disk.DiskErr.TheVariants.{Memory};
 ghost use Rattle.overlay_laws.specs.Lines.{extents, EndBelow};
-ghost use Rattle.aggregator_rounds.specs.Pieces.{told_window};
 ghost use Rattle.data_sieving.specs.Sieving.{AreFilled};
 ghost use Rattle.data_sieving.specs.Serving.{buffer_cell};
 ghost use Rattle.piece_exchange.specs.Blobs.{blob_at, with_blob, AreAsLong, FitTable, HasCollected, HaveOnePlaces};
@@ -18,16 +18,17 @@ use crate::plan::GetPlan;
 use crate::walk::Turn;
 use data_sieving::collect_entry;
 use nc_base::{Blob, BlobList, Extent, Owned};
-use nc_outside::Disk;
+use nc_outside::{Disk, DiskErr};
 use std::sync::Wait;
 
-/// Takes the hulls of all windows: round by round, and in a round by aggregator. It answers whether each came.
+/// Takes the hulls of all windows: round by round, and in a round by aggregator. `Memory` where one didn't come, whose helper then has
+/// the fault.
 pub(crate) fn take_all<R: Wait, D: Disk>(
     rt: &R,
     plan: &GetPlan,
     seats: &mut [ReadSeat<D>],
     table: &mut [BlobList],
-) -> bool
+) -> Result<(), DiskErr>
     requires plan { IsGetPlanned plan.now }
     requires one_place { HaveOnePlaces plan.now.list.now }
     requires ready { (k : ℕ) (seat : ReadSeat D) → slice_get seats.old k ≡ Some seat → IsShelfIn plan.now.list.now seat.shelf }
@@ -36,15 +37,16 @@ pub(crate) fn take_all<R: Wait, D: Disk>(
     ensures kept { (k : ℕ) (old new : ReadSeat D) → slice_get seats.old k ≡ Some old → slice_get seats.new k ≡ Some new → IsKept old new }
     ensures none { (k : ℕ) (seat : ReadSeat D) → slice_get seats.new k ≡ Some seat → turns_due seat.shelf ≡ [] }
     ensures blobs { AreAsLong table.old table.new }
-    ensures taken { IsTrue result → HaveTakenTurns plan.now.list.now seats.old seats.new table.old table.new }
+    ensures taken { OnOk result (HaveTakenTurns plan.now.list.now seats.old seats.new table.old table.new) }
+    ensures memory { IfErr result (λ e. e ≡ Memory) }
 {
-    let mut whole = true;
+    let mut end = Ok(());
     'rounds: while let Some(k) = least_round(seats) {
         let seat = &mut seats[k];
-        let taken = take_turn(rt, plan, &mut seat.shelf, table);
-        whole = whole && taken;
+        let came = take_turn(rt, plan, &mut seat.shelf, table);
+        end = end.and(came);
     }
-    whole
+    end
 }
 
 // The first of the helpers whose next window is of the least round.
@@ -76,13 +78,13 @@ fn round_before(shelf: &Shelf, than: Option<u64>) -> Option<u64>
     }
 }
 
-/// Takes the hull of the next window of a helper, if it has one, and copies the entries' bytes out of it. It answers whether it came.
+/// Takes the hull of the next window of a helper, if it has one, and copies the entries' bytes out of it. `Memory` where it didn't come.
 pub(crate) fn take_turn<R: Wait>(
     rt: &R,
     plan: &GetPlan,
     shelf: &mut Shelf,
     table: &mut [BlobList],
-) -> bool
+) -> Result<(), DiskErr>
     requires plan { IsGetPlanned plan.now }
     requires one_place { HaveOnePlaces plan.now.list.now }
     requires ready { IsShelfIn plan.now.list.now shelf.old }
@@ -91,10 +93,11 @@ pub(crate) fn take_turn<R: Wait>(
     ensures of { shelf.new.line.of ≡ shelf.old.line.of }
     ensures blobs { AreAsLong table.old table.new }
     ensures fewer { (turns_due shelf.old ≡ [] → ⊥) → length (turns_due shelf.new) < length (turns_due shelf.old) }
-    ensures taken { IsTrue result → HasTakenTurn plan.now.list.now shelf.old shelf.new table.old table.new }
+    ensures taken { OnOk result (HasTakenTurn plan.now.list.now shelf.old shelf.new table.old table.new) }
+    ensures memory { IfErr result (λ e. e ≡ Memory) }
 {
     let Some(turn) = shelf.turn else {
-        return true;
+        return Ok(());
     };
     match shelf.line.take(rt) {
         Reading::Hull(blob) => {
@@ -105,26 +108,27 @@ pub(crate) fn take_turn<R: Wait>(
         }
         Reading::Ended => {
             shelf.turn = None;
-            false
+            Err(DiskErr::Memory)
         }
     }
 }
 
 // Copies the entries' bytes out of those of a window's hull. What another thread put is known only by its type, so its length is tested.
-fn collect_hull(turn: &Turn, bytes: &Blob, table: &mut [BlobList]) -> bool
+fn collect_hull(turn: &Turn, bytes: &Blob, table: &mut [BlobList]) -> Result<(), DiskErr>
     requires hull { turn.now.window.hull.at + turn.now.window.hull.len < 2 ^ 62 }
     requires ends { EndBelow (2 ^ 62) (extents turn.now.entries.now) }
     requires filled { AreFilled turn.now.entries.now }
     requires fit { FitTable table.old turn.now.entries.now }
-    ensures long { IsTrue result → length bytes.now ≡ turn.now.window.hull.len }
-    ensures collected { IsTrue result → HasCollected turn.now.window.hull.at (turn.now.window.hull.at + turn.now.window.hull.len) bytes.now turn.now.entries.now table.old table.new }
+    ensures long { OnOk result (length bytes.now ≡ turn.now.window.hull.len) }
+    ensures collected { OnOk result (HasCollected turn.now.window.hull.at (turn.now.window.hull.at + turn.now.window.hull.len) bytes.now turn.now.entries.now table.old table.new) }
     ensures blobs { AreAsLong table.old table.new }
+    ensures memory { IfErr result (λ e. e ≡ Memory) }
 {
-    let whole = bytes.len() as u64 == turn.window.hull.len;
-    if whole {
-        collect_all(turn.window.hull, turn.entries, bytes.as_slice(), table);
+    if bytes.len() as u64 != turn.window.hull.len {
+        return Err(DiskErr::Memory);
     }
-    whole
+    collect_all(turn.window.hull, turn.entries, bytes.as_slice(), table);
+    Ok(())
 }
 
 /// Copies the bytes that entries have in a hull out of the hull's, one entry after another.

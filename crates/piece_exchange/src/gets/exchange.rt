@@ -1,5 +1,5 @@
 // The gets of a collective step, on a disk in parts.
-ghost use Rattle.std.specs.Prelude.{◌≡◌, ◌+◌, ◌<◌, ◌≤◌, ℕ, List, length, slice_get, vec_capacity, zip, IfNone, IfSome, IsErrOf, IsOk, IsTrue, OnOk, Some};
+ghost use Rattle.std.specs.Prelude.{◌≡◌, ◌+◌, ◌<◌, ◌≤◌, ℕ, List, length, slice_get, vec_capacity, zip, IfNone, IfSome, IsErrOf, OnOk, Some};
 ghost use Rattle.std.specs.List.{AllZip};
 ghost use Rattle.nc_base.specs.declared.plan.Extent.{Extent};
 ghost use Rattle.nc_outside.specs.Cause.{Rose};
@@ -28,8 +28,8 @@ use std::thread;
 use std::thread::{Scope, Threads};
 
 /// Does the gets of a plan on the parts of a disk. Each part is read by a helper of its own, over the domain at its place, and the hulls
-/// of its windows come from it over a line of so many items as the hints say. Where the hints have no threads, or one can't be had, or there is one part alone, the
-/// parts are read in turn, under the same clauses.
+/// of its windows come from it over a line of so many items as the hints say. Where the hints have no threads, or there is one part
+/// alone, or a thread can't be had, the parts are read in turn, under the same clauses.
 ///
 /// The parts come back in order. Refused, some bytes of the blobs may be read, and the fault is the first of the parts'; `Memory` comes
 /// also where a list of the parts or a buffer can't be had, before anything is done.
@@ -135,11 +135,11 @@ fn get_on_threads<R: Threads + Wait + Sync, D: Disk, G: Gate>(
                 × HasRooms (length work.parts.items) work.crew.seats.items work.crew.rest.items work.back.items (vec_capacity work.crew.seats) (vec_capacity work.crew.rest) (vec_capacity work.back) }
             ensures got { IfSome result.end (λ end. AllZip (λ p new. HasGot (get_turns plan.entry.now p.1)
                 (record { from = D.from p.0; len = D.len p.0; held = D.held p.0; calls = D.calls p.0; faults = D.faults p.0 })
-                (record { from = D.from new; len = D.len new; held = D.held new; calls = D.calls new; faults = D.faults new }) end) (zip work.parts.items domains.entry.now) result.back.items) }
-            ensures read { IfSome result.end (λ end. OnOk end (HasReadParts (λ part. D.from part) (λ part. D.held part) plan.entry.now (zip work.parts.items domains.entry.now) work.table.items result.table.items)) }
-            ensures blobs { AreAsLong work.table.items result.table.items }
-            ensures failed { IfSome result.end (λ end. IsErrOf end Failed → SomeZip (λ old new. Rose (D.faults old) (D.faults new)) work.parts.items result.back.items) }
-            ensures kept { IfNone result.end ((result.back.items ≡ work.parts.items) × (result.table.items ≡ work.table.items)) }
+                (record { from = D.from new; len = D.len new; held = D.held new; calls = D.calls new; faults = D.faults new }) end) (zip work.entry.parts.items domains.entry.now) result.back.items) }
+            ensures read { IfSome result.end (λ end. OnOk end (HasReadParts (λ part. D.from part) (λ part. D.held part) plan.entry.now (zip work.entry.parts.items domains.entry.now) work.entry.table.items result.table.items)) }
+            ensures blobs { AreAsLong work.entry.table.items result.table.items }
+            ensures failed { IfSome result.end (λ end. IsErrOf end Failed → SomeZip (λ old new. Rose (D.faults old) (D.faults new)) work.entry.parts.items result.back.items) }
+            ensures kept { IfNone result.end ((result.back.items ≡ work.entry.parts.items) × (result.table.items ≡ work.entry.table.items)) }
         { get_in_scope(scope, tools, plan, domains, work) },
     )
 }
@@ -163,11 +163,11 @@ fn get_in_scope<'s, E, R: Threads + Wait + Sync, D: Disk + 's, G: Gate>(
     requires rooms { HasRooms (length work.parts.items) work.crew.seats.items work.crew.rest.items work.back.items (vec_capacity work.crew.seats) (vec_capacity work.crew.rest) (vec_capacity work.back) }
     ensures got { IfSome result.end (λ end. AllZip (λ p new. HasGot (get_turns plan.now p.1)
         (record { from = D.from p.0; len = D.len p.0; held = D.held p.0; calls = D.calls p.0; faults = D.faults p.0 })
-        (record { from = D.from new; len = D.len new; held = D.held new; calls = D.calls new; faults = D.faults new }) end) (zip work.parts.items domains.now) result.back.items) }
-    ensures read { IfSome result.end (λ end. OnOk end (HasReadParts (λ part. D.from part) (λ part. D.held part) plan.now (zip work.parts.items domains.now) work.table.items result.table.items)) }
-    ensures blobs { AreAsLong work.table.items result.table.items }
-    ensures failed { IfSome result.end (λ end. IsErrOf end Failed → SomeZip (λ old new. Rose (D.faults old) (D.faults new)) work.parts.items result.back.items) }
-    ensures kept { IfNone result.end ((result.back.items ≡ work.parts.items) × (result.table.items ≡ work.table.items)) }
+        (record { from = D.from new; len = D.len new; held = D.held new; calls = D.calls new; faults = D.faults new }) end) (zip work.entry.parts.items domains.now) result.back.items) }
+    ensures read { IfSome result.end (λ end. OnOk end (HasReadParts (λ part. D.from part) (λ part. D.held part) plan.now (zip work.entry.parts.items domains.now) work.entry.table.items result.table.items)) }
+    ensures blobs { AreAsLong work.entry.table.items result.table.items }
+    ensures failed { IfSome result.end (λ end. IsErrOf end Failed → SomeZip (λ old new. Rose (D.faults old) (D.faults new)) work.entry.parts.items result.back.items) }
+    ensures kept { IfNone result.end ((result.back.items ≡ work.entry.parts.items) × (result.table.items ≡ work.entry.table.items)) }
 {
     let Fetching {
         parts,
@@ -187,22 +187,11 @@ fn get_in_scope<'s, E, R: Threads + Wait + Sync, D: Disk + 's, G: Gate>(
         };
     }
     tell_all(tools.rt, &mut seats);
-    let whole = take_all(tools.rt, plan, &mut seats, &mut table);
+    let came = take_all(tools.rt, plan, &mut seats, &mut table);
     let end = join_all(tools.rt, plan, seats, &mut back);
     Fetched {
         back,
         table,
-        end: Some(ended(end, whole)),
+        end: Some(end.and(came)),
     }
-}
-
-// How the gets ended: with the helpers' first fault, and else for want of memory where not each hull came.
-fn ended(end: Result<(), DiskErr>, whole: bool) -> Result<(), DiskErr>
-    ensures ok { OnOk result (IsOk end × IsTrue whole) }
-    ensures failed { IsErrOf result Failed → IsErrOf end Failed }
-{
-    if !whole {
-        return end.and(Err(DiskErr::Memory));
-    }
-    end
 }

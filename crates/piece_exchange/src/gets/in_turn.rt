@@ -89,10 +89,10 @@ fn read_parts<R: Wait, D: Disk, G: Gate>(
     requires one_place { HaveOnePlaces plan.now.list.now }
     ensures got { AllZip (λ p new. HasGot (get_turns plan.now p.1)
         (record { from = D.from p.0; len = D.len p.0; held = D.held p.0; calls = D.calls p.0; faults = D.faults p.0 })
-        (record { from = D.from new; len = D.len new; held = D.held new; calls = D.calls new; faults = D.faults new }) result.1) (zip parts.entry.items domains.now) result.0.items }
-    ensures read { OnOk result.1 (HasReadParts (λ part. D.from part) (λ part. D.held part) plan.now (zip parts.entry.items domains.now) desk.old.table.items desk.new.table.items) }
+        (record { from = D.from new; len = D.len new; held = D.held new; calls = D.calls new; faults = D.faults new }) result.1) (zip parts.items domains.now) result.0.items }
+    ensures read { OnOk result.1 (HasReadParts (λ part. D.from part) (λ part. D.held part) plan.now (zip parts.items domains.now) desk.old.table.items desk.new.table.items) }
     ensures blobs { AreAsLong desk.old.table.items desk.new.table.items }
-    ensures failed { IsErrOf result.1 Failed → SomeZip (λ old new. Rose (D.faults old) (D.faults new)) parts.entry.items result.0.items }
+    ensures failed { IsErrOf result.1 Failed → SomeZip (λ old new. Rose (D.faults old) (D.faults new)) parts.items result.0.items }
 {
     let mut back = back;
     let mut end = Ok(());
@@ -136,7 +136,14 @@ fn read_next<R: Wait, D: Disk, G: Gate>(
         return (part, Err(fault));
     }
     let mut part = part;
-    let end = collect_part(tools, plan, aggregator, &mut part, desk);
+    let end = collect_part(
+        tools,
+        plan,
+        aggregator,
+        &mut part,
+        &mut desk.buf,
+        &mut desk.table,
+    );
     (part, end)
 }
 
@@ -146,19 +153,19 @@ fn collect_part<R: Wait, D: Disk, G: Gate>(
     plan: &GetPlan,
     aggregator: Aggregator,
     part: &mut D,
-    desk: &mut Desk,
+    buf: &mut [u8],
+    table: &mut [BlobList],
 ) -> Result<(), DiskErr>
     requires plan { IsGetPlanned plan.now }
     requires domain { IsDomainOf plan.now.list.now (D.from part.old) (D.len part.old) aggregator.domain }
-    requires room { min plan.now.hints.now.cb_buffer aggregator.domain.len ≤ length desk.old.buf.items }
-    requires fit { FitTable desk.old.table.items plan.now.list.now }
+    requires room { min plan.now.hints.now.cb_buffer aggregator.domain.len ≤ length buf.old }
+    requires fit { FitTable table.old plan.now.list.now }
     requires one_place { HaveOnePlaces plan.now.list.now }
     ensures got { HasGot (get_turns plan.now aggregator.domain)
         (record { from = D.from part.old; len = D.len part.old; held = D.held part.old; calls = D.calls part.old; faults = D.faults part.old })
         (record { from = D.from part.new; len = D.len part.new; held = D.held part.new; calls = D.calls part.new; faults = D.faults part.new }) result }
-    ensures read { OnOk result (HasReadTurns plan.now.list.now (get_turns plan.now aggregator.domain) (D.from part.old) (D.held part.old) desk.old.table.items desk.new.table.items) }
-    ensures blobs { AreAsLong desk.old.table.items desk.new.table.items }
-    ensures buf { length desk.new.buf.items ≡ length desk.old.buf.items }
+    ensures read { OnOk result (HasReadTurns plan.now.list.now (get_turns plan.now aggregator.domain) (D.from part.old) (D.held part.old) table.old table.new) }
+    ensures blobs { AreAsLong table.old table.new }
     ensures failed { IsErrOf result Failed → Rose (D.faults part.old) (D.faults part.new) }
 {
     let mut walk = TurnWalk::new(
@@ -172,7 +179,7 @@ fn collect_part<R: Wait, D: Disk, G: Gate>(
             tools.rt,
             Point::Window(aggregator.number, turn.window.round),
         );
-        collect_turn(tools.alloc, part, &turn, desk)?;
+        collect_turn(tools.alloc, part, &turn, buf, table)?;
     }
     Ok(())
 }
@@ -182,26 +189,26 @@ fn collect_turn<D: Disk>(
     alloc: Global,
     part: &mut D,
     turn: &Turn,
-    desk: &mut Desk,
+    buf: &mut [u8],
+    table: &mut [BlobList],
 ) -> Result<(), DiskErr>
     requires low { D.from part.old ≤ turn.now.window.hull.at }
     requires high { turn.now.window.hull.at + turn.now.window.hull.len ≤ D.from part.old + D.len part.old }
     requires hull { turn.now.window.hull.at + turn.now.window.hull.len < 2 ^ 62 }
     requires ends { EndBelow (2 ^ 62) (extents turn.now.entries.now) }
     requires filled { AreFilled turn.now.entries.now }
-    requires fit { FitTable desk.old.table.items turn.now.entries.now }
-    requires room { turn.now.window.hull.len ≤ length desk.old.buf.items }
-    ensures read { OnOk result (HasReadTurn turn.now.entries.now (D.from part.old) (D.held part.old) (told_window turn.now.window) desk.old.table.items desk.new.table.items) }
-    ensures blobs { AreAsLong desk.old.table.items desk.new.table.items }
-    ensures buf { length desk.new.buf.items ≡ length desk.old.buf.items }
+    requires fit { FitTable table.old turn.now.entries.now }
+    requires room { turn.now.window.hull.len ≤ length buf.old }
+    ensures read { OnOk result (HasReadTurn turn.now.entries.now (D.from part.old) (D.held part.old) (told_window turn.now.window) table.old table.new) }
+    ensures blobs { AreAsLong table.old table.new }
     ensures calls { OnOk result (D.calls part.new ≡ with_end (D.calls part.old) (load_calls (told_window turn.now.window))) }
     ensures bytes { D.held part.new ≡ D.held part.old }
     ensures from { D.from part.new ≡ D.from part.old }
     ensures len { D.len part.new ≡ D.len part.old }
     ensures cause { HasDiskCause (D.faults part.old) (D.faults part.new) result }
 {
-    let bytes = &mut desk.buf[..turn.window.hull.len as usize];
+    let bytes = &mut buf[..turn.window.hull.len as usize];
     get_window(alloc, part, &turn.window, bytes)?;
-    collect_all(turn.window.hull, turn.entries, bytes, &mut desk.table);
+    collect_all(turn.window.hull, turn.entries, bytes, table);
     Ok(())
 }

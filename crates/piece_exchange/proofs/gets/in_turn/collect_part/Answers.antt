@@ -23,14 +23,13 @@ turns-init g c =
     let from = g.D.Disk.from c.args.part.now in
     let len = g.D.Disk.len c.args.part.now in
     record {
-      reading = reading_begin list (min size domain.len) from len (get_turns plan domain) c.new-walk.result (g.D.Disk.held c.args.part.now) c.args.desk.now.table.items (g.D.Disk.calls c.args.part.now)
+      reading = reading_begin list (min size domain.len) from len (get_turns plan domain) c.new-walk.result (g.D.Disk.held c.args.part.now) c.args.table.now (g.D.Disk.calls c.args.part.now)
           c.new-walk.ensures.ready c.new-walk.ensures.entries c.new-walk.ensures.windows
           (domain_turns size domain list cover p.some p.covers p.cover_bytes) (get_on list cover size from len domain p c.requires.domain);
       held = refl;
       from = refl;
       len = refl;
       later = omega arith;
-      buf = refl;
     }
 
 pub collect_turn-requires-clause-low : goal.collect_turn-requires-clause-low
@@ -84,8 +83,8 @@ collect_turn-requires-clause-fit g c κs within =
     let s = c.turns.invariant.reading in
     let due = due_now plan.list.now c.in-Some.turn.entries.now (min plan.hints.now.cb_buffer c.args.aggregator.domain.len) (g.D.Disk.from c.args.part.now) (g.D.Disk.len c.args.part.now)
     c.turns.walk c.next_turn.new.self t c.requires.plan.ends s.here s.on_part c.in-Some.ensures.some c.in-Some.ensures.begun in
-    fit_served c.turns.desk.table.items plan.list.now c.in-Some.turn.entries.now t.0 (t.0 + t.1) due.served
-    (fit_as_long c.args.desk.now.table.items c.turns.desk.table.items plan.list.now s.long c.requires.fit)
+    fit_served c.turns.table plan.list.now c.in-Some.turn.entries.now t.0 (t.0 + t.1) due.served
+    (fit_as_long c.args.table.now c.turns.table plan.list.now s.long c.requires.fit)
 
 pub collect_turn-requires-clause-room : goal.collect_turn-requires-clause-room
 collect_turn-requires-clause-room g c κs within =
@@ -95,7 +94,6 @@ collect_turn-requires-clause-room g c κs within =
     c.turns.walk c.next_turn.new.self (told_window c.in-Some.turn.window) c.requires.plan.ends s.here s.on_part c.in-Some.ensures.some c.in-Some.ensures.begun in
     let short = due.turn.short in
     let room = c.requires.room in
-    let same = c.turns.invariant.buf in
     omega arith
 
 pub turns-preserved : goal.turns-preserved
@@ -108,14 +106,13 @@ turns-preserved g c =
     record {
       reading = reading_next plan.list.now c.in-Some.turn.entries.now (min plan.hints.now.cb_buffer c.args.aggregator.domain.len) from (g.D.Disk.len c.args.part.now) (g.D.Disk.from c.turns.part)
           (get_turns plan c.args.aggregator.domain) c.turns.walk c.next_turn.new.self t (g.D.Disk.held c.args.part.now) (g.D.Disk.held c.turns.part)
-          c.args.desk.now.table.items c.turns.desk.table.items c.collect_turn.new.desk.table.items (g.D.Disk.calls c.args.part.now) (g.D.Disk.calls c.turns.part) (g.D.Disk.calls c.collect_turn.new.part)
+          c.args.table.now c.turns.table c.collect_turn.new.table (g.D.Disk.calls c.args.part.now) (g.D.Disk.calls c.turns.part) (g.D.Disk.calls c.collect_turn.new.part)
           c.requires.one_place c.requires.fit c.turns.invariant.reading c.in-Some.ensures.some c.in-Some.ensures.ready c.in-Some.ensures.begun c.in-Some.ensures.past
           c.turns.invariant.from c.turns.invariant.held c.in_ok-collect_turn.ensures.read c.in_ok-collect_turn.ensures.blobs c.in_ok-collect_turn.ensures.calls;
       held = c.in_ok-collect_turn.ensures.bytes ∙ c.turns.invariant.held;
       from = c.in_ok-collect_turn.ensures.from ∙ c.turns.invariant.from;
       len = c.in_ok-collect_turn.ensures.len ∙ c.turns.invariant.len;
       later = omega arith;
-      buf = c.in_ok-collect_turn.ensures.buf ∙ c.turns.invariant.buf;
     }
 
 pub returns-in_err-collect_turn-clause-got : goal.returns-in_err-collect_turn-clause-got
@@ -137,7 +134,7 @@ pub returns-clause-got : goal.returns-clause-got
 returns-clause-got g c =
     let plan = c.args.plan.now in
     let end = reading_end plan.list.now (min plan.hints.now.cb_buffer c.args.aggregator.domain.len) (g.D.Disk.from c.args.part.now) (g.D.Disk.len c.args.part.now) (get_turns plan c.args.aggregator.domain)
-    c.turns.walk (g.D.Disk.held c.args.part.now) c.args.desk.now.table.items c.turns.desk.table.items (g.D.Disk.calls c.args.part.now) (g.D.Disk.calls c.turns.part)
+    c.turns.walk (g.D.Disk.held c.args.part.now) c.args.table.now c.turns.table (g.D.Disk.calls c.args.part.now) (g.D.Disk.calls c.turns.part)
     c.turns.invariant.reading c.in_default.ensures.none in
     record {
       from = c.turns.invariant.from;
@@ -151,7 +148,7 @@ pub returns-clause-read : goal.returns-clause-read
 returns-clause-read g c =
     let plan = c.args.plan.now in
     (reading_end plan.list.now (min plan.hints.now.cb_buffer c.args.aggregator.domain.len) (g.D.Disk.from c.args.part.now) (g.D.Disk.len c.args.part.now) (get_turns plan c.args.aggregator.domain)
-    c.turns.walk (g.D.Disk.held c.args.part.now) c.args.desk.now.table.items c.turns.desk.table.items (g.D.Disk.calls c.args.part.now) (g.D.Disk.calls c.turns.part)
+    c.turns.walk (g.D.Disk.held c.args.part.now) c.args.table.now c.turns.table (g.D.Disk.calls c.args.part.now) (g.D.Disk.calls c.turns.part)
     c.turns.invariant.reading c.in_default.ensures.none).0
 
 pub returns-clause-blobs : goal.returns-clause-blobs

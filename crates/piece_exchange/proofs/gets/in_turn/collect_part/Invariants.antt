@@ -8,12 +8,11 @@ use Rattle.piece_exchange.proofs.gets.in_turn.collect_part.Given as goal
 abbrev pub invariant-turns : goal.invariant-turns
 invariant-turns g l = record {
   reading : IsReading l.plan.list.now (min l.plan.hints.now.cb_buffer l.aggregator.domain.len) (g.D.Disk.from l.initial.part) (g.D.Disk.len l.initial.part)
-      (get_turns l.plan l.aggregator.domain) l.walk (g.D.Disk.held l.initial.part) l.initial.desk.table.items l.desk.table.items (g.D.Disk.calls l.initial.part) (g.D.Disk.calls l.part);
+      (get_turns l.plan l.aggregator.domain) l.walk (g.D.Disk.held l.initial.part) l.initial.table l.table (g.D.Disk.calls l.initial.part) (g.D.Disk.calls l.part);
   held : g.D.Disk.held l.part ≡ g.D.Disk.held l.initial.part;
   from : g.D.Disk.from l.part ≡ g.D.Disk.from l.initial.part;
   len : g.D.Disk.len l.part ≡ g.D.Disk.len l.initial.part;
   later : g.D.Disk.faults l.initial.part ≤ g.D.Disk.faults l.part;
-  buf : length l.desk.buf.items ≡ length l.initial.desk.buf.items;
 }
 
 abbrev pub decreases-turns : goal.decreases-turns

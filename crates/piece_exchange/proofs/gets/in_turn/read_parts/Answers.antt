@@ -1,23 +1,36 @@
 -- One part more was read.
 use Rattle.std.proofs.Common.{◌≡◌, ◌<◌, ◌∙◌, ◌++◌, ◌∷◌, [], refl, sym, ap, subst, length, append_assoc, get_or, List, Result, rules, arith}
 use Rattle.std.proofs.lemmas.Grind.{common_steps}
-use Rattle.std.specs.Prelude.{zip}
+use Rattle.std.specs.Prelude.{zip, OnOk}
 use Rattle.std.specs.List.{AllZip}
 use Rattle.nc_base.specs.declared.plan.Extent.{Extent}
 use Rattle.nc_outside.specs.Cause.{Rose}
 use Rattle.nc_outside.specs.declared.disk.DiskErr.{DiskErr}
 use Rattle.overlay_laws.proofs.Members.{at_in}
 use Rattle.piece_exchange.specs.Gets.{get_turns, HasGot}
+use Rattle.piece_exchange.specs.Logs.{HasReadParts}
 use Rattle.piece_exchange.specs.Put.{PartState}
 use Rattle.piece_exchange.proofs.BackLaws.{at_index, back_more, both_long, failed_more, middle_at, zip_push}
 use Rattle.piece_exchange.proofs.CollectLaws.{fit_as_long}
 use Rattle.piece_exchange.proofs.FeedLaws.{get_long}
 use Rattle.piece_exchange.proofs.FetchLaws.{got_later}
-use Rattle.piece_exchange.proofs.PartReads.{parts_on}
+use Rattle.piece_exchange.proofs.PartReads.{parts_none, parts_on}
 use Rattle.piece_exchange.proofs.gets.in_turn.read_parts.Goals as goal
 
 abbrev none : Extent
 none = record { at = 0; len = 0 }
+
+pub loop-part-init : goal.loop-part-init
+loop-part-init g c = record {
+  all = first_of (search rules, grind (arith, common_steps));
+  long = ap (λ (ds : List _). length ds) c.requires.none;
+  room = refl;
+  buf = refl;
+  got = subst (λ (ds : List _). AllZip _ (zip [] c.args.domains.now) ds) (sym c.requires.none) tt;
+  read = parts_none (λ d. g.D.Disk.from d) (λ d. g.D.Disk.held d) c.args.plan.now c.args.desk.now.table.items;
+  blobs = refl;
+  failed = λ f. absurd cc;
+}
 
 pub read_next-part-requires-clause-domain : goal.read_next-part-requires-clause-domain
 read_next-part-requires-clause-domain g c κs within =
@@ -82,3 +95,9 @@ loop-part-preserved g c =
       failed = failed_more (λ (a b : g.row.D.Denot). Rose (g.D.Disk.faults a) (g.D.Disk.faults b)) c.loop-part.yielded c.loop-part.back.items _ c.in-Some.part part c.loop-part.end came
           many c.loop-part.invariant.failed c.read_next-part.ensures.failed pushed;
     }
+
+pub returns-clause-read : goal.returns-clause-read
+returns-clause-read g c =
+    let whole : c.loop-part.yielded ≡ c.args.parts.items = first_of (search rules, grind (arith, common_steps)) in
+    subst (λ (ps : List g.row.D.Denot). OnOk c.loop-part.end (HasReadParts (λ d. g.D.Disk.from d) (λ d. g.D.Disk.held d) c.args.plan.now (zip ps c.args.domains.now) c.args.desk.now.table.items c.loop-part.desk.table.items))
+    whole c.loop-part.invariant.read
