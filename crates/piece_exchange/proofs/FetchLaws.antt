@@ -76,12 +76,12 @@ fetch_next from here len all w v t put now hull held told calls made drawn s e r
   ready = ready;
   on_part = λ u m. s.on_part u (subst (λ (ts : List Told). In ts u) (sym e) (inr m));
   many = (
-    let a = ap (λ (ts : List Told). length ts) e in
-    let b = ap (λ (rs : List Reading). length rs) more in
-    let c = length-append put (Hull hull ∷ []) in
-    let d = s.many in
-    omega arith
-  );
+      let a = ap (λ (ts : List Told). length ts) e in
+      let b = ap (λ (rs : List Reading). length rs) more in
+      let c = length-append put (Hull hull ∷ []) in
+      let d = s.many in
+      omega arith
+      );
   read = by_held held s.read (subst (λ (m : Option (List ℕ)). IfSome m (λ file. hull ≡ read file (t.0 - from) t.1)) kept (subst (λ (n : ℕ). IfSome told (λ file. hull ≡ read file (t.0 - n) t.1)) same got));
   device =
       ap (λ (m : Option (List DiskCall)). with_end m (flat_map load_calls (turns_ahead v))) device

@@ -1,6 +1,4 @@
 -- The helper was told to go, and what was taken are the first of what it put.
-use Rattle.std.proofs.Common.{◌≡◌}
-use Rattle.piece_exchange.specs.Fetched.{HasFetched}
 use Rattle.piece_exchange.specs.Gets.{get_turns}
 use Rattle.piece_exchange.specs.Put.{PartState}
 use Rattle.piece_exchange.specs.Shelves.{domain_of, part_of}
