@@ -12,13 +12,14 @@ use Rattle.nc_outside.specs.declared.disk.DiskErr.{DiskErr}
 use Rattle.overlay_laws.specs.Changes.{load_calls}
 use Rattle.overlay_laws.specs.Entries.{In}
 use Rattle.serial_spec.specs.File.{read}
-use Rattle.piece_exchange.specs.Fetched.{HasFetched}
+use Rattle.piece_exchange.specs.Fetched.{DidAsTold, HasFetched}
 use Rattle.piece_exchange.specs.Gets.{get_turns, reading_of, AreRead, HasGot, IsGetPlan}
 use Rattle.piece_exchange.specs.Hulls.{LieOnPart}
 use Rattle.piece_exchange.specs.Plan.{IsDomainOf}
 use Rattle.piece_exchange.specs.Put.{PartState}
 use Rattle.piece_exchange.specs.Shelves.{domain_of, IsReadSeat}
 use Rattle.piece_exchange.specs.Turns.{Told, turns_ahead, turns_of, IsTurnWalk}
+use Rattle.piece_exchange.specs.declared.crew.Word.{Word}
 use Rattle.piece_exchange.specs.declared.gets.reading.Reading.{Reading}
 use Rattle.piece_exchange.specs.declared.gets.reading.Reading.TheVariants.{Hull}
 use Rattle.piece_exchange.specs.declared.gets.starting.ReadSeat.{ReadSeat}
@@ -75,12 +76,12 @@ fetch_next from here len all w v t put now hull held told calls made drawn s e r
   ready = ready;
   on_part = λ u m. s.on_part u (subst (λ (ts : List Told). In ts u) (sym e) (inr m));
   many = (
-    let a = ap (λ (ts : List Told). length ts) e in
-    let b = ap (λ (rs : List Reading). length rs) more in
-    let c = length-append put (Hull hull ∷ []) in
-    let d = s.many in
-    omega arith
-  );
+      let a = ap (λ (ts : List Told). length ts) e in
+      let b = ap (λ (rs : List Reading). length rs) more in
+      let c = length-append put (Hull hull ∷ []) in
+      let d = s.many in
+      omega arith
+      );
   read = by_held held s.read (subst (λ (m : Option (List ℕ)). IfSome m (λ file. hull ≡ read file (t.0 - from) t.1)) kept (subst (λ (n : ℕ). IfSome told (λ file. hull ≡ read file (t.0 - n) t.1)) same got));
   device =
       ap (λ (m : Option (List DiskCall)). with_end m (flat_map load_calls (turns_ahead v))) device
@@ -118,6 +119,11 @@ pub got_later : {T E : Type 0} (ts : List Told) (old new : PartState) (end came 
 got_later ts old new (Ok x) (Ok y) ok h = record { from = h.from; len = h.len; held = h.held; device = h.device; later = h.later }
 got_later ts old new (Err x) (Ok y) ok h = absurd cc
 got_later ts old new end (Err y) ok h = record { from = h.from; len = h.len; held = h.held; device = tt; later = h.later }
+
+-- a helper that has an end of its work was told to go
+pub told_fetched : {T : Type 0} (ts : List Told) (old new : PartState) (words : List Word) (put : List Reading) (came : Option (Result T DiskErr)) (end : Result T DiskErr) → came ≡ Some end
+    → DidAsTold ts old new words put came → HasFetched ts old new put end
+told_fetched {T} ts old new words put came end is did = (subst (λ (o : Option (Result T DiskErr)). DidAsTold ts old new words put o) is did).1
 
 pub joined_fetched : {D T : Type 0} (plan : GetPlan) (seat : ReadSeat D) (old new : PartState) (put : List Reading) (end : Result T DiskErr) → IsReadSeat plan seat
     → HasFetched (turns_of seat.helper.child.promise.size.value (domain_of seat) seat.helper.child.promise.cover.value) old new put end

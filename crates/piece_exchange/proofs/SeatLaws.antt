@@ -1,21 +1,15 @@
 -- Helpers that were started, told to go, and fed.
-use Rattle.std.proofs.Common.{◌≡◌, ℕ, ◌+◌, refl, sym, ◌∙◌, ap, inl, inr, subst, List, [], ◌∷◌, ◌++◌, length, map, take, Option, Some, None, Result, arith}
+use Rattle.std.proofs.Common.{◌≡◌, ℕ, refl, sym, ◌∙◌, ap, subst, List, [], ◌∷◌, ◌++◌, length, map, take, Option, Some, None}
 use Rattle.std.proofs.lemmas.List.{append-nil}
-use Rattle.std.specs.Prelude.{slice_get, zip, IsErrOf}
+use Rattle.std.specs.Prelude.{slice_get, zip}
 use Rattle.std.specs.List.{AllZip}
 use Rattle.nc_base.specs.declared.plan.Extent.{Extent}
-use Rattle.nc_base.specs.declared.plan.Job.{Job}
 use Rattle.nc_base.specs.declared.plan.Owned.{Owned}
-use Rattle.nc_outside.specs.Cause.{Rose}
-use Rattle.nc_outside.specs.declared.disk.DiskErr.{DiskErr}
-use Rattle.nc_outside.specs.declared.disk.DiskErr.TheVariants.{Failed}
 use Rattle.overlay_laws.specs.Entries.{In}
 use Rattle.piece_exchange.specs.Feeds.{feed_left, pieces_left_of, turns_left_of, IsFeed}
-use Rattle.piece_exchange.specs.Helped.{HasServed}
-use Rattle.piece_exchange.specs.Plan.{planned_pieces, planned_turns, source_in}
-use Rattle.piece_exchange.specs.Put.{HasPut, PartState, SomeZip}
+use Rattle.piece_exchange.specs.Plan.{planned_pieces}
+use Rattle.piece_exchange.specs.Put.{SomeZip}
 use Rattle.piece_exchange.specs.Seats.{domain_of, part_of, HasFed, IsFed, IsFresh, IsSeat, IsToldToGo}
-use Rattle.piece_exchange.specs.Turns.{turns_of}
 use Rattle.piece_exchange.specs.declared.crew.Word.TheVariants.{Go}
 use Rattle.piece_exchange.specs.declared.packing.Feed.{Feed}
 use Rattle.piece_exchange.specs.declared.plan.PutPlan.{PutPlan}
@@ -102,21 +96,6 @@ parts_stay ranks first mid last long longer told fed = (
   map_new (λ seat. domain_of seat) (λ a b. HasFed ranks a b) mid last longer fed (λ a b h. ap (λ helper. helper.child.promise.domain.value) h.helper)
       ∙ map_new (λ seat. domain_of seat) (λ a b. IsToldToGo a b) first mid long told (λ a b t. ap (λ child. child.promise.domain.value) t.child),
 )
-
--- ---- a helper that was joined
-
-pub joined_put : {D T : Type 0} (plan : PutPlan) (seat : Seat D) (old new : PartState) (taken : List Owned) (end : Result T DiskErr) → IsFed plan seat
-    → HasServed seat.helper.child.promise.job.value.batches seat.helper.child.promise.list.value
-    (turns_of seat.helper.child.promise.size.value (domain_of seat) seat.helper.child.promise.cover.value) old new taken end
-    → taken ≡ seat.feed.line.items
-    → HasPut (source_in plan) plan.list.now (planned_turns plan (domain_of seat)) old new end × (IsErrOf end Failed → Rose old.faults new.faults)
-joined_put plan seat old new taken end fed served same =
-    let promise = seat.helper.child.promise in
-    let by_job = subst (λ (job : Job). HasServed job.batches promise.list.value (turns_of promise.size.value (domain_of seat) promise.cover.value) old new taken end) fed.seat_is.job served in
-    let by_list = subst (λ (list : List Owned). HasServed plan.job.now.batches list (turns_of promise.size.value (domain_of seat) promise.cover.value) old new taken end) fed.seat_is.list by_job in
-    let by_size = subst (λ (size : ℕ). HasServed plan.job.now.batches plan.list.now (turns_of size (domain_of seat) promise.cover.value) old new taken end) fed.seat_is.size by_list in
-    let by_cover = subst (λ (cover : List Extent). HasServed plan.job.now.batches plan.list.now (turns_of plan.hints.now.cb_buffer (domain_of seat) cover) old new taken end) fed.seat_is.cover by_size in
-    (by_cover.put (same ∙ fed.put), by_cover.failed)
 
 -- ---- all of them
 

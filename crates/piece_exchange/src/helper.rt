@@ -8,7 +8,7 @@ use crate::crew::{Ends, Returned, Word, stopped};
 use crate::laying::lay_part;
 use crate::plan::{Aggregator, PutPlan, Tools};
 use nc_base::{Extent, ExtentList, Job, Owned, OwnedList};
-use nc_outside::{Disk, DiskErr, Gate};
+use nc_outside::{Disk, Gate};
 use ruled_line::{LinePut, LineTake};
 use std::snapshot::Snapshot;
 use std::sync::Wait;

@@ -1,5 +1,5 @@
 -- Each window is read, and its hull put on the line.
-use Rattle.std.proofs.Common.{◌≡◌, ◌∙◌, refl, arith}
+use Rattle.std.proofs.Common.{◌∙◌, refl, arith}
 use Rattle.aggregator_rounds.specs.Pieces.{told_window}
 use Rattle.piece_exchange.specs.Gets.{get_turns}
 use Rattle.piece_exchange.proofs.FetchLaws.{fetch_begin, fetch_end, fetch_high, fetch_low, fetch_next, get_on}
