@@ -39,6 +39,10 @@ use Rattle.piece_exchange.proofs.TakeLaws.{items_read, IsReady}
 pub parts_none : {D : Type 0} (from : D → ℕ) (held : D → Option (List ℕ)) (plan : GetPlan) (table : List (List (List ℕ))) → HasReadParts from held plan [] table table
 parts_none from held plan table = record { log = []; collected = λ r s. refl; all = λ p t m k. absurd m; only = λ e m. absurd m }
 
+pub none_zip : {A B : Type 0} (R : A → B → Type 0) (ys : List B) → ys ≡ [] → AllZip R [] ys
+none_zip R [] e = tt
+none_zip R (y ∷ ys) e = absurd cc
+
 told_at : (held : Option (List ℕ)) (start : ℕ) (log : Log) (e : Told × List ℕ) → In log e
     → IfSome held (λ file. (u : Told × List ℕ) → In log u → u.1 ≡ read file (u.0.0 - start) u.0.1) → IfSome held (λ file. e.1 ≡ read file (e.0.0 - start) e.0.1)
 told_at None start log e m h = tt

@@ -24,7 +24,6 @@ pub take_all-came-requires-clause-ready : goal.take_all-came-requires-clause-rea
 take_all-came-requires-clause-ready g c κs within =
     let first = c.start_all.new.crew.seats.items in
     let mid = c.tell_all.new.seats in
-    let last = c.take_all-came.new.seats in
     let count = c.start_all.new.crew.seats.len in
     let n : count ≡ length first = first_of (search rules, grind (arith, common_steps)) in
     let lent = c.deref_mut.ensures.value in

@@ -14,7 +14,7 @@ use Rattle.piece_exchange.proofs.BackLaws.{at_index, back_more, both_long, faile
 use Rattle.piece_exchange.proofs.CollectLaws.{fit_as_long}
 use Rattle.piece_exchange.proofs.FeedLaws.{get_long}
 use Rattle.piece_exchange.proofs.FetchLaws.{got_later}
-use Rattle.piece_exchange.proofs.PartReads.{parts_none, parts_on}
+use Rattle.piece_exchange.proofs.PartReads.{none_zip, parts_none, parts_on}
 use Rattle.piece_exchange.proofs.gets.in_turn.read_parts.Goals as goal
 
 abbrev none : Extent
@@ -23,10 +23,10 @@ none = record { at = 0; len = 0 }
 pub loop-part-init : goal.loop-part-init
 loop-part-init g c = record {
   all = first_of (search rules, grind (arith, common_steps));
-  long = ap (λ (ds : List _). length ds) c.requires.none;
+  long = ap (λ (ds : List g.row.D.Denot). length ds) c.requires.none;
   room = refl;
   buf = refl;
-  got = subst (λ (ds : List _). AllZip _ (zip [] c.args.domains.now) ds) (sym c.requires.none) tt;
+  got = none_zip _ c.args.back.items c.requires.none;
   read = parts_none (λ d. g.D.Disk.from d) (λ d. g.D.Disk.held d) c.args.plan.now c.args.desk.now.table.items;
   blobs = refl;
   failed = λ f. absurd cc;
