@@ -22,7 +22,7 @@ use Rattle.aggregator_rounds.specs.Pieces.{told_window}
 use Rattle.data_sieving.specs.Serving.{IsCovered}
 use Rattle.data_sieving.proofs.CoveredBytes.{in_ranges, ranges_in}
 use Rattle.data_sieving.proofs.WindowSteps.{hole_short}
-use Rattle.piece_exchange.proofs.Hulls.{AreTurns, HaveWindows, IsTurn, LieOnPart}
+use Rattle.piece_exchange.specs.Hulls.{AreTurns, HaveWindows, IsTurn, LieOnPart}
 use Rattle.piece_exchange.specs.Turns.{Told}
 use Rattle.piece_exchange.specs.Feeds.{AreApart}
 

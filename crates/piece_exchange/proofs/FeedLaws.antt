@@ -15,7 +15,8 @@ use Rattle.piece_exchange.specs.Turns.{Told, turns_ahead, IsTurnWalk}
 use Rattle.piece_exchange.specs.declared.walk.Turn.{Turn}
 use Rattle.piece_exchange.specs.declared.walk.TurnWalk.{TurnWalk}
 use Rattle.piece_exchange.proofs.PieceLaws.{pieces_served}
-use Rattle.piece_exchange.proofs.TurnLaws.{AreServed, served_ends}
+use Rattle.piece_exchange.specs.Cursor.{AreServed}
+use Rattle.piece_exchange.proofs.TurnLaws.{served_ends}
 
 -- ---- one rank more
 

@@ -14,11 +14,12 @@ use Rattle.piece_exchange.specs.Pieces.{ArePieces}
 use Rattle.piece_exchange.specs.Put.{put_part}
 use Rattle.piece_exchange.specs.Taken.{cells_in, put_window, IsFilledBy}
 use Rattle.piece_exchange.specs.Turns.{Told, turns_ahead, IsTurnWalk}
-use Rattle.piece_exchange.proofs.Hulls.{AreTurns, HaveWindows, IsTurn, LieOnPart}
+use Rattle.piece_exchange.specs.Hulls.{AreTurns, HaveWindows, IsTurn, LieOnPart}
 use Rattle.piece_exchange.proofs.PieceLaws.{pieces_found}
 use Rattle.piece_exchange.proofs.PutLaws.{IsPutSoFar, told_begin, told_between, told_end, told_more, told_next}
 use Rattle.piece_exchange.proofs.ServeLaws.{calls_more, calls_none}
-use Rattle.piece_exchange.proofs.TurnLaws.{AreServed, IsAt, at_begin, at_next, served_are, served_covered, served_now, served_picked}
+use Rattle.piece_exchange.specs.Cursor.{AreServed, IsAt}
+use Rattle.piece_exchange.proofs.TurnLaws.{at_begin, at_next, served_are, served_covered, served_now, served_picked}
 
 -- the entries that may have bytes in a window fill it
 pub served_filled : (source : Source) (list begun : List Owned) (room : ℕ) (t : Told) → AreServed list begun t.0 (t.0 + t.1) → ArePieces source list → IsTurn list room t

@@ -1,4 +1,3 @@
-pub mod Hulls
 pub mod TurnLaws
 pub mod PutLaws
 pub mod PieceLaws
@@ -10,3 +9,11 @@ pub mod BackLaws
 pub mod SeatLaws
 pub mod DomainTurns
 pub mod PlanLaws
+pub mod CollectLaws
+pub mod ReadLaws
+pub mod TakeLaws
+pub mod PartReads
+pub mod TurnReads
+pub mod CrewLaws
+pub mod FetchLaws
+pub mod ShelfLaws

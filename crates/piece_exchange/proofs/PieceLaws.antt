@@ -16,7 +16,7 @@ use Rattle.data_sieving.specs.Serving.{IsCovered}
 use Rattle.piece_exchange.specs.Pieces.{meets, of_rank, pieces_in, ArePieces}
 use Rattle.piece_exchange.specs.Turns.{Told}
 use Rattle.piece_exchange.proofs.PutLaws.{ArePicked}
-use Rattle.piece_exchange.proofs.TurnLaws.{AreServed}
+use Rattle.piece_exchange.specs.Cursor.{AreServed}
 
 -- ---- tests
 

@@ -6,7 +6,7 @@ use Rattle.nc_base.specs.declared.plan.Owned.{Owned}
 use Rattle.piece_exchange.specs.Plan.{IsDomainOf, IsPlan}
 use Rattle.piece_exchange.specs.Turns.{turns_of}
 use Rattle.piece_exchange.proofs.DomainTurns.{domain_part, domain_turns, domain_windows}
-use Rattle.piece_exchange.proofs.Hulls.{AreTurns, HaveWindows, LieOnPart}
+use Rattle.piece_exchange.specs.Hulls.{AreTurns, HaveWindows, LieOnPart}
 
 pub plan_turns : (batches : List Batch) (list : List Owned) (cover : List Extent) (size : ℕ) (domain : Extent) → IsPlan batches list cover size
     → AreTurns list (min size domain.len) (turns_of size domain cover)

@@ -18,7 +18,7 @@ use Rattle.overlay_laws.proofs.WindowLaws.{clips_from, clips_in, clips_within, m
 use Rattle.piece_exchange.specs.Put.{put_part}
 use Rattle.piece_exchange.specs.Taken.{cells_in, put_window}
 use Rattle.piece_exchange.specs.Turns.{Told}
-use Rattle.piece_exchange.proofs.Hulls.{HaveWindows}
+use Rattle.piece_exchange.specs.Hulls.{HaveWindows}
 
 abbrev cells_of : Source → List Owned → List Cell
 cells_of source list = map (λ o. cell_of source o) list

@@ -1,29 +1,23 @@
 -- Helpers that were started, told to go, and fed.
-use Rattle.std.proofs.Common.{◌≡◌, ℕ, ◌+◌, refl, sym, ◌∙◌, ap, inl, inr, subst, List, [], ◌∷◌, ◌++◌, length, map, take, Option, Some, None, Result, arith}
-use Rattle.std.proofs.lemmas.List.{append-nil, length-append, length-map, map-append, take_all}
-use Rattle.std.specs.Prelude.{slice_get, zip, IsErrOf}
+use Rattle.std.proofs.Common.{◌≡◌, ℕ, refl, sym, ◌∙◌, ap, subst, List, [], ◌∷◌, ◌++◌, length, map, take, Option, Some, None}
+use Rattle.std.proofs.lemmas.List.{append-nil}
+use Rattle.std.specs.Prelude.{slice_get, zip}
 use Rattle.std.specs.List.{AllZip}
 use Rattle.nc_base.specs.declared.plan.Extent.{Extent}
-use Rattle.nc_base.specs.declared.plan.Job.{Job}
 use Rattle.nc_base.specs.declared.plan.Owned.{Owned}
-use Rattle.nc_outside.specs.Cause.{Rose}
-use Rattle.nc_outside.specs.declared.disk.DiskErr.{DiskErr}
-use Rattle.nc_outside.specs.declared.disk.DiskErr.TheVariants.{Failed}
 use Rattle.overlay_laws.specs.Entries.{In}
-use Rattle.overlay_laws.proofs.HullLaws.{in_either}
 use Rattle.piece_exchange.specs.Feeds.{feed_left, pieces_left_of, turns_left_of, IsFeed}
-use Rattle.piece_exchange.specs.Helped.{HasServed}
-use Rattle.piece_exchange.specs.Plan.{planned_pieces, planned_turns, source_in}
-use Rattle.piece_exchange.specs.Put.{HasPut, PartState, SomeZip}
+use Rattle.piece_exchange.specs.Plan.{planned_pieces}
+use Rattle.piece_exchange.specs.Put.{SomeZip}
 use Rattle.piece_exchange.specs.Seats.{domain_of, part_of, HasFed, IsFed, IsFresh, IsSeat, IsToldToGo}
-use Rattle.piece_exchange.specs.Turns.{turns_of}
-use Rattle.piece_exchange.specs.declared.helper.Word.TheVariants.{Go}
+use Rattle.piece_exchange.specs.declared.crew.Word.TheVariants.{Go}
 use Rattle.piece_exchange.specs.declared.packing.Feed.{Feed}
 use Rattle.piece_exchange.specs.declared.plan.PutPlan.{PutPlan}
 use Rattle.piece_exchange.specs.declared.starting.Seat.{Seat}
 use Rattle.piece_exchange.specs.declared.walk.Turn.{Turn}
 use Rattle.piece_exchange.specs.declared.walk.TurnWalk.{TurnWalk}
-use Rattle.piece_exchange.proofs.BackLaws.{each_new, map_new, some_mapped, take_at, zip_mapped}
+use Rattle.piece_exchange.proofs.BackLaws.{each_new, map_new, some_mapped, zip_mapped}
+use Rattle.piece_exchange.proofs.CrewLaws.{all_started}
 
 -- told to go, with all its pieces left
 pub record IsTold {D : Type 0} (plan : PutPlan) (seat : Seat D) : Type 0 where
@@ -43,7 +37,7 @@ go_seat plan old new t f =
         job = ap (λ child. child.promise.job.value) t.child ∙ s.job;
         size = ap (λ child. child.promise.size.value) t.child ∙ s.size;
         word_of = t.of ∙ s.word_of ∙ sym (ap (λ child. child.promise.ends.value.word.of) t.child);
-        line_of = ap (λ (feed : Feed). feed.line.of) t.feed ∙ s.line_of ∙ sym (ap (λ child. child.promise.ends.value.line.of) t.child);
+        line_of = ap (λ (feed : Feed). feed.line.of) t.feed ∙ s.line_of ∙ sym (ap (λ child. child.promise.ends.value.lines.line.of) t.child);
       };
       word = t.words ∙ ap (λ words. words ++ Go ∷ []) f.word;
       ready = subst (λ (feed : Feed). IsFeed feed) (sym t.feed) f.ready;
@@ -66,7 +60,7 @@ fed_seat plan old new h t =
         job = ap (λ helper. helper.child.promise.job.value) h.helper ∙ s.job;
         size = ap (λ helper. helper.child.promise.size.value) h.helper ∙ s.size;
         word_of = ap (λ helper. helper.word.of) h.helper ∙ s.word_of ∙ sym (ap (λ helper. helper.child.promise.ends.value.word.of) h.helper);
-        line_of = h.fed.of ∙ s.line_of ∙ sym (ap (λ helper. helper.child.promise.ends.value.line.of) h.helper);
+        line_of = h.fed.of ∙ s.line_of ∙ sym (ap (λ helper. helper.child.promise.ends.value.lines.line.of) h.helper);
       };
       word = ap (λ helper. helper.word.items) h.helper ∙ t.word;
       put =
@@ -103,38 +97,6 @@ parts_stay ranks first mid last long longer told fed = (
       ∙ map_new (λ seat. domain_of seat) (λ a b. IsToldToGo a b) first mid long told (λ a b t. ap (λ child. child.promise.domain.value) t.child),
 )
 
--- where a helper was started for each part, they are those of the parts and domains
-pub all_started : {D : Type 0} (seats : List (Seat D)) (rest parts : List D) (domains : List Extent) → rest ≡ [] → map (λ seat. part_of seat) seats ++ rest ≡ parts
-    → map (λ seat. domain_of seat) seats ≡ take (length seats) domains → length domains ≡ length parts
-    → (map (λ seat. part_of seat) seats ≡ parts) × (map (λ seat. domain_of seat) seats ≡ domains)
-all_started {D} seats rest parts domains none whole share long =
-    let all : map (λ seat. part_of seat) seats ≡ parts = sym (append-nil (map (λ seat. part_of seat) seats)) ∙ ap (λ (r : List D). map (λ seat. part_of seat) seats ++ r) (sym none) ∙ whole in
-    let many = length-map seats (λ (seat : Seat D). part_of seat) in
-    let same = ap (λ (ds : List D). length ds) all in
-    (all, share ∙ take_all (length seats) domains (omega arith))
-
-pub seats_few : {D : Type 0} (seats : List (Seat D)) (rest parts : List D) → map (λ seat. part_of seat) seats ++ rest ≡ parts → length seats + length rest ≡ length parts
-seats_few {D} seats rest parts whole =
-    let many = length-map seats (λ (seat : Seat D). part_of seat) in
-    let both = length-append (map (λ seat. part_of seat) seats) rest in
-    let same = ap (λ (ds : List D). length ds) whole in
-    omega arith
-
--- ---- a helper that was joined
-
-pub joined_put : {D T : Type 0} (plan : PutPlan) (seat : Seat D) (old new : PartState) (taken : List Owned) (end : Result T DiskErr) → IsFed plan seat
-    → HasServed seat.helper.child.promise.job.value.batches seat.helper.child.promise.list.value
-    (turns_of seat.helper.child.promise.size.value (domain_of seat) seat.helper.child.promise.cover.value) old new taken end
-    → taken ≡ seat.feed.line.items
-    → HasPut (source_in plan) plan.list.now (planned_turns plan (domain_of seat)) old new end × (IsErrOf end Failed → Rose old.faults new.faults)
-joined_put plan seat old new taken end fed served same =
-    let promise = seat.helper.child.promise in
-    let by_job = subst (λ (job : Job). HasServed job.batches promise.list.value (turns_of promise.size.value (domain_of seat) promise.cover.value) old new taken end) fed.seat_is.job served in
-    let by_list = subst (λ (list : List Owned). HasServed plan.job.now.batches list (turns_of promise.size.value (domain_of seat) promise.cover.value) old new taken end) fed.seat_is.list by_job in
-    let by_size = subst (λ (size : ℕ). HasServed plan.job.now.batches plan.list.now (turns_of size (domain_of seat) promise.cover.value) old new taken end) fed.seat_is.size by_list in
-    let by_cover = subst (λ (cover : List Extent). HasServed plan.job.now.batches plan.list.now (turns_of plan.hints.now.cb_buffer (domain_of seat) cover) old new taken end) fed.seat_is.cover by_size in
-    (by_cover.put (same ∙ fed.put), by_cover.failed)
-
 -- ---- all of them
 
 -- the seats that were started, as they were told to go and fed
@@ -160,46 +122,13 @@ all_failed {D} ranks first mid last parts back domains R d h =
     let stay = parts_stay ranks first mid last d.long d.longer d.told d.fed in
     subst (λ (ps : List D). SomeZip R ps back) (stay.0 ∙ d.of_parts) (some_mapped (λ seat. part_of seat) R last back h)
 
--- ---- one helper more was started
-
-pub crew_parts : {D : Type 0} (seats now : List (Seat D)) (seat : Seat D) (rest yielded : List D) (part : D) → now ≡ seats ++ seat ∷ [] → rest ≡ [] → part_of seat ≡ part
-    → map (λ s. part_of s) seats ++ rest ≡ yielded → map (λ s. part_of s) now ++ rest ≡ yielded ++ part ∷ []
-crew_parts {D} seats now seat rest yielded part e none is whole =
-    let all : map (λ s. part_of s) seats ≡ yielded = sym (append-nil (map (λ s. part_of s) seats)) ∙ ap (λ (r : List D). map (λ s. part_of s) seats ++ r) (sym none) ∙ whole in
-    ap (λ (r : List D). map (λ s. part_of s) now ++ r) none
-    ∙ append-nil (map (λ s. part_of s) now)
-    ∙ ap (λ (ss : List (Seat D)). map (λ s. part_of s) ss) e
-    ∙ map-append (λ (s : Seat D). part_of s) seats (seat ∷ [])
-    ∙ ap (λ (r : List D). r ++ part_of seat ∷ []) all
-    ∙ ap (λ (p : D). yielded ++ p ∷ []) is
-
-pub crew_domains : {D : Type 0} (seats now : List (Seat D)) (seat : Seat D) (domains : List Extent) (domain : Extent) → now ≡ seats ++ seat ∷ [] → domain_of seat ≡ domain
-    → slice_get domains (length seats) ≡ Some domain → map (λ s. domain_of s) seats ≡ take (length seats) domains → map (λ s. domain_of s) now ≡ take (length now) domains
-crew_domains {D} seats now seat domains domain e is at share =
-    let long : length now ≡ length seats + 1 = ap (λ (ss : List (Seat D)). length ss) e ∙ length-append seats (seat ∷ []) in
-    ap (λ (ss : List (Seat D)). map (λ s. domain_of s) ss) e
-    ∙ map-append (λ (s : Seat D). domain_of s) seats (seat ∷ [])
-    ∙ ap (λ (r : List Extent). r ++ domain_of seat ∷ []) share
-    ∙ ap (λ (d : Extent). take (length seats) domains ++ d ∷ []) is
-    ∙ sym (take_at domains (length seats) domain at)
-    ∙ ap (λ (n : ℕ). take n domains) (sym long)
-
-pub crew_fresh : {D : Type 0} (plan : PutPlan) (seats now : List (Seat D)) (seat : Seat D) → now ≡ seats ++ seat ∷ [] → ((s : Seat D) → In seats s → IsFresh plan s) → IsFresh plan seat
-    → (s : Seat D) → In now s → IsFresh plan s
-crew_fresh {D} plan seats now seat e all fresh s m =
-    elim (in_either seats (seat ∷ []) s (subst (λ (ss : List (Seat D)). In ss s) e m)) [
-      | inl g ↦ all s g
-      | inr (inl is) ↦ subst (λ (t : Seat D). IsFresh plan t) is fresh
-      | inr (inr g) ↦ absurd g
-    ]
-
 pub done_by : {D : Type 0} (ranks : ℕ) (first lent mid again last : List (Seat D)) (rest parts : List D) (domains : List Extent) → lent ≡ first → again ≡ mid
     → length mid ≡ length lent → ((k : ℕ) (a b : Seat D) → slice_get lent k ≡ Some a → slice_get mid k ≡ Some b → IsToldToGo a b)
     → length last ≡ length again → ((k : ℕ) (a b : Seat D) → slice_get again k ≡ Some a → slice_get last k ≡ Some b → HasFed ranks a b)
     → rest ≡ [] → map (λ seat. part_of seat) first ++ rest ≡ parts → map (λ seat. domain_of seat) first ≡ take (length first) domains → length domains ≡ length parts
     → AreDone ranks first mid last parts domains
 done_by {D} ranks first lent mid again last rest parts domains e f long told longer fed none whole share one_each =
-    let started = all_started first rest parts domains none whole share one_each in
+    let started = all_started (λ seat. part_of seat) (λ seat. domain_of seat) first rest parts domains none whole share one_each in
     record {
       of_parts = started.0;
       of_domains = started.1;

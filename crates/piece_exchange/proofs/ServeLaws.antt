@@ -15,11 +15,12 @@ use Rattle.piece_exchange.specs.Pieces.{pieces_in, pieces_of, ArePieces}
 use Rattle.piece_exchange.specs.Put.{put_part}
 use Rattle.piece_exchange.specs.Taken.{cells_in, put_window, HasPutTaken, HasTaken, IsFilledBy}
 use Rattle.piece_exchange.specs.Turns.{Told, turns_ahead, IsTurnWalk}
-use Rattle.piece_exchange.proofs.Hulls.{AreTurns, HaveWindows, IsTurn, LieOnPart}
+use Rattle.piece_exchange.specs.Hulls.{AreTurns, HaveWindows, IsTurn, LieOnPart}
 use Rattle.piece_exchange.proofs.PieceLaws.{pieces_are, pieces_covered, pieces_found, pieces_picked, pieces_served}
 use Rattle.piece_exchange.proofs.PutLaws.{IsPutSoFar, told_begin, told_end, told_more, told_next, told_nothing}
 use Rattle.piece_exchange.proofs.TakenLaws.{append_parts}
-use Rattle.piece_exchange.proofs.TurnLaws.{IsAt, at_begin, at_next, served_now, turn_now}
+use Rattle.piece_exchange.specs.Cursor.{IsAt}
+use Rattle.piece_exchange.proofs.TurnLaws.{at_begin, at_next, served_now, turn_now}
 
 -- ---- calls
 

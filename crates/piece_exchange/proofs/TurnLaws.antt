@@ -7,10 +7,11 @@ use Rattle.overlay_laws.specs.Lines.{extents, EndBelow}
 use Rattle.overlay_laws.proofs.HullLaws.{in_left, in_right, in_either}
 use Rattle.data_sieving.specs.Serving.{IsCovered, AreBegun, IsPast}
 use Rattle.data_sieving.proofs.CoveredBytes.{in_extents}
+use Rattle.piece_exchange.specs.Cursor.{AreServed, IsAt}
 use Rattle.piece_exchange.specs.declared.walk.TurnWalk.{TurnWalk}
 use Rattle.piece_exchange.specs.Pieces.{ArePieces}
 use Rattle.piece_exchange.specs.Turns.{Told, turns_ahead, IsTurnWalk}
-use Rattle.piece_exchange.proofs.Hulls.{AreTurns, IsTurn, LieOnPart}
+use Rattle.piece_exchange.specs.Hulls.{AreTurns, IsTurn, LieOnPart}
 use Rattle.piece_exchange.proofs.PutLaws.{ArePicked}
 
 pub turn_end : (list : List Owned) (room : ℕ) (t : Told) → EndBelow (2 ^ 62) (extents list) → IsTurn list room t → t.0 + t.1 < 2 ^ 62
@@ -27,14 +28,6 @@ turn_in list room (u ∷ ts) t h (inl e) = subst (λ (z : Told). IsTurn list roo
 turn_in list room (u ∷ ts) t h (inr m) = turn_in list room ts t h.2 m
 
 -- ---- the entries
-
--- what of a list is left of it when the walk has come to a place
-pub record IsAt (list : List Owned) (room : ℕ) (w : TurnWalk) : Type 0 where
-  pub ready : IsTurnWalk w
-  pub front : List Owned
-  pub joined : list ≡ front ++ w.entries.now
-  pub ended : (o : Owned) (t : Told) → In front o → In (turns_ahead w) t → o.extent.at + o.extent.len ≤ t.0
-  pub turns : AreTurns list room (turns_ahead w)
 
 pub at_begin : (list : List Owned) (room : ℕ) (w : TurnWalk) → IsTurnWalk w → w.entries.now ≡ list → AreTurns list room (turns_ahead w) → IsAt list room w
 at_begin list room w ready e turns = record { ready = ready; front = []; joined = sym e; ended = λ o t m k. absurd m; turns = turns }
@@ -53,14 +46,6 @@ at_next list room w v t a e ready p =
       ];
       turns = turns.2;
     }
-
--- the entries of a list that may have bytes from lo to hi
-pub record AreServed (list begun : List Owned) (lo hi : ℕ) : Type 0 where
-  pub front : List Owned
-  pub rest : List Owned
-  pub joined : list ≡ front ++ (begun ++ rest)
-  pub ended : (o : Owned) → In front o → o.extent.at + o.extent.len ≤ lo
-  pub later : (o : Owned) → In rest o → hi ≤ o.extent.at
 
 pub served_now : (list : List Owned) (room : ℕ) (w v : TurnWalk) (t : Told) (begun : List Owned) → IsAt list room w → turns_ahead w ≡ t ∷ turns_ahead v
     → AreBegun (t.0 + t.1) w.entries.now begun → AreServed list begun t.0 (t.0 + t.1)

@@ -11,8 +11,8 @@ use Rattle.ruled_line.specs.Ends.{End}
 use Rattle.piece_exchange.specs.Pieces.{pieces_of}
 use Rattle.piece_exchange.specs.Put.{PartState, HasPut}
 use Rattle.piece_exchange.specs.Turns.{Told, source_of}
-use Rattle.piece_exchange.specs.declared.helper.Word.{Word}
-use Rattle.piece_exchange.specs.declared.helper.Word.TheVariants.{Go, Stop}
+use Rattle.piece_exchange.specs.declared.crew.Word.{Word}
+use Rattle.piece_exchange.specs.declared.crew.Word.TheVariants.{Go, Stop}
 
 pub record HasServed {T : Type 0} (batches : List Batch) (list : List Owned) (ts : List Told) (old new : PartState) (taken : List Owned) (end : Result T DiskErr) : Type 0 where
   pub many : length taken ≡ length (pieces_of (length batches) list ts)

@@ -7,3 +7,10 @@ pub mod Feeds
 pub mod Helped
 pub mod Seats
 pub mod Rooms
+pub mod Hulls
+pub mod Cursor
+pub mod Blobs
+pub mod Gets
+pub mod Fetched
+pub mod Shelves
+pub mod Logs

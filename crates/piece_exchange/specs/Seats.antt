@@ -10,7 +10,7 @@ use Rattle.std.specs.Prelude.{◌≡◌, ℕ, ◌++◌, ◌∷◌, [], length}
 use Rattle.nc_base.specs.declared.plan.Extent.{Extent}
 use Rattle.piece_exchange.specs.Feeds.{feed_left, turns_left, HaveFed, IsFeed}
 use Rattle.piece_exchange.specs.Plan.{planned_pieces}
-use Rattle.piece_exchange.specs.declared.helper.Word.TheVariants.{Go}
+use Rattle.piece_exchange.specs.declared.crew.Word.TheVariants.{Go}
 use Rattle.piece_exchange.specs.declared.plan.PutPlan.{PutPlan}
 use Rattle.piece_exchange.specs.declared.starting.Seat.{Seat}
 
@@ -26,7 +26,7 @@ pub record IsSeat {D : Type 0} (plan : PutPlan) (seat : Seat D) : Type 0 where
   pub job : seat.helper.child.promise.job.value ≡ plan.job.now
   pub size : seat.helper.child.promise.size.value ≡ plan.hints.now.cb_buffer
   pub word_of : seat.helper.word.of ≡ seat.helper.child.promise.ends.value.word.of
-  pub line_of : seat.feed.line.of ≡ seat.helper.child.promise.ends.value.line.of
+  pub line_of : seat.feed.line.of ≡ seat.helper.child.promise.ends.value.lines.line.of
 
 pub record IsFresh {D : Type 0} (plan : PutPlan) (seat : Seat D) : Type 0 where
   pub seat_is : IsSeat plan seat

@@ -1,5 +1,5 @@
 // The puts of a collective step, on a disk in parts.
-ghost use Rattle.std.specs.Prelude.{◌≡◌, ◌≤◌, ℕ, length, slice_get, vec_capacity, zip, IsErrOf, IfOk, IfSome, IfNone, Some};
+ghost use Rattle.std.specs.Prelude.{◌≡◌, ◌≤◌, ℕ, length, slice_get, vec_capacity, zip, IsErrOf, IfSome, IfNone, Some};
 ghost use Rattle.std.specs.List.{AllZip};
 ghost use Rattle.nc_base.specs.declared.plan.Extent.{Extent};
 ghost use Rattle.nc_outside.specs.Cause.{Rose};
@@ -8,12 +8,13 @@ ghost use Rattle.piece_exchange.specs.Plan.{planned_turns, source_in, IsDomainOf
 ghost use Rattle.piece_exchange.specs.Put.{HasPut, SomeZip};
 ghost use Rattle.piece_exchange.specs.Rooms.{HasRooms};
 
+use crate::crew::{Crew, give_back, make_rooms};
 use crate::in_turn::put_in_turn;
 use crate::joining::{join_all, tell_all};
 use crate::packing::pack_all;
 use crate::plan::{PutPlan, Tools};
-use crate::starting::{Crew, give_back, start_all, stop_all};
-use nc_base::{Extent, Memory};
+use crate::starting::{Seat, start_all, stop_all};
+use nc_base::Extent;
 use nc_outside::{Disk, DiskErr, Gate};
 use std::alloc::Global;
 use std::sync::Wait;
@@ -21,8 +22,8 @@ use std::thread;
 use std::thread::{Scope, Threads};
 
 /// Does the puts of a plan on the parts of a disk. Each part is served by a helper of its own, over the domain at its place, and the
-/// pieces go to it over a line of so many items as the hints say. Where the hints have no threads, or one can't be had, the parts are
-/// served in turn, under the same clauses.
+/// pieces go to it over a line of so many items as the hints say. Where the hints have no threads, or there is one part alone, or a
+/// thread can't be had, the parts are served in turn, under the same clauses.
 ///
 /// The parts come back in order. Refused, each byte of a part is old or new, and the fault is the first of the parts'; `Memory` comes
 /// also where a list of the parts or a buffer can't be had, before anything is done.
@@ -46,7 +47,7 @@ pub fn exchange_put<R: Threads + Wait + Sync, D: Disk, G: Gate>(
     ensures failed { IsErrOf result.1 Failed → SomeZip (λ old new. Rose (D.faults old) (D.faults new)) parts.items result.0.items }
 {
     let tools = Tools { rt, alloc, gate };
-    if !plan.hints.threads {
+    if !plan.hints.threads || parts.len() < 2 {
         return put_in_turn(&tools, plan, domains, parts);
     }
     let (back, end) = put_on_threads(&tools, plan, domains, parts);
@@ -94,17 +95,6 @@ fn put_on_threads<R: Threads + Wait + Sync, D: Disk, G: Gate>(
     )
 }
 
-// Room for so many helpers, and for their parts.
-fn make_rooms<'a, D: Disk>(alloc: Global, count: usize) -> Result<(Crew<'a, D>, Vec<D>), Memory>
-    ensures { IfOk result (λ rooms. HasRooms count rooms.0.seats.items rooms.0.rest.items rooms.1.items (vec_capacity rooms.0.seats) (vec_capacity rooms.0.rest) (vec_capacity rooms.1)) }
-{
-    let crew = Crew {
-        seats: Vec::with_capacity(alloc, count)?,
-        rest: Vec::with_capacity(alloc, count)?,
-    };
-    Ok((crew, Vec::with_capacity(alloc, count)?))
-}
-
 // Starts a helper for each part, and does the puts where all were started. Else those that were started are told to stop.
 fn put_in_scope<'s, E, R: Threads + Wait + Sync, D: Disk + 's, G: Gate>(
     scope: &'s Scope<'s, E>,
@@ -112,7 +102,7 @@ fn put_in_scope<'s, E, R: Threads + Wait + Sync, D: Disk + 's, G: Gate>(
     plan: &'s PutPlan<'s>,
     domains: &[Extent],
     parts: Vec<D>,
-    crew: Crew<'s, D>,
+    crew: Crew<Seat<'s, D>, D>,
     back: Vec<D>,
 ) -> (Vec<D>, Option<Result<(), DiskErr>>)
     requires plan { IsPlanned plan.now }

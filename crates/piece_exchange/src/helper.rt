@@ -1,41 +1,24 @@
 // One helper's thread, which waits for its word.
-ghost use Rattle.std.specs.Prelude.{◌≡◌, ◌≤◌, ◌∷◌, [], length, min, Some, None, Result, IfOk, IfErr};
-ghost use Rattle.nc_outside.specs.declared.disk.DiskErr.{DiskErr};
-ghost use Rattle.piece_exchange.specs.declared.helper.Word.TheVariants as word;
+ghost use Rattle.std.specs.Prelude.{◌≡◌, [], length, min, None, IfOk, IfErr};
 ghost use Rattle.piece_exchange.specs.Helped.{HasReturned};
 ghost use Rattle.piece_exchange.specs.Plan.{IsDomainOf, IsPlanned};
 ghost use Rattle.piece_exchange.specs.Turns.{turns_of};
 
+use crate::crew::{Ends, Returned, Word, stopped};
 use crate::laying::lay_part;
 use crate::plan::{Aggregator, PutPlan, Tools};
 use nc_base::{Extent, ExtentList, Job, Owned, OwnedList};
-use nc_outside::{Disk, DiskErr, Gate};
-use ruled_line::{LinePut, LineTake, settle};
+use nc_outside::{Disk, Gate};
+use ruled_line::{LinePut, LineTake};
 use std::snapshot::Snapshot;
 use std::sync::Wait;
 use std::thread::{Promise, PromisedHandle, Scope, Threads};
 
-/// The word that a helper waits for.
+/// What a helper of puts serves its part by: the line of its pieces, and a buffer for one window.
 #[derive(Drop)]
-pub(crate) enum Word {
-    Go,
-    Stop,
-}
-
-/// What a helper owns: the line of its word, the line of its pieces, its part of the disk, and a buffer for one window.
-#[derive(Drop)]
-pub(crate) struct Ends<D: Drop> {
-    pub word: LineTake<Word>,
+pub(crate) struct PutLines {
     pub line: LineTake<Owned>,
-    pub part: D,
     pub buf: Vec<u8>,
-}
-
-/// What a helper gives back. Where it was told to stop there is no end of its work.
-#[derive(Drop)]
-pub(crate) struct Returned<D: Drop> {
-    pub ends: Ends<D>,
-    pub end: Option<Result<(), DiskErr>>,
 }
 
 /// A helper serves its part of the step by the ends that it was given, or leaves the part as it is, and gives the ends back.
@@ -46,14 +29,14 @@ pub(crate) struct Duty<D: Drop> {
     job: Snapshot<Job>,
     size: Snapshot<u64>,
     domain: Snapshot<Extent>,
-    ends: Snapshot<Ends<D>>,
+    ends: Snapshot<Ends<D, PutLines>>,
 }
 
-impl<D: Disk> Promise<Returned<D>> for Duty<D> {
+impl<D: Disk> Promise<Returned<D, PutLines>> for Duty<D> {
     ghost kept_by = { λ p r. HasReturned p.job.value.batches p.list.value (turns_of p.size.value p.domain.value p.cover.value)
         (record { from = D.from p.ends.value.part; len = D.len p.ends.value.part; held = D.held p.ends.value.part; calls = D.calls p.ends.value.part; faults = D.faults p.ends.value.part })
         (record { from = D.from r.ends.part; len = D.len r.ends.part; held = D.held r.ends.part; calls = D.calls r.ends.part; faults = D.faults r.ends.part })
-        p.ends.value.word r.ends.word p.ends.value.line r.ends.line r.end
+        p.ends.value.word r.ends.word p.ends.value.lines.line r.ends.lines.line r.end
         × (r.end ≡ None → r.ends.part ≡ p.ends.value.part) };
 }
 
@@ -61,7 +44,7 @@ impl<D: Disk> Promise<Returned<D>> for Duty<D> {
 #[derive(Drop)]
 pub(crate) struct Helper<D: Disk> {
     pub word: LinePut<Word>,
-    pub child: PromisedHandle<Returned<D>, Duty<D>>,
+    pub child: PromisedHandle<Returned<D, PutLines>, Duty<D>>,
 }
 
 /// Starts a helper with these ends. Where no thread can be had, the part comes back as it was: this thread does what a helper does that
@@ -72,15 +55,15 @@ pub(crate) fn start<'s, E, D: Disk + 's, G: Gate, R: Threads + Wait + Sync>(
     plan: &'s PutPlan<'s>,
     aggregator: Aggregator,
     go: LinePut<Word>,
-    ends: Ends<D>,
+    ends: Ends<D, PutLines>,
 ) -> Result<Helper<D>, D>
     requires plan { IsPlanned plan.now }
     requires domain { IsDomainOf plan.now.list.now (D.from ends.part) (D.len ends.part) aggregator.domain }
-    requires room { length ends.buf.items ≡ min plan.now.hints.now.cb_buffer aggregator.domain.len }
+    requires room { length ends.lines.buf.items ≡ min plan.now.hints.now.cb_buffer aggregator.domain.len }
     requires of { go.of ≡ ends.word.of }
     requires go { go.items ≡ [] }
     requires word { ends.word.items ≡ [] }
-    requires line { ends.line.items ≡ [] }
+    requires line { ends.lines.line.items ≡ [] }
     ensures list { IfOk result (λ h. h.child.promise.list.value ≡ plan.now.list.now) }
     ensures cover { IfOk result (λ h. h.child.promise.cover.value ≡ plan.now.cover.now) }
     ensures job { IfOk result (λ h. h.child.promise.job.value ≡ plan.now.job.now) }
@@ -98,9 +81,9 @@ pub(crate) fn start<'s, E, D: Disk + 's, G: Gate, R: Threads + Wait + Sync>(
         domain: Snapshot::of(&aggregator.domain),
         ends: Snapshot::of(&ends),
     };
-    let work = move || -> Returned<D>
+    let work = move || -> Returned<D, PutLines>
         requires { IsPlanned plan.now × IsDomainOf plan.now.list.now (D.from ends.part) (D.len ends.part) aggregator.domain
-            × (length ends.buf.items ≡ min plan.now.hints.now.cb_buffer aggregator.domain.len) × (ends.word.items ≡ []) × (ends.line.items ≡ []) }
+            × (length ends.lines.buf.items ≡ min plan.now.hints.now.cb_buffer aggregator.domain.len) × (ends.word.items ≡ []) × (ends.lines.line.items ≡ []) }
     { take_part(tools, plan, aggregator, ends) };
     match scope.spawn_with(duty, work) {
         Ok(child) => Ok(Helper { word: go, child }),
@@ -113,65 +96,45 @@ pub(crate) fn start<'s, E, D: Disk + 's, G: Gate, R: Threads + Wait + Sync>(
     }
 }
 
-/// The part of a helper that was told to stop.
-pub(crate) fn stopped<D: Disk>(go: LinePut<Word>, came: Returned<D>) -> D
-    requires of { go.of ≡ came.ends.word.of }
-    requires stop { go.items ≡ word.Stop ∷ [] }
-    requires went { (end : Result (Unit {0}) DiskErr) → came.end ≡ Some end → came.ends.word.items ≡ word.Go ∷ [] }
-    ensures { (result ≡ came.ends.part) × (came.end ≡ None) }
-{
-    let Returned { ends, end } = came;
-    let Ends {
-        word,
-        line: _,
-        part,
-        buf: _,
-    } = ends;
-    settle(go, word);
-    match end {
-        None => part,
-        Some(_) => unreachable!(),
-    }
-}
-
 // What a helper's thread runs.
 fn take_part<R: Wait, D: Disk, G: Gate>(
     tools: &Tools<R, G>,
     plan: &PutPlan,
     aggregator: Aggregator,
-    ends: Ends<D>,
-) -> Returned<D>
+    ends: Ends<D, PutLines>,
+) -> Returned<D, PutLines>
     requires plan { IsPlanned plan.now }
     requires domain { IsDomainOf plan.now.list.now (D.from ends.part) (D.len ends.part) aggregator.domain }
-    requires room { length ends.buf.items ≡ min plan.now.hints.now.cb_buffer aggregator.domain.len }
+    requires room { length ends.lines.buf.items ≡ min plan.now.hints.now.cb_buffer aggregator.domain.len }
     requires word { ends.word.items ≡ [] }
-    requires line { ends.line.items ≡ [] }
+    requires line { ends.lines.line.items ≡ [] }
     ensures returned { HasReturned plan.now.job.now.batches plan.now.list.now (turns_of plan.now.hints.now.cb_buffer aggregator.domain plan.now.cover.now)
         (record { from = D.from ends.part; len = D.len ends.part; held = D.held ends.part; calls = D.calls ends.part; faults = D.faults ends.part })
         (record { from = D.from result.ends.part; len = D.len result.ends.part; held = D.held result.ends.part; calls = D.calls result.ends.part; faults = D.faults result.ends.part })
-        ends.word result.ends.word ends.line result.ends.line result.end }
+        ends.word result.ends.word ends.lines.line result.ends.lines.line result.end }
     ensures untouched { result.end ≡ None → result.ends.part ≡ ends.part }
 {
     let Ends {
         mut word,
-        mut line,
         mut part,
-        mut buf,
+        mut lines,
     } = ends;
     let end = match word.take(tools.rt) {
         Word::Go => {
-            let end = lay_part(tools, plan, aggregator, &mut part, &mut line, &mut buf);
+            let end = lay_part(
+                tools,
+                plan,
+                aggregator,
+                &mut part,
+                &mut lines.line,
+                &mut lines.buf,
+            );
             Some(end)
         }
         Word::Stop => None,
     };
     Returned {
-        ends: Ends {
-            word,
-            line,
-            part,
-            buf,
-        },
+        ends: Ends { word, part, lines },
         end,
     }
 }

@@ -43,7 +43,12 @@ pub(crate) fn lay_in_turn<R: Wait, D: Disk, G: Gate>(
 {
     let _size = part.size();
     let batches = plan.job.batches.as_slice();
-    let mut walk = TurnWalk::new(plan, aggregator.domain);
+    let mut walk = TurnWalk::new(
+        plan.list,
+        plan.cover,
+        plan.hints.cb_buffer,
+        aggregator.domain,
+    );
     'turns: while let Some(turn) = walk.next_turn() {
         tools.gate.pass(
             tools.rt,
@@ -115,7 +120,7 @@ pub(crate) fn put_in_turn<R: Wait, D: Disk, G: Gate>(
         Ok(back) => back,
         Err(_) => return (parts, Err(DiskErr::Memory)),
     };
-    let mut buf = match vec![in tools.alloc; 0; longest(plan, domains) as usize] {
+    let mut buf = match vec![in tools.alloc; 0; longest(plan.hints.cb_buffer, domains) as usize] {
         Ok(buf) => buf,
         Err(_) => return (parts, Err(DiskErr::Memory)),
     };
@@ -133,13 +138,13 @@ pub(crate) fn put_in_turn<R: Wait, D: Disk, G: Gate>(
     (back, end)
 }
 
-// How long the buffer is that holds each window of the domains.
-fn longest(plan: &PutPlan, domains: &[Extent]) -> u64
-    ensures { (domain : Extent) → In domains.now domain → min plan.now.hints.now.cb_buffer domain.len ≤ result }
+/// How long the buffer is that holds each window of the domains, which are so many bytes at most.
+pub(crate) fn longest(size: u64, domains: &[Extent]) -> u64
+    ensures { (domain : Extent) → In domains.now domain → min size domain.len ≤ result }
 {
     let mut longest = 0;
     for domain in domains {
-        longest = domain.len.min(plan.hints.cb_buffer).max(longest);
+        longest = domain.len.min(size).max(longest);
     }
     longest
 }

@@ -9,7 +9,8 @@ ghost use Rattle.piece_exchange.specs.Put.{HasPut, SomeZip};
 ghost use Rattle.piece_exchange.specs.Seats.{domain_of, part_of, IsFed, IsToldToGo};
 ghost use Rattle.piece_exchange.specs.declared.starting.Seat.{Seat};
 
-use crate::helper::{Ends, Helper, Returned, Word};
+use crate::crew::{Ends, Returned, Word};
+use crate::helper::{Helper, PutLines};
 use crate::packing::Feed;
 use crate::plan::PutPlan;
 use crate::starting::Seat;
@@ -65,12 +66,11 @@ fn join_one<R: Threads, D: Disk>(rt: &R, plan: &PutPlan, seat: Seat<D>) -> (D, R
     let Helper { word: go, child } = helper;
     let Feed { line, .. } = feed;
     let Returned { ends, end } = child.join(rt);
-    let Ends {
-        word,
+    let Ends { word, part, lines } = ends;
+    let PutLines {
         line: taken,
-        part,
         buf: _,
-    } = ends;
+    } = lines;
     settle(go, word);
     settle(line, taken);
     match end {

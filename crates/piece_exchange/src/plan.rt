@@ -14,6 +14,16 @@ pub struct PutPlan<'a> {
     pub hints: &'a Hints,
 }
 
+/// What the gets of a collective step come to. All aggregators are lent it.
+#[derive(Clone, Copy, Drop)]
+pub struct GetPlan<'a> {
+    /// The entries of the gets, sorted by place.
+    pub list: &'a OwnedList,
+    /// The cover of the entries.
+    pub cover: &'a ExtentList,
+    pub hints: &'a Hints,
+}
+
 /// An aggregator by its number, and the bytes of the file that it serves.
 #[derive(Clone, Copy, Debug, PartialEq, Eq)]
 pub(crate) struct Aggregator {

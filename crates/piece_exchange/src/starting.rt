@@ -6,7 +6,8 @@ ghost use Rattle.piece_exchange.specs.Plan.{IsDomainOf, IsPlanned};
 ghost use Rattle.piece_exchange.specs.Seats.{domain_of, part_of, IsFresh};
 ghost use Rattle.piece_exchange.specs.declared.starting.Seat.{Seat};
 
-use crate::helper::{Ends, Helper, Word, start, stopped};
+use crate::crew::{Crew, Ends, Word, stopped};
+use crate::helper::{Helper, PutLines, start};
 use crate::packing::{Feed, feed_of};
 use crate::plan::{Aggregator, PutPlan, Tools};
 use nc_base::{Extent, Owned};
@@ -22,13 +23,6 @@ pub(crate) struct Seat<'a, D: Disk> {
     pub feed: Feed<'a>,
 }
 
-/// The helpers that were started, in order of their parts, and the parts behind them, for which none could be started.
-#[derive(Drop)]
-pub(crate) struct Crew<'a, D: Disk> {
-    pub seats: Vec<Seat<'a, D>>,
-    pub rest: Vec<D>,
-}
-
 /// Starts a helper for each part, until one can't be started.
 pub(crate) fn start_all<'s, E, D: Disk + 's, G: Gate, R: Threads + Wait + Sync>(
     scope: &'s Scope<'s, E>,
@@ -36,7 +30,7 @@ pub(crate) fn start_all<'s, E, D: Disk + 's, G: Gate, R: Threads + Wait + Sync>(
     plan: &'s PutPlan<'s>,
     domains: &[Extent],
     parts: Vec<D>,
-    crew: &mut Crew<'s, D>,
+    crew: &mut Crew<Seat<'s, D>, D>,
 )
     requires plan { IsPlanned plan.now }
     requires line_low { 1 ≤ plan.now.hints.now.line_room }
@@ -98,9 +92,8 @@ fn start_one<'s, E, D: Disk + 's, G: Gate, R: Threads + Wait + Sync>(
     };
     let ends = Ends {
         word,
-        line: taken,
         part,
-        buf,
+        lines: PutLines { line: taken, buf },
     };
     let helper = start(scope, tools, plan, aggregator, go, ends)?;
     let feed = feed_of(plan, aggregator.domain, put);
@@ -121,16 +114,6 @@ pub(crate) fn stop_all<R: Threads + Wait, D: Disk>(
 {
     for seat in seats {
         back.push_reserved(stop_one(rt, seat.helper));
-    }
-}
-
-/// Gives the parts back for which no helper was started.
-pub(crate) fn give_back<D: Drop>(rest: Vec<D>, back: &mut Vec<D>)
-    requires room { length back.old.items + length rest.items ≤ vec_capacity back.old }
-    ensures { back.new.items ≡ back.old.items ++ rest.items }
-{
-    for part in rest {
-        back.push_reserved(part);
     }
 }
 

@@ -2,13 +2,14 @@
 ghost use Rattle.std.specs.Prelude.{◌≡◌, ◌∷◌, [], ◌+◌, ◌≤◌, ◌^◌, length, take, drop, IfNone, IfSome};
 ghost use Rattle.aggregator_rounds.specs.Pieces.{told_window};
 ghost use Rattle.data_sieving.specs.Serving.{AreBegun, IsPast};
-ghost use Rattle.piece_exchange.specs.Plan.{planned_turns, IsPlanned};
-ghost use Rattle.piece_exchange.specs.Turns.{turns_ahead, IsTurnWalk};
+ghost use Rattle.overlay_laws.specs.Entries.{ranges, HaveSame};
+ghost use Rattle.overlay_laws.specs.Lines.{extents, EndBelow, IsByPlace};
+ghost use Rattle.overlay_laws.specs.Walks.{spans, IsCover};
+ghost use Rattle.piece_exchange.specs.Turns.{turns_ahead, turns_of, IsTurnWalk};
 
-use crate::plan::PutPlan;
 use data_sieving::{begun_before, ended_by};
 use file_domains::{Window, WindowWalk, windows};
-use nc_base::{Extent, Owned};
+use nc_base::{Extent, ExtentList, Owned, OwnedList};
 
 /// A window, and the entries that may have bytes in it.
 #[derive(Clone, Copy, Drop)]
@@ -26,16 +27,21 @@ pub(crate) struct TurnWalk<'a> {
 }
 
 impl<'a> TurnWalk<'a> {
-    /// All windows of a domain.
-    pub fn new(plan: &PutPlan<'a>, domain: Extent) -> Self
-        requires plan { IsPlanned plan.now }
+    /// All windows of a domain, each `size` bytes long, given the cover of the entries.
+    pub fn new(list: &'a OwnedList, cover: &'a ExtentList, size: u64, domain: Extent) -> Self
+        requires sorted { IsByPlace (extents list.now) }
+        requires ends { EndBelow (2 ^ 62) (extents list.now) }
+        requires cover { IsCover cover.now }
+        requires cover_ends { EndBelow (2 ^ 62) cover.now }
+        requires cover_bytes { HaveSame (spans cover.now) (ranges list.now) }
+        requires some { 1 ≤ size }
         ensures ready { IsTurnWalk result }
-        ensures entries { result.entries.now ≡ plan.now.list.now }
-        ensures windows { turns_ahead result ≡ planned_turns plan.now domain }
+        ensures entries { result.entries.now ≡ list.now }
+        ensures windows { turns_ahead result ≡ turns_of size domain cover.now }
     {
         TurnWalk {
-            windows: windows(domain, plan.cover.as_slice(), plan.hints.cb_buffer),
-            entries: plan.list.as_slice(),
+            windows: windows(domain, cover.as_slice(), size),
+            entries: list.as_slice(),
         }
     }
 

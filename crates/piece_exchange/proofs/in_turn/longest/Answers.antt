@@ -11,7 +11,7 @@ none = record { at = 0; len = 0 }
 
 pub loop-domain-preserved : goal.loop-domain-preserved
 loop-domain-preserved c =
-    longest_more c.args.plan.now.hints.now.cb_buffer c.loop-domain.domain-index c.args.domains.now none c.loop-domain.longest _ c.loop-domain-test.true c.loop-domain.invariant
+    longest_more c.args.size c.loop-domain.domain-index c.args.domains.now none c.loop-domain.longest _ c.loop-domain-test.true c.loop-domain.invariant
     (omega arith) (omega arith)
 
 pub returns : goal.returns

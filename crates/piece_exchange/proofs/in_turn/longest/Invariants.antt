@@ -5,4 +5,4 @@ use Rattle.overlay_laws.specs.Entries.{In}
 use Rattle.piece_exchange.proofs.in_turn.longest.Given as goal
 
 abbrev pub invariant-loop-domain : goal.invariant-loop-domain
-invariant-loop-domain l = (d : Extent) → In (take l.domain-index l.domains) d → min l.plan.hints.now.cb_buffer d.len ≤ l.longest
+invariant-loop-domain l = (d : Extent) → In (take l.domain-index l.domains) d → min l.size d.len ≤ l.longest

@@ -1,6 +1,6 @@
 -- The parts so far came back.
 use Rattle.std.proofs.Common.{◌≡◌, ◌++◌, vec_capacity}
-use Rattle.piece_exchange.proofs.starting.give_back.Given as goal
+use Rattle.piece_exchange.proofs.crew.give_back.Given as goal
 
 abbrev pub invariant-loop-part : goal.invariant-loop-part
 invariant-loop-part g l = record {

@@ -1,0 +1,302 @@
+-- The windows of all parts, each read of its own part, are the file's bytes of all entries.
+use Rattle.std.proofs.Common.{◌≡◌, ℕ, ◌+◌, ◌-◌, ◌^◌, ◌<◌, ◌≤◌, ◌⊎◌, inl, inr, refl, sym, ◌∙◌, ap, subst, List, [], ◌∷◌, ◌++◌, length, map, take, Option, Some, None, Result, Ok, Err, arith}
+use Rattle.std.proofs.lemmas.List.{append-nil, length-map}
+use Rattle.std.specs.Prelude.{slice_get, zip, IfErr, IfSome, IsErrOf, IsOk, OnOk}
+use Rattle.std.specs.List.{AllZip}
+use Rattle.std.specs.Result.{result_and}
+use Rattle.list_laws.proofs.Places.{entry_below}
+use Rattle.nc_base.specs.declared.plan.Extent.{Extent}
+use Rattle.nc_base.specs.declared.plan.Owned.{Owned}
+use Rattle.nc_outside.specs.declared.disk.DiskErr.{DiskErr}
+use Rattle.nc_outside.specs.declared.disk.DiskErr.TheVariants.{Failed, Memory}
+use Rattle.serial_spec.specs.File.{at, read}
+use Rattle.serial_spec.proofs.CellLaws.{read_at, read_same}
+use Rattle.overlay_laws.specs.Entries.{In}
+use Rattle.overlay_laws.proofs.HullLaws.{in_either, in_left, in_right}
+use Rattle.overlay_laws.proofs.Members.{at_in, in_at, in_map, in_zip, map_in, zip_in}
+use Rattle.data_sieving.specs.Serving.{IsCovered}
+use Rattle.piece_exchange.specs.Blobs.{AreAsLong, FitTable, HasRead, HaveOnePlaces}
+use Rattle.piece_exchange.specs.Gets.{get_turns, AreRead, HasGot, IsGetPlanned}
+use Rattle.piece_exchange.specs.Logs.{told_in, HasReadParts, HasReadTurns, HasTaken, HaveTakenTurns, IsKept, IsReadOf, Log}
+use Rattle.piece_exchange.specs.Plan.{IsDomainOf}
+use Rattle.piece_exchange.specs.Put.{PartState, SomeZip}
+use Rattle.piece_exchange.specs.Shelves.{domain_of, part_of, turns_due, IsToldToGo}
+use Rattle.piece_exchange.specs.Turns.{Told}
+use Rattle.piece_exchange.specs.declared.gets.reading.Reading.{Reading}
+use Rattle.piece_exchange.specs.declared.gets.reading.Reading.TheVariants.{Hull}
+use Rattle.piece_exchange.specs.declared.gets.starting.ReadSeat.{ReadSeat}
+use Rattle.piece_exchange.specs.declared.plan.GetPlan.{GetPlan}
+use Rattle.piece_exchange.proofs.BackLaws.{map_new, some_mapped, zip_mapped}
+use Rattle.piece_exchange.proofs.CrewLaws.{all_started}
+use Rattle.piece_exchange.proofs.DomainTurns.{domain_part, domain_windows}
+use Rattle.piece_exchange.proofs.FeedLaws.{get_long}
+use Rattle.piece_exchange.proofs.FetchLaws.{got_later}
+use Rattle.piece_exchange.proofs.ReadLaws.{log_joined, read_law}
+use Rattle.piece_exchange.proofs.TakeLaws.{items_read, IsReady}
+
+-- ---- part after part
+
+pub parts_none : {D : Type 0} (from : D → ℕ) (held : D → Option (List ℕ)) (plan : GetPlan) (table : List (List (List ℕ))) → HasReadParts from held plan [] table table
+parts_none from held plan table = record { log = []; collected = λ r s. refl; all = λ p t m k. absurd m; only = λ e m. absurd m }
+
+pub none_zip : {A B : Type 0} (R : A → B → Type 0) (ys : List B) → ys ≡ [] → AllZip R [] ys
+none_zip R [] e = tt
+none_zip R (y ∷ ys) e = absurd cc
+
+told_at : (held : Option (List ℕ)) (start : ℕ) (log : Log) (e : Told × List ℕ) → In log e
+    → IfSome held (λ file. (u : Told × List ℕ) → In log u → u.1 ≡ read file (u.0.0 - start) u.0.1) → IfSome held (λ file. e.1 ≡ read file (e.0.0 - start) e.0.1)
+told_at None start log e m h = tt
+told_at (Some file) start log e m h = h e m
+
+parts_more : {D : Type 0} (from : D → ℕ) (held : D → Option (List ℕ)) (plan : GetPlan) (pairs : List (D × Extent)) (pair : D × Extent) (old mid now : List (List (List ℕ)))
+    → HasReadParts from held plan pairs old mid → HasReadTurns plan.list.now (get_turns plan pair.1) (from pair.0) (held pair.0) mid now
+    → HasReadParts from held plan (pairs ++ pair ∷ []) old now
+parts_more {D} from held plan pairs pair old mid now h t = record {
+  log = h.log ++ t.log;
+  collected = log_joined plan.list.now h.log t.log old mid now h.collected t.collected;
+  all = λ p u m k. elim (in_either pairs (pair ∷ []) p m) [
+    | inl g ↦ in_log u (inl (map_in (λ (e : Told × List ℕ). e.0) h.log u (h.all p u g k)))
+    | inr (inl g) ↦ in_log u (inr (map_in (λ (e : Told × List ℕ). e.0) t.log u (subst (λ (ts : List Told). In ts u) (sym t.turns) (subst (λ (q : D × Extent). In (get_turns plan q.1) u) (sym g) k))))
+    | inr (inr g) ↦ absurd g
+  ];
+  only = λ e m. elim (in_either h.log t.log e m) [
+    | inl g ↦ (
+        let r = h.only e g in
+        record { pair = r.pair; inside = in_left pairs (pair ∷ []) r.pair r.inside; turn = r.turn; told = r.told })
+    | inr g ↦ record {
+      pair = pair;
+      inside = in_right pairs (pair ∷ []) pair (inl refl);
+      turn = subst (λ (ts : List Told). In ts e.0) t.turns (in_map (λ (u : Told × List ℕ). u.0) t.log e g);
+      told = told_at (held pair.0) (from pair.0) t.log e g t.told;
+    }
+  ];
+}
+  where
+    in_log : (u : Told) → ((e : Told × List ℕ) × In h.log e × (e.0 ≡ u)) ⊎ ((e : Told × List ℕ) × In t.log e × (e.0 ≡ u)) → In (told_in (h.log ++ t.log)) u
+    in_log u (inl r) = subst (λ (v : Told). In (told_in (h.log ++ t.log)) v) r.2 (in_map (λ (e : Told × List ℕ). e.0) (h.log ++ t.log) r.0 (in_left h.log t.log r.0 r.1))
+    in_log u (inr r) = subst (λ (v : Told). In (told_in (h.log ++ t.log)) v) r.2 (in_map (λ (e : Told × List ℕ). e.0) (h.log ++ t.log) r.0 (in_right h.log t.log r.0 r.1))
+
+-- as long as nothing was refused
+pub parts_on : {D T E : Type 0} (from : D → ℕ) (held : D → Option (List ℕ)) (plan : GetPlan) (pairs more : List (D × Extent)) (pair : D × Extent) (old mid now : List (List (List ℕ)))
+    (end came : Result T E) → more ≡ pairs ++ pair ∷ [] → OnOk came (IsOk end) → OnOk end (HasReadParts from held plan pairs old mid)
+    → OnOk came (HasReadTurns plan.list.now (get_turns plan pair.1) (from pair.0) (held pair.0) mid now) → OnOk came (HasReadParts from held plan more old now)
+parts_on from held plan pairs more pair old mid now end (Err x) e ok h t = tt
+parts_on from held plan pairs more pair old mid now (Err y) (Ok x) e ok h t = absurd cc
+parts_on {D} from held plan pairs more pair old mid now (Ok y) (Ok x) e ok h t =
+    subst (λ (ps : List (D × Extent)). HasReadParts from held plan ps old now) (sym e) (parts_more from held plan pairs pair old mid now h t)
+
+-- ---- helpers of which all was taken
+
+own_told : {D : Type 0} (plan : GetPlan) (mid last : ReadSeat D) (own : Log) → IsReady plan mid → IsKept mid last → turns_due last.shelf ≡ [] → HasTaken own mid.shelf last.shelf
+    → told_in own ≡ get_turns plan (domain_of last)
+own_told plan mid last own r k none t =
+    sym (append-nil (told_in own))
+    ∙ ap (λ (ts : List Told). told_in own ++ ts) (sym none)
+    ∙ t.turns
+    ∙ r.due
+    ∙ sym (ap (λ helper. get_turns plan helper.child.promise.domain.value) k.helper)
+
+own_read : {D : Type 0} (from : D → ℕ) (held : D → Option (List ℕ)) (plan : GetPlan) (mid last : ReadSeat D) (own : Log) → IsReady plan mid → IsKept mid last → turns_due last.shelf ≡ []
+    → HasTaken own mid.shelf last.shelf → AreRead (get_turns plan (domain_of last)) (from (part_of last)) (held (part_of last)) last.shelf.line.items
+    → IfSome (held (part_of last)) (λ file. (e : Told × List ℕ) → In own e → e.1 ≡ read file (e.0.0 - from (part_of last)) e.0.1)
+own_read from held plan mid last own r k none t read =
+    items_read (from (part_of last)) (held (part_of last)) own last.shelf.line.items
+    (t.items ∙ ap (λ (rs : List Reading). rs ++ map (λ e. Hull e.1) own) r.taken)
+    (subst (λ (ts : List Told). AreRead ts (from (part_of last)) (held (part_of last)) last.shelf.line.items) (sym (own_told plan mid last own r k none t)) read)
+
+pub seats_read : {D : Type 0} (from : D → ℕ) (held : D → Option (List ℕ)) (plan : GetPlan) (mids lasts : List (ReadSeat D)) (old now : List (List (List ℕ))) → length lasts ≡ length mids
+    → ((seat : ReadSeat D) → In mids seat → IsReady plan seat)
+    → ((k : ℕ) (a b : ReadSeat D) → slice_get mids k ≡ Some a → slice_get lasts k ≡ Some b → IsKept a b)
+    → ((k : ℕ) (seat : ReadSeat D) → slice_get lasts k ≡ Some seat → turns_due seat.shelf ≡ [])
+    → HaveTakenTurns plan.list.now mids lasts old now
+    → ((seat : ReadSeat D) → In lasts seat → AreRead (get_turns plan (domain_of seat)) (from (part_of seat)) (held (part_of seat)) seat.shelf.line.items)
+    → HasReadParts from held plan (zip (map (λ seat. part_of seat) lasts) (map (λ seat. domain_of seat) lasts)) old now
+seats_read {D} from held plan mids lasts old now long ready kept none t read = record {
+  log = t.log;
+  collected = t.collected;
+  all = λ p u m k. all_in p u (zip_seat lasts p m) k;
+  only = λ e m. (
+    let r = t.only e m in
+    let mid = ready r.old (at_in mids r.number r.old r.at_old) in
+    let keeps = kept r.number r.old r.new r.at_old r.at_new in
+    let last = at_in lasts r.number r.new r.at_new in
+    record {
+      pair = (part_of r.new, domain_of r.new);
+      inside = seat_zip lasts r.new last;
+      turn = subst (λ (ts : List Told). In ts e.0) (own_told plan r.old r.new r.own mid keeps (none r.number r.new r.at_new) r.taken) (in_map (λ (v : Told × List ℕ). v.0) r.own e r.inside);
+      told = told_at (held (part_of r.new)) (from (part_of r.new)) r.own e r.inside
+          (own_read from held plan r.old r.new r.own mid keeps (none r.number r.new r.at_new) r.taken (read r.new last));
+    }
+  );
+}
+  where
+    zip_seat : (ss : List (ReadSeat D)) (p : D × Extent) → In (zip (map (λ seat. part_of seat) ss) (map (λ seat. domain_of seat) ss)) p
+        → (seat : ReadSeat D) × In ss seat × ((part_of seat, domain_of seat) ≡ p)
+    zip_seat [] p m = absurd m
+    zip_seat (s ∷ ss) p (inl e) = (s, inl refl, e)
+    zip_seat (s ∷ ss) p (inr m) = let r = zip_seat ss p m in (r.0, inr r.1, r.2)
+
+    seat_zip : (ss : List (ReadSeat D)) (seat : ReadSeat D) → In ss seat → In {X = D × Extent} (zip (map (λ seat. part_of seat) ss) (map (λ seat. domain_of seat) ss)) (part_of seat, domain_of seat)
+    seat_zip [] seat m = absurd m
+    seat_zip (s ∷ ss) seat (inl e) = inl (λ i. (part_of (e i), domain_of (e i)))
+    seat_zip (s ∷ ss) seat (inr m) = inr (seat_zip ss seat m)
+
+    all_in : (p : D × Extent) (u : Told) → (seat : ReadSeat D) × In lasts seat × ((part_of seat, domain_of seat) ≡ p) → In (get_turns plan p.1) u → In (told_in t.log) u
+    all_in p u s m =
+        let last = in_at lasts s.0 s.1 in
+        let low = get_long lasts last.0 s.0 last.1 in
+        let mid = entry_below mids last.0 (omega arith) in
+        let w = t.each last.0 mid.0 s.0 mid.1 last.1 in
+        let told = own_told plan mid.0 s.0 w.own (ready mid.0 (at_in mids last.0 mid.0 mid.1)) (kept last.0 mid.0 s.0 mid.1 last.1) (none last.0 s.0 last.1) w.taken in
+        let found = map_in (λ (e : Told × List ℕ). e.0) w.own u (subst (λ (ts : List Told). In ts u) (sym told) (subst (λ (q : D × Extent). In (get_turns plan q.1) u) (sym s.2) m)) in
+        subst (λ (v : Told). In (told_in t.log) v) found.2 (in_map (λ (e : Told × List ℕ). e.0) t.log found.0 (w.inside found.0 found.1))
+
+-- ---- all parts have the bytes of one file
+
+read_of_read : (file : List ℕ) (from len x n : ℕ) → from ≤ x → x + n ≤ from + len → read (read file from len) (x - from) n ≡ read file x n
+read_of_read file from len x n low high =
+    read_same (read file from len) file (x - from) x n
+    (λ j l. let same : from + (x - from + j) ≡ x + j = omega arith in read_at file from len (x - from + j) (omega arith) ∙ ap (λ (k : ℕ). at file k) same)
+
+told_file : (held : Option (List ℕ)) (file : List ℕ) (from len x n : ℕ) (bytes : List ℕ) → held ≡ Some (read file from len) → from ≤ x → x + n ≤ from + len
+    → IfSome held (λ f. bytes ≡ read f (x - from) n) → bytes ≡ read file x n
+told_file held file from len x n bytes e low high told =
+    subst (λ (o : Option (List ℕ)). IfSome o (λ f. bytes ≡ read f (x - from) n)) e told ∙ read_of_read file from len x n low high
+
+-- each covered byte lies on one of the parts, and in its domain
+pub parts_read : {D : Type 0} (from len : D → ℕ) (held : D → Option (List ℕ)) (plan : GetPlan) (parts : List D) (domains : List Extent) (file : List ℕ) (old now : List (List (List ℕ)))
+    → IsGetPlanned plan → length domains ≡ length parts
+    → ((k : ℕ) (part : D) (domain : Extent) → slice_get parts k ≡ Some part → slice_get domains k ≡ Some domain → IsDomainOf plan.list.now (from part) (len part) domain)
+    → ((x : ℕ) → IsCovered plan.list.now x → (part : D) × In parts part × (from part ≤ x) × (x < from part + len part))
+    → FitTable old plan.list.now → HaveOnePlaces plan.list.now → ((part : D) → In parts part → held part ≡ Some (read file (from part) (len part)))
+    → HasReadParts from held plan (zip parts domains) old now → HasRead file plan.list.now old now
+parts_read {D} from len held plan parts domains file old now p long each whole fit once slices h =
+    read_law file plan.list.now h.log old now p.ends once fit
+    (λ x c. has_hull x c (whole x c))
+    (λ e m. has_bytes e (h.only e m))
+    h.collected
+  where
+    size : ℕ
+    size = plan.hints.now.cb_buffer
+
+    cover : List Extent
+    cover = plan.cover.now
+
+    has_hull : (x : ℕ) → IsCovered plan.list.now x → (part : D) × In parts part × (from part ≤ x) × (x < from part + len part)
+        → (t : Told) × In (told_in h.log) t × (t.0 ≤ x) × (x < t.0 + t.1)
+    has_hull x c w =
+        let k = in_at parts w.0 w.1 in
+        let low = get_long parts k.0 w.0 k.1 in
+        let d = entry_below domains k.0 (omega arith) in
+        let here = each k.0 w.0 d.0 k.1 d.1 in
+        let t = domain_windows size (from w.0) (len w.0) d.0 plan.list.now cover p.some p.covers p.cover_bytes here.whole x w.2 w.3 c in
+        (t.0, h.all (w.0, d.0) t.0 (in_zip parts domains k.0 w.0 d.0 k.1 d.1) t.1, t.2, t.3)
+
+    has_bytes : (e : Told × List ℕ) → IsReadOf from held plan (zip parts domains) e → e.1 ≡ read file e.0.0 e.0.1
+    has_bytes e r =
+        let k = zip_in parts domains r.pair r.inside in
+        let here = each k.0 r.pair.0 r.pair.1 k.1 k.2 in
+        let on = domain_part size r.pair.1 cover (from r.pair.0) (len r.pair.0) p.some p.covers here.low here.high e.0 r.turn in
+        told_file (held r.pair.0) file (from r.pair.0) (len r.pair.0) e.0.0 e.0.1 e.1 (slices r.pair.0 (at_in parts k.0 r.pair.0 k.1)) on.0 on.1 r.told
+
+pub parts_done : {D T E : Type 0} (from len : D → ℕ) (held : D → Option (List ℕ)) (plan : GetPlan) (parts : List D) (domains : List Extent) (file : List ℕ) (old now : List (List (List ℕ)))
+    (end : Result T E) → IsGetPlanned plan → length domains ≡ length parts
+    → ((k : ℕ) (part : D) (domain : Extent) → slice_get parts k ≡ Some part → slice_get domains k ≡ Some domain → IsDomainOf plan.list.now (from part) (len part) domain)
+    → ((x : ℕ) → IsCovered plan.list.now x → (part : D) × In parts part × (from part ≤ x) × (x < from part + len part))
+    → FitTable old plan.list.now → HaveOnePlaces plan.list.now → ((part : D) → In parts part → held part ≡ Some (read file (from part) (len part)))
+    → OnOk end (HasReadParts from held plan (zip parts domains) old now) → OnOk end (HasRead file plan.list.now old now)
+parts_done from len held plan parts domains file old now (Err x) p long each whole fit once slices h = tt
+parts_done from len held plan parts domains file old now (Ok x) p long each whole fit once slices h =
+    parts_read from len held plan parts domains file old now p long each whole fit once slices h
+
+-- ---- the helpers of all parts
+
+-- the seats that were started, as they were told to go, and as all was taken of them
+pub record AreTaken {D : Type 0} (first mid last : List (ReadSeat D)) (parts : List D) (domains : List Extent) : Type 0 where
+  pub of_parts : map (λ seat. part_of seat) first ≡ parts
+  pub of_domains : map (λ seat. domain_of seat) first ≡ domains
+  pub long : length mid ≡ length first
+  pub longer : length last ≡ length mid
+  pub told : (k : ℕ) (a b : ReadSeat D) → slice_get first k ≡ Some a → slice_get mid k ≡ Some b → IsToldToGo a b
+  pub kept : (k : ℕ) (a b : ReadSeat D) → slice_get mid k ≡ Some a → slice_get last k ≡ Some b → IsKept a b
+
+pub taken_by : {D : Type 0} (first lent mid again last : List (ReadSeat D)) (rest parts : List D) (domains : List Extent) → lent ≡ first → again ≡ mid
+    → length mid ≡ length lent → ((k : ℕ) (a b : ReadSeat D) → slice_get lent k ≡ Some a → slice_get mid k ≡ Some b → IsToldToGo a b)
+    → length last ≡ length again → ((k : ℕ) (a b : ReadSeat D) → slice_get again k ≡ Some a → slice_get last k ≡ Some b → IsKept a b)
+    → rest ≡ [] → map (λ seat. part_of seat) first ++ rest ≡ parts → map (λ seat. domain_of seat) first ≡ take (length first) domains → length domains ≡ length parts
+    → AreTaken first mid last parts domains
+taken_by {D} first lent mid again last rest parts domains e f long told longer kept none whole share one_each =
+    let started = all_started (λ (seat : ReadSeat D). part_of seat) (λ seat. domain_of seat) first rest parts domains none whole share one_each in
+    record {
+      of_parts = started.0;
+      of_domains = started.1;
+      long = long ∙ ap (λ (ss : List (ReadSeat D)). length ss) e;
+      longer = longer ∙ ap (λ (ss : List (ReadSeat D)). length ss) f;
+      told = subst (λ (ss : List (ReadSeat D)). (k : ℕ) (a b : ReadSeat D) → slice_get ss k ≡ Some a → slice_get mid k ≡ Some b → IsToldToGo a b) e told;
+      kept = subst (λ (ss : List (ReadSeat D)). (k : ℕ) (a b : ReadSeat D) → slice_get ss k ≡ Some a → slice_get last k ≡ Some b → IsKept a b) f kept;
+    }
+
+last_parts : {D : Type 0} (first mid last : List (ReadSeat D)) (parts : List D) (domains : List Extent) → AreTaken first mid last parts domains
+    → (map (λ seat. part_of seat) last ≡ parts) × (map (λ seat. domain_of seat) last ≡ domains)
+last_parts first mid last parts domains t = (
+  map_new (λ seat. part_of seat) (λ a b. IsKept a b) mid last t.longer t.kept (λ a b k. ap (λ helper. helper.child.promise.ends.value.part) k.helper)
+      ∙ map_new (λ seat. part_of seat) (λ a b. IsToldToGo a b) first mid t.long t.told (λ a b g. ap (λ child. child.promise.ends.value.part) g.child)
+      ∙ t.of_parts,
+  map_new (λ seat. domain_of seat) (λ a b. IsKept a b) mid last t.longer t.kept (λ a b k. ap (λ helper. helper.child.promise.domain.value) k.helper)
+      ∙ map_new (λ seat. domain_of seat) (λ a b. IsToldToGo a b) first mid t.long t.told (λ a b g. ap (λ child. child.promise.domain.value) g.child)
+      ∙ t.of_domains,
+)
+
+pub all_got : {D : Type 0} (first mid last : List (ReadSeat D)) (parts back : List D) (domains : List Extent) (Q : D × Extent → D → Type 0) → AreTaken first mid last parts domains
+    → AllZip (λ seat new. Q (part_of seat, domain_of seat) new) last back → AllZip Q (zip parts domains) back
+all_got {D} first mid last parts back domains Q t h =
+    let stay = last_parts first mid last parts domains t in
+    subst (λ (ds : List Extent). AllZip Q (zip parts ds) back) stay.1
+    (subst (λ (ps : List D). AllZip Q (zip ps (map (λ seat. domain_of seat) last)) back) stay.0
+    (zip_mapped (λ seat. part_of seat) (λ seat. domain_of seat) Q last back h))
+
+pub some_failed : {D : Type 0} (first mid last : List (ReadSeat D)) (parts back : List D) (domains : List Extent) (R : D → D → Type 0) → AreTaken first mid last parts domains
+    → SomeZip (λ seat new. R (part_of seat) new) last back → SomeZip R parts back
+some_failed {D} first mid last parts back domains R t h =
+    let stay = last_parts first mid last parts domains t in
+    subst (λ (ps : List D). SomeZip R ps back) stay.0 (some_mapped (λ seat. part_of seat) R last back h)
+
+-- reads that were done, where the later end is no better
+pub all_got_later : {D T E : Type 0} (turns : D × Extent → List Told) (state : D → PartState) (pairs : List (D × Extent)) (back : List D) (end came : Result T E) → OnOk came (IsOk end)
+    → AllZip (λ p d. HasGot (turns p) (state p.0) (state d) end) pairs back → AllZip (λ p d. HasGot (turns p) (state p.0) (state d) came) pairs back
+all_got_later turns state [] [] end came ok h = h
+all_got_later turns state [] (d ∷ back) end came ok h = h
+all_got_later turns state (p ∷ pairs) [] end came ok h = h
+all_got_later turns state (p ∷ pairs) (d ∷ back) end came ok h =
+    (got_later (turns p) (state p.0) (state d) end came ok h.0, all_got_later turns state pairs back end came ok h.1)
+
+pub all_read : {D T E : Type 0} (from : D → ℕ) (held : D → Option (List ℕ)) (plan : GetPlan) (first mid last : List (ReadSeat D)) (parts : List D) (domains : List Extent)
+    (old now : List (List (List ℕ))) (end came : Result T E) → AreTaken first mid last parts domains → ((seat : ReadSeat D) → In mid seat → IsReady plan seat)
+    → ((k : ℕ) (seat : ReadSeat D) → slice_get last k ≡ Some seat → turns_due seat.shelf ≡ [])
+    → OnOk came (HaveTakenTurns plan.list.now mid last old now)
+    → OnOk end ((seat : ReadSeat D) → In last seat → AreRead (get_turns plan (domain_of seat)) (from (part_of seat)) (held (part_of seat)) seat.shelf.line.items)
+    → OnOk (result_and end came) (HasReadParts from held plan (zip parts domains) old now)
+all_read from held plan first mid last parts domains old now (Err x) came t ready none taken read = tt
+all_read from held plan first mid last parts domains old now (Ok y) (Err x) t ready none taken read = tt
+all_read {D} from held plan first mid last parts domains old now (Ok y) (Ok x) t ready none taken read =
+    let stay = last_parts first mid last parts domains t in
+    subst (λ (ds : List Extent). HasReadParts from held plan (zip parts ds) old now) stay.1
+    (subst (λ (ps : List D). HasReadParts from held plan (zip ps (map (λ seat. domain_of seat) last)) old now) stay.0
+    (seats_read from held plan mid last old now t.longer ready t.kept none taken read))
+
+-- want of memory is no fault
+pub and_memory : {T : Type 0} (end came : Result T DiskErr) → IfErr came (λ e. e ≡ Memory) → IsErrOf (result_and end came) Failed → IsErrOf end Failed
+and_memory (Err x) came h f = f
+and_memory (Ok y) (Ok x) h f = absurd cc
+and_memory (Ok y) (Err x) h f = absurd cc
+
+-- as many lists of blobs as before
+pub rows_long : (old now : List (List (List ℕ))) → AreAsLong old now → length now ≡ length old
+rows_long old now h =
+    sym (length-map now (λ (blobs : List (List ℕ)). map (λ (blob : List ℕ). length blob) blobs))
+    ∙ ap (λ (rows : List (List ℕ)). length rows) h
+    ∙ length-map old (λ (blobs : List (List ℕ)). map (λ (blob : List ℕ). length blob) blobs)
+
+-- nothing was read
+pub got_untouched : {T E : Type 0} (ts : List Told) (old : PartState) (e : E) → HasGot {T = T} ts old old (Err e)
+got_untouched ts old e = record { from = refl; len = refl; held = refl; device = tt; later = omega arith }

@@ -1,0 +1,74 @@
+-- What of the windows of a part is still to be taken, and what the calling thread has of a helper of gets. (own)
+--     turns_due shelf              the windows of which the hull was not taken
+--     IsShelf list room shelf      what holds of a shelf at every moment
+--     part_of seat                 the part that the helper was given
+--     domain_of seat               the bytes that it serves
+--     IsReadSeat plan seat         it was started for the plan, and has the other ends of these lines
+--     IsFresh plan seat            it was told nothing, and all windows of its domain are left to be taken
+--     IsSent plan seat             it was told to go
+--     IsToldToGo old new           it was told to go, and nothing else was done
+use Rattle.std.specs.Prelude.{◌≡◌, ℕ, ◌+◌, ◌^◌, ◌<◌, ◌≤◌, ◌++◌, ◌∷◌, [], min, List, Option, Some, None}
+use Rattle.nc_base.specs.declared.plan.Extent.{Extent}
+use Rattle.nc_base.specs.declared.plan.Owned.{Owned}
+use Rattle.overlay_laws.specs.Entries.{In}
+use Rattle.aggregator_rounds.specs.Pieces.{told_window}
+use Rattle.piece_exchange.specs.Cursor.{AreServed, IsAt}
+use Rattle.piece_exchange.specs.Feeds.{turns_left_of}
+use Rattle.piece_exchange.specs.Gets.{get_turns}
+use Rattle.piece_exchange.specs.Hulls.{IsTurn}
+use Rattle.piece_exchange.specs.Turns.{Told, turns_ahead}
+use Rattle.piece_exchange.specs.declared.crew.Word.TheVariants.{Go}
+use Rattle.piece_exchange.specs.declared.gets.shelf.Shelf.{Shelf}
+use Rattle.piece_exchange.specs.declared.gets.starting.ReadSeat.{ReadSeat}
+use Rattle.piece_exchange.specs.declared.plan.GetPlan.{GetPlan}
+use Rattle.piece_exchange.specs.declared.walk.Turn.{Turn}
+use Rattle.piece_exchange.specs.declared.walk.TurnWalk.{TurnWalk}
+
+abbrev pub turns_due : Shelf → List Told
+turns_due s = turns_left_of s.turn s.walk
+
+-- a window that was given, and the walk behind it
+pub record IsNextUp (list : List Owned) (room : ℕ) (t : Turn) (w : TurnWalk) : Type 0 where
+  pub at : IsAt list room w
+  pub turn : IsTurn list room (told_window t.window)
+  pub served : AreServed list t.entries.now t.window.hull.at (t.window.hull.at + t.window.hull.len)
+  pub apart : (u : Told) → In (turns_ahead w) u → t.window.hull.at + t.window.hull.len ≤ u.0
+  pub limit : t.window.hull.at + t.window.hull.len < 2 ^ 62
+
+abbrev pub IsShelfOf : List Owned → ℕ → Option Turn → TurnWalk → Type 0
+IsShelfOf list room None walk = Unit {0}
+IsShelfOf list room (Some t) walk = IsNextUp list room t walk
+
+abbrev pub IsShelf : List Owned → ℕ → Shelf → Type 0
+IsShelf list room s = IsShelfOf list room s.turn s.walk
+
+-- ---- seats
+
+abbrev pub part_of : {D : Type 0} → ReadSeat D → D
+part_of seat = seat.helper.child.promise.ends.value.part
+
+abbrev pub domain_of : {D : Type 0} → ReadSeat D → Extent
+domain_of seat = seat.helper.child.promise.domain.value
+
+pub record IsReadSeat {D : Type 0} (plan : GetPlan) (seat : ReadSeat D) : Type 0 where
+  pub cover : seat.helper.child.promise.cover.value ≡ plan.cover.now
+  pub size : seat.helper.child.promise.size.value ≡ plan.hints.now.cb_buffer
+  pub word_of : seat.helper.word.of ≡ seat.helper.child.promise.ends.value.word.of
+  pub line_of : seat.helper.child.promise.ends.value.lines.line.of ≡ seat.shelf.line.of
+
+pub record IsFresh {D : Type 0} (plan : GetPlan) (seat : ReadSeat D) : Type 0 where
+  pub seat_is : IsReadSeat plan seat
+  pub word : seat.helper.word.items ≡ []
+  pub ready : IsShelf plan.list.now (min plan.hints.now.cb_buffer (domain_of seat).len) seat.shelf
+  pub taken : seat.shelf.line.items ≡ []
+  pub due : turns_due seat.shelf ≡ get_turns plan (domain_of seat)
+
+pub record IsSent {D : Type 0} (plan : GetPlan) (seat : ReadSeat D) : Type 0 where
+  pub seat_is : IsReadSeat plan seat
+  pub word : seat.helper.word.items ≡ Go ∷ []
+
+pub record IsToldToGo {D : Type 0} (old new : ReadSeat D) : Type 0 where
+  pub child : new.helper.child ≡ old.helper.child
+  pub shelf : new.shelf ≡ old.shelf
+  pub of : new.helper.word.of ≡ old.helper.word.of
+  pub words : new.helper.word.items ≡ old.helper.word.items ++ Go ∷ []

@@ -1,0 +1,11 @@
+// The gets of a collective step. A helper reads the hulls of its part, and the calling thread copies the bytes out of them.
+mod collecting;
+mod exchange;
+mod helper;
+mod in_turn;
+mod joining;
+mod reading;
+mod shelf;
+mod starting;
+
+pub use exchange::exchange_get;

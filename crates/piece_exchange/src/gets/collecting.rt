@@ -1,0 +1,162 @@
+// What the calling thread does: round by round it takes the hulls off the lines, and copies their bytes into the blobs of the entries.
+ghost use Rattle.std.specs.Prelude.{◌≡◌, ◌+◌, ◌^◌, ◌<◌, ◌≤◌, ℕ, [], length, slice_get, IfErr, IfNone, IfSome, None, OnOk, Some};
+ghost use Rattle.serial_spec.specs.File.{written};
+ghost use Rattle.nc_outside.specs.declared.disk.DiskErr.TheVariants.{Memory};
+ghost use Rattle.overlay_laws.specs.Lines.{extents, EndBelow};
+ghost use Rattle.data_sieving.specs.Sieving.{AreFilled};
+ghost use Rattle.data_sieving.specs.Serving.{buffer_cell};
+ghost use Rattle.piece_exchange.specs.Blobs.{blob_at, with_blob, AreAsLong, FitTable, HasCollected, HaveOnePlaces};
+ghost use Rattle.piece_exchange.specs.Gets.{IsGetPlanned};
+ghost use Rattle.piece_exchange.specs.Logs.{HasTakenTurn, HaveTakenTurns, IsKept, IsShelfIn};
+ghost use Rattle.piece_exchange.specs.Shelves.{turns_due};
+ghost use Rattle.piece_exchange.specs.declared.gets.starting.ReadSeat.{ReadSeat};
+
+use crate::gets::reading::Reading;
+use crate::gets::shelf::Shelf;
+use crate::gets::starting::ReadSeat;
+use crate::plan::GetPlan;
+use crate::walk::Turn;
+use data_sieving::collect_entry;
+use nc_base::{Blob, BlobList, Extent, Owned};
+use nc_outside::{Disk, DiskErr};
+use std::sync::Wait;
+
+/// Takes the hulls of all windows: round by round, and in a round by aggregator. `Memory` where one didn't come, whose helper then has
+/// the fault.
+pub(crate) fn take_all<R: Wait, D: Disk>(
+    rt: &R,
+    plan: &GetPlan,
+    seats: &mut [ReadSeat<D>],
+    table: &mut [BlobList],
+) -> Result<(), DiskErr>
+    requires plan { IsGetPlanned plan.now }
+    requires one_place { HaveOnePlaces plan.now.list.now }
+    requires ready { (k : ℕ) (seat : ReadSeat D) → slice_get seats.old k ≡ Some seat → IsShelfIn plan.now.list.now seat.shelf }
+    requires fit { FitTable table.old plan.now.list.now }
+    ensures long { length seats.new ≡ length seats.old }
+    ensures kept { (k : ℕ) (old new : ReadSeat D) → slice_get seats.old k ≡ Some old → slice_get seats.new k ≡ Some new → IsKept old new }
+    ensures none { (k : ℕ) (seat : ReadSeat D) → slice_get seats.new k ≡ Some seat → turns_due seat.shelf ≡ [] }
+    ensures blobs { AreAsLong table.old table.new }
+    ensures taken { OnOk result (HaveTakenTurns plan.now.list.now seats.old seats.new table.old table.new) }
+    ensures memory { IfErr result (λ e. e ≡ Memory) }
+{
+    let mut end = Ok(());
+    'rounds: while let Some(k) = least_round(seats) {
+        let seat = &mut seats[k];
+        let came = take_turn(rt, plan, &mut seat.shelf, table);
+        end = end.and(came);
+    }
+    end
+}
+
+// The first of the helpers whose next window is of the least round.
+fn least_round<D: Disk>(seats: &[ReadSeat<D>]) -> Option<usize>
+    ensures some { IfSome result (λ k. (k < length seats.now) × ((seat : ReadSeat D) → slice_get seats.now k ≡ Some seat → turns_due seat.shelf ≡ [] → ⊥)) }
+    ensures none { IfNone result ((k : ℕ) (seat : ReadSeat D) → slice_get seats.now k ≡ Some seat → turns_due seat.shelf ≡ []) }
+{
+    let mut least = None;
+    let mut round = None;
+    for (k, seat) in seats.iter().enumerate() {
+        let earlier = round_before(&seat.shelf, round);
+        if earlier.is_some() {
+            least = Some(k);
+            round = earlier;
+        }
+    }
+    least
+}
+
+// The round of the next window of a helper, where it has one that is earlier.
+fn round_before(shelf: &Shelf, than: Option<u64>) -> Option<u64>
+    ensures some { IfSome result (λ _. turns_due shelf.now ≡ [] → ⊥) }
+    ensures none { IfNone result (than ≡ None → turns_due shelf.now ≡ []) }
+{
+    let round = shelf.turn?.window.round;
+    match than {
+        Some(other) if other <= round => None,
+        _ => Some(round),
+    }
+}
+
+/// Takes the hull of the next window of a helper, if it has one, and copies the entries' bytes out of it. `Memory` where it didn't come.
+pub(crate) fn take_turn<R: Wait>(
+    rt: &R,
+    plan: &GetPlan,
+    shelf: &mut Shelf,
+    table: &mut [BlobList],
+) -> Result<(), DiskErr>
+    requires plan { IsGetPlanned plan.now }
+    requires one_place { HaveOnePlaces plan.now.list.now }
+    requires ready { IsShelfIn plan.now.list.now shelf.old }
+    requires fit { FitTable table.old plan.now.list.now }
+    ensures ready { IsShelfIn plan.now.list.now shelf.new }
+    ensures of { shelf.new.line.of ≡ shelf.old.line.of }
+    ensures blobs { AreAsLong table.old table.new }
+    ensures fewer { (turns_due shelf.old ≡ [] → ⊥) → length (turns_due shelf.new) < length (turns_due shelf.old) }
+    ensures taken { OnOk result (HasTakenTurn plan.now.list.now shelf.old shelf.new table.old table.new) }
+    ensures memory { IfErr result (λ e. e ≡ Memory) }
+{
+    let Some(turn) = shelf.turn else {
+        return Ok(());
+    };
+    match shelf.line.take(rt) {
+        Reading::Hull(blob) => {
+            let came = collect_hull(&turn, &blob, table);
+            shelf.spare.put(rt, blob);
+            shelf.turn = shelf.walk.next_turn();
+            came
+        }
+        Reading::Ended => {
+            shelf.turn = None;
+            Err(DiskErr::Memory)
+        }
+    }
+}
+
+// Copies the entries' bytes out of those of a window's hull. What another thread put is known only by its type, so its length is tested.
+fn collect_hull(turn: &Turn, bytes: &Blob, table: &mut [BlobList]) -> Result<(), DiskErr>
+    requires hull { turn.now.window.hull.at + turn.now.window.hull.len < 2 ^ 62 }
+    requires ends { EndBelow (2 ^ 62) (extents turn.now.entries.now) }
+    requires filled { AreFilled turn.now.entries.now }
+    requires fit { FitTable table.old turn.now.entries.now }
+    ensures long { OnOk result (length bytes.now ≡ turn.now.window.hull.len) }
+    ensures collected { OnOk result (HasCollected turn.now.window.hull.at (turn.now.window.hull.at + turn.now.window.hull.len) bytes.now turn.now.entries.now table.old table.new) }
+    ensures blobs { AreAsLong table.old table.new }
+    ensures memory { IfErr result (λ e. e ≡ Memory) }
+{
+    if bytes.len() as u64 != turn.window.hull.len {
+        return Err(DiskErr::Memory);
+    }
+    collect_all(turn.window.hull, turn.entries, bytes.as_slice(), table);
+    Ok(())
+}
+
+/// Copies the bytes that entries have in a hull out of the hull's, one entry after another.
+pub(crate) fn collect_all(hull: Extent, entries: &[Owned], buf: &[u8], table: &mut [BlobList])
+    requires hull { hull.at + hull.len < 2 ^ 62 }
+    requires room { length buf.now ≡ hull.len }
+    requires ends { EndBelow (2 ^ 62) (extents entries.now) }
+    requires filled { AreFilled entries.now }
+    requires fit { FitTable table.old entries.now }
+    ensures each { HasCollected hull.at (hull.at + hull.len) buf.now entries.now table.old table.new }
+    ensures long { AreAsLong table.old table.new }
+{
+    for entry in entries {
+        collect_get(hull, entry, buf, table);
+    }
+}
+
+// Copies the bytes that an entry has in the hull into its blob.
+fn collect_get(hull: Extent, entry: &Owned, buf: &[u8], table: &mut [BlobList])
+    requires hull { hull.at + hull.len < 2 ^ 62 }
+    requires room { length buf.now ≡ hull.len }
+    requires end { entry.now.extent.at + entry.now.extent.len < 2 ^ 62 }
+    requires filled { 1 ≤ entry.now.extent.len }
+    requires fit { entry.now.from + entry.now.extent.len ≤ length (blob_at table.old entry.now.rank entry.now.slot) }
+    ensures { table.new ≡ with_blob table.old entry.now.rank entry.now.slot (written (blob_at table.old entry.now.rank entry.now.slot) (buffer_cell hull.at (hull.at + hull.len) buf.now entry.now).0 (buffer_cell hull.at (hull.at + hull.len) buf.now entry.now).1) }
+{
+    let rank = entry.rank as usize;
+    let mut blobs = table[rank].take().into_vec();
+    collect_entry(hull, entry, buf, &mut blobs);
+    table[rank] = BlobList::from_vec(blobs);
+}

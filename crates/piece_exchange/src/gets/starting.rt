@@ -1,0 +1,150 @@
+// Starting helpers, and stopping those that were started.
+ghost use Rattle.std.specs.Prelude.{◌≡◌, ◌≤◌, ◌++◌, ◌+◌, [], ℕ, length, map, take, slice_get, vec_capacity, Some, IfOk, IfErr};
+ghost use Rattle.nc_base.specs.declared.plan.Extent.{Extent};
+ghost use Rattle.overlay_laws.specs.Entries.{In};
+ghost use Rattle.piece_exchange.specs.Gets.{IsGetPlanned};
+ghost use Rattle.piece_exchange.specs.Plan.{IsDomainOf};
+ghost use Rattle.piece_exchange.specs.Shelves.{domain_of, part_of, IsFresh};
+ghost use Rattle.piece_exchange.specs.declared.gets.starting.ReadSeat.{ReadSeat};
+
+use crate::crew::{Crew, Ends, Word, stopped};
+use crate::gets::helper::{GetHelper, GetLines, start};
+use crate::gets::reading::Reading;
+use crate::gets::shelf::{Shelf, shelf_of};
+use crate::plan::{Aggregator, GetPlan, Tools};
+use nc_base::{Blob, Extent, Memory};
+use nc_outside::{Disk, Gate};
+use ruled_line::{LinePut, LineTake, line};
+use std::alloc::Global;
+use std::sync::Wait;
+use std::thread::{Scope, Threads};
+
+/// A helper, and the calling thread's ends of its lines.
+#[derive(Drop)]
+pub(crate) struct ReadSeat<'a, D: Disk> {
+    pub helper: GetHelper<D>,
+    pub shelf: Shelf<'a>,
+}
+
+/// Starts a helper for each part, until one can't be started.
+pub(crate) fn start_all<'s, E, D: Disk + 's, G: Gate, R: Threads + Wait + Sync>(
+    scope: &'s Scope<'s, E>,
+    tools: &'s Tools<'s, R, G>,
+    plan: &'s GetPlan<'s>,
+    domains: &[Extent],
+    parts: Vec<D>,
+    crew: &mut Crew<ReadSeat<'s, D>, D>,
+)
+    requires plan { IsGetPlanned plan.now }
+    requires line_low { 1 ≤ plan.now.hints.now.line_room }
+    requires line_high { plan.now.hints.now.line_room ≤ 64 }
+    requires few { length domains.now ≤ 64 }
+    requires one_each { length domains.now ≡ length parts.items }
+    requires domains { (k : ℕ) (part : D) (domain : Extent) → slice_get parts.items k ≡ Some part → slice_get domains.now k ≡ Some domain → IsDomainOf plan.now.list.now (D.from part) (D.len part) domain }
+    requires seats { crew.old.seats.items ≡ [] }
+    requires rest { crew.old.rest.items ≡ [] }
+    requires seats_room { length parts.items ≤ vec_capacity crew.old.seats }
+    requires rest_room { length parts.items ≤ vec_capacity crew.old.rest }
+    ensures parts { map (λ seat. part_of seat) crew.new.seats.items ++ crew.new.rest.items ≡ parts.items }
+    ensures domains { map (λ seat. domain_of seat) crew.new.seats.items ≡ take (length crew.new.seats.items) domains.now }
+    ensures seats { (seat : ReadSeat D) → In crew.new.seats.items seat → IsFresh plan.now seat }
+{
+    for part in parts {
+        if crew.rest.is_empty() {
+            let number = crew.seats.len();
+            let aggregator = Aggregator {
+                number: number as u32,
+                domain: domains[number],
+            };
+            match start_one(scope, tools, plan, aggregator, part) {
+                Ok(seat) => crew.seats.push_reserved(seat),
+                Err(part) => crew.rest.push_reserved(part),
+            }
+        } else {
+            crew.rest.push_reserved(part);
+        }
+    }
+}
+
+// Starts a helper for a part, with lines of its own and two blobs. Where one of them can't be had the part comes back as it was.
+fn start_one<'s, E, D: Disk + 's, G: Gate, R: Threads + Wait + Sync>(
+    scope: &'s Scope<'s, E>,
+    tools: &'s Tools<'s, R, G>,
+    plan: &'s GetPlan<'s>,
+    aggregator: Aggregator,
+    part: D,
+) -> Result<ReadSeat<'s, D>, D>
+    requires plan { IsGetPlanned plan.now }
+    requires line_low { 1 ≤ plan.now.hints.now.line_room }
+    requires line_high { plan.now.hints.now.line_room ≤ 64 }
+    requires domain { IsDomainOf plan.now.list.now (D.from part) (D.len part) aggregator.domain }
+    ensures kept { IfErr result (λ back. back ≡ part) }
+    ensures seat { IfOk result (λ seat. IsFresh plan.now seat) }
+    ensures part { IfOk result (λ seat. part_of seat ≡ part) }
+    ensures domain { IfOk result (λ seat. domain_of seat ≡ aggregator.domain) }
+{
+    let Ok((go, word)) = line::<Word>(tools.alloc, 1) else {
+        return Err(part);
+    };
+    let Ok((put, taken)) = line::<Reading>(tools.alloc, plan.hints.line_room) else {
+        return Err(part);
+    };
+    let longest = plan.hints.cb_buffer.min(aggregator.domain.len) as usize;
+    let Ok((back, spare)) = spare_line(tools.rt, tools.alloc, longest) else {
+        return Err(part);
+    };
+    let ends = Ends {
+        word,
+        part,
+        lines: GetLines { line: put, spare },
+    };
+    let helper = start(scope, tools, plan, aggregator, go, ends)?;
+    let shelf = shelf_of(plan, aggregator.domain, taken, back);
+    Ok(ReadSeat { helper, shelf })
+}
+
+// A line with two blobs on it, each of which has room for the longest hull. No more blobs than these go round, so that no put on the
+// line ever waits.
+fn spare_line<R: Wait>(
+    rt: &R,
+    alloc: Global,
+    longest: usize,
+) -> Result<(LinePut<Blob>, LineTake<Blob>), Memory> {
+    let first = Blob::with_capacity(alloc, longest)?;
+    let second = Blob::with_capacity(alloc, longest)?;
+    let (mut put, take) = line::<Blob>(alloc, 2)?;
+    put.put(rt, first);
+    put.put(rt, second);
+    Ok((put, take))
+}
+
+/// Tells the helpers to stop, and joins them. Their parts come back as they were, in order.
+pub(crate) fn stop_all<R: Threads + Wait, D: Disk>(
+    rt: &R,
+    plan: &GetPlan,
+    seats: Vec<ReadSeat<D>>,
+    back: &mut Vec<D>,
+)
+    requires each { (seat : ReadSeat D) → In seats.items seat → IsFresh plan.now seat }
+    requires room { length back.old.items + length seats.items ≤ vec_capacity back.old }
+    ensures parts { back.new.items ≡ back.old.items ++ map (λ seat. part_of seat) seats.entry.items }
+    ensures room { vec_capacity back.new ≡ vec_capacity back.old }
+{
+    for seat in seats {
+        back.push_reserved(stop_one(rt, seat.helper));
+    }
+}
+
+// Tells a helper to stop, and joins it. Its part comes back as it was.
+fn stop_one<R: Threads + Wait, D: Disk>(rt: &R, helper: GetHelper<D>) -> D
+    requires of { helper.word.of ≡ helper.child.promise.ends.value.word.of }
+    requires word { helper.word.items ≡ [] }
+    ensures { result ≡ helper.child.promise.ends.value.part }
+{
+    let GetHelper {
+        word: mut go,
+        child,
+    } = helper;
+    go.put(rt, Word::Stop);
+    stopped(go, child.join(rt))
+}
