@@ -41,7 +41,7 @@ use Rattle.serial_spec.specs.Desk.{needed_now}
 use Rattle.collective_round.specs.Rounds.{ArePuts, after_round, counted, puts_in}
 use Rattle.collective_round.proofs.PutLaws.{laid_round}
 use Rattle.collective_round.proofs.StepLaws.{round_by}
-use Rattle.collective_round.proofs.TornSteps.{told_as}
+use Rattle.collective_round.proofs.ResultSteps.{told_as}
 use Rattle.serial_spec.proofs.KeepLaws.{count_long as length-count}
 
 -- ---- bytes that no put holds stay
