@@ -1,5 +1,5 @@
 -- The domains so far adjoin, and have the bytes of the shares so far.
-use Rattle.std.proofs.Common.{◌≡◌, ◌↔◌, ℕ, ◌+◌, ◌-◌, ◌*◌, ◌/◌, ◌^◌, ◌<◌, ◌≤◌, inl, inr, refl, sym, ◌∙◌, ap, subst, List, [], ◌∷◌, ◌++◌, length, map, Bool, true, false, Some, None, slice_get, arith}
+use Rattle.std.proofs.Common.{◌≡◌, ◌↔◌, ℕ, ◌+◌, ◌-◌, ◌*◌, ◌/◌, ◌^◌, ◌<◌, ◌≤◌, inl, inr, refl, sym, ◌∙◌, ap, subst, List, [], ◌∷◌, ◌++◌, length, map, Bool, true, false, Some, slice_get, arith}
 use Rattle.std.proofs.lemmas.List.{append-nil, flat_map_more, length_push, map-append}
 use Rattle.std.proofs.lemmas.Bool.{leb-true}
 use Rattle.std.proofs.lemmas.Nat.{mul-le}
@@ -17,8 +17,8 @@ use Rattle.serial_spec.specs.Lawful.{are_lawful_hints}
 use Rattle.overlay_laws.specs.Entries.{In}
 use Rattle.overlay_laws.specs.Lines.{EndBelow}
 use Rattle.overlay_laws.specs.Walks.{end_after, first_at, spans, told_of, IsCover}
-use Rattle.overlay_laws.proofs.CoverLaws.{hull_told}
-use Rattle.overlay_laws.proofs.HullLaws.{ceil_covers, filter_in, in_left, in_range, last_most}
+use Rattle.overlay_laws.proofs.CoverLaws.{hull_told, spans_ascend}
+use Rattle.overlay_laws.proofs.HullLaws.{ceil_covers, filter_in, first_least, in_left, in_range, last_most}
 use Rattle.overlay_laws.proofs.WalkLaws.{filter_none, windows_walked}
 use Rattle.file_domains.specs.Domains.{border, low_of, share_of}
 use Rattle.file_domains.specs.Rounds.{bytes_in}
@@ -127,7 +127,8 @@ pub cut_none : (lo hi nodes unit size : ℕ) (cover : List Extent) (a : ℕ) (do
     → d.at ≡ border lo hi nodes unit a → d.at + d.len ≡ border lo hi nodes unit (a + 1) → bytes_in d cover ≡ share_bytes lo hi nodes unit cover a → d.len ≤ 0
     → AreCut lo hi nodes unit size cover (a + 1) domains
 cut_none lo hi nodes unit size cover a domains d s h begin end bytes none =
-    let same : border lo hi nodes unit a ≡ border lo hi nodes unit (a + 1) = omega arith in
+    let still : d.at ≡ d.at + d.len = omega arith in
+    let same : border lo hi nodes unit a ≡ border lo hi nodes unit (a + 1) = sym begin ∙ still ∙ end in
     record {
       line = h.line;
       begin = ap (λ (n : ℕ). begin_or n domains) (sym same) ∙ h.begin;
@@ -137,7 +138,7 @@ cut_none lo hi nodes unit size cover a domains d s h begin end bytes none =
     }
 
 -- the last share ends at the end
-last_border : (lo hi nodes unit : ℕ) → lo ≤ hi → 1 ≤ nodes → 1 ≤ unit → border lo hi nodes unit nodes ≡ hi
+pub last_border : (lo hi nodes unit : ℕ) → lo ≤ hi → 1 ≤ nodes → 1 ≤ unit → border lo hi nodes unit nodes ≡ hi
 last_border lo hi nodes unit order h u =
     let n = hi - low_of lo unit in
     let c = (n + (nodes - 1)) / nodes in
@@ -170,20 +171,29 @@ cover_reach (c ∷ cover) h =
     let most = last_most (spans (c ∷ cover)) c.at (in_left (range_with_len c.at c.len) (spans cover) c.at (in_range c.at c.len c.at (omega arith) (omega arith))) in
     (sym begin, λ some. omega arith)
 
+-- each covered byte lies from the first covered byte to the last
+pub within_reach : (cover : List Extent) (x : ℕ) → IsCover cover → In (spans cover) x → (first_at cover ≤ x) × (x < end_after 0 cover)
+within_reach [] x h m = absurd m
+within_reach (c ∷ cover) x h m =
+    let reach = cover_reach (c ∷ cover) h in
+    let begin = reach.0 in
+    let end = reach.1 (omega arith) in
+    let least = first_least (spans (c ∷ cover)) x (spans_ascend (c ∷ cover) h) m in
+    let most = last_most (spans (c ∷ cover)) x m in
+    (omega arith, omega arith)
+
 last_ends : (n : ℕ) (e : Extent) (cover : List Extent) (last : Extent) → slice_get (e ∷ cover) (length cover) ≡ Some last → end_after n (e ∷ cover) ≡ last.at + last.len
 last_ends n e [] last g = ap (λ (z : Extent). z.at + z.len) (same_Some e last g)
 last_ends n e (f ∷ cover) last g = last_ends (e.at + e.len) f cover last g
 
-pub reach_is : (cover : List Extent) (first last : Extent) → slice_get cover 0 ≡ Some first → slice_get cover (length cover - 1) ≡ Some last
-    → (first.at ≡ first_at cover) × (last.at + last.len ≡ end_after 0 cover)
-reach_is [] first last e f = no_none_some first e
-reach_is (c ∷ cover) first last e f =
+pub reach_is : (cover : List Extent) (first last : Extent) → IsCover cover → slice_get cover 0 ≡ Some first → slice_get cover (length cover - 1) ≡ Some last
+    → (first.at ≡ first_at cover) × (last.at + last.len ≡ end_after 0 cover) × (first_at cover ≤ end_after 0 cover)
+reach_is [] first last h e f = no_none_some first e
+reach_is (c ∷ cover) first last h e f =
     let index : length cover ≡ length (c ∷ cover) - 1 = omega arith in
-    (ap (λ (z : Extent). z.at) (sym (same_Some c first e)), sym (last_ends 0 c cover last (ap (λ (k : ℕ). slice_get (c ∷ cover) k) index ∙ f)))
-
-pub nothing_covered : (cover : List Extent) → slice_get cover 0 ≡ None → cover ≡ []
-nothing_covered [] e = refl
-nothing_covered (c ∷ cover) e = no_none_some c (sym e)
+    let len = h.0 in
+    let inside = (within_reach (c ∷ cover) c.at h (in_left (range_with_len c.at c.len) (spans cover) c.at (in_range c.at c.len c.at (omega arith) (omega arith)))).1 in
+    (ap (λ (z : Extent). z.at) (sym (same_Some c first e)), sym (last_ends 0 c cover last (ap (λ (k : ℕ). slice_get (c ∷ cover) k) index ∙ f)), omega arith)
 
 -- ---- the windows
 

@@ -79,6 +79,7 @@ pub(crate) fn split<D: Disk>(
     ensures kept { OnErr result ((D.from disk.new ≡ D.from disk.old) × (D.len disk.new ≡ D.len disk.old) × (D.held disk.new ≡ D.held disk.old) × (D.calls disk.new ≡ D.calls disk.old)) }
     ensures cause { D.faults disk.old < 2 ^ 64 → HasDiskCause (D.faults disk.old) (D.faults disk.new) result }
 {
+    let _size = disk.size();
     let mut parts = Vec::with_capacity(alloc, domains.len())?;
     let end = split_backwards(alloc, disk, domains, &mut parts);
     parts.reverse();
@@ -107,6 +108,7 @@ fn split_backwards<D: Disk>(
         (map (λ p. record { from = D.from p; len = D.len p; held = D.held p; calls = D.calls p; faults = D.faults p }) (reverse parts.new.items)) result }
     ensures cause { HasDiskCause (D.faults disk.old) (D.faults disk.new) result }
 {
+    let _size = disk.size();
     for k in (0..domains.len()).rev() {
         parts.push_reserved(disk.split_off(alloc, domains[k].at)?);
     }
