@@ -1,5 +1,5 @@
 -- Puts on the parts of a disk, which are joined again.
-use Rattle.std.proofs.Common.{◌≡◌, ℕ, ◌+◌, ◌-◌, ◌^◌, ◌<◌, ◌≤◌, min, sym, subst, List, [], ◌∷◌, length, map, Result, arith}
+use Rattle.std.proofs.Common.{◌≡◌, ℕ, ◌+◌, ◌-◌, ◌≤◌, sym, subst, List, [], ◌∷◌, length, map, Result, arith}
 use Rattle.std.specs.Prelude.{flat_map, zip, IfSome}
 use Rattle.std.specs.List.{range_with_len, AllZip}
 use Rattle.nc_base.specs.declared.plan.Extent.{Extent}
@@ -11,8 +11,8 @@ use Rattle.overlay_laws.specs.Walks.{end_after, spans, IsCover}
 use Rattle.overlay_laws.proofs.HullLaws.{flat_in, in_left, in_range, in_right, range_high}
 use Rattle.piece_exchange.specs.Put.{HasPut, PartState}
 use Rattle.piece_exchange.specs.Turns.{Told}
-use Rattle.collective_round.specs.Parts.{begin_or, parts_of, with_part, with_parts, Adjoin, AreDomains, Follow, IsFront}
-use Rattle.collective_round.proofs.PartLaws.{cells_behind, follow_again, on_states, puts_joined, HasPutWhole, IsInPlace}
+use Rattle.collective_round.specs.Parts.{parts_of, with_parts, Adjoin, AreDomains, Follow, IsFront}
+use Rattle.collective_round.proofs.PartLaws.{cells_behind, domains_room, puts_follow, puts_joined, HasPutWhole}
 
 -- ---- the domains lie on the disk
 
@@ -34,21 +34,11 @@ cover_room (e ∷ cover) list len h same on =
     let end = (on by.0 by.1).1 in
     omega arith
 
-pub domains_room : (cover domains : List Extent) (list : List Owned) (len : ℕ) → IsCover cover → HaveSame (spans cover) (ranges list) → LieOn 0 len list → AreDomains cover domains
+pub plan_room : (cover domains : List Extent) (list : List Owned) (len : ℕ) → IsCover cover → HaveSame (spans cover) (ranges list) → LieOn 0 len list → AreDomains cover domains
     → end_after 0 domains ≤ len
-domains_room cover [] list len h same on div = omega arith
-domains_room cover (d ∷ domains) list len h same on div =
-    let room = cover_room cover list len h same on in
-    let end : end_after 0 (d ∷ domains) ≡ end_after 0 cover = div.end in
-    omega arith
+plan_room cover domains list len h same on div = domains_room cover domains len div (cover_room cover list len h same on)
 
 -- ---- parts that were put
-
-zip_weaker : {A B : Type 0} (R Q : A → B → Type 0) (xs : List A) (ys : List B) → ((a : A) (b : B) → R a b → Q a b) → AllZip R xs ys → AllZip Q xs ys
-zip_weaker R Q [] [] f h = h
-zip_weaker R Q [] (y ∷ ys) f h = h
-zip_weaker R Q (x ∷ xs) [] f h = h
-zip_weaker R Q (x ∷ xs) (y ∷ ys) f h = (f x y h.0, zip_weaker R Q xs ys f h.1)
 
 -- What is known of a disk, its parts and the domains.
 pub record AreSplit {D : Type 0} (state : D → PartState) (disk front : PartState) (domains : List Extent) (parts : List D) : Type 0 where
@@ -62,11 +52,7 @@ pub parts_follow : {D T E : Type 0} (state : D → PartState) (source : Source) 
     → AreSplit state disk front domains parts
     → AllZip (λ p new. HasPut source list (turns p.1) (state p.0) (state new) end) (zip parts domains) news → Follow (front.from + front.len) (map state news)
 parts_follow state source list turns disk front domains parts news end s put =
-    follow_again disk front domains (map state news) s.begin s.line s.room s.front_is
-    (subst (λ (ps : List PartState). AllZip (λ p new. IsInPlace p.0 new) (zip ps domains) (map state news)) s.parts_are
-    (zip_weaker (λ p new. HasPut source list (turns p.1) p.0 new end) (λ p new. IsInPlace p.0 new) (zip (map state parts) domains) (map state news)
-    (λ p new h. record { from = h.from; len = h.len })
-    (on_states state (λ old d new. HasPut source list (turns d) old new end) parts domains news put)))
+    puts_follow state source list turns disk front domains parts news end s.begin s.line s.room s.front_is s.parts_are put
 
 pub parts_put : {D T E : Type 0} (state : D → PartState) (source : Source) (list : List Owned) (turns : Extent → List Told) (cover : List Extent) (disk front new : PartState) (domains : List Extent)
     (parts news : List D) (end : Result T E) → AreSplit state disk front domains parts → IfSome disk.held (λ file. length file ≡ disk.len)
@@ -75,11 +61,5 @@ pub parts_put : {D T E : Type 0} (state : D → PartState) (source : Source) (li
     → HasPutWhole source list (flat_map turns domains) disk new end
 parts_put state source list turns cover disk front new domains parts news end s told filled on h same div put joined =
     subst (λ (n : PartState). HasPutWhole source list (flat_map turns domains) disk n end) (sym joined)
-    (puts_joined state source list turns disk front domains parts news end s.begin told s.line s.room s.front_is s.parts_are
+    (puts_joined state source list turns disk front domains parts news end told s.line s.room s.front_is s.parts_are
     (cells_behind source list cover domains disk.len filled h same div) (entries_within source list disk.len (λ o m. let end = (on o m).1 in omega arith)) put)
-
--- ---- faults
-
-pub counts_later : (before : ℕ) (front : PartState) (news : List PartState) → before < 2 ^ 64 → before ≤ front.faults → before ≤ (with_parts front news).faults
-counts_later before front [] low h = h
-counts_later before front (p ∷ news) low h = counts_later before (with_part front p) news low (omega arith)
