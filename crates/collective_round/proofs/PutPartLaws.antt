@@ -24,7 +24,7 @@ cover_last n e (f ∷ cover) h =
     let last = cover_last (e.at + e.len) f cover h.2 in
     (last.0, in_right (range_with_len e.at e.len) (spans (f ∷ cover)) (end_after (e.at + e.len) (f ∷ cover) - 1) last.1)
 
-cover_room : (cover : List Extent) (list : List Owned) (len : ℕ) → IsCover cover → HaveSame (spans cover) (ranges list) → LieOn 0 len list → end_after 0 cover ≤ len
+pub cover_room : (cover : List Extent) (list : List Owned) (len : ℕ) → IsCover cover → HaveSame (spans cover) (ranges list) → LieOn 0 len list → end_after 0 cover ≤ len
 cover_room [] list len h same on = omega arith
 cover_room (e ∷ cover) list len h same on =
     let last = cover_last 0 e cover h in
