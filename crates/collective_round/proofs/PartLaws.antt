@@ -481,11 +481,13 @@ whole_between source list disk front domains news told line room f behind within
         let later = between_from source list disk front domains news file begin 0 e long line room (f.held ∙ ap (λ (q : Option (List ℕ)). after (take (begin_or disk.len domains)) q) e) h in
         let both = between_append begin begin begin (bytes_joined (slices disk.len domains file))
         (written_parts (begin_or disk.len domains) (slices disk.len domains file) (map (λ o. cell_of source o) list)) later.left refl (record { len = refl; each = λ i. inl refl }) later.between in
-        subst (λ (q : Option (List ℕ)). BothTold (λ file left. IsBetween file (write_cells file (map (λ o. cell_of source o) list)) left) q (with_parts front news).held) (sym e)
-        (begin ++ later.left, later.told,
-        subst (λ (old : List ℕ). IsBetween old (write_cells file (map (λ o. cell_of source o) list)) (begin ++ later.left)) (slices_joined disk.len domains file 0 long line room)
-        (subst (λ (new : List ℕ). IsBetween (begin ++ bytes_joined (slices disk.len domains file)) new (begin ++ later.left))
-        (all_put (map (λ o. cell_of source o) list) disk.len domains file long line room behind within) both))
+        subst (λ (q : Option (List ℕ)). BothTold (λ file left. IsBetween file (write_cells file (map (λ o. cell_of source o) list)) left) q (with_parts front news).held) (sym e) (
+          begin ++ later.left,
+          later.told,
+          subst (λ (old : List ℕ). IsBetween old (write_cells file (map (λ o. cell_of source o) list)) (begin ++ later.left)) (slices_joined disk.len domains file 0 long line room)
+              (subst (λ (new : List ℕ). IsBetween (begin ++ bytes_joined (slices disk.len domains file)) new (begin ++ later.left))
+              (all_put (map (λ o. cell_of source o) list) disk.len domains file long line room behind within) both),
+        )
 
 -- ---- puts
 

@@ -1,7 +1,7 @@
 -- A disk that is split from the last domain on, and taken back.
-use Rattle.std.proofs.Common.{◌≡◌, ℕ, zero, suc, ◌+◌, ◌-◌, ◌^◌, ◌<◌, ◌≤◌, min, refl, sym, ◌∙◌, ap, subst, List, [], ◌∷◌, ◌++◌, length, take, drop, get_or, map, Option, Some, None, arith}
+use Rattle.std.proofs.Common.{◌≡◌, ℕ, zero, suc, ◌+◌, ◌-◌, ◌^◌, ◌<◌, ◌≤◌, refl, sym, ◌∙◌, ap, subst, List, [], ◌∷◌, ◌++◌, length, take, drop, get_or, map, Option, Some, None, Err, arith}
 use Rattle.std.proofs.lemmas.List.{drop-take, drop_more, reverse-append, take_all, take-append-drop, take-take}
-use Rattle.std.specs.Prelude.{reverse, IfSome}
+use Rattle.std.specs.Prelude.{reverse, IfSome, IsErrOf}
 use Rattle.nc_base.specs.declared.plan.Extent.{Extent}
 use Rattle.nc_base.specs.declared.step.DiskCall.{DiskCall}
 use Rattle.nc_outside.specs.Cause.{both_faults}
@@ -9,7 +9,7 @@ use Rattle.nc_outside.specs.Told.{after, joined}
 use Rattle.nc_outside.proofs.ToldLaws.{after-after, after-same}
 use Rattle.overlay_laws.specs.Walks.{end_after}
 use Rattle.piece_exchange.specs.Put.{PartState}
-use Rattle.collective_round.specs.Parts.{begin_or, part_between, parts_of, with_part, with_parts, Adjoin, Follow, IsFront}
+use Rattle.collective_round.specs.Parts.{begin_or, part_between, with_part, with_parts, Adjoin, Follow, IsFront}
 use Rattle.collective_round.proofs.DomainCuts.{end_grows}
 
 -- ---- the begin of what comes next
@@ -156,3 +156,7 @@ follow_at m n parts e h = subst (λ (k : ℕ). Follow k parts) e h
 pub joined_at_least : (k : ℕ) (disk : PartState) (parts : List PartState) → k < 2 ^ 64 → k ≤ disk.faults → k ≤ (with_parts disk parts).faults
 joined_at_least k disk [] l h = h
 joined_at_least k disk (p ∷ parts) l h = joined_at_least k (with_part disk p) parts l (omega arith)
+
+-- a fault that is handed on
+pub same_fault : {T U E : Type 0} (e x : E) → IsErrOf {T = T} (Err e) x → IsErrOf {T = U} (Err e) x
+same_fault {T} {U} {E} e x h = let same : e ≡ x = cc in ap (λ (y : E). Err y) same

@@ -1,11 +1,11 @@
 -- One share more is cut: its domain, where it has a byte.
-use Rattle.std.proofs.Common.{◌≡◌, ℕ, ◌+◌, ◌<◌, ◌≤◌, ◌∙◌, sym, subst, List, vec_capacity, arith}
+use Rattle.std.proofs.Common.{◌≡◌, ℕ, ◌+◌, ◌∙◌, sym, subst, List, vec_capacity, arith}
 use Rattle.std.specs.Prelude.{Vec}
 use Rattle.std.specs.declared.alloc.Global.{Global}
 use Rattle.nc_base.specs.declared.plan.Extent.{Extent}
 use Rattle.file_domains.specs.Domains.{low_of, share_of}
 use Rattle.file_domains.specs.Rounds.{bytes_in}
-use Rattle.overlay_laws.specs.Walks.{end_after, first_at}
+use Rattle.overlay_laws.specs.Walks.{end_after}
 use Rattle.collective_round.proofs.DomainCuts.{cut_domains, cut_more, cut_none, cut_windows, ends_below, last_border, share_bytes, within_reach, AreCut}
 use Rattle.collective_round.proofs.DomainSteps.{domain_is, in_range_hints}
 use Rattle.collective_round.proofs.parts.domains_of.Goals as goal
@@ -31,15 +31,17 @@ loop-a-preserved c =
     elim c.if-domain-gt0.branch [
       | then-domain-gt0 w ↦
           let some = w.if-domain-gt0.true in
-          subst (λ (v : Vec Extent Global). AreCut lo hi nodes unit size cover (c.loop-a.a + 1) v.items × (vec_capacity v ≡ vec_capacity c.in_ok-domains.domains)) (sym w.domains-is)
-          (subst (λ (ds : List Extent). AreCut lo hi nodes unit size cover (c.loop-a.a + 1) ds) (sym w.push_reserved.ensures.items)
-          (cut_more lo hi nodes unit size cover c.loop-a.a c.loop-a.domains.items domain cut c.cut-domain.ensures.begin c.cut-domain.ensures.end bytes (omega arith)),
-          w.push_reserved.ensures.capacity ∙ c.loop-a.invariant.1)
+          subst (λ (v : Vec Extent Global). AreCut lo hi nodes unit size cover (c.loop-a.a + 1) v.items × (vec_capacity v ≡ vec_capacity c.in_ok-domains.domains)) (sym w.domains-is) (
+            subst (λ (ds : List Extent). AreCut lo hi nodes unit size cover (c.loop-a.a + 1) ds) (sym w.push_reserved.ensures.items)
+                (cut_more lo hi nodes unit size cover c.loop-a.a c.loop-a.domains.items domain cut c.cut-domain.ensures.begin c.cut-domain.ensures.end bytes (omega arith)),
+            w.push_reserved.ensures.capacity ∙ c.loop-a.invariant.1,
+          )
       | else-domain-gt0 w ↦
           let none = w.if-domain-gt0.false in
-          subst (λ (v : Vec Extent Global). AreCut lo hi nodes unit size cover (c.loop-a.a + 1) v.items × (vec_capacity v ≡ vec_capacity c.in_ok-domains.domains)) (sym w.domains-is)
-          (cut_none lo hi nodes unit size cover c.loop-a.a c.loop-a.domains.items domain range.buffer.0 cut c.cut-domain.ensures.begin c.cut-domain.ensures.end bytes (omega arith),
-          c.loop-a.invariant.1)
+          subst (λ (v : Vec Extent Global). AreCut lo hi nodes unit size cover (c.loop-a.a + 1) v.items × (vec_capacity v ≡ vec_capacity c.in_ok-domains.domains)) (sym w.domains-is) (
+            cut_none lo hi nodes unit size cover c.loop-a.a c.loop-a.domains.items domain range.buffer.0 cut c.cut-domain.ensures.begin c.cut-domain.ensures.end bytes (omega arith),
+            c.loop-a.invariant.1,
+          )
     ]
 
 pub returns-clause-domains : goal.returns-clause-domains

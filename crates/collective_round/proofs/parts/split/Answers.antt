@@ -1,11 +1,10 @@
 -- What was split off goes back.
-use Rattle.std.proofs.Common.{◌≡◌, ◌+◌, ◌-◌, ◌^◌, ◌<◌, ◌≤◌, ◌∙◌, min, sym, ap, subst, List, drop, map, arith}
-use Rattle.std.specs.Prelude.{reverse}
-use Rattle.nc_outside.specs.Cause.{HasDiskCause}
+use Rattle.std.proofs.Common.{◌≡◌, ◌+◌, ◌-◌, ◌^◌, ◌∙◌, min, sym, ap, subst, List, drop, map, arith}
+use Rattle.nc_outside.specs.declared.disk.DiskErr.TheVariants.{Failed}
 use Rattle.piece_exchange.specs.Put.{PartState}
 use Rattle.collective_round.specs.Parts.{parts_of, with_parts, Follow}
 use Rattle.collective_round.proofs.PartLaws.{parts_follow, parts_rejoined}
-use Rattle.collective_round.proofs.PartSplits.{adjoin_dropped, end_dropped, joined_at_least}
+use Rattle.collective_round.proofs.PartSplits.{adjoin_dropped, end_dropped, joined_at_least, same_fault}
 use Rattle.collective_round.proofs.parts.split.Goals as goal
 
 pub append_all-requires-after_bounds : goal.append_all-requires-after_bounds
@@ -29,9 +28,12 @@ returns-in-Err-clause-kept g c =
     let joined : state c.append_all.new.disk ≡ with_parts mid (parts_of (state c.args.disk.now) left)
     = c.append_all.ensures ∙ ap (λ (ps : List PartState). with_parts mid ps) (ap (λ (ds : List g.row.D.Denot). map state ds) c.reverse.ensures.items ∙ split.parts_are) in
     let before = parts_rejoined (state c.args.disk.now) mid left c.size-size.ensures.told (adjoin_dropped split.at c.args.domains.now c.requires.domains)
-    (end_dropped split.at c.args.domains.now 0 (g.D.Disk.len c.args.disk.now) c.requires.room) split.front in
-    (ap (λ (p : PartState). p.from) joined ∙ before.from, ap (λ (p : PartState). p.len) joined ∙ before.len,
-    ap (λ (p : PartState). p.held) joined ∙ before.held, ap (λ (p : PartState). p.calls) joined ∙ before.calls)
+    (end_dropped split.at c.args.domains.now 0 (g.D.Disk.len c.args.disk.now) c.requires.room) split.front in (
+      ap (λ (p : PartState). p.from) joined ∙ before.from,
+      ap (λ (p : PartState). p.len) joined ∙ before.len,
+      ap (λ (p : PartState). p.held) joined ∙ before.held,
+      ap (λ (p : PartState). p.calls) joined ∙ before.calls,
+    )
 
 pub returns-in-Err-clause-cause : goal.returns-in-Err-clause-cause
 returns-in-Err-clause-cause g c = λ counted.
@@ -45,7 +47,7 @@ returns-in-Err-clause-cause g c = λ counted.
     record {
       later = omega arith;
       failed = λ f.
-          let rose = cause.failed f in
+          let rose = cause.failed (same_fault c.in-Err.fault Failed f) in
           let more = joined_at_least (min (g.D.Disk.faults c.args.disk.now + 1) (2 ^ 64 - 1)) mid parts (omega arith) rose in
           omega arith;
     }

@@ -1,7 +1,6 @@
 -- One domain more is split off.
-use Rattle.std.proofs.Common.{◌≡◌, ◌+◌, ◌-◌, ◌<◌, ◌≤◌, ◌∙◌, sym, ap, subst, List, [], ◌∷◌, ◌++◌, drop, get_or, length, map, arith}
+use Rattle.std.proofs.Common.{◌≡◌, ◌-◌, ◌∙◌, sym, ap, subst, List, [], ◌∷◌, ◌++◌, drop, get_or, length, arith}
 use Rattle.std.proofs.lemmas.List.{length_push}
-use Rattle.std.specs.Prelude.{reverse}
 use Rattle.nc_base.specs.declared.plan.Extent.{Extent}
 use Rattle.piece_exchange.specs.Put.{PartState}
 use Rattle.collective_round.specs.Parts.{begin_or, part_between, parts_of, IsFront}
