@@ -107,6 +107,7 @@ impl<R: Files<File = File> + Clone + Send + Drop> Disk for FileDisk<R> {
     }
 
     fn size(&self) -> u64 {
+        let _faults = self.faults;
         self.end.saturating_sub(self.from)
     }
 
