@@ -41,7 +41,7 @@ use Rattle.serial_spec.specs.Desk.{needed_now}
 use Rattle.collective_round.specs.Rounds.{ArePuts, after_round, counted, puts_in}
 use Rattle.collective_round.proofs.PutLaws.{laid_round}
 use Rattle.collective_round.proofs.StepLaws.{round_by}
-use Rattle.collective_round.proofs.TornSteps.{told_as}
+use Rattle.collective_round.proofs.ResultSteps.{told_as}
 use Rattle.serial_spec.proofs.KeepLaws.{count_long as length-count}
 
 -- ---- bytes that no put holds stay
@@ -419,52 +419,44 @@ round_torn s puts records old left sound are none t =
     by_test true = torn_counted s.header.version (needed_by s.header puts) (covered s.header puts) old (after_puts s puts None old) left (λ x m. covered_past s.header puts x sound are m) t
     by_test false = torn_wider (covered s.header puts) (byte_len (count_width s.header.version)) old (after_puts s puts None old) left t
 
-pub puts_torn : (s : Setting) (slice batches : List Batch) (records : ℕ) (held now : Option (List ℕ)) → is_sound s.header ≡ true → ArePuts s.header (puts_in batches)
-    → slice ≡ batches → told s (puts_in batches) ≡ None
-    → BothTold (λ old left. IsTorn (covered s.header (puts_in slice)) 0 old (after_puts s (puts_in slice) None old) left) held now
-    → BothTold (λ old left. IsTorn (covered s.header (puts_in batches)) (byte_len (count_width s.header.version)) old (after_round s (puts_in batches) (counted old records)).file left) held now
-puts_torn s slice batches records held now sound are e none b =
-    told_as (λ old left. IsTorn (covered s.header (puts_in batches)) 0 old (after_puts s (puts_in batches) None old) left)
-    (λ old left. IsTorn (covered s.header (puts_in batches)) (byte_len (count_width s.header.version)) old (after_round s (puts_in batches) (counted old records)).file left) held now
-    (λ old left t. round_torn s (puts_in batches) records old left sound are none t)
-    (subst (λ (bs : List Batch). BothTold (λ old left. IsTorn (covered s.header (puts_in bs)) 0 old (after_puts s (puts_in bs) None old) left) held now) e b)
+pub puts_torn : (s : Setting) (puts : Puts) (records : ℕ) (held now : Option (List ℕ)) → is_sound s.header ≡ true → ArePuts s.header puts → told s puts ≡ None
+    → BothTold (λ old left. IsTorn (covered s.header puts) 0 old (after_puts s puts None old) left) held now
+    → BothTold (λ old left. IsTorn (covered s.header puts) (byte_len (count_width s.header.version)) old (after_round s puts (counted old records)).file left) held now
+puts_torn s puts records held now sound are none b =
+    told_as (λ old left. IsTorn (covered s.header puts) 0 old (after_puts s puts None old) left)
+    (λ old left. IsTorn (covered s.header puts) (byte_len (count_width s.header.version)) old (after_round s puts (counted old records)).file left) held now
+    (λ old left t. round_torn s puts records old left sound are none t) b
 
 -- the count was cut off
-pub count_torn : (s : Setting) (slice batches : List Batch) (records n : ℕ) (held mid now : Option (List ℕ)) → is_sound s.header ≡ true → ArePuts s.header (puts_in batches)
-    → slice ≡ batches → n ≡ needed_by s.header (puts_in slice) → told s (puts_in batches) ≡ None → mid ≡ after (after_puts s (puts_in slice) None) held
+pub count_torn : (s : Setting) (puts : Puts) (records n : ℕ) (held mid now : Option (List ℕ)) → is_sound s.header ≡ true → ArePuts s.header puts
+    → n ≡ needed_by s.header puts → told s puts ≡ None → mid ≡ after (after_puts s puts None) held
     → BothTold (λ old left. IsTorn [] (byte_len (count_width s.header.version)) old (cond (nat_lt records n) (with_records s.header.version old n) old) left) mid now
-    → BothTold (λ old left. IsTorn (covered s.header (puts_in batches)) (byte_len (count_width s.header.version)) old (after_round s (puts_in batches) (counted old records)).file left) held now
-count_torn s slice batches records n None mid now sound are e is none f b =
+    → BothTold (λ old left. IsTorn (covered s.header puts) (byte_len (count_width s.header.version)) old (after_round s puts (counted old records)).file left) held now
+count_torn s puts records n None mid now sound are is none f b =
     subst (λ (m : Option (List ℕ)). BothTold (λ old left. IsTorn [] (byte_len (count_width s.header.version)) old (cond (nat_lt records n) (with_records s.header.version old n) old) left) m now) f b
-count_torn s slice batches records n (Some old) mid now sound are e is none f b =
+count_torn s puts records n (Some old) mid now sound are is none f b =
     by_told (subst (λ (m : Option (List ℕ)). BothTold (λ old left. IsTorn [] (byte_len (count_width s.header.version)) old (cond (nat_lt records n) (with_records s.header.version old n) old) left) m now) f b)
   where
-    field : ℕ
-    field = byte_len (count_width s.header.version)
-
     agree : (t : Bool) (whole : List ℕ) (x : ℕ) → 4 + byte_len (count_width s.header.version) ≤ x → at (cond t (with_records s.header.version whole n) whole) x ≡ at whole x
     agree true whole x h = counted_past s.header.version n whole x h
     agree false whole x h = refl
 
-    by_slice : (left : List ℕ) → IsTorn [] (byte_len (count_width s.header.version)) (after_puts s (puts_in slice) None old)
-        (cond (nat_lt records n) (with_records s.header.version (after_puts s (puts_in slice) None old) n) (after_puts s (puts_in slice) None old)) left
-        → IsTorn (covered s.header (puts_in batches)) (byte_len (count_width s.header.version)) old
-        (cond (nat_lt records n) (with_records s.header.version (after_puts s (puts_in slice) None old) n) (after_puts s (puts_in slice) None old)) left
-    by_slice left t =
-        torn_after (covered s.header (puts_in batches)) (byte_len (count_width s.header.version)) old (after_puts s (puts_in slice) None old)
-        (cond (nat_lt records n) (with_records s.header.version (after_puts s (puts_in slice) None old) n) (after_puts s (puts_in slice) None old)) left
-        (after_grows s (puts_in slice) None old)
-        (λ x h. after_keeps s (puts_in slice) None old x (subst (λ (bs : List Batch). list_any (λ y. y == x) (covered s.header (puts_in bs)) ≡ false) (sym e) h))
-        (λ x m. covered_past s.header (puts_in batches) x sound are m)
-        (λ x h. agree (nat_lt records n) (after_puts s (puts_in slice) None old) x h) t
+    by_count : (left : List ℕ) → IsTorn [] (byte_len (count_width s.header.version)) (after_puts s puts None old)
+        (cond (nat_lt records n) (with_records s.header.version (after_puts s puts None old) n) (after_puts s puts None old)) left
+        → IsTorn (covered s.header puts) (byte_len (count_width s.header.version)) old
+        (cond (nat_lt records n) (with_records s.header.version (after_puts s puts None old) n) (after_puts s puts None old)) left
+    by_count left t =
+        torn_after (covered s.header puts) (byte_len (count_width s.header.version)) old (after_puts s puts None old)
+        (cond (nat_lt records n) (with_records s.header.version (after_puts s puts None old) n) (after_puts s puts None old)) left
+        (after_grows s puts None old) (λ x h. after_keeps s puts None old x h) (λ x m. covered_past s.header puts x sound are m)
+        (λ x h. agree (nat_lt records n) (after_puts s puts None old) x h) t
 
-    by_told : BothTold (λ old left. IsTorn [] (byte_len (count_width s.header.version)) old (cond (nat_lt records n) (with_records s.header.version old n) old) left) (Some (after_puts s (puts_in slice) None old)) now
-        → BothTold (λ old left. IsTorn (covered s.header (puts_in batches)) (byte_len (count_width s.header.version)) old (after_round s (puts_in batches) (counted old records)).file left) (Some old) now
+    by_told : BothTold (λ old left. IsTorn [] (byte_len (count_width s.header.version)) old (cond (nat_lt records n) (with_records s.header.version old n) old) left) (Some (after_puts s puts None old)) now
+        → BothTold (λ old left. IsTorn (covered s.header puts) (byte_len (count_width s.header.version)) old (after_round s puts (counted old records)).file left) (Some old) now
     by_told r = (
       r.0,
       r.1,
-      subst (λ (g : List ℕ). IsTorn (covered s.header (puts_in batches)) (byte_len (count_width s.header.version)) old g r.0)
-          (round_by s slice batches records n old e is none) (by_slice r.0 r.2),
+      subst (λ (g : List ℕ). IsTorn (covered s.header puts) (byte_len (count_width s.header.version)) old g r.0) (round_by s puts records n old is none) (by_count r.0 r.2),
     )
 
 -- the write of the count

@@ -1,0 +1,209 @@
+-- The domains so far adjoin, and have the bytes of the shares so far.
+use Rattle.std.proofs.Common.{◌≡◌, ℕ, ◌+◌, ◌-◌, ◌*◌, ◌/◌, ◌^◌, ◌<◌, ◌≤◌, inl, inr, refl, sym, ◌∙◌, ap, List, [], ◌∷◌, ◌++◌, length, map, Bool, true, false, Some, slice_get, arith}
+use Rattle.std.proofs.lemmas.List.{append-nil, flat_map_more, length_push, map-append}
+use Rattle.std.proofs.lemmas.Bool.{leb-true}
+use Rattle.std.proofs.lemmas.Nat.{mul-le}
+use Rattle.std.proofs.lemmas.Option.{same_Some}
+use Rattle.std.proofs.Math.Nat.{mul_comm}
+use borrow.Author.Tests.{ltb-true}
+use Rattle.std.specs.Prelude.{filter, flat_map, nat_lt, nat_le, ◌==◌}
+use Rattle.std.specs.List.{range_with_len}
+use Rattle.list_laws.proofs.Optional.{no_none_some}
+use Rattle.list_laws.proofs.Ranges.{range_append}
+use Rattle.nc_base.specs.declared.plan.Extent.{Extent}
+use Rattle.nc_base.specs.declared.script.Hints.{Hints}
+use Rattle.serial_spec.specs.DeviceCalls.{first_of, last_of, windows, collective_windows}
+use Rattle.serial_spec.specs.Lawful.{are_lawful_hints}
+use Rattle.overlay_laws.specs.Entries.{In}
+use Rattle.overlay_laws.specs.Lines.{EndBelow}
+use Rattle.overlay_laws.specs.Walks.{end_after, first_at, spans, told_of, IsCover}
+use Rattle.overlay_laws.proofs.CoverLaws.{hull_told, spans_ascend}
+use Rattle.overlay_laws.proofs.HullLaws.{ceil_covers, filter_in, first_least, in_left, in_range, last_most}
+use Rattle.overlay_laws.proofs.WalkLaws.{filter_none, windows_walked}
+use Rattle.file_domains.specs.Domains.{border, low_of, share_of}
+use Rattle.file_domains.specs.Rounds.{bytes_in}
+use Rattle.piece_exchange.specs.Turns.{turns_of, Told}
+use Rattle.collective_round.specs.Parts.{begin_or, Adjoin, AreDomains}
+use Rattle.collective_round.proofs.ShareSteps.{collective_is}
+use Rattle.collective_round.proofs.DomainSteps.{in_range_hints, same_domains}
+
+-- ---- domains that adjoin
+
+pub adjoin_more : (domains : List Extent) (d : Extent) (n : ℕ) → Adjoin domains → 1 ≤ d.len → end_after n domains ≡ d.at → Adjoin (domains ++ d ∷ [])
+adjoin_more [] d n h l e = (l, refl, tt)
+adjoin_more (c ∷ []) d n h l e = (h.0, sym e, (l, refl, tt))
+adjoin_more (c ∷ b ∷ domains) d n h l e = (h.0, h.1, adjoin_more (b ∷ domains) d (c.at + c.len) h.2 l e)
+
+end_more : (domains : List Extent) (d : Extent) (n : ℕ) → end_after n (domains ++ d ∷ []) ≡ d.at + d.len
+end_more [] d n = refl
+end_more (c ∷ domains) d n = end_more domains d (c.at + c.len)
+
+begin_more : (domains : List Extent) (d : Extent) (m n lo : ℕ) → begin_or m domains ≡ lo → d.at ≡ m → begin_or n (domains ++ d ∷ []) ≡ lo
+begin_more [] d m n lo h e = e ∙ h
+begin_more (c ∷ domains) d m n lo h e = h
+
+pub end_grows : (domains : List Extent) (n : ℕ) → Adjoin domains → begin_or n domains ≤ end_after n domains
+end_grows [] n h = omega arith
+end_grows (d ∷ domains) n h = let rest = end_grows domains (d.at + d.len) h.2 in let next = h.1 in omega arith
+
+pub ends_within : (domains : List Extent) (n : ℕ) (e : Extent) → Adjoin domains → In domains e → e.at + e.len ≤ end_after n domains
+ends_within [] n e h m = absurd m
+ends_within (d ∷ domains) n e h (inl same) =
+    let grown = end_grows domains (d.at + d.len) h.2 in
+    let next = h.1 in
+    let end : d.at + d.len ≡ e.at + e.len = ap (λ (z : Extent). z.at + z.len) same in
+    omega arith
+ends_within (d ∷ domains) n e h (inr m) = ends_within domains (d.at + d.len) e h.2 m
+
+pub ends_below : (domains : List Extent) (n hi : ℕ) → Adjoin domains → end_after n domains ≡ hi → hi < 2 ^ 62 → EndBelow (2 ^ 62) domains
+ends_below domains n hi h e l d m = let end = ends_within domains n d h m in omega arith
+
+-- ---- shares
+
+-- the covered bytes of share a
+abbrev pub share_bytes : ℕ → ℕ → ℕ → ℕ → List Extent → ℕ → List ℕ
+share_bytes lo hi nodes unit cover a = filter (λ x. (x - low_of lo unit) / share_of lo hi nodes unit == a) (spans cover)
+
+one_more : (a : ℕ) → range_with_len 0 (a + 1) ≡ range_with_len 0 a ++ a ∷ []
+one_more a = let same : 0 + a ≡ a = omega arith in range_append 0 a 1 ∙ ap (λ (k : ℕ). range_with_len 0 a ++ k ∷ []) same
+
+windows_more : (size : ℕ) (cover : List Extent) (bytes : ℕ → List ℕ) (a : ℕ) (domains : List Extent) (d : Extent)
+    → flat_map (λ e. turns_of size e cover) domains ≡ map told_of (flat_map (λ i. windows size (bytes i)) (range_with_len 0 a)) → bytes_in d cover ≡ bytes a
+    → flat_map (λ e. turns_of size e cover) (domains ++ d ∷ []) ≡ map told_of (flat_map (λ i. windows size (bytes i)) (range_with_len 0 (a + 1)))
+windows_more size cover bytes a domains d h e =
+    sym (flat_map_more (λ e. turns_of size e cover) [] domains d)
+    ∙ ap (λ (ts : List Told). ts ++ turns_of size d cover) h
+    ∙ ap (λ (b : List ℕ). map told_of (flat_map (λ i. windows size (bytes i)) (range_with_len 0 a)) ++ map told_of (windows size b)) e
+    ∙ sym (map-append told_of (flat_map (λ i. windows size (bytes i)) (range_with_len 0 a)) (windows size (bytes a)))
+    ∙ ap (λ (ws : List (List ℕ)). map told_of ws) (flat_map_more (λ i. windows size (bytes i)) [] (range_with_len 0 a) a)
+    ∙ ap (λ (r : List ℕ). map told_of (flat_map (λ i. windows size (bytes i)) r)) (sym (one_more a))
+
+no_windows : (size : ℕ) (bytes : List ℕ) → 1 ≤ size → bytes ≡ [] → windows size bytes ≡ []
+no_windows size bytes h e = ap (λ (b : List ℕ). windows size b) e ∙ windows_walked size [] h tt
+
+windows_none : (size : ℕ) (bytes : ℕ → List ℕ) (a : ℕ) (ts : List Told) → 1 ≤ size
+    → ts ≡ map told_of (flat_map (λ i. windows size (bytes i)) (range_with_len 0 a)) → bytes a ≡ []
+    → ts ≡ map told_of (flat_map (λ i. windows size (bytes i)) (range_with_len 0 (a + 1)))
+windows_none size bytes a ts s h e =
+    h
+    ∙ ap (λ (ws : List (List ℕ)). map told_of ws)
+    (sym (append-nil (flat_map (λ i. windows size (bytes i)) (range_with_len 0 a)))
+    ∙ ap (λ (w : List (List ℕ)). flat_map (λ i. windows size (bytes i)) (range_with_len 0 a) ++ w) (sym (no_windows size (bytes a) s e))
+    ∙ flat_map_more (λ i. windows size (bytes i)) [] (range_with_len 0 a) a
+    ∙ ap (λ (r : List ℕ). flat_map (λ i. windows size (bytes i)) r) (sym (one_more a)))
+
+-- an extent without a byte has no covered byte
+empty_bytes : (d : Extent) (cover : List Extent) → d.len ≤ 0 → bytes_in d cover ≡ []
+empty_bytes d cover h = filter_none (λ y. nat_lt y (d.at + d.len)) (filter (λ y. nat_le d.at y) (spans cover)) (λ y m. outside y (leb-true d.at y (filter_in (λ z. nat_le d.at z) (spans cover) y m).1) (nat_lt y (d.at + d.len)) refl)
+  where
+    outside : (y : ℕ) → d.at ≤ y → (t : Bool) → nat_lt y (d.at + d.len) ≡ t → nat_lt y (d.at + d.len) ≡ false
+    outside y low true g = let l = ltb-true _ _ g in absurd (omega arith)
+    outside y low false g = g
+
+-- ---- what is cut, a share after another
+
+pub record AreCut (lo hi nodes unit size : ℕ) (cover : List Extent) (a : ℕ) (domains : List Extent) : Type 0 where
+  pub line : Adjoin domains
+  pub begin : begin_or (border lo hi nodes unit a) domains ≡ lo
+  pub end : end_after lo domains ≡ border lo hi nodes unit a
+  pub many : length domains ≤ a
+  pub windows : flat_map (λ d. turns_of size d cover) domains ≡ map told_of (flat_map (λ i. windows size (share_bytes lo hi nodes unit cover i)) (range_with_len 0 a))
+
+pub cut_begun : (lo hi nodes unit size : ℕ) (cover : List Extent) → lo ≤ hi → AreCut lo hi nodes unit size cover 0 []
+cut_begun lo hi nodes unit size cover h = record { line = tt; begin = omega arith; end = omega arith; many = omega arith; windows = refl }
+
+pub cut_more : (lo hi nodes unit size : ℕ) (cover : List Extent) (a : ℕ) (domains : List Extent) (d : Extent) → AreCut lo hi nodes unit size cover a domains
+    → d.at ≡ border lo hi nodes unit a → d.at + d.len ≡ border lo hi nodes unit (a + 1) → bytes_in d cover ≡ share_bytes lo hi nodes unit cover a → 1 ≤ d.len
+    → AreCut lo hi nodes unit size cover (a + 1) (domains ++ d ∷ [])
+cut_more lo hi nodes unit size cover a domains d h begin end bytes some = record {
+  line = adjoin_more domains d lo h.line some (h.end ∙ sym begin);
+  begin = begin_more domains d (border lo hi nodes unit a) (border lo hi nodes unit (a + 1)) lo h.begin begin;
+  end = end_more domains d lo ∙ end;
+  many = (let long = length_push domains d in let many = h.many in omega arith);
+  windows = windows_more size cover (λ i. share_bytes lo hi nodes unit cover i) a domains d h.windows bytes;
+}
+
+pub cut_none : (lo hi nodes unit size : ℕ) (cover : List Extent) (a : ℕ) (domains : List Extent) (d : Extent) → 1 ≤ size → AreCut lo hi nodes unit size cover a domains
+    → d.at ≡ border lo hi nodes unit a → d.at + d.len ≡ border lo hi nodes unit (a + 1) → bytes_in d cover ≡ share_bytes lo hi nodes unit cover a → d.len ≤ 0
+    → AreCut lo hi nodes unit size cover (a + 1) domains
+cut_none lo hi nodes unit size cover a domains d s h begin end bytes none =
+    let still : d.at ≡ d.at + d.len = omega arith in
+    let same : border lo hi nodes unit a ≡ border lo hi nodes unit (a + 1) = sym begin ∙ still ∙ end in
+    record {
+      line = h.line;
+      begin = ap (λ (n : ℕ). begin_or n domains) (sym same) ∙ h.begin;
+      end = h.end ∙ same;
+      many = (let many = h.many in omega arith);
+      windows = windows_none size (λ i. share_bytes lo hi nodes unit cover i) a (flat_map (λ e. turns_of size e cover) domains) s h.windows (sym bytes ∙ empty_bytes d cover none);
+    }
+
+-- the last share ends at the end
+pub last_border : (lo hi nodes unit : ℕ) → lo ≤ hi → 1 ≤ nodes → 1 ≤ unit → border lo hi nodes unit nodes ≡ hi
+last_border lo hi nodes unit order h u =
+    let n = hi - low_of lo unit in
+    let c = (n + (nodes - 1)) / nodes in
+    let s = share_of lo hi nodes unit in
+    let covers : n ≤ c * nodes = ceil_covers n nodes h in
+    let rounded : c ≤ (c + (unit - 1)) / unit * unit = ceil_covers c unit u in
+    let grown : c * nodes ≤ s * nodes = mul-le c nodes s nodes (omega arith) (omega arith) in
+    let turned : s * nodes ≡ nodes * s = mul_comm s nodes in
+    omega arith
+
+pub cut_domains : (lo hi nodes unit size : ℕ) (cover domains : List Extent) → lo ≤ hi → 1 ≤ nodes → 1 ≤ unit → lo ≡ first_at cover → hi ≡ end_after 0 cover
+    → AreCut lo hi nodes unit size cover nodes domains → AreDomains cover domains
+cut_domains lo hi nodes unit size cover domains order n u first last h =
+    let whole : border lo hi nodes unit nodes ≡ hi = last_border lo hi nodes unit order n u in
+    record {
+      line = h.line;
+      begin = ap (λ (k : ℕ). begin_or k domains) (sym (whole ∙ last)) ∙ h.begin ∙ first;
+      end = ap (λ (k : ℕ). end_after k domains) (sym first) ∙ h.end ∙ whole ∙ last;
+    }
+
+-- ---- from the first covered byte to the last
+
+pub cover_reach : (cover : List Extent) → IsCover cover → (first_at cover ≡ first_of (spans cover)) × (1 ≤ length cover → end_after 0 cover ≡ last_of (spans cover) + 1)
+cover_reach [] h = (refl, λ some. absurd (omega arith))
+cover_reach (c ∷ cover) h =
+    let told = hull_told c cover h in
+    let begin : first_of (spans (c ∷ cover)) ≡ c.at = ap (λ (t : Told). t.0) told in
+    let long : last_of (spans (c ∷ cover)) + 1 - first_of (spans (c ∷ cover)) ≡ end_after 0 (c ∷ cover) - c.at = ap (λ (t : Told). t.1) told in
+    let len = h.0 in
+    let most = last_most (spans (c ∷ cover)) c.at (in_left (range_with_len c.at c.len) (spans cover) c.at (in_range c.at c.len c.at (omega arith) (omega arith))) in
+    (sym begin, λ some. omega arith)
+
+-- each covered byte lies from the first covered byte to the last
+pub within_reach : (cover : List Extent) (x : ℕ) → IsCover cover → In (spans cover) x → (first_at cover ≤ x) × (x < end_after 0 cover)
+within_reach [] x h m = absurd m
+within_reach (c ∷ cover) x h m =
+    let reach = cover_reach (c ∷ cover) h in
+    let begin = reach.0 in
+    let end = reach.1 (omega arith) in
+    let least = first_least (spans (c ∷ cover)) x (spans_ascend (c ∷ cover) h) m in
+    let most = last_most (spans (c ∷ cover)) x m in
+    (omega arith, omega arith)
+
+last_ends : (n : ℕ) (e : Extent) (cover : List Extent) (last : Extent) → slice_get (e ∷ cover) (length cover) ≡ Some last → end_after n (e ∷ cover) ≡ last.at + last.len
+last_ends n e [] last g = ap (λ (z : Extent). z.at + z.len) (same_Some e last g)
+last_ends n e (f ∷ cover) last g = last_ends (e.at + e.len) f cover last g
+
+pub reach_is : (cover : List Extent) (first last : Extent) → IsCover cover → slice_get cover 0 ≡ Some first → slice_get cover (length cover - 1) ≡ Some last
+    → (first.at ≡ first_at cover) × (last.at + last.len ≡ end_after 0 cover) × (first_at cover ≤ end_after 0 cover)
+reach_is [] first last h e f = no_none_some first e
+reach_is (c ∷ cover) first last h e f =
+    let index : length cover ≡ length (c ∷ cover) - 1 = omega arith in
+    let len = h.0 in
+    let inside = (within_reach (c ∷ cover) c.at h (in_left (range_with_len c.at c.len) (spans cover) c.at (in_range c.at c.len c.at (omega arith) (omega arith)))).1 in
+    (ap (λ (z : Extent). z.at) (sym (same_Some c first e)), sym (last_ends 0 c cover last (ap (λ (k : ℕ). slice_get (c ∷ cover) k) index ∙ f)), omega arith)
+
+-- ---- the windows
+
+pub cut_windows : (hints : Hints) (lo hi : ℕ) (cover domains : List Extent) → are_lawful_hints hints ≡ true → IsCover cover → lo ≡ first_at cover → hi ≡ end_after 0 cover
+    → AreCut lo hi hints.cb_nodes hints.striping_unit hints.cb_buffer cover hints.cb_nodes domains
+    → flat_map (λ d. turns_of hints.cb_buffer d cover) domains ≡ map told_of (collective_windows hints (spans cover))
+cut_windows hints lo hi cover domains lawful h first last cut =
+    let range = in_range_hints hints lawful in
+    let reach = cover_reach cover h in
+    cut.windows
+    ∙ ap (λ (ws : List (List ℕ)). map told_of ws)
+    (same_domains cover hints.cb_buffer hints.cb_nodes hints.striping_unit lo hi (first ∙ reach.0) (λ some. last ∙ reach.1 some)
+    ∙ sym (collective_is hints (spans cover) range.buffer.0))

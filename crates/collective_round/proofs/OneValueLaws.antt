@@ -1,0 +1,42 @@
+-- Entries that say one value of each byte.
+use Rattle.std.proofs.Common.{◌≡◌, ℕ, ◌∙◌, ap, inl, inr, refl, subst, sym, List, [], ◌∷◌, map}
+use Rattle.std.specs.List.{enumerate_from}
+use Rattle.nc_base.specs.declared.plan.Owned.{Owned}
+use Rattle.overlay_laws.specs.Entries.{Source, cell_of, In}
+use Rattle.overlay_laws.specs.Origins.{AreFound, IsOnceEach, IsResolved, Origin, byte_at, origins}
+use Rattle.overlay_laws.proofs.EntryLaws.{says_moved}
+use Rattle.overlay_laws.proofs.Members.{in_map, map_in}
+use Rattle.overlay_laws.proofs.OriginLaws.{cells_by_origins, greatest_once}
+use Rattle.serial_spec.specs.Said.{Cell, IsOneValued, Says, said_by}
+
+-- so do those of a list with nothing more
+pub one_moved : (cell : Owned → Cell) (xs ys : List Owned) → ((o : Owned) → In ys o → In xs o) → IsOneValued (said_by (map cell xs)) → IsOneValued (said_by (map cell ys))
+one_moved cell xs ys sub one x v w a b = one x v w (moved v a) (moved w b)
+  where
+    among : (c : Cell) → In (map cell ys) c → In (map cell xs) c
+    among c m = let r = map_in cell ys c m in subst (λ (d : Cell). In (map cell xs) d) r.2 (in_map cell xs r.0 (sub r.0 r.1))
+
+    moved : (u : ℕ) → Says (said_by (map cell ys)) x u → Says (said_by (map cell xs)) x u
+    moved u h = says_moved (λ (c : Cell). enumerate_from c.0 c.1) (map cell ys) (map cell xs) x u among h
+
+mapped_says : {A B : Type 0} (f : A → B) (ps : List (ℕ × A)) (x : ℕ) (v : B) → Says (map (λ p. (p.0, f p.1)) ps) x v → (a : A) × Says ps x a × (f a ≡ v)
+mapped_says f [] x v h = absurd h
+mapped_says f (p ∷ ps) x v (inl e) = (p.1, inl (e.0, refl), e.1)
+mapped_says f (p ∷ ps) x v (inr h) = let r = mapped_says f ps x v h in (r.0, inr r.1, r.2)
+
+-- resolved entries have of each byte the greatest origin
+pub resolved_one : (source : Source) (list result : List Owned) → IsOnceEach (origins list) → IsResolved list result → AreFound source result
+    → IsOneValued (said_by (map (λ o. cell_of source o) result))
+resolved_one source list result once resolved found x v w a b = sym p.2 ∙ ap (byte_at source) same ∙ q.2
+  where
+    origin : (u : ℕ) → Says (said_by (map (λ o. cell_of source o) result)) x u → (o : Origin) × Says (origins result) x o × (byte_at source o ≡ u)
+    origin u h = mapped_says (byte_at source) (origins result) x u (subst (λ ps. Says ps x u) (cells_by_origins source result found) h)
+
+    p : (o : Origin) × Says (origins result) x o × (byte_at source o ≡ v)
+    p = origin v a
+
+    q : (o : Origin) × Says (origins result) x o × (byte_at source o ≡ w)
+    q = origin w b
+
+    same : p.0 ≡ q.0
+    same = greatest_once (origins list) once x p.0 q.0 (resolved.0 x p.0 p.1) (resolved.0 x q.0 q.1)

@@ -1,0 +1,162 @@
+-- A disk that is split from the last domain on, and taken back.
+use Rattle.std.proofs.Common.{◌≡◌, ℕ, zero, suc, ◌+◌, ◌-◌, ◌^◌, ◌<◌, ◌≤◌, refl, sym, ◌∙◌, ap, subst, List, [], ◌∷◌, ◌++◌, length, take, drop, get_or, map, Option, Some, None, Err, arith}
+use Rattle.std.proofs.lemmas.List.{drop-take, drop_more, reverse-append, take_all, take-append-drop, take-take}
+use Rattle.std.specs.Prelude.{reverse, IfSome, IsErrOf}
+use Rattle.nc_base.specs.declared.plan.Extent.{Extent}
+use Rattle.nc_base.specs.declared.step.DiskCall.{DiskCall}
+use Rattle.nc_outside.specs.Cause.{both_faults}
+use Rattle.nc_outside.specs.Told.{after, joined}
+use Rattle.nc_outside.proofs.ToldLaws.{after-after, after-same}
+use Rattle.overlay_laws.specs.Walks.{end_after}
+use Rattle.piece_exchange.specs.Put.{PartState}
+use Rattle.collective_round.specs.Parts.{begin_or, part_between, with_part, with_parts, Adjoin, Follow, IsFront}
+use Rattle.collective_round.proofs.DomainCuts.{end_grows}
+
+-- ---- the begin of what comes next
+
+-- what comes behind a domain begins where it ends or later, and within the disk
+pub next_begin : (d : Extent) (rest : List Extent) (m n : ℕ) → Adjoin (d ∷ rest) → end_after m (d ∷ rest) ≤ n → (d.at + d.len ≤ begin_or n rest) × (begin_or n rest ≤ n)
+next_begin d [] m n h l = (l, omega arith)
+next_begin d (e ∷ rest) m n h l = let next = h.1 in let grown = end_grows (e ∷ rest) (d.at + d.len) h.2 in (omega arith, omega arith)
+
+pub begin_within : (domains : List Extent) (m n : ℕ) → Adjoin domains → end_after m domains ≤ n → begin_or n domains ≤ n
+begin_within [] m n h l = omega arith
+begin_within (d ∷ domains) m n h l = let grown = end_grows (d ∷ domains) m h in omega arith
+
+pub end_dropped : (k : ℕ) (domains : List Extent) (m n : ℕ) → end_after m domains ≤ n → end_after 0 (drop k domains) ≤ n
+end_dropped zero [] m n l = omega arith
+end_dropped zero (d ∷ domains) m n l = l
+end_dropped (suc k) [] m n l = omega arith
+end_dropped (suc k) (d ∷ domains) m n l = end_dropped k domains (d.at + d.len) n l
+
+pub adjoin_dropped : (k : ℕ) (domains : List Extent) → Adjoin domains → Adjoin (drop k domains)
+adjoin_dropped zero domains h = h
+adjoin_dropped (suc k) [] h = h
+adjoin_dropped (suc k) (d ∷ domains) h = adjoin_dropped k domains h.2
+
+-- ---- bytes
+
+pub cut_between : (a b : ℕ) (file : List ℕ) → a ≤ b → drop a (take b file) ≡ take (b - a) (drop a file)
+cut_between a b file l = let whole : b ≡ a + (b - a) = omega arith in ap (λ (n : ℕ). drop a (take n file)) whole ∙ drop-take a (b - a) file
+
+pub take_both : (a b : ℕ) (file : List ℕ) → a ≤ b → take a file ++ take (b - a) (drop a file) ≡ take b file
+take_both a b file l =
+    ap (λ (r : List ℕ). take a file ++ r) (sym (cut_between a b file l))
+    ∙ ap (λ (r : List ℕ). r ++ drop a (take b file)) (sym (take-take a b file l))
+    ∙ take-append-drop a (take b file)
+
+-- ---- one domain more is split off
+
+pub front_more : (disk mid new : PartState) (d : Extent) (rest : List Extent) → disk.from ≡ 0 → Adjoin (d ∷ rest) → end_after 0 (d ∷ rest) ≤ disk.len → IsFront rest disk mid
+    → new.from ≡ mid.from → new.len ≡ d.at - mid.from → new.held ≡ after (take (d.at - mid.from)) mid.held → new.calls ≡ mid.calls → IsFront (d ∷ rest) disk new
+front_more disk mid new d rest whole line room f from len held calls =
+    let begun = f.from in
+    let next = next_begin d rest 0 disk.len line room in
+    let low = next.0 in
+    let first : d.at - mid.from ≡ d.at = omega arith in
+    let order : d.at ≤ begin_or disk.len rest = omega arith in
+    record {
+      from = from ∙ f.from;
+      len = len ∙ first;
+      held = held
+          ∙ ap (λ (n : ℕ). after (take n) mid.held) first
+          ∙ ap (λ (h : Option (List ℕ)). after (take d.at) h) f.held
+          ∙ after-after (take d.at) (take (begin_or disk.len rest)) disk.held
+          ∙ after-same (λ file. take d.at (take (begin_or disk.len rest) file)) (take d.at) disk.held (λ file. take-take d.at (begin_or disk.len rest) file order);
+      calls = calls ∙ f.calls;
+    }
+
+pub part_split : (disk mid part : PartState) (d : Extent) (rest : List Extent) → disk.from ≡ 0 → Adjoin (d ∷ rest) → end_after 0 (d ∷ rest) ≤ disk.len → IsFront rest disk mid
+    → part.from ≡ d.at → part.len ≡ mid.from + mid.len - d.at → part.held ≡ after (drop (d.at - mid.from)) mid.held → part.calls ≡ after (λ _. []) mid.calls → part.faults ≡ 0
+    → part ≡ part_between disk d.at (begin_or disk.len rest)
+part_split disk mid part d rest whole line room f from len held calls faults =
+    let begun = f.from in
+    let long = f.len in
+    let next = next_begin d rest 0 disk.len line room in
+    let low = next.0 in
+    let first : d.at - mid.from ≡ d.at = omega arith in
+    let order : d.at ≤ begin_or disk.len rest = omega arith in
+    let many : part.len ≡ begin_or disk.len rest - d.at = omega arith in
+    let bytes : part.held ≡ after (λ file. take (begin_or disk.len rest - d.at) (drop d.at file)) disk.held
+    = held
+    ∙ ap (λ (n : ℕ). after (drop n) mid.held) first
+    ∙ ap (λ (h : Option (List ℕ)). after (drop d.at) h) f.held
+    ∙ after-after (drop d.at) (take (begin_or disk.len rest)) disk.held
+    ∙ after-same (λ file. drop d.at (take (begin_or disk.len rest) file)) (λ file. take (begin_or disk.len rest - d.at) (drop d.at file)) disk.held
+    (λ file. cut_between d.at (begin_or disk.len rest) file order) in
+    let none : part.calls ≡ after (λ _. []) disk.calls = calls ∙ ap (λ (c : Option (List DiskCall)). after (λ _. []) c) f.calls in
+    λ i. record { from = from i; len = many i; held = bytes i; calls = none i; faults = faults i }
+
+-- the parts so far, the last one first
+pub turned_more : {D : Type 0} (state : D → PartState) (parts now : List D) (part : D) (p : PartState) (ps : List PartState) → now ≡ parts ++ part ∷ [] → state part ≡ p
+    → map state (reverse parts) ≡ ps → map state (reverse now) ≡ p ∷ ps
+turned_more {D} state parts now part p ps e same h =
+    ap (λ (ds : List D). map state (reverse ds)) e
+    ∙ ap (λ (ds : List D). map state ds) (reverse-append parts (part ∷ []))
+    ∙ (λ i. same i ∷ h i)
+
+-- nothing is split off
+take_told : (told : Option (List ℕ)) (n : ℕ) → IfSome told (λ file. length file ≡ n) → told ≡ after (take n) told
+take_told None n h = refl
+take_told (Some file) n h = ap Some (sym (take_all n file (omega arith)))
+
+pub front_whole : (disk : PartState) (rest : List Extent) → IfSome disk.held (λ file. length file ≡ disk.len) → rest ≡ [] → IsFront rest disk disk
+front_whole disk rest told e = subst (λ (ds : List Extent). IsFront ds disk disk) (sym e) (record { from = refl; len = refl; held = take_told disk.held disk.len told; calls = refl })
+
+-- the last of the domains that are left, and those behind it
+pub record IsLast (domains : List Extent) (k n : ℕ) (d : Extent) (rest : List Extent) : Type 0 where
+  pub same : drop (k - 1) domains ≡ d ∷ rest
+  pub line : Adjoin (d ∷ rest)
+  pub room : end_after 0 (d ∷ rest) ≤ n
+
+pub last_left : (domains : List Extent) (k n : ℕ) (none : Extent) → Adjoin domains → end_after 0 domains ≤ n → 0 < k → k ≤ length domains
+    → IsLast domains k n (get_or domains (k - 1) none) (drop k domains)
+last_left domains k n none line room some within =
+    let there : k - 1 + 1 ≡ k = omega arith in
+    let same : drop (k - 1) domains ≡ get_or domains (k - 1) none ∷ drop k domains
+    = drop_more domains (k - 1) none (omega arith) ∙ ap (λ (j : ℕ). get_or domains (k - 1) none ∷ drop j domains) there in
+    record {
+      same = same;
+      line = subst (λ (ds : List Extent). Adjoin ds) same (adjoin_dropped (k - 1) domains line);
+      room = subst (λ (ds : List Extent). end_after 0 ds ≤ n) same (end_dropped (k - 1) domains 0 n room);
+    }
+
+-- it begins within what is left of the disk
+pub begins_there : (disk mid : PartState) (domains : List Extent) (k : ℕ) (d : Extent) (rest : List Extent) → disk.from ≡ 0 → IsLast domains k disk.len d rest → IsFront rest disk mid
+    → (mid.from ≤ d.at) × (d.at ≤ mid.from + mid.len)
+begins_there disk mid domains k d rest whole h f =
+    let begun = f.from in
+    let long = f.len in
+    let next = next_begin d rest 0 disk.len h.line h.room in
+    let low = next.0 in
+    (omega arith, omega arith)
+
+-- ---- taken back
+
+-- a disk with a part behind it
+pub joined_one : (disk part new : PartState) → new.from ≡ disk.from → new.len ≡ disk.len + part.len → new.held ≡ joined disk.held part.held → new.calls ≡ joined disk.calls part.calls
+    → new.faults ≡ both_faults disk.faults part.faults → new ≡ with_part disk part
+joined_one disk part new from len held calls faults = λ i. record { from = from i; len = len i; held = held i; calls = calls i; faults = faults i }
+
+pub joined_next : {D : Type 0} (state : D → PartState) (disk new : PartState) (part : D) (rest left : List D) (whole : PartState) → left ≡ part ∷ rest → new ≡ with_part disk (state part)
+    → with_parts disk (map state left) ≡ whole → with_parts new (map state rest) ≡ whole
+joined_next {D} state disk new part rest left whole e one h =
+    ap (λ (s : PartState). with_parts s (map state rest)) one ∙ ap (λ (ds : List D). with_parts disk (map state ds)) (sym e) ∙ h
+
+-- what is left follows the part that was taken back
+pub follow_first : {D : Type 0} (state : D → PartState) (at : ℕ) (part : D) (rest left : List D) → left ≡ part ∷ rest → Follow at (map state left)
+    → ((state part).from ≡ at) × Follow (at + (state part).len) (map state rest)
+follow_first {D} state at part rest left e h = subst (λ (ds : List D). Follow at (map state ds)) e h
+
+pub follow_at : (m n : ℕ) (parts : List PartState) → m ≡ n → Follow m parts → Follow n parts
+follow_at m n parts e h = subst (λ (k : ℕ). Follow k parts) e h
+
+-- ---- the count of faults
+
+pub joined_at_least : (k : ℕ) (disk : PartState) (parts : List PartState) → k < 2 ^ 64 → k ≤ disk.faults → k ≤ (with_parts disk parts).faults
+joined_at_least k disk [] l h = h
+joined_at_least k disk (p ∷ parts) l h = joined_at_least k (with_part disk p) parts l (omega arith)
+
+-- a fault that is handed on
+pub same_fault : {T U E : Type 0} (e x : E) → IsErrOf {T = T} (Err e) x → IsErrOf {T = U} (Err e) x
+same_fault {T} {U} {E} e x h = let same : e ≡ x = cc in ap (λ (y : E). Err y) same

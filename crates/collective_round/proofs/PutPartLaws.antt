@@ -1,0 +1,65 @@
+-- Puts on the parts of a disk, which are joined again.
+use Rattle.std.proofs.Common.{◌≡◌, ℕ, ◌+◌, ◌-◌, ◌≤◌, sym, subst, List, [], ◌∷◌, length, map, Result, arith}
+use Rattle.std.specs.Prelude.{flat_map, zip, IfSome}
+use Rattle.std.specs.List.{range_with_len, AllZip}
+use Rattle.nc_base.specs.declared.plan.Extent.{Extent}
+use Rattle.nc_base.specs.declared.plan.Owned.{Owned}
+use Rattle.data_sieving.specs.Sieving.{AreFilled, LieOn}
+use Rattle.data_sieving.proofs.PutSteps.{entries_within}
+use Rattle.overlay_laws.specs.Entries.{cell_of, ranges, In, HaveSame, Source}
+use Rattle.overlay_laws.specs.Walks.{end_after, spans, IsCover}
+use Rattle.overlay_laws.proofs.HullLaws.{flat_in, in_left, in_range, in_right, range_high}
+use Rattle.piece_exchange.specs.Put.{HasPut, PartState}
+use Rattle.piece_exchange.specs.Turns.{Told}
+use Rattle.collective_round.specs.Parts.{parts_of, with_parts, Adjoin, AreDomains, Follow, IsFront}
+use Rattle.collective_round.proofs.PartLaws.{cells_behind, domains_room, puts_follow, puts_joined, HasPutWhole}
+
+-- ---- the domains lie on the disk
+
+cover_last : (n : ℕ) (e : Extent) (cover : List Extent) → IsCover (e ∷ cover) → (1 ≤ end_after n (e ∷ cover)) × In (spans (e ∷ cover)) (end_after n (e ∷ cover) - 1)
+cover_last n e [] h =
+    let some = h.0 in
+    (omega arith, in_left (range_with_len e.at e.len) [] (e.at + e.len - 1) (in_range e.at e.len (e.at + e.len - 1) (omega arith) (omega arith)))
+cover_last n e (f ∷ cover) h =
+    let last = cover_last (e.at + e.len) f cover h.2 in
+    (last.0, in_right (range_with_len e.at e.len) (spans (f ∷ cover)) (end_after (e.at + e.len) (f ∷ cover) - 1) last.1)
+
+pub cover_room : (cover : List Extent) (list : List Owned) (len : ℕ) → IsCover cover → HaveSame (spans cover) (ranges list) → LieOn 0 len list → end_after 0 cover ≤ len
+cover_room [] list len h same on = omega arith
+cover_room (e ∷ cover) list len h same on =
+    let last = cover_last 0 e cover h in
+    let some = last.0 in
+    let by = flat_in (λ (o : Owned). range_with_len o.extent.at o.extent.len) list (end_after 0 (e ∷ cover) - 1) (same.0 (end_after 0 (e ∷ cover) - 1) last.1) in
+    let high = range_high by.0.extent.at by.0.extent.len (end_after 0 (e ∷ cover) - 1) by.2 in
+    let end = (on by.0 by.1).1 in
+    omega arith
+
+pub plan_room : (cover domains : List Extent) (list : List Owned) (len : ℕ) → IsCover cover → HaveSame (spans cover) (ranges list) → LieOn 0 len list → AreDomains cover domains
+    → end_after 0 domains ≤ len
+plan_room cover domains list len h same on div = domains_room cover domains len div (cover_room cover list len h same on)
+
+-- ---- parts that were put
+
+-- What is known of a disk, its parts and the domains.
+pub record AreSplit {D : Type 0} (state : D → PartState) (disk front : PartState) (domains : List Extent) (parts : List D) : Type 0 where
+  pub begin : disk.from ≡ 0
+  pub line : Adjoin domains
+  pub room : end_after 0 domains ≤ disk.len
+  pub front_is : IsFront domains disk front
+  pub parts_are : map state parts ≡ parts_of disk domains
+
+pub parts_follow : {D T E : Type 0} (state : D → PartState) (source : Source) (list : List Owned) (turns : Extent → List Told) (disk front : PartState) (domains : List Extent) (parts news : List D) (end : Result T E)
+    → AreSplit state disk front domains parts
+    → AllZip (λ p new. HasPut source list (turns p.1) (state p.0) (state new) end) (zip parts domains) news → Follow (front.from + front.len) (map state news)
+parts_follow state source list turns disk front domains parts news end s put =
+    puts_follow state source list turns disk front domains parts news end s.begin s.line s.room s.front_is s.parts_are put
+
+pub parts_put : {D T E : Type 0} (state : D → PartState) (source : Source) (list : List Owned) (turns : Extent → List Told) (cover : List Extent) (disk front new : PartState) (domains : List Extent)
+    (parts news : List D) (end : Result T E) → AreSplit state disk front domains parts → IfSome disk.held (λ file. length file ≡ disk.len)
+    → AreFilled list → LieOn 0 disk.len list → IsCover cover → HaveSame (spans cover) (ranges list) → AreDomains cover domains
+    → AllZip (λ p new. HasPut source list (turns p.1) (state p.0) (state new) end) (zip parts domains) news → new ≡ with_parts front (map state news)
+    → HasPutWhole source list (flat_map turns domains) disk new end
+parts_put state source list turns cover disk front new domains parts news end s told filled on h same div put joined =
+    subst (λ (n : PartState). HasPutWhole source list (flat_map turns domains) disk n end) (sym joined)
+    (puts_joined state source list turns disk front domains parts news end told s.line s.room s.front_is s.parts_are
+    (cells_behind source list cover domains disk.len filled h same div) (entries_within source list disk.len (λ o m. let end = (on o m).1 in omega arith)) put)

@@ -1,0 +1,68 @@
+-- The entries of puts and their cover are a plan of what is to be put.
+use Rattle.std.proofs.Common.{◌≡◌, ℕ, ◌+◌, ◌-◌, ◌^◌, ◌<◌, ◌≤◌, ap, inl, inr, refl, subst, sym, List, [], ◌∷◌, length, map, Option, Some, None, arith}
+use Rattle.std.specs.Prelude.{slice_get}
+use Rattle.file_domains.proofs.CoverParts.{get_is}
+use Rattle.nc_base.specs.declared.header.Header.{Header}
+use Rattle.nc_base.specs.declared.plan.Batch.{Batch}
+use Rattle.nc_base.specs.declared.plan.Extent.{Extent}
+use Rattle.nc_base.specs.declared.plan.Owned.{Owned}
+use Rattle.data_sieving.specs.Sieving.{bytes_of_post}
+use Rattle.overlay_laws.specs.Entries.{Source, In, HaveSame, ranges}
+use Rattle.overlay_laws.specs.Lines.{EndBelow}
+use Rattle.overlay_laws.specs.Origins.{AreFound}
+use Rattle.overlay_laws.specs.Walks.{spans, IsCover}
+use Rattle.overlay_laws.proofs.Members.{in_map}
+use Rattle.piece_exchange.specs.Pieces.{ArePieces}
+use Rattle.piece_exchange.specs.Plan.{IsPlan}
+use Rattle.piece_exchange.specs.Turns as turns
+use Rattle.serial_spec.specs.SharedByte.{Puts}
+use Rattle.collective_round.specs.Laid.{source_of, AreLaid, AreSorted}
+use Rattle.collective_round.proofs.PutLaws.{cover_ends}
+
+-- where the first batch is that of rank 0
+pub same_source : (batches : List Batch) → source_of 0 batches ≡ turns.source_of batches
+same_source batches = λ i rank slot. turns.source_of batches (same rank i) slot
+  where
+    same : (rank : ℕ) → rank - 0 ≡ rank
+    same rank = omega arith
+
+found_at : (source : Source) (list : List Owned) (o : Owned) → AreFound source list → In list o → o.from + o.extent.len ≤ length (source o.rank o.slot)
+found_at source [] o h m = absurd m
+found_at source (p ∷ list) o h (inl e) = subst (λ (q : Owned). q.from + q.extent.len ≤ length (source q.rank q.slot)) e h.0
+found_at source (p ∷ list) o h (inr m) = found_at source list o h.1 m
+
+are_pieces : (source : Source) (list : List Owned) → AreFound source list → AreSorted list → ArePieces source list
+are_pieces source list found sorted o m = record {
+  some = sorted.filled o m;
+  ends = sorted.ends o.extent (in_map (λ (q : Owned). q.extent) list o m);
+  found = found_at source list o found m;
+}
+
+-- a rank that has a byte is one of those with a batch
+rank_below : (batches : List Batch) (rank slot n : ℕ) → 1 ≤ n → n ≤ length (turns.source_of batches rank slot) → rank < length batches
+rank_below batches rank slot n some there = by_batch (slice_get batches rank) refl there
+  where
+    by_batch : (o : Option Batch) → slice_get batches rank ≡ o → n ≤ length (bytes_of_post (slice_get (turns.puts_of_some o) slot)) → rank < length batches
+    by_batch None e h = absurd (omega arith)
+    by_batch (Some b) e h = (get_is batches rank b e).0
+
+pub laid_plan : (header : Header) (puts : Puts) (batches : List Batch) (list : List Owned) (cover : List Extent) (size : ℕ) → length batches ≤ 64
+    → AreLaid header (source_of 0 batches) puts list → IsCover cover → HaveSame (spans cover) (ranges list) → 1 ≤ size → IsPlan batches list cover size
+laid_plan header puts batches list cover size few laid covers bytes some = record {
+  few = few;
+  sorted = laid.sorted.by_place;
+  ends = laid.sorted.ends;
+  pieces = pieces;
+  below = λ o m. (let p = pieces o m in let n = p.some in rank_below batches o.rank o.slot (o.from + o.extent.len) (omega arith) p.found);
+  one = exchanged.one;
+  covers = covers;
+  cover_ends = cover_ends cover list covers bytes laid.sorted.ends;
+  cover_bytes = bytes;
+  some = some;
+}
+  where
+    exchanged : AreLaid header (turns.source_of batches) puts list
+    exchanged = subst (λ (s : Source). AreLaid header s puts list) (same_source batches) laid
+
+    pieces : ArePieces (turns.source_of batches) list
+    pieces = are_pieces (turns.source_of batches) list exchanged.found laid.sorted

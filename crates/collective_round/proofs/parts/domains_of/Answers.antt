@@ -1,0 +1,74 @@
+-- One share more is cut: its domain, where it has a byte.
+use Rattle.std.proofs.Common.{◌≡◌, ℕ, ◌+◌, ◌∙◌, sym, subst, List, vec_capacity, arith}
+use Rattle.std.specs.Prelude.{Vec}
+use Rattle.std.specs.declared.alloc.Global.{Global}
+use Rattle.nc_base.specs.declared.plan.Extent.{Extent}
+use Rattle.file_domains.specs.Domains.{low_of, share_of}
+use Rattle.file_domains.specs.Rounds.{bytes_in}
+use Rattle.overlay_laws.specs.Walks.{end_after}
+use Rattle.collective_round.proofs.DomainCuts.{cut_domains, cut_more, cut_none, cut_windows, ends_below, last_border, share_bytes, within_reach, AreCut}
+use Rattle.collective_round.proofs.DomainSteps.{domain_is, in_range_hints}
+use Rattle.collective_round.proofs.parts.domains_of.Goals as goal
+use Rattle.collective_round.proofs.parts.domains_of.Goals.{then-domain-gt0, else-domain-gt0}
+
+pub loop-a-preserved : goal.loop-a-preserved
+loop-a-preserved c =
+    let range = in_range_hints c.args.hints.now c.requires.hints in
+    let lo = c.reach_of-reach.result.at in
+    let hi = c.reach_of-reach.result.at + c.reach_of-reach.result.len in
+    let begin = c.reach_of-reach.ensures.begin in
+    let end = c.reach_of-reach.ensures.end in
+    let nodes = c.args.hints.now.cb_nodes in
+    let unit = c.args.hints.now.striping_unit in
+    let size = c.args.hints.now.cb_buffer in
+    let cover = c.args.cover.now in
+    let domain = c.cut-domain.result in
+    let cut = c.loop-a.invariant.0 in
+    let bytes : bytes_in domain cover ≡ share_bytes lo hi nodes unit cover c.loop-a.a
+    = domain_is cover domain lo hi (low_of lo unit) (share_of lo hi nodes unit) c.loop-a.a c.cut-domain.ensures.bytes
+    (λ x m. let reach = (within_reach cover x c.requires.cover m).0 in omega arith)
+    (λ x m. let reach = (within_reach cover x c.requires.cover m).1 in omega arith) in
+    elim c.if-domain-gt0.branch [
+      | then-domain-gt0 w ↦
+          let some = w.if-domain-gt0.true in
+          subst (λ (v : Vec Extent Global). AreCut lo hi nodes unit size cover (c.loop-a.a + 1) v.items × (vec_capacity v ≡ vec_capacity c.in_ok-domains.domains)) (sym w.domains-is) (
+            subst (λ (ds : List Extent). AreCut lo hi nodes unit size cover (c.loop-a.a + 1) ds) (sym w.push_reserved.ensures.items)
+                (cut_more lo hi nodes unit size cover c.loop-a.a c.loop-a.domains.items domain cut c.cut-domain.ensures.begin c.cut-domain.ensures.end bytes (omega arith)),
+            w.push_reserved.ensures.capacity ∙ c.loop-a.invariant.1,
+          )
+      | else-domain-gt0 w ↦
+          let none = w.if-domain-gt0.false in
+          subst (λ (v : Vec Extent Global). AreCut lo hi nodes unit size cover (c.loop-a.a + 1) v.items × (vec_capacity v ≡ vec_capacity c.in_ok-domains.domains)) (sym w.domains-is) (
+            cut_none lo hi nodes unit size cover c.loop-a.a c.loop-a.domains.items domain range.buffer.0 cut c.cut-domain.ensures.begin c.cut-domain.ensures.end bytes (omega arith),
+            c.loop-a.invariant.1,
+          )
+    ]
+
+pub returns-clause-domains : goal.returns-clause-domains
+returns-clause-domains c =
+    let range = in_range_hints c.args.hints.now c.requires.hints in
+    let last : c.loop-a.a ≡ c.args.hints.now.cb_nodes = (let over = c.loop-a-test.false in let within = c.loop-a.auto.a-end in omega arith) in
+    cut_domains c.reach_of-reach.result.at (c.reach_of-reach.result.at + c.reach_of-reach.result.len) c.args.hints.now.cb_nodes c.args.hints.now.striping_unit c.args.hints.now.cb_buffer
+    c.args.cover.now c.loop-a.domains.items (omega arith) range.nodes.0 range.unit.0 c.reach_of-reach.ensures.begin c.reach_of-reach.ensures.end
+    (subst (λ (k : ℕ). AreCut c.reach_of-reach.result.at (c.reach_of-reach.result.at + c.reach_of-reach.result.len) c.args.hints.now.cb_nodes c.args.hints.now.striping_unit c.args.hints.now.cb_buffer
+    c.args.cover.now k c.loop-a.domains.items) last c.loop-a.invariant.0)
+
+pub returns-clause-ends : goal.returns-clause-ends
+returns-clause-ends c =
+    let range = in_range_hints c.args.hints.now c.requires.hints in
+    let last : c.loop-a.a ≡ c.args.hints.now.cb_nodes = (let over = c.loop-a-test.false in let within = c.loop-a.auto.a-end in omega arith) in
+    let cut = c.loop-a.invariant.0 in
+    ends_below c.loop-a.domains.items c.reach_of-reach.result.at (c.reach_of-reach.result.at + c.reach_of-reach.result.len) cut.line
+    (subst (λ (k : ℕ). end_after c.reach_of-reach.result.at c.loop-a.domains.items ≡ k)
+    (last_border c.reach_of-reach.result.at (c.reach_of-reach.result.at + c.reach_of-reach.result.len) c.args.hints.now.cb_nodes c.args.hints.now.striping_unit (omega arith) range.nodes.0 range.unit.0)
+    (subst (λ (k : ℕ). AreCut c.reach_of-reach.result.at (c.reach_of-reach.result.at + c.reach_of-reach.result.len) c.args.hints.now.cb_nodes c.args.hints.now.striping_unit c.args.hints.now.cb_buffer
+    c.args.cover.now k c.loop-a.domains.items) last cut).end)
+    c.reach_of-reach.ensures.limit
+
+pub returns-clause-windows : goal.returns-clause-windows
+returns-clause-windows c =
+    let last : c.loop-a.a ≡ c.args.hints.now.cb_nodes = (let over = c.loop-a-test.false in let within = c.loop-a.auto.a-end in omega arith) in
+    cut_windows c.args.hints.now c.reach_of-reach.result.at (c.reach_of-reach.result.at + c.reach_of-reach.result.len) c.args.cover.now c.loop-a.domains.items c.requires.hints c.requires.cover
+    c.reach_of-reach.ensures.begin c.reach_of-reach.ensures.end
+    (subst (λ (k : ℕ). AreCut c.reach_of-reach.result.at (c.reach_of-reach.result.at + c.reach_of-reach.result.len) c.args.hints.now.cb_nodes c.args.hints.now.striping_unit c.args.hints.now.cb_buffer
+    c.args.cover.now k c.loop-a.domains.items) last c.loop-a.invariant.0)

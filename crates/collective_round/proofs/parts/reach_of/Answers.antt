@@ -1,0 +1,29 @@
+-- The first extent begins at the first covered byte, and the last one ends behind the last.
+use Rattle.std.proofs.Common.{◌≡◌, ◌+◌, ◌-◌, ◌^◌, ◌<◌, ◌≤◌, ◌∙◌, sym, ap, length, arith}
+use Rattle.std.specs.Option.{option_copied}
+use Rattle.overlay_laws.proofs.Members.{at_in}
+use Rattle.overlay_laws.specs.Walks.{end_after, first_at}
+use Rattle.collective_round.proofs.DomainCuts.{reach_is}
+use Rattle.collective_round.proofs.parts.reach_of.Goals as goal
+
+reach : (c : goal.In-Some-Some) → (c.in-Some-Some.first.now.at ≡ first_at c.args.cover.now)
+    × (c.in-Some-Some.last.now.at + c.in-Some-Some.last.now.len ≡ end_after 0 c.args.cover.now) × (first_at c.args.cover.now ≤ end_after 0 c.args.cover.now)
+reach c =
+    reach_is c.args.cover.now c.in-Some-Some.first.now c.in-Some-Some.last.now c.requires.cover (sym c.first.ensures.value ∙ ap option_copied c.in-Some-Some.is-0)
+    (sym c.last.ensures.value ∙ ap option_copied c.in-Some-Some.is-1)
+
+high : (c : goal.In-Some-Some) → c.in-Some-Some.last.now.at + c.in-Some-Some.last.now.len < 2 ^ 62
+high c =
+    c.requires.ends c.in-Some-Some.last.now (at_in c.args.cover.now (length c.args.cover.now - 1) c.in-Some-Some.last.now (sym c.last.ensures.value ∙ ap option_copied c.in-Some-Some.is-1))
+
+pub overflow_add-result : goal.overflow_add-result
+overflow_add-result c = let h = high c in omega arith
+
+pub overflow_sub-result : goal.overflow_sub-result
+overflow_sub-result c = let r = reach c in let begin = r.0 in let end = r.1 in let order = r.2 in omega arith
+
+pub returns-in-Some-Some-clause-end : goal.returns-in-Some-Some-clause-end
+returns-in-Some-Some-clause-end c = let r = reach c in let begin = r.0 in let end = r.1 in let order = r.2 in omega arith
+
+pub returns-in-Some-Some-clause-limit : goal.returns-in-Some-Some-clause-limit
+returns-in-Some-Some-clause-limit c = let r = reach c in let begin = r.0 in let end = r.1 in let order = r.2 in let h = high c in omega arith

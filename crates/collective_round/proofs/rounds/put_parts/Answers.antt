@@ -1,0 +1,97 @@
+-- The puts of the parts are those of the disk.
+use Rattle.std.proofs.Common.{◌≡◌, ◌∙◌, ◌<◌, ◌^◌, ◌+◌, ◌≤◌, ℕ, ap, List, map, rules, arith}
+use Rattle.std.proofs.lemmas.Grind.{common_steps}
+use Rattle.std.specs.Prelude.{flat_map}
+use Rattle.overlay_laws.specs.Walks.{end_after}
+use Rattle.piece_exchange.specs.Plan.{planned_turns, source_in}
+use Rattle.piece_exchange.specs.Put.{PartState}
+use Rattle.collective_round.proofs.PartLaws.{as_many_parts, domain_of_part, joined_rose, HasPutWhole}
+use Rattle.collective_round.proofs.PartSplits.{joined_at_least}
+use Rattle.collective_round.proofs.PutPartLaws.{cover_room, plan_room, parts_follow, parts_put, AreSplit}
+use Rattle.collective_round.proofs.rounds.put_parts.Given.{Over}
+use Rattle.collective_round.proofs.rounds.put_parts.Goals as goal
+
+abbrev state : (g : Over) → g.row.D.Denot → PartState
+state g d = record { from = g.D.Disk.from d; len = g.D.Disk.len d; held = g.D.Disk.held d; calls = g.D.Disk.calls d; faults = g.D.Disk.faults d }
+
+pub split-requires-clause-room : goal.split-requires-clause-room
+split-requires-clause-room g c κs within =
+    let plan = c.args.plan.now in
+    plan_room plan.cover.now c.args.domains.now plan.list.now (g.D.Disk.len c.args.disk.now) c.requires.plan.covers c.requires.plan.cover_bytes c.requires.on_disk c.requires.domains
+
+pub exchange_put-parts-requires-clause-one_each : goal.exchange_put-parts-requires-clause-one_each
+exchange_put-parts-requires-clause-one_each g c κs within =
+    as_many_parts (state g) (state g c.args.disk.now) c.args.domains.now c.in_ok-parts.parts.items c.in_ok-parts.ensures.parts
+
+pub exchange_put-parts-requires-clause-domains : goal.exchange_put-parts-requires-clause-domains
+exchange_put-parts-requires-clause-domains g c κs within =
+    let plan = c.args.plan.now in
+    domain_of_part (state g) plan.list.now plan.cover.now c.args.domains.now (state g c.args.disk.now) c.in_ok-parts.parts.items c.in_ok-parts.ensures.parts
+    c.requires.plan.covers c.requires.plan.cover_bytes c.requires.domains
+    (cover_room plan.cover.now plan.list.now (g.D.Disk.len c.args.disk.now) c.requires.plan.covers c.requires.plan.cover_bytes c.requires.on_disk)
+
+pub append_all-requires-after_bounds : goal.append_all-requires-after_bounds
+append_all-requires-after_bounds g c κs within =
+    let plan = c.args.plan.now in
+    parts_follow (state g) (source_in plan) plan.list.now (λ d. planned_turns plan d) (state g c.args.disk.now) (state g c.split.new.disk) c.args.domains.now
+    c.in_ok-parts.parts.items c.exchange_put-parts.result.0.items c.exchange_put-parts.result.1
+    (record {
+      begin = c.requires.from;
+      line = c.requires.domains.line;
+      room = plan_room plan.cover.now c.args.domains.now plan.list.now (g.D.Disk.len c.args.disk.now) c.requires.plan.covers c.requires.plan.cover_bytes c.requires.on_disk c.requires.domains;
+      front_is = c.in_ok-parts.ensures.front;
+      parts_are = c.in_ok-parts.ensures.parts;
+    })
+    c.exchange_put-parts.ensures.put
+
+put_done : (g : Over) (c : goal.After-append_all g)
+    → HasPutWhole (source_in c.args.plan.now) c.args.plan.now.list.now (flat_map (λ d. planned_turns c.args.plan.now d) c.args.domains.now)
+    (state g c.args.disk.now) (state g c.append_all.new.disk) c.exchange_put-parts.result.1
+put_done g c =
+    let plan = c.args.plan.now in
+    parts_put (state g) (source_in plan) plan.list.now (λ d. planned_turns plan d) plan.cover.now (state g c.args.disk.now) (state g c.split.new.disk) (state g c.append_all.new.disk) c.args.domains.now
+    c.in_ok-parts.parts.items c.exchange_put-parts.result.0.items c.exchange_put-parts.result.1
+    (record {
+      begin = c.requires.from;
+      line = c.requires.domains.line;
+      room = plan_room plan.cover.now c.args.domains.now plan.list.now (g.D.Disk.len c.args.disk.now) c.requires.plan.covers c.requires.plan.cover_bytes c.requires.on_disk c.requires.domains;
+      front_is = c.in_ok-parts.ensures.front;
+      parts_are = c.in_ok-parts.ensures.parts;
+    })
+    c.size-size.ensures.told (λ o m. (c.requires.plan.pieces o m).some) c.requires.on_disk
+    c.requires.plan.covers c.requires.plan.cover_bytes c.requires.domains c.exchange_put-parts.ensures.put c.append_all.ensures
+
+pub returns-clause-bytes : goal.returns-clause-bytes
+returns-clause-bytes g c = (put_done g c).bytes
+
+pub returns-clause-between : goal.returns-clause-between
+returns-clause-between g c = (put_done g c).between
+
+pub returns-clause-calls : goal.returns-clause-calls
+returns-clause-calls g c = (put_done g c).device
+
+pub returns-clause-from : goal.returns-clause-from
+returns-clause-from g c = (put_done g c).place.from ∙ c.requires.from
+
+pub returns-clause-len : goal.returns-clause-len
+returns-clause-len g c = (put_done g c).place.len
+
+pub returns-clause-cause : goal.returns-clause-cause
+returns-clause-cause g c =
+    let before = g.D.Disk.faults c.args.disk.now in
+    let front = state g c.split.new.disk in
+    let news = c.exchange_put-parts.result.0.items in
+    let cause = c.in_ok-parts.ensures.cause c.size-size.ensures.counted in
+    let faults = ap (λ (s : PartState). s.faults) c.append_all.ensures in
+    record {
+      later = (let l = joined_at_least before front (map (state g) news) c.size-size.ensures.counted cause.later in omega arith);
+      failed = λ e.
+          (let r = joined_rose (state g) before (state g c.args.disk.now) front c.args.domains.now c.in_ok-parts.parts.items news c.in_ok-parts.ensures.parts cause.later
+          (c.exchange_put-parts.ensures.failed e) in
+          omega arith);
+    }
+
+pub returns-in_err-parts-clause-cause : goal.returns-in_err-parts-clause-cause
+returns-in_err-parts-clause-cause g c =
+    let cause = c.in_err-parts.ensures.cause c.size-size.ensures.counted in
+    record { later = cause.later; failed = λ e. cause.failed (first_of (search rules, grind (arith, common_steps))) }
