@@ -13,7 +13,7 @@ use Rattle.std.specs.Option.{option_or, option_cmp}
 use Rattle.std.specs.Ordering.{is_eq, nat_cmp, ordering_then}
 use Rattle.std.specs.declared.cmp.Ordering.TheVariants.{Less, Equal, Greater}
 use Rattle.std.proofs.lemmas.Bool.{ltb-false}
-use Rattle.std.proofs.lemmas.Bool.Decides.{nat_tests, Decides-eqb}
+use Rattle.std.proofs.lemmas.Bool.Decides.{nat_tests, same_from_decides, Decides-eqb, Decides-like}
 use Rattle.std.proofs.lemmas.Iterator.Adapters.{position_from-zero}
 use Rattle.std.proofs.lemmas.List.Folds.{list_any-append, find_at}
 use Rattle.std.proofs.lemmas.List.Quantifiers.{position-Some}
@@ -22,6 +22,7 @@ use Rattle.std.proofs.lemmas.Option.{get_or_from_slice_get, slice_get_past}
 use Rattle.std.proofs.lemmas.Slice.Eq.{bytes_eq-Decides}
 use Rattle.list_laws.proofs.Maps.{position_map}
 use Rattle.list_laws.proofs.Optional.{value_of_some, second_counts, first_counts, none_last}
+use Rattle.list_laws.proofs.Truth.{no_false, equal_below, equal_suc}
 use Rattle.list_laws.proofs.Places.{entry_below, entry_set, entry_set_other, position_below}
 use Rattle.nc_base.specs.declared.header.Attr.{Attr}
 use Rattle.nc_base.specs.declared.header.Dim.{Dim}
@@ -49,6 +50,7 @@ from_push p i (y ∷ ys) x = by_test (p y) (from_push p (i + 1) ys x)
 pub position_push : {A : Type 0} (p : A → Bool) (xs : List A) (x : A) → position p (xs ++ x ∷ []) ≡ option_or (position p xs) (cond (p x) (Some (length xs)) None)
 position_push p xs x =
     position_from-zero p (xs ++ x ∷ []) ∙ from_push p 0 xs x
+    ∙ (let e : 0 + length xs ≡ length xs = omega arith in ap (λ (n : ℕ). option_or (position_from p 0 xs) (cond (p x) (Some n) None)) e)
     ∙ ap (λ (o : Option ℕ). option_or o (cond (p x) (Some (length xs)) None)) (sym (position_from-zero p xs))
 
 -- a name that has no place gets one
@@ -71,6 +73,10 @@ put_known old name place there q = by_test (bytes_eq name q) refl
         let found = value_of_some (place_of old q) (ap (λ (n : List ℕ). is_some (place_of old n)) (sym ((bytes_eq-Decides name q).0 e)) ∙ there) in
         found.1 ∙ sym (first_counts (place_of old q) (Some place) found.0 found.1)
     by_test false e = none_last (place_of old q)
+
+pub absent : {A : Type 0} (o : Option A) (t : Bool) → t ≡ is_some o → t ≡ false → o ≡ None
+absent None t same fails = refl
+absent (Some x) t same fails = no_false (sym fails ∙ same)
 
 -- the places of the first items, and of one more
 pub places_next : {A : Type 0} (name_of : A → List ℕ) (xs ys : List A) (x : A) (k : ℕ) (old new : BTreeMap (Bor (List ℕ)) ℕ) → ys ≡ xs ++ x ∷ [] → k ≡ length xs
@@ -104,6 +110,11 @@ tied_owners (Some x) (Some y) = tied_numbers x y
 or_last : (a : Bool) → a ≡ (a || false)
 or_last true = refl
 or_last false = refl
+
+pub or_none : (a b : Bool) → a ≡ (a || (b && false))
+or_none true b = refl
+or_none false true = refl
+or_none false false = refl
 
 pub name_put : (old new : BTreeSet (Option ℕ × Bor (List ℕ))) (owner : Option ℕ) (name : Bor (List ℕ))
     → sorted.Updates (λ x y. ordering_then (option_cmp nat_cmp x.0 y.0) (slice_cmp nat_cmp x.1.now y.1.now)) old new (owner, name) true
@@ -142,14 +153,22 @@ names_next owner first more a begun old new next known put o q =
     together false true x y = refl
     together false false x y = refl
 
+suc_same : (n j : ℕ) → nat_eq (suc n) (suc j) ≡ nat_eq n j
+suc_same n j =
+    same_from_decides (nat_eq (suc n) (suc j)) (nat_eq n j)
+    (Decides-like (nat_eq (suc n) (suc j)) (λ e. omega (arith, e)) (λ e. ap suc e) (Decides-eqb (suc n) (suc j))) (Decides-eqb n j)
+
 -- a variable more
 pub attrs_pushed : (attrs : List Attr) (vs : List Var) (v : Var) (o : Option ℕ) (q : List ℕ)
     → has_attr (attrs_among attrs (vs ++ v ∷ []) o) q ≡ (has_attr (attrs_among attrs vs o) q || (is_same (Some (length vs)) o && has_attr v.attrs q))
 attrs_pushed attrs vs v None q = or_last (has_attr attrs q)
 attrs_pushed attrs [] v (Some zero) q = refl
-attrs_pushed attrs [] v (Some (suc j)) q = refl
-attrs_pushed attrs (w ∷ vs) v (Some zero) q = or_last (has_attr w.attrs q)
-attrs_pushed attrs (w ∷ vs) v (Some (suc j)) q = attrs_pushed attrs vs v (Some j) q
+attrs_pushed attrs [] v (Some (suc j)) q = ap (λ (t : Bool). t && has_attr v.attrs q) (sym (equal_below 0 (suc j) (omega arith)))
+attrs_pushed attrs (w ∷ vs) v (Some zero) q =
+    or_last (has_attr w.attrs q) ∙ ap (λ (t : Bool). has_attr w.attrs q || (t && has_attr v.attrs q)) (sym (equal_suc (length vs)))
+attrs_pushed attrs (w ∷ vs) v (Some (suc j)) q =
+    attrs_pushed attrs vs v (Some j) q
+    ∙ ap (λ (t : Bool). has_attr (attrs_among attrs vs (Some j)) q || (t && has_attr v.attrs q)) (sym (suc_same (length vs) j))
 
 -- the attributes of the first variables, and of one more
 pub owners_next : (attrs : List Attr) (vs more : List Var) (v : Var) (k : ℕ) (old new : BTreeSet (Option ℕ × Bor (List ℕ))) → more ≡ vs ++ v ∷ [] → k ≡ length vs
@@ -167,12 +186,14 @@ owners_next attrs vs more v k old new next long known put o q =
 pub owners_none : (attrs : List Attr) (empty new : BTreeSet (Option ℕ × Bor (List ℕ))) → sorted.IsEmpty empty
     → ((o : Option ℕ) (q : List ℕ) → has_name new o q ≡ (has_name empty o q || (is_same None o && has_attr attrs q)))
     → (o : Option ℕ) (q : List ℕ) → has_name new o q ≡ has_attr (attrs_among attrs [] o) q
-owners_none attrs empty new none put None q =
-    put None q ∙ ap (λ keys. list_any (sorted_test None q) keys || has_attr attrs q) none
+owners_none attrs empty new none put o q = by_owner o (put o q ∙ ap (λ (t : Bool). t || (is_same None o && has_attr attrs q)) nothing)
   where
-    sorted_test : Option ℕ → List ℕ → Option ℕ × Bor (List ℕ) → Bool
-    sorted_test o q k = is_eq (ordering_then (option_cmp nat_cmp o k.0) (slice_cmp nat_cmp q k.1.now))
-owners_none attrs empty new none put (Some k) q = put (Some k) q
+    nothing : has_name empty o q ≡ false
+    nothing = ap (λ keys. list_any (tree.is_at (λ k. ordering_then (option_cmp nat_cmp o k.0) (slice_cmp nat_cmp q k.1.now))) keys) none
+
+    by_owner : (p : Option ℕ) → has_name new o q ≡ (is_same None p && has_attr attrs q) → has_name new o q ≡ has_attr (attrs_among attrs [] p) q
+    by_owner None h = h
+    by_owner (Some k) h = h
 
 -- ---- additions
 
@@ -250,10 +271,7 @@ attrs_given attrs vs k v a there (Some j) q = by_test (k == j) refl
         ∙ ap own (sym (ap (slice_get (set vs k (record v { attrs = v.attrs ++ a ∷ [] }))) (sym same) ∙ entry_set vs k v (record v { attrs = v.attrs ++ a ∷ [] }) there))
     by_test false e =
         sym (or_last (own (slice_get vs j)))
-        ∙ ap own (sym (entry_set_other vs k j (record v { attrs = v.attrs ++ a ∷ [] }) (λ same. absurd (true_not_false (sym ((Decides-eqb k j).1 (sym same)) ∙ e)))))
-
-    true_not_false : true ≡ false → ⊥
-    true_not_false h = cc
+        ∙ ap own (sym (entry_set_other vs k j (record v { attrs = v.attrs ++ a ∷ [] }) (λ same. no_false (sym e ∙ (Decides-eqb k j).1 (sym same)))))
 
 pub var_attr_indexed : (header : Header) (index next : NameIndex) (k : ℕ) (a : Attr) → k < length header.vars → IsIndexOf header index
     → ((o : Option ℕ) (q : List ℕ) → has_name next.attrs o q ≡ (has_name index.attrs o q || (is_same (Some k) o && bytes_eq a.name q)))

@@ -52,8 +52,8 @@ fn with_extra<'a>(
     header: IndexedHeader<'a>,
     extra: &'a Extra,
 ) -> Result<IndexedHeader<'a>, Memory>
-    requires few { length header.dims ≤ most_dims }
-    ensures { IfOk result (λ new. new ≡ spec.with_extra header extra.now) }
+    requires few { length header.entry.dims ≤ most_dims }
+    ensures { IfOk result (λ new. new ≡ spec.with_extra header.entry extra.now) }
 {
     match extra {
         Extra::Dim(dim) => header.with_dim(alloc, dim),

@@ -1,5 +1,5 @@
 // A header that grows by additions, whose names are found by an index.
-ghost use Rattle.std.specs.Prelude.{◌≡◌, ◌<◌, ◌++◌, ◌∷◌, [], length, IfOk, IfSome};
+ghost use Rattle.std.specs.Prelude.{◌≡◌, ◌<◌, ◌++◌, ◌∷◌, [], length, IfOk, OnOk};
 ghost use Rattle.serial_spec.specs.RankMachine as machine;
 ghost use Rattle.serial_spec.specs.Redefinition as spec;
 ghost use Rattle.redef_mover.specs.Indexed.{attrs_at, given};

@@ -1,5 +1,5 @@
 // An index of the names in a header.
-ghost use Rattle.std.specs.Prelude.{◌≡◌, ◌||◌, ◌&&◌, Some, None, List, ℕ, bytes_eq, position, cond, IfOk, OnOk};
+ghost use Rattle.std.specs.Prelude.{◌≡◌, ◌||◌, ◌&&◌, Option, Some, None, List, ℕ, bytes_eq, position, cond, IfOk, OnOk};
 ghost use Rattle.std.specs.Option.{option_or};
 ghost use Rattle.serial_spec.specs.Redefinition.{has_attr};
 ghost use Rattle.redef_mover.specs.Indexed.{place_of, has_name, is_same, attrs_at, IsIndexOf};
