@@ -16,28 +16,6 @@ use Rattle.nc_base.specs.declared.errors.RedefErr.TheVariants as redef
 use Rattle.serial_spec.specs.Limits.{most_dims}
 use Rattle.serial_spec.specs.Redefinition.{with_attr, with_extra, first_fault, extra_fault, extras_from, extras_fault, added, is_taken, is_unknown, has_bad_shape, is_one_too_many, has_bad_kind}
 
-pub attr_nowhere : (name : List ℕ) (a : Attr) (vs : List Var) → position (λ (v : Var). bytes_eq v.name name) vs ≡ None → with_attr name a vs ≡ vs
-attr_nowhere name a vs e = all_other vs (fewer _ _ e)
-  where
-    fewer : (n m : ℕ) → cond (nat_lt n m) (Some n) None ≡ None → m ≤ n
-    fewer n m g = by_test (nat_lt n m) refl g
-      where
-        by_test : (t : Bool) → nat_lt n m ≡ t → cond t (Some n) None ≡ None → m ≤ n
-        by_test true f g = cc
-        by_test false f g = grind (arith, nat_tests)
-
-    all_other : (ws : List Var) → length ws ≤ prefix_len (λ (v : Var). not (bytes_eq v.name name)) ws → with_attr name a ws ≡ ws
-    all_other [] h = refl
-    all_other (w ∷ ws) h = by_name (bytes_eq w.name name) h (all_other ws)
-      where
-        by_name : (t : Bool) → length (w ∷ ws) ≤ cond (not t) (1 + prefix_len (λ (v : Var). not (bytes_eq v.name name)) ws) 0
-            → (length ws ≤ prefix_len (λ (v : Var). not (bytes_eq v.name name)) ws → with_attr name a ws ≡ ws)
-            → cond t (record w { attrs = w.attrs ++ a ∷ [] } ∷ ws) (w ∷ with_attr name a ws) ≡ w ∷ ws
-        by_name true g rest = absurd (omega arith)
-        by_name false g rest = ap (λ vs. w ∷ vs) (rest (omega arith))
-
--- ---- extra after extra
-
 pub extras_goes_on : (header : Header) (k : ℕ) (e : Extra) (es : List Extra) → extra_fault header k e ≡ None
     → extras_from header k (e ∷ es) ≡ extras_from (with_extra header e) (suc k) es
 extras_goes_on header k e es h = ap (λ (o : Option RedefErr). elim o [ Some f ↦ Some f | None ↦ extras_from (with_extra header e) (suc k) es ]) h

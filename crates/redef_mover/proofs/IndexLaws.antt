@@ -8,7 +8,7 @@ use Rattle.std.specs.BTreeSet as sorted
 use Rattle.std.specs.BTreeSet.{BTreeSet}
 use Rattle.std.specs.Cmp.{tied_then}
 use Rattle.std.specs.Cmp.Lexicographic.{slice_cmp}
-use Rattle.std.specs.List.{list_any, position_from, position_or_len}
+use Rattle.std.specs.List.{list_any, position_from, position_or_len, prefix_len}
 use Rattle.std.specs.Option.{option_or, option_cmp}
 use Rattle.std.specs.Ordering.{is_eq, nat_cmp, ordering_then}
 use Rattle.std.specs.declared.cmp.Ordering.TheVariants.{Less, Equal, Greater}
@@ -317,9 +317,29 @@ attr_there name a vs k e =
     attr_at name a vs k there.0 there.1 (ap p (sym (get_or_from_slice_get vs k there.0 there.0 there.1)) ∙ found.1) found.2
     ∙ sym (given_is vs k there.0 a there.1)
 
+pub attr_nowhere : (name : List ℕ) (a : Attr) (vs : List Var) → position (λ (v : Var). bytes_eq v.name name) vs ≡ None → with_attr name a vs ≡ vs
+attr_nowhere name a vs e = all_other vs (fewer _ _ e)
+  where
+    fewer : (n m : ℕ) → cond (nat_lt n m) (Some n) None ≡ None → m ≤ n
+    fewer n m g = by_test (nat_lt n m) refl g
+      where
+        by_test : (t : Bool) → nat_lt n m ≡ t → cond t (Some n) None ≡ None → m ≤ n
+        by_test true f g = cc
+        by_test false f g = grind (arith, nat_tests)
+
+    all_other : (ws : List Var) → length ws ≤ prefix_len (λ (v : Var). not (bytes_eq v.name name)) ws → with_attr name a ws ≡ ws
+    all_other [] h = refl
+    all_other (w ∷ ws) h = by_name (bytes_eq w.name name) h (all_other ws)
+      where
+        by_name : (t : Bool) → length (w ∷ ws) ≤ cond (not t) (1 + prefix_len (λ (v : Var). not (bytes_eq v.name name)) ws) 0
+            → (length ws ≤ prefix_len (λ (v : Var). not (bytes_eq v.name name)) ws → with_attr name a ws ≡ ws)
+            → cond t (record w { attrs = w.attrs ++ a ∷ [] } ∷ ws) (w ∷ with_attr name a ws) ≡ w ∷ ws
+        by_name true g rest = absurd (omega arith)
+        by_name false g rest = ap (λ vs. w ∷ vs) (rest (omega arith))
+
 -- what the header has under an owner's name
-pub attrs_found : (header : Header) (owner : List ℕ) → attrs_of_var header owner ≡ elim (find_var header owner) [ None ↦ [] | Some k ↦ attrs_at header (Some k) ]
-attrs_found header owner = ap own (find_at p header.vars) ∙ by_test (nat_lt (position_or_len p header.vars) (length header.vars)) refl
+found_attrs : (header : Header) (owner : List ℕ) → attrs_of_var header owner ≡ elim (find_var header owner) [ None ↦ [] | Some k ↦ attrs_at header (Some k) ]
+found_attrs header owner = ap own (find_at p header.vars) ∙ by_test (nat_lt (position_or_len p header.vars) (length header.vars)) refl
   where
     p : Var → Bool
     p v = bytes_eq v.name owner
@@ -331,3 +351,9 @@ attrs_found header owner = ap own (find_at p header.vars) ∙ by_test (nat_lt (p
         → own (slice_get header.vars (position_or_len p header.vars)) ≡ elim (cond t (Some (position_or_len p header.vars)) None) [ None ↦ [] | Some k ↦ attrs_at header (Some k) ]
     by_test true e = refl
     by_test false e = ap own (slice_get_past header.vars (position_or_len p header.vars) (ltb-false (position_or_len p header.vars) (length header.vars) e))
+
+pub attrs_found : (header : Header) (owner : List ℕ) (k : ℕ) → Some k ≡ find_var header owner → attrs_of_var header owner ≡ attrs_at header (Some k)
+attrs_found header owner k e = found_attrs header owner ∙ ap (λ (o : Option ℕ). elim o [ None ↦ [] | Some j ↦ attrs_at header (Some j) ]) (sym e)
+
+pub attrs_missing : (header : Header) (owner : List ℕ) → None ≡ find_var header owner → attrs_of_var header owner ≡ []
+attrs_missing header owner e = found_attrs header owner ∙ ap (λ (o : Option ℕ). elim o [ None ↦ [] | Some j ↦ attrs_at header (Some j) ]) (sym e)

@@ -52,7 +52,7 @@ fn with_extra<'a>(
     header: IndexedHeader<'a>,
     extra: &'a Extra,
 ) -> Result<IndexedHeader<'a>, Memory>
-    requires few { length header.entry.dims ≤ most_dims }
+    requires few { length header.dims ≤ most_dims }
     ensures { IfOk result (λ new. new ≡ spec.with_extra header.entry extra.now) }
 {
     match extra {

@@ -120,9 +120,16 @@ impl<'a> IndexedHeader<'a> {
     ) -> Result<Self, Memory>
         ensures { IfOk result (λ new. new ≡ record self.entry { vars = spec.with_attr owner.now attr.now self.entry.vars }) }
     {
-        let Some(place) = self.find_var(owner) else {
-            return Ok(self);
-        };
+        match self.find_var(owner) {
+            None => Ok(self),
+            Some(place) => self.with_attr_at(alloc, place, attr),
+        }
+    }
+
+    fn with_attr_at(self, alloc: Global, place: usize, attr: &'a Attr) -> Result<Self, Memory>
+        requires { place < length self.vars }
+        ensures { IfOk result (λ new. new ≡ record self.entry { vars = given self.entry.vars place attr.now }) }
+    {
         let IndexedHeader {
             mut header,
             mut index,
