@@ -16,56 +16,6 @@ use Rattle.nc_base.specs.declared.errors.RedefErr.TheVariants as redef
 use Rattle.serial_spec.specs.Limits.{most_dims}
 use Rattle.serial_spec.specs.Redefinition.{with_attr, with_extra, first_fault, extra_fault, extras_from, extras_fault, added, is_taken, is_unknown, has_bad_shape, is_one_too_many, has_bad_kind}
 
--- the first variable of the name
-attr_at : (name : List ℕ) (a : Attr) (vs : List Var) (k : ℕ) (d : Var) → k < length vs → bytes_eq (get_or vs k d).name name ≡ true
-    → ((j : ℕ) → j < k → bytes_eq (get_or vs j d).name name ≡ false)
-    → with_attr name a vs ≡ set vs k (record (get_or vs k d) { attrs = (get_or vs k d).attrs ++ a ∷ [] })
-attr_at name a [] k d h e f = absurd (omega arith)
-attr_at name a (v ∷ vs) zero d h e f =
-    ap (λ (t : Bool). cond t (record v { attrs = v.attrs ++ a ∷ [] } ∷ vs) (v ∷ with_attr name a vs)) e
-attr_at name a (v ∷ vs) (suc k) d h e f =
-    ap (λ (t : Bool). cond t (record v { attrs = v.attrs ++ a ∷ [] } ∷ vs) (v ∷ with_attr name a vs)) (f 0 (omega arith))
-    ∙ ap (λ ws. v ∷ ws) (attr_at name a vs k d (omega arith) e (λ j g. f (suc j) (omega arith)))
-
-attr_there : (name : List ℕ) (a : Attr) (vs : List Var) (k : ℕ) (d : Var) → position (λ (v : Var). bytes_eq v.name name) vs ≡ Some k
-    → with_attr name a vs ≡ set vs k (record (get_or vs k d) { attrs = (get_or vs k d).attrs ++ a ∷ [] })
-attr_there name a vs k d e =
-    let found = position-Some (λ (v : Var). bytes_eq v.name name) vs k d e in
-    attr_at name a vs k d found.0 found.1 found.2
-
--- what a push to the attributes of the variable at k leaves
-pub attr_pushed : (name : List ℕ) (a : Attr) (vs items left : List Var) (k : ℕ) (v : Var) (attrs : List Attr) → position (λ (w : Var). bytes_eq w.name name) vs ≡ Some k
-    → items ≡ vs → v ≡ get_or items k v → attrs ≡ v.attrs ++ a ∷ [] → left ≡ set items k (record v { attrs = attrs })
-    → left ≡ with_attr name a vs
-attr_pushed name a vs items left k v attrs e same there pushed set_there =
-    let here : get_or vs k v ≡ v = sym (there ∙ ap (λ (ws : List Var). get_or ws k v) same) in
-    set_there ∙ ap (λ (ws : List Var). set ws k (record v { attrs = attrs })) same
-    ∙ ap (λ (bs : List Attr). set vs k (record v { attrs = bs })) pushed
-    ∙ ap (λ (w : Var). set vs k (record w { attrs = w.attrs ++ a ∷ [] })) (sym here)
-    ∙ sym (attr_there name a vs k v e)
-
-pub attr_nowhere : (name : List ℕ) (a : Attr) (vs : List Var) → position (λ (v : Var). bytes_eq v.name name) vs ≡ None → with_attr name a vs ≡ vs
-attr_nowhere name a vs e = all_other vs (fewer _ _ e)
-  where
-    fewer : (n m : ℕ) → cond (nat_lt n m) (Some n) None ≡ None → m ≤ n
-    fewer n m g = by_test (nat_lt n m) refl g
-      where
-        by_test : (t : Bool) → nat_lt n m ≡ t → cond t (Some n) None ≡ None → m ≤ n
-        by_test true f g = cc
-        by_test false f g = grind (arith, nat_tests)
-
-    all_other : (ws : List Var) → length ws ≤ prefix_len (λ (v : Var). not (bytes_eq v.name name)) ws → with_attr name a ws ≡ ws
-    all_other [] h = refl
-    all_other (w ∷ ws) h = by_name (bytes_eq w.name name) h (all_other ws)
-      where
-        by_name : (t : Bool) → length (w ∷ ws) ≤ cond (not t) (1 + prefix_len (λ (v : Var). not (bytes_eq v.name name)) ws) 0
-            → (length ws ≤ prefix_len (λ (v : Var). not (bytes_eq v.name name)) ws → with_attr name a ws ≡ ws)
-            → cond t (record w { attrs = w.attrs ++ a ∷ [] } ∷ ws) (w ∷ with_attr name a ws) ≡ w ∷ ws
-        by_name true g rest = absurd (omega arith)
-        by_name false g rest = ap (λ vs. w ∷ vs) (rest (omega arith))
-
--- ---- extra after extra
-
 pub extras_goes_on : (header : Header) (k : ℕ) (e : Extra) (es : List Extra) → extra_fault header k e ≡ None
     → extras_from header k (e ∷ es) ≡ extras_from (with_extra header e) (suc k) es
 extras_goes_on header k e es h = ap (λ (o : Option RedefErr). elim o [ Some f ↦ Some f | None ↦ extras_from (with_extra header e) (suc k) es ]) h

@@ -1,4 +1,5 @@
 mod Additions
+mod IndexLaws
 mod Sorting
 mod Places
 mod Ranges

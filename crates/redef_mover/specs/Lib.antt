@@ -4,3 +4,4 @@ pub mod Ranges
 pub mod Moves
 pub mod Kept
 pub mod Carried
+pub mod Indexed

@@ -7,56 +7,48 @@ ghost use Rattle.serial_spec.specs.HeaderGrammar.{is_record_id};
 ghost use Rattle.serial_spec.specs.RankMachine.{find_dim};
 ghost use Rattle.serial_spec.specs.Redefinition as spec;
 
-use nc_base::{Attr, Extra, Header, MAX_DIMS, MAX_VARS, Name, NcType, RedefErr};
-use var_layout::{find_dim, find_var};
+use crate::indexed_header::IndexedHeader;
+use nc_base::{Extra, Header, MAX_DIMS, MAX_VARS, Name, NcType, RedefErr};
 
 /// The first length that a dimension of CDF-1 and CDF-2 can't have.
 const CLASSIC_LENGTH_LIMIT: u64 = 1 << 31;
 
-/// The attributes of the first variable of this name, or none.
-fn attrs_of_var<'a>(header: &'a Header, name: &[u8]) -> &'a [Attr]
-    ensures { result.now ≡ spec.attrs_of_var header.now name.now }
+/// Whether the first variable of this name has such an attribute.
+fn has_var_attr<'a>(header: &IndexedHeader<'a>, owner: &[u8], name: &'a [u8]) -> bool
+    ensures { result ≡ spec.has_attr (spec.attrs_of_var header.now owner.now) name.now }
 {
-    for var in header.vars.as_slice() {
-        if var.name.as_slice() == name {
-            return var.attrs.as_slice();
-        }
+    match header.find_var(owner) {
+        Some(place) => header.has_attr(Some(place), name),
+        None => false,
     }
-    &[]
-}
-
-fn has_attr(attrs: &[Attr], name: &[u8]) -> bool
-    ensures { result ≡ spec.has_attr attrs.now name.now }
-{
-    attrs.iter().any(|attr| attr.name.as_slice() == name)
 }
 
 /// Whether what it names is there already.
-fn is_taken(header: &Header, extra: &Extra) -> bool
+fn is_taken<'a>(header: &IndexedHeader<'a>, extra: &'a Extra) -> bool
     ensures { result ≡ spec.is_taken header.now extra.now }
 {
     match extra {
-        Extra::Dim(dim) => find_dim(header, dim.name.as_slice()).is_some(),
-        Extra::Var { name, .. } => find_var(header, name.as_slice()).is_some(),
-        Extra::Att { owner: None, attr } => has_attr(header.attrs.as_slice(), attr.name.as_slice()),
+        Extra::Dim(dim) => header.find_dim(dim.name.as_slice()).is_some(),
+        Extra::Var { name, .. } => header.find_var(name.as_slice()).is_some(),
+        Extra::Att { owner: None, attr } => header.has_attr(None, attr.name.as_slice()),
         Extra::Att {
             owner: Some(owner),
             attr,
-        } => has_attr(attrs_of_var(header, owner.as_slice()), attr.name.as_slice()),
+        } => has_var_attr(header, owner.as_slice(), attr.name.as_slice()),
     }
 }
 
 /// Whether a dimension of these names is not there.
-fn lacks_dim(header: &Header, names: &[Name]) -> bool
+fn lacks_dim(header: &IndexedHeader, names: &[Name]) -> bool
     ensures { result ≡ list_any (λ n. is_none (find_dim header.now n)) names.now }
 {
     names
         .iter()
-        .any(|name| find_dim(header, name.as_slice()).is_none())
+        .any(|name| header.find_dim(name.as_slice()).is_none())
 }
 
 /// Whether what it needs is not there.
-fn is_unknown(header: &Header, extra: &Extra) -> bool
+fn is_unknown(header: &IndexedHeader, extra: &Extra) -> bool
     ensures { result ≡ spec.is_unknown header.now extra.now }
 {
     match extra {
@@ -64,7 +56,7 @@ fn is_unknown(header: &Header, extra: &Extra) -> bool
         Extra::Att {
             owner: Some(owner),
             ..
-        } => find_var(header, owner.as_slice()).is_none(),
+        } => header.find_var(owner.as_slice()).is_none(),
         Extra::Dim(_) | Extra::Att { owner: None, .. } => false,
     }
 }
@@ -76,18 +68,18 @@ fn has_record_dim(header: &Header) -> bool
 }
 
 /// Whether the first dimension of this name is the record dimension; of a name that is not there, whether the very first one is.
-fn is_record_name(header: &Header, name: &[u8]) -> bool
+fn is_record_name(header: &IndexedHeader, name: &[u8]) -> bool
     ensures { result ≡ is_record_id header.now (spec.dim_id header.now name.now) }
 {
-    let id = find_dim(header, name).unwrap_or(0);
-    match header.dims.as_slice().get(id) {
+    let id = header.find_dim(name).unwrap_or(0);
+    match header.as_header().dims.as_slice().get(id) {
         Some(dim) => dim.len == 0,
         None => false,
     }
 }
 
 /// Whether one of the names is that of the record dimension.
-fn has_record_name(header: &Header, names: &[Name]) -> bool
+fn has_record_name(header: &IndexedHeader, names: &[Name]) -> bool
     ensures { result ≡ list_any (λ n. is_record_id header.now (spec.dim_id header.now n)) names.now }
 {
     names
@@ -96,11 +88,11 @@ fn has_record_name(header: &Header, names: &[Name]) -> bool
 }
 
 /// Whether it makes a second record dimension, or has the record dimension elsewhere than first.
-fn has_bad_shape(header: &Header, extra: &Extra) -> bool
+fn has_bad_shape(header: &IndexedHeader, extra: &Extra) -> bool
     ensures { result ≡ spec.has_bad_shape header.now extra.now }
 {
     match extra {
-        Extra::Dim(dim) => dim.len == 0 && has_record_dim(header),
+        Extra::Dim(dim) => dim.len == 0 && has_record_dim(header.as_header()),
         Extra::Var { dims, .. } => match dims.as_slice() {
             [] => false,
             [_, inner @ ..] => has_record_name(header, inner),
@@ -148,7 +140,11 @@ fn has_bad_kind(header: &Header, extra: &Extra) -> bool
 }
 
 /// Refuses an extra, which has the number `k`, that can't be added.
-pub(crate) fn check_extra(header: &Header, k: usize, extra: &Extra) -> Result<(), RedefErr>
+pub(crate) fn check_extra<'a>(
+    header: &IndexedHeader<'a>,
+    k: usize,
+    extra: &'a Extra,
+) -> Result<(), RedefErr>
     ensures { result_err result ≡ spec.extra_fault header.now k extra.now }
 {
     if is_taken(header, extra) {
@@ -160,10 +156,10 @@ pub(crate) fn check_extra(header: &Header, k: usize, extra: &Extra) -> Result<()
     if has_bad_shape(header, extra) {
         return Err(RedefErr::Shape(k));
     }
-    if is_one_too_many(header, extra) {
+    if is_one_too_many(header.as_header(), extra) {
         return Err(RedefErr::TooMany(k));
     }
-    if has_bad_kind(header, extra) {
+    if has_bad_kind(header.as_header(), extra) {
         return Err(RedefErr::Kind(k));
     }
     Ok(())

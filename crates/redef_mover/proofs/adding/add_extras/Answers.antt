@@ -30,9 +30,10 @@ loop-k-preserved c =
     let same = ap (λ (es : List Extra). length es) c.as_slice-extra-items.ensures in
     let item = c.extra-item.result in
     let there = c.extra-item.is ∙ ap (λ (es : List Extra). get_or es c.loop-k.k item) c.as_slice-extra-items.ensures in
-    added_next c.args.header.now c.args.extras.now c.loop-k.k c.loop-k.new c.add_extra.new.header item (omega arith) there (sym c.in_ok-check_extra.ensures) c.in_ok-add_extra.ensures c.loop-k.invariant
+    added_next c.args.header.now c.args.extras.now c.loop-k.k c.loop-k.new _ item (omega arith) there (sym c.in_ok-check_extra.ensures) c.in_ok-new-2.ensures c.loop-k.invariant
 
 pub returns-clause-added : goal.returns-clause-added
 returns-clause-added c =
     let same = ap (λ (es : List Extra). length es) c.as_slice-extra-items.ensures in
-    added_whole c.args.header.now c.args.extras.now c.loop-k.k c.loop-k.new (omega arith) c.loop-k.invariant
+    let whole = added_whole c.args.header.now c.args.extras.now c.loop-k.k c.loop-k.new (omega arith) c.loop-k.invariant in
+    (whole.0, c.into_header.ensures ∙ whole.1)

@@ -1,0 +1,359 @@
+-- The index of a header's names, and what an addition makes of it.
+use Rattle.std.proofs.Common.{◌≡◌, ◌∙◌, ℕ, zero, suc, ◌+◌, ◌<◌, ◌≤◌, List, [], ◌∷◌, ◌++◌, length, get_or, map, position, take, set, Bool, true, false, not, cond, nat_lt, ◌==◌, ◌&&◌, ◌||◌, Option, Some, None, is_some, slice_get, bytes_eq, refl, sym, ap, subst, arith}
+use Rattle.std.specs.Prelude.{nat_eq, find}
+use Rattle.std.specs.Borrow.{Bor}
+use Rattle.std.specs.BTreeMap as tree
+use Rattle.std.specs.BTreeMap.{BTreeMap}
+use Rattle.std.specs.BTreeSet as sorted
+use Rattle.std.specs.BTreeSet.{BTreeSet}
+use Rattle.std.specs.Cmp.{tied_then}
+use Rattle.std.specs.Cmp.Lexicographic.{slice_cmp}
+use Rattle.std.specs.List.{list_any, position_from, position_or_len, prefix_len}
+use Rattle.std.specs.Option.{option_or, option_cmp}
+use Rattle.std.specs.Ordering.{is_eq, nat_cmp, ordering_then}
+use Rattle.std.specs.declared.cmp.Ordering.TheVariants.{Less, Equal, Greater}
+use Rattle.std.proofs.lemmas.Bool.{ltb-false}
+use Rattle.std.proofs.lemmas.Bool.Decides.{nat_tests, same_from_decides, Decides-eqb, Decides-like}
+use Rattle.std.proofs.lemmas.Iterator.Adapters.{position_from-zero}
+use Rattle.std.proofs.lemmas.List.Folds.{list_any-append, find_at}
+use Rattle.std.proofs.lemmas.List.Quantifiers.{position-Some}
+use Rattle.std.proofs.lemmas.Map.Text.{btree_map_updates_str, is_eq-slice_cmp}
+use Rattle.std.proofs.lemmas.Option.{get_or_from_slice_get, slice_get_past}
+use Rattle.std.proofs.lemmas.Slice.Eq.{bytes_eq-Decides}
+use Rattle.list_laws.proofs.Maps.{position_map}
+use Rattle.list_laws.proofs.Optional.{value_of_some, second_counts, first_counts, none_last}
+use Rattle.list_laws.proofs.Truth.{no_false, equal_below, equal_suc}
+use Rattle.list_laws.proofs.Places.{entry_below, entry_set, entry_set_other, position_below}
+use Rattle.nc_base.specs.declared.header.Attr.{Attr}
+use Rattle.nc_base.specs.declared.header.Dim.{Dim}
+use Rattle.nc_base.specs.declared.header.Header.{Header}
+use Rattle.nc_base.specs.declared.header.Var.{Var}
+use Rattle.serial_spec.specs.RankMachine.{find_dim, find_var}
+use Rattle.serial_spec.specs.Redefinition.{attrs_of_var, has_attr, with_attr}
+use Rattle.redef_mover.specs.Indexed.{place_of, has_name, is_same, attrs_among, attrs_at, given, IsIndexOf}
+use Rattle.redef_mover.specs.declared.name_index.NameIndex.{NameIndex}
+
+-- ---- places of names
+
+from_push : {A : Type 0} (p : A → Bool) (i : ℕ) (xs : List A) (x : A)
+    → position_from p i (xs ++ x ∷ []) ≡ option_or (position_from p i xs) (cond (p x) (Some (i + length xs)) None)
+from_push p i [] x = let e : i ≡ i + 0 = omega arith in ap (λ (n : ℕ). cond (p x) (Some n) None) e
+from_push p i (y ∷ ys) x = by_test (p y) (from_push p (i + 1) ys x)
+  where
+    by_test : (t : Bool) → position_from p (i + 1) (ys ++ x ∷ []) ≡ option_or (position_from p (i + 1) ys) (cond (p x) (Some (i + 1 + length ys)) None)
+        → cond t (Some i) (position_from p (i + 1) (ys ++ x ∷ [])) ≡ option_or (cond t (Some i) (position_from p (i + 1) ys)) (cond (p x) (Some (i + length (y ∷ ys))) None)
+    by_test true h = refl
+    by_test false h =
+        let e : i + 1 + length ys ≡ i + length (y ∷ ys) = omega arith in
+        h ∙ ap (λ (n : ℕ). option_or (position_from p (i + 1) ys) (cond (p x) (Some n) None)) e
+
+pub position_push : {A : Type 0} (p : A → Bool) (xs : List A) (x : A) → position p (xs ++ x ∷ []) ≡ option_or (position p xs) (cond (p x) (Some (length xs)) None)
+position_push p xs x =
+    position_from-zero p (xs ++ x ∷ []) ∙ from_push p 0 xs x
+    ∙ (let e : 0 + length xs ≡ length xs = omega arith in ap (λ (n : ℕ). option_or (position_from p 0 xs) (cond (p x) (Some n) None)) e)
+    ∙ ap (λ (o : Option ℕ). option_or o (cond (p x) (Some (length xs)) None)) (sym (position_from-zero p xs))
+
+-- a name that has no place gets one
+pub put_new : (old new : BTreeMap (Bor (List ℕ)) ℕ) (name : List ℕ) (place : ℕ) → place_of old name ≡ None
+    → tree.UpdatesBy (λ x y. slice_cmp nat_cmp x.now y.now) (λ k. slice_cmp nat_cmp name k.now) old new (Some place)
+    → (q : List ℕ) → place_of new q ≡ option_or (place_of old q) (cond (bytes_eq name q) (Some place) None)
+put_new old new name place none updates q = btree_map_updates_str name old new (Some place) updates q ∙ by_test (bytes_eq name q) refl
+  where
+    by_test : (t : Bool) → bytes_eq name q ≡ t → cond t (Some place) (place_of old q) ≡ option_or (place_of old q) (cond t (Some place) None)
+    by_test true e = sym (second_counts (place_of old q) (Some place) (ap (place_of old) (sym ((bytes_eq-Decides name q).0 e)) ∙ none))
+    by_test false e = none_last (place_of old q)
+
+-- one that has a place keeps it
+pub put_known : (old : BTreeMap (Bor (List ℕ)) ℕ) (name : List ℕ) (place : ℕ) → is_some (place_of old name) ≡ true
+    → (q : List ℕ) → place_of old q ≡ option_or (place_of old q) (cond (bytes_eq name q) (Some place) None)
+put_known old name place there q = by_test (bytes_eq name q) refl
+  where
+    by_test : (t : Bool) → bytes_eq name q ≡ t → place_of old q ≡ option_or (place_of old q) (cond t (Some place) None)
+    by_test true e =
+        let found = value_of_some (place_of old q) (ap (λ (n : List ℕ). is_some (place_of old n)) (sym ((bytes_eq-Decides name q).0 e)) ∙ there) in
+        found.1 ∙ sym (first_counts (place_of old q) (Some place) found.0 found.1)
+    by_test false e = none_last (place_of old q)
+
+pub absent : {A : Type 0} (o : Option A) (t : Bool) → t ≡ is_some o → t ≡ false → o ≡ None
+absent None t same fails = refl
+absent (Some x) t same fails = no_false (sym fails ∙ same)
+
+-- the places of the first items, and of one more
+pub places_next : {A : Type 0} (name_of : A → List ℕ) (xs ys : List A) (x : A) (k : ℕ) (old new : BTreeMap (Bor (List ℕ)) ℕ) → ys ≡ xs ++ x ∷ [] → k ≡ length xs
+    → ((q : List ℕ) → place_of old q ≡ position (λ y. bytes_eq (name_of y) q) xs)
+    → ((q : List ℕ) → place_of new q ≡ option_or (place_of old q) (cond (bytes_eq (name_of x) q) (Some k) None))
+    → (q : List ℕ) → place_of new q ≡ position (λ y. bytes_eq (name_of y) q) ys
+places_next name_of xs ys x k old new more long known put q =
+    put q
+    ∙ ap (λ (o : Option ℕ). option_or o (cond (bytes_eq (name_of x) q) (Some k) None)) (known q)
+    ∙ ap (λ (n : ℕ). option_or (position (λ y. bytes_eq (name_of y) q) xs) (cond (bytes_eq (name_of x) q) (Some n) None)) long
+    ∙ sym (position_push (λ y. bytes_eq (name_of y) q) xs x)
+    ∙ ap (position (λ y. bytes_eq (name_of y) q)) (sym more)
+
+-- ---- names of attributes
+
+tied_numbers : (x y : ℕ) → is_eq (nat_cmp x y) ≡ nat_eq x y
+tied_numbers x y = by_test (nat_lt x y) refl (x == y) refl
+  where
+    by_test : (s : Bool) → nat_lt x y ≡ s → (t : Bool) → (x == y) ≡ t → is_eq (cond s Less (cond t Equal Greater)) ≡ t
+    by_test true e true f = absurd (grind (arith, nat_tests))
+    by_test true e false f = refl
+    by_test false e true f = refl
+    by_test false e false f = refl
+
+tied_owners : (a b : Option ℕ) → is_eq (option_cmp nat_cmp a b) ≡ is_same a b
+tied_owners None None = refl
+tied_owners None (Some y) = refl
+tied_owners (Some x) None = refl
+tied_owners (Some x) (Some y) = tied_numbers x y
+
+or_last : (a : Bool) → a ≡ (a || false)
+or_last true = refl
+or_last false = refl
+
+pub or_none : (a b : Bool) → a ≡ (a || (b && false))
+or_none true b = refl
+or_none false true = refl
+or_none false false = refl
+
+pub name_put : (old new : BTreeSet (Option ℕ × Bor (List ℕ))) (owner : Option ℕ) (name : Bor (List ℕ))
+    → sorted.Updates (λ x y. ordering_then (option_cmp nat_cmp x.0 y.0) (slice_cmp nat_cmp x.1.now y.1.now)) old new (owner, name) true
+    → (o : Option ℕ) (q : List ℕ) → has_name new o q ≡ (has_name old o q || (is_same owner o && bytes_eq name.now q))
+name_put old new owner name updates o q =
+    updates.0 (o, record { ref_ptr = (0, 0); now = q })
+    ∙ ap (λ (t : Bool). cond t true (has_name old o q))
+    (sym (tied_then (option_cmp nat_cmp owner o) (slice_cmp nat_cmp name.now q)) ∙ ap (λ (t : Bool). t && is_eq (slice_cmp nat_cmp name.now q)) (tied_owners owner o)
+    ∙ ap (λ (t : Bool). is_same owner o && t) (is_eq-slice_cmp name.now q))
+    ∙ either_way (is_same owner o && bytes_eq name.now q) (has_name old o q)
+  where
+    either_way : (t u : Bool) → cond t true u ≡ (u || t)
+    either_way true true = refl
+    either_way true false = refl
+    either_way false true = refl
+    either_way false false = refl
+
+pub attr_pushed : (attrs : List Attr) (a : Attr) (q : List ℕ) → has_attr (attrs ++ a ∷ []) q ≡ (has_attr attrs q || bytes_eq a.name q)
+attr_pushed attrs a q =
+    list_any-append (λ (b : Attr). bytes_eq b.name q) attrs (a ∷ [])
+    ∙ ap (λ (t : Bool). has_attr attrs q || t) (sym (or_last (bytes_eq a.name q)))
+
+-- the attributes of one owner, one after another
+pub names_next : (owner : Option ℕ) (first more : List Attr) (a : Attr) (begun old new : BTreeSet (Option ℕ × Bor (List ℕ))) → more ≡ first ++ a ∷ []
+    → ((o : Option ℕ) (q : List ℕ) → has_name old o q ≡ (has_name begun o q || (is_same owner o && has_attr first q)))
+    → ((o : Option ℕ) (q : List ℕ) → has_name new o q ≡ (has_name old o q || (is_same owner o && bytes_eq a.name q)))
+    → (o : Option ℕ) (q : List ℕ) → has_name new o q ≡ (has_name begun o q || (is_same owner o && has_attr more q))
+names_next owner first more a begun old new next known put o q =
+    put o q
+    ∙ ap (λ (t : Bool). t || (is_same owner o && bytes_eq a.name q)) (known o q)
+    ∙ together (has_name begun o q) (is_same owner o) (has_attr first q) (bytes_eq a.name q)
+    ∙ ap (λ (t : Bool). has_name begun o q || (is_same owner o && t)) (sym (attr_pushed first a q) ∙ ap (λ (l : List Attr). has_attr l q) (sym next))
+  where
+    together : (t s x y : Bool) → ((t || (s && x)) || (s && y)) ≡ (t || (s && (x || y)))
+    together true s x y = refl
+    together false true x y = refl
+    together false false x y = refl
+
+suc_same : (n j : ℕ) → nat_eq (suc n) (suc j) ≡ nat_eq n j
+suc_same n j =
+    same_from_decides (nat_eq (suc n) (suc j)) (nat_eq n j)
+    (Decides-like (nat_eq (suc n) (suc j)) (λ e. omega (arith, e)) (λ e. ap suc e) (Decides-eqb (suc n) (suc j))) (Decides-eqb n j)
+
+-- a variable more
+pub attrs_pushed : (attrs : List Attr) (vs : List Var) (v : Var) (o : Option ℕ) (q : List ℕ)
+    → has_attr (attrs_among attrs (vs ++ v ∷ []) o) q ≡ (has_attr (attrs_among attrs vs o) q || (is_same (Some (length vs)) o && has_attr v.attrs q))
+attrs_pushed attrs vs v None q = or_last (has_attr attrs q)
+attrs_pushed attrs [] v (Some zero) q = refl
+attrs_pushed attrs [] v (Some (suc j)) q = ap (λ (t : Bool). t && has_attr v.attrs q) (sym (equal_below 0 (suc j) (omega arith)))
+attrs_pushed attrs (w ∷ vs) v (Some zero) q =
+    or_last (has_attr w.attrs q) ∙ ap (λ (t : Bool). has_attr w.attrs q || (t && has_attr v.attrs q)) (sym (equal_suc (length vs)))
+attrs_pushed attrs (w ∷ vs) v (Some (suc j)) q =
+    attrs_pushed attrs vs v (Some j) q
+    ∙ ap (λ (t : Bool). has_attr (attrs_among attrs vs (Some j)) q || (t && has_attr v.attrs q)) (sym (suc_same (length vs) j))
+
+-- the attributes of the first variables, and of one more
+pub owners_next : (attrs : List Attr) (vs more : List Var) (v : Var) (k : ℕ) (old new : BTreeSet (Option ℕ × Bor (List ℕ))) → more ≡ vs ++ v ∷ [] → k ≡ length vs
+    → ((o : Option ℕ) (q : List ℕ) → has_name old o q ≡ has_attr (attrs_among attrs vs o) q)
+    → ((o : Option ℕ) (q : List ℕ) → has_name new o q ≡ (has_name old o q || (is_same (Some k) o && has_attr v.attrs q)))
+    → (o : Option ℕ) (q : List ℕ) → has_name new o q ≡ has_attr (attrs_among attrs more o) q
+owners_next attrs vs more v k old new next long known put o q =
+    put o q
+    ∙ ap (λ (t : Bool). t || (is_same (Some k) o && has_attr v.attrs q)) (known o q)
+    ∙ ap (λ (n : ℕ). has_attr (attrs_among attrs vs o) q || (is_same (Some n) o && has_attr v.attrs q)) long
+    ∙ sym (attrs_pushed attrs vs v o q)
+    ∙ ap (λ (l : List Var). has_attr (attrs_among attrs l o) q) (sym next)
+
+-- of the dataset alone
+pub owners_none : (attrs : List Attr) (empty new : BTreeSet (Option ℕ × Bor (List ℕ))) → sorted.IsEmpty empty
+    → ((o : Option ℕ) (q : List ℕ) → has_name new o q ≡ (has_name empty o q || (is_same None o && has_attr attrs q)))
+    → (o : Option ℕ) (q : List ℕ) → has_name new o q ≡ has_attr (attrs_among attrs [] o) q
+owners_none attrs empty new none put o q = by_owner o (put o q ∙ ap (λ (t : Bool). t || (is_same None o && has_attr attrs q)) nothing)
+  where
+    nothing : has_name empty o q ≡ false
+    nothing = ap (λ keys. list_any (tree.is_at (λ k. ordering_then (option_cmp nat_cmp o k.0) (slice_cmp nat_cmp q k.1.now))) keys) none
+
+    by_owner : (p : Option ℕ) → has_name new o q ≡ (is_same None p && has_attr attrs q) → has_name new o q ≡ has_attr (attrs_among attrs [] p) q
+    by_owner None h = h
+    by_owner (Some k) h = h
+
+-- ---- additions
+
+pub dim_indexed : (header : Header) (index next : NameIndex) (d : Dim) → IsIndexOf header index
+    → ((q : List ℕ) → place_of next.dims q ≡ option_or (place_of index.dims q) (cond (bytes_eq d.name q) (Some (length header.dims)) None))
+    → next.vars ≡ index.vars → next.attrs ≡ index.attrs
+    → IsIndexOf (record header { dims = header.dims ++ d ∷ [] }) next
+dim_indexed header index next d is put vars attrs =
+    record {
+      dims = places_next (λ (e : Dim). e.name) header.dims (header.dims ++ d ∷ []) d (length header.dims) index.dims next.dims refl refl is.dims put;
+      vars = λ q. ap (λ m. place_of m q) vars ∙ is.vars q;
+      attrs = λ o q. ap (λ m. has_name m o q) attrs ∙ is.attrs o q;
+    }
+
+pub var_indexed : (header : Header) (index next : NameIndex) (v : Var) (name : List ℕ) → v.name ≡ name → v.attrs ≡ [] → IsIndexOf header index
+    → ((q : List ℕ) → place_of next.vars q ≡ option_or (place_of index.vars q) (cond (bytes_eq name q) (Some (length header.vars)) None))
+    → next.dims ≡ index.dims → next.attrs ≡ index.attrs
+    → IsIndexOf (record header { vars = header.vars ++ v ∷ [] }) next
+var_indexed header index next v name named bare is put dims attrs =
+    record {
+      dims = λ q. ap (λ m. place_of m q) dims ∙ is.dims q;
+      vars =
+          places_next (λ (w : Var). w.name) header.vars (header.vars ++ v ∷ []) v (length header.vars) index.vars next.vars refl refl is.vars
+          (λ q. put q ∙ ap (λ (n : List ℕ). option_or (place_of index.vars q) (cond (bytes_eq n q) (Some (length header.vars)) None)) (sym named));
+      attrs = λ o q.
+          ap (λ m. has_name m o q) attrs ∙ is.attrs o q
+          ∙ or_last (has_attr (attrs_at header o) q)
+          ∙ ap (λ (t : Bool). has_attr (attrs_at header o) q || t) (sym (and_last (is_same (Some (length header.vars)) o)) ∙ ap (λ (l : List Attr). is_same (Some (length header.vars)) o && has_attr l q) (sym bare))
+          ∙ sym (attrs_pushed header.attrs header.vars v o q);
+    }
+  where
+    and_last : (t : Bool) → (t && false) ≡ false
+    and_last true = refl
+    and_last false = refl
+
+pub attr_indexed : (header : Header) (index next : NameIndex) (a : Attr) → IsIndexOf header index
+    → ((o : Option ℕ) (q : List ℕ) → has_name next.attrs o q ≡ (has_name index.attrs o q || (is_same None o && bytes_eq a.name q)))
+    → next.dims ≡ index.dims → next.vars ≡ index.vars
+    → IsIndexOf (record header { attrs = header.attrs ++ a ∷ [] }) next
+attr_indexed header index next a is put dims vars =
+    record {
+      dims = λ q. ap (λ m. place_of m q) dims ∙ is.dims q;
+      vars = λ q. ap (λ m. place_of m q) vars ∙ is.vars q;
+      attrs = λ o q. put o q ∙ ap (λ (t : Bool). t || (is_same None o && bytes_eq a.name q)) (is.attrs o q) ∙ one_more o q;
+    }
+  where
+    one_more : (o : Option ℕ) (q : List ℕ) → (has_attr (attrs_at header o) q || (is_same None o && bytes_eq a.name q)) ≡ has_attr (attrs_among (header.attrs ++ a ∷ []) header.vars o) q
+    one_more None q = sym (attr_pushed header.attrs a q)
+    one_more (Some k) q = sym (or_last (has_attr (attrs_at header (Some k)) q))
+
+-- ---- an attribute of a variable
+
+given_is : (vs : List Var) (k : ℕ) (v : Var) (a : Attr) → slice_get vs k ≡ Some v → given vs k a ≡ set vs k (record v { attrs = v.attrs ++ a ∷ [] })
+given_is vs k v a there = ap (λ (o : Option Var). elim o [ None ↦ vs | Some w ↦ set vs k (record w { attrs = w.attrs ++ a ∷ [] }) ]) there
+
+names_given : (vs : List Var) (k : ℕ) (v w : Var) → slice_get vs k ≡ Some v → w.name ≡ v.name → map (λ (x : Var). x.name) (set vs k w) ≡ map (λ (x : Var). x.name) vs
+names_given [] k v w there same = refl
+names_given (x ∷ vs) zero v w there same =
+    ap (λ (n : List ℕ). n ∷ map (λ (y : Var). y.name) vs) (same ∙ ap (λ (o : Option Var). elim o [ None ↦ [] | Some y ↦ y.name ]) (sym there))
+names_given (x ∷ vs) (suc k) v w there same = ap (λ (ns : List (List ℕ)). x.name ∷ ns) (names_given vs k v w there same)
+
+attrs_given : (attrs : List Attr) (vs : List Var) (k : ℕ) (v : Var) (a : Attr) → slice_get vs k ≡ Some v → (o : Option ℕ) (q : List ℕ)
+    → (has_attr (attrs_among attrs vs o) q || (is_same (Some k) o && bytes_eq a.name q)) ≡ has_attr (attrs_among attrs (set vs k (record v { attrs = v.attrs ++ a ∷ [] })) o) q
+attrs_given attrs vs k v a there None q = sym (or_last (has_attr attrs q))
+attrs_given attrs vs k v a there (Some j) q = by_test (k == j) refl
+  where
+    own : Option Var → Bool
+    own o = has_attr (elim o [ None ↦ [] | Some w ↦ w.attrs ]) q
+
+    by_test : (t : Bool) → (k == j) ≡ t → (own (slice_get vs j) || (t && bytes_eq a.name q)) ≡ own (slice_get (set vs k (record v { attrs = v.attrs ++ a ∷ [] })) j)
+    by_test true e =
+        let same = (Decides-eqb k j).0 e in
+        ap (λ (o : Option Var). own o || bytes_eq a.name q) (ap (slice_get vs) (sym same) ∙ there)
+        ∙ sym (attr_pushed v.attrs a q)
+        ∙ ap own (sym (ap (slice_get (set vs k (record v { attrs = v.attrs ++ a ∷ [] }))) (sym same) ∙ entry_set vs k v (record v { attrs = v.attrs ++ a ∷ [] }) there))
+    by_test false e =
+        sym (or_last (own (slice_get vs j)))
+        ∙ ap own (sym (entry_set_other vs k j (record v { attrs = v.attrs ++ a ∷ [] }) (λ same. no_false (sym e ∙ (Decides-eqb k j).1 (sym same)))))
+
+pub var_attr_indexed : (header : Header) (index next : NameIndex) (k : ℕ) (a : Attr) → k < length header.vars → IsIndexOf header index
+    → ((o : Option ℕ) (q : List ℕ) → has_name next.attrs o q ≡ (has_name index.attrs o q || (is_same (Some k) o && bytes_eq a.name q)))
+    → next.dims ≡ index.dims → next.vars ≡ index.vars
+    → IsIndexOf (record header { vars = given header.vars k a }) next
+var_attr_indexed header index next k a below is put dims vars =
+    let there = entry_below header.vars k below in
+    let v = there.0 in
+    let w : Var = record v { attrs = v.attrs ++ a ∷ [] } in
+    let same = given_is header.vars k v a there.1 in
+    subst (λ (vs : List Var). IsIndexOf (record header { vars = vs }) next) (sym same)
+    (record {
+      dims = λ q. ap (λ m. place_of m q) dims ∙ is.dims q;
+      vars = λ q.
+          ap (λ m. place_of m q) vars ∙ is.vars q
+          ∙ sym (position_map (λ (n : List ℕ). bytes_eq n q) (λ (x : Var). x.name) header.vars)
+          ∙ ap (position (λ (n : List ℕ). bytes_eq n q)) (sym (names_given header.vars k v w there.1 refl))
+          ∙ position_map (λ (n : List ℕ). bytes_eq n q) (λ (x : Var). x.name) (set header.vars k w);
+      attrs = λ o q.
+          put o q ∙ ap (λ (t : Bool). t || (is_same (Some k) o && bytes_eq a.name q)) (is.attrs o q)
+          ∙ attrs_given header.attrs header.vars k v a there.1 o q;
+    })
+
+-- the first variable of the name
+attr_at : (name : List ℕ) (a : Attr) (vs : List Var) (k : ℕ) (v : Var) → slice_get vs k ≡ Some v → bytes_eq v.name name ≡ true
+    → ((j : ℕ) → j < k → bytes_eq (get_or vs j v).name name ≡ false)
+    → with_attr name a vs ≡ set vs k (record v { attrs = v.attrs ++ a ∷ [] })
+attr_at name a [] k v there e f = absurd cc
+attr_at name a (w ∷ vs) zero v there e f =
+    ap (λ (x : Var). with_attr name a (x ∷ vs)) (ap (λ (o : Option Var). elim o [ None ↦ w | Some x ↦ x ]) there)
+    ∙ ap (λ (t : Bool). cond t (record v { attrs = v.attrs ++ a ∷ [] } ∷ vs) (v ∷ with_attr name a vs)) e
+attr_at name a (w ∷ vs) (suc k) v there e f =
+    ap (λ (t : Bool). cond t (record w { attrs = w.attrs ++ a ∷ [] } ∷ vs) (w ∷ with_attr name a vs)) (f 0 (omega arith))
+    ∙ ap (λ (ws : List Var). w ∷ ws) (attr_at name a vs k v there e (λ j g. f (suc j) (omega arith)))
+
+-- its place is found, and it gets the attribute there
+pub attr_there : (name : List ℕ) (a : Attr) (vs : List Var) (k : ℕ) → position (λ (v : Var). bytes_eq v.name name) vs ≡ Some k → with_attr name a vs ≡ given vs k a
+attr_there name a vs k e =
+    let p = λ (v : Var). bytes_eq v.name name in
+    let below = position_below p vs k e in
+    let there = entry_below vs k below in
+    let found = position-Some p vs k there.0 e in
+    attr_at name a vs k there.0 there.1 (ap p (sym (get_or_from_slice_get vs k there.0 there.0 there.1)) ∙ found.1) found.2
+    ∙ sym (given_is vs k there.0 a there.1)
+
+pub attr_nowhere : (name : List ℕ) (a : Attr) (vs : List Var) → position (λ (v : Var). bytes_eq v.name name) vs ≡ None → with_attr name a vs ≡ vs
+attr_nowhere name a vs e = all_other vs (fewer _ _ e)
+  where
+    fewer : (n m : ℕ) → cond (nat_lt n m) (Some n) None ≡ None → m ≤ n
+    fewer n m g = by_test (nat_lt n m) refl g
+      where
+        by_test : (t : Bool) → nat_lt n m ≡ t → cond t (Some n) None ≡ None → m ≤ n
+        by_test true f g = cc
+        by_test false f g = grind (arith, nat_tests)
+
+    all_other : (ws : List Var) → length ws ≤ prefix_len (λ (v : Var). not (bytes_eq v.name name)) ws → with_attr name a ws ≡ ws
+    all_other [] h = refl
+    all_other (w ∷ ws) h = by_name (bytes_eq w.name name) h (all_other ws)
+      where
+        by_name : (t : Bool) → length (w ∷ ws) ≤ cond (not t) (1 + prefix_len (λ (v : Var). not (bytes_eq v.name name)) ws) 0
+            → (length ws ≤ prefix_len (λ (v : Var). not (bytes_eq v.name name)) ws → with_attr name a ws ≡ ws)
+            → cond t (record w { attrs = w.attrs ++ a ∷ [] } ∷ ws) (w ∷ with_attr name a ws) ≡ w ∷ ws
+        by_name true g rest = absurd (omega arith)
+        by_name false g rest = ap (λ vs. w ∷ vs) (rest (omega arith))
+
+-- what the header has under an owner's name
+found_attrs : (header : Header) (owner : List ℕ) → attrs_of_var header owner ≡ elim (find_var header owner) [ None ↦ [] | Some k ↦ attrs_at header (Some k) ]
+found_attrs header owner = ap own (find_at p header.vars) ∙ by_test (nat_lt (position_or_len p header.vars) (length header.vars)) refl
+  where
+    p : Var → Bool
+    p v = bytes_eq v.name owner
+
+    own : Option Var → List Attr
+    own o = elim o [ None ↦ [] | Some v ↦ v.attrs ]
+
+    by_test : (t : Bool) → nat_lt (position_or_len p header.vars) (length header.vars) ≡ t
+        → own (slice_get header.vars (position_or_len p header.vars)) ≡ elim (cond t (Some (position_or_len p header.vars)) None) [ None ↦ [] | Some k ↦ attrs_at header (Some k) ]
+    by_test true e = refl
+    by_test false e = ap own (slice_get_past header.vars (position_or_len p header.vars) (ltb-false (position_or_len p header.vars) (length header.vars) e))
+
+pub attrs_found : (header : Header) (owner : List ℕ) (k : ℕ) → Some k ≡ find_var header owner → attrs_of_var header owner ≡ attrs_at header (Some k)
+attrs_found header owner k e = found_attrs header owner ∙ ap (λ (o : Option ℕ). elim o [ None ↦ [] | Some j ↦ attrs_at header (Some j) ]) (sym e)
+
+pub attrs_missing : (header : Header) (owner : List ℕ) → None ≡ find_var header owner → attrs_of_var header owner ≡ []
+attrs_missing header owner e = found_attrs header owner ∙ ap (λ (o : Option ℕ). elim o [ None ↦ [] | Some j ↦ attrs_at header (Some j) ]) (sym e)

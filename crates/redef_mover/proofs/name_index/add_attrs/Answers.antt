@@ -1,0 +1,25 @@
+use Rattle.std.proofs.Common.{◌∙◌, ◌+◌, ◌<◌, ◌||◌, ◌&&◌, List, ℕ, [], ◌∷◌, ◌++◌, length, take, bytes_eq, sym, ap, arith}
+use Rattle.std.proofs.lemmas.List.{take_more, take_all}
+use Rattle.nc_base.specs.declared.header.Attr.{Attr}
+use Rattle.serial_spec.specs.Redefinition.{has_attr}
+use Rattle.redef_mover.specs.Indexed.{has_name, is_same}
+use Rattle.redef_mover.proofs.IndexLaws.{names_next, or_none}
+use Rattle.redef_mover.proofs.name_index.add_attrs.Goals as goal
+
+pub loop-attr-init : goal.loop-attr-init
+loop-attr-init c = λ o q. or_none (has_name c.args.names.now o q) (is_same c.args.owner o)
+
+pub loop-attr-preserved : goal.loop-attr-preserved
+loop-attr-preserved c =
+    let attrs = c.args.attrs.now in
+    let k = c.loop-attr.attr-index in
+    let attr = c.attr-item.result in
+    let within : k < length attrs = omega arith in
+    let more = take_more attrs k attr within ∙ ap (λ (a : Attr). take k attrs ++ a ∷ []) (sym c.attr-item.is) in
+    names_next c.args.owner (take k attrs) (take (k + 1) attrs) attr c.args.names.now c.loop-attr.names c.add_attr.new.names more c.loop-attr.invariant
+    (λ o q. c.in_ok-add_attr.ensures o q ∙ ap (λ (n : List ℕ). has_name c.loop-attr.names o q || (is_same c.args.owner o && bytes_eq n q)) c.as_slice.ensures)
+
+pub returns : goal.returns
+returns c =
+    let attrs = c.args.attrs.now in
+    λ o q. c.loop-attr.invariant o q ∙ ap (λ (l : List Attr). has_name c.args.names.now o q || (is_same c.args.owner o && has_attr l q)) (take_all c.loop-attr.attr-index attrs (omega arith))
