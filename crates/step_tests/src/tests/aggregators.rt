@@ -177,29 +177,17 @@ fn gets_have_the_same_calls_by_each_way(rt: HostRuntime) -> Result<(), Fail> {
     Ok(())
 }
 
-/// A call that the disk refuses, and the bytes that it leaves as they were where the other aggregator goes on.
-#[derive(Clone, Copy)]
-struct Refusal {
-    op: FailOp,
-    at: u64,
-    from: usize,
-    to: usize,
-}
-
-const fn refusal(op: FailOp, at: u64, from: usize, to: usize) -> Refusal {
-    Refusal { op, at, from, to }
-}
-
-/// Each call of a put: the splits, and those of the two aggregators. A write that is refused at 105 has written what stands before.
-const REFUSED_PUTS: [Refusal; 8] = [
-    refusal(FailOp::Split, 80, 80, 108),
-    refusal(FailOp::Split, 94, 80, 108),
-    refusal(FailOp::Store, 80, 80, 94),
-    refusal(FailOp::Store, 92, 92, 94),
-    refusal(FailOp::Load, 94, 94, 108),
-    refusal(FailOp::Store, 94, 94, 108),
-    refusal(FailOp::Store, 105, 105, 108),
-    refusal(FailOp::Store, 106, 106, 108),
+/// Each call of a put that the disk may refuse, and from where to where the file is then left as it was while the other aggregator goes
+/// on: the splits, and the calls of the two. A write that is refused at 105 has written what stands before.
+const REFUSED_PUTS: [(FailOp, u64, [usize; 2]); 8] = [
+    (FailOp::Split, 80, [80, 108]),
+    (FailOp::Split, 94, [80, 108]),
+    (FailOp::Store, 80, [80, 94]),
+    (FailOp::Store, 92, [92, 94]),
+    (FailOp::Load, 94, [94, 108]),
+    (FailOp::Store, 94, [94, 108]),
+    (FailOp::Store, 105, [105, 108]),
+    (FailOp::Store, 106, [106, 108]),
 ];
 
 /// A file whose bytes are their places, of which one call is refused.
@@ -208,21 +196,21 @@ fn failing(alloc: Global, op: FailOp, at: u64) -> Result<MemDisk, Fail> {
     Ok(MemDisk::failing(alloc, numbered(alloc, 112)?, plan)?)
 }
 
-/// The put is refused and leaves these bytes. Then the disk is whole: the same put ends well.
+/// The put is refused, and leaves the file as it was from one place to another. Then the disk is whole: the same put ends well.
 fn is_refused<R: Abort + Threads + Wait + Sync>(
     rt: &R,
     alloc: Global,
     way: Way,
-    refusal: Refusal,
+    fault: (FailOp, u64),
+    from: usize,
+    to: usize,
 ) -> Result<(), Fail> {
+    let (op, at) = fault;
     let set = eight_ints(rt, alloc, way)?;
-    let mut disk = failing(alloc, refusal.op, refusal.at)?;
+    let mut disk = failing(alloc, op, at)?;
     let end = put(rt, alloc, &mut disk, &set)?;
     assert!(rt; end == Err(StepErr::Disk));
-    assert_eq!(rt;
-        disk.bytes(alloc)?,
-        put_but(alloc, refusal.from, refusal.to)?
-    );
+    assert_eq!(rt; disk.bytes(alloc)?, put_but(alloc, from, to)?);
     let end = put(rt, alloc, &mut disk, &set)?;
     assert!(rt; end == Ok(PutEnd::Done));
     assert_eq!(rt; disk.bytes(alloc)?, put_but(alloc, 0, 0)?);
@@ -231,8 +219,8 @@ fn is_refused<R: Abort + Threads + Wait + Sync>(
 
 #[test]
 fn one_aggregator_goes_on_while_the_other_is_refused(rt: HostRuntime) -> Result<(), Fail> {
-    for refusal in REFUSED_PUTS {
-        is_refused(&rt, rt.alloc(), SIDE_BY_SIDE, refusal)?;
+    for (op, at, [from, to]) in REFUSED_PUTS {
+        is_refused(&rt, rt.alloc(), SIDE_BY_SIDE, (op, at), from, to)?;
     }
     Ok(())
 }
@@ -240,9 +228,8 @@ fn one_aggregator_goes_on_while_the_other_is_refused(rt: HostRuntime) -> Result<
 // What stands behind the refused call is not begun.
 #[test]
 fn in_turn_a_refused_call_is_the_last(rt: HostRuntime) -> Result<(), Fail> {
-    for refusal in REFUSED_PUTS {
-        let whole = Refusal { to: 108, ..refusal };
-        is_refused(&rt, rt.alloc(), IN_TURN, whole)?;
+    for (op, at, [from, _]) in REFUSED_PUTS {
+        is_refused(&rt, rt.alloc(), IN_TURN, (op, at), from, 108)?;
     }
     Ok(())
 }
