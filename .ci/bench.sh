@@ -5,7 +5,7 @@ bench_runs() {
         return
     fi
     cp "$root/docs/SPEED.md" speed.md
-    given=$("$root/bench/run" --runs 1 --seconds 10 --page speed.md "$program" 1 2 calls=64 variables=16 waits=64 attributes=64 column=64 2>&1)
+    given=$("$root/bench/run" --runs 1 --seconds 10 --page speed.md "$program" 1 2 calls=64 variables=16 waits=64 attributes=64 column=64 aggregators=2 unthreaded=2 2>&1)
     same 'the benchmark: status' 0 $?
     same 'the benchmark: what differs' '' "$(printf '%s\n' "$given" | grep -v '^|\|^Runs\|^$')"
     same 'the benchmark: rows on the page' 'generate 1
@@ -14,7 +14,9 @@ calls 64
 variables 16
 waits 64
 attributes 64
-column 64' "$(sed -n '/^<!-- the table/,/^<!-- its end/s/^| \([a-z]*\) *| *\([0-9][0-9]*\) |.*/\1 \2/p' speed.md)"
+column 64
+aggregators 2
+unthreaded 2' "$(sed -n '/^<!-- the table/,/^<!-- its end/s/^| \([a-z]*\) *| *\([0-9][0-9]*\) |.*/\1 \2/p' speed.md)"
     rm -f speed.md
 }
 bench_runs

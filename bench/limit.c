@@ -17,10 +17,11 @@
 #include <string.h>
 #include <unistd.h>
 
-enum { SHORT = 3, INT = 4, FLOAT = 5 };                   /* types, and tags of lists, as a header spells them */
+enum { SHORT = 3, INT = 4, FLOAT = 5, DOUBLE = 6 };                   /* types, and tags of lists, as a header spells them */
 enum { DIMENSIONS = 10, VARIABLES = 11, ATTRIBUTES = 12 };
 enum { ROWS = 180, COLUMNS = 360, PLACES = ROWS * COLUMNS, RANKS = 8, COLUMN_STEP = 45 };
 enum { WIDTH = 8, COLUMN = 3, WINDOW = 1 << 24 };         /* the grid of which a column is read, and how much at once */
+enum { DOUBLES = 1 << 17, STEP = 512 };                   /* a row of 1 MiB; of so many doubles of it one is read */
 
 static void need(int holds, const char *what)
 {
@@ -148,7 +149,7 @@ static void print_format(uint32_t extent)
 
 static void print_variable(const char *text, uint32_t begin, uint32_t size)
 {
-    printf("  int %s:\n    start file offset = %" PRIu32 "\n    end file offset = %" PRIu32 "\n    size in bytes = %" PRIu32 "\n",
+    printf("  %s:\n    start file offset = %" PRIu32 "\n    end file offset = %" PRIu32 "\n    size in bytes = %" PRIu32 "\n",
            text, begin, begin + size, size);
 }
 
@@ -156,7 +157,7 @@ static void print_vector(uint32_t n, uint32_t begin)
 {
     print_format(begin);
     printf("  x = %" PRIu32 "\nfixed-size variables:\n", n);
-    print_variable("v(x)", begin, 4 * n);
+    print_variable("int v(x)", begin, 4 * n);
     printf("record variables:\n");
 }
 
@@ -292,7 +293,7 @@ static int variables(int file, uint32_t n)
     print_format(begin);
     printf("  t = UNLIMITED // (1 currently)\n  x = %d\nfixed-size variables:\nrecord variables:\n", RANKS);
     for (uint32_t k = 0; k < n; k++) {
-        sprintf(text, "v%" PRIu32 "(t, x)", k);
+        sprintf(text, "int v%" PRIu32 "(t, x)", k);
         print_variable(text, begin + k * sizeof record, sizeof record);
     }
     return 0;
@@ -361,7 +362,7 @@ static int column(int file, uint32_t n)
     printf("\npending 0\n");
     print_format(begin);
     printf("  y = %" PRIu32 "\n  x = %d\nfixed-size variables:\n", n, WIDTH);
-    print_variable("v(y, x)", begin, 4 * WIDTH * n);
+    print_variable("int v(y, x)", begin, 4 * WIDTH * n);
     printf("record variables:\n");
     free(rows);
     return 0;
@@ -379,6 +380,61 @@ static int before_column(int file, uint32_t n)
     return 0;
 }
 
+static uint64_t element(uint32_t y, uint32_t x)
+{
+    return ((uint64_t)(y % RANKS) << 32) + (uint64_t)(y / RANKS) * DOUBLES + x;
+}
+
+/* The elements that one rank reads, of each of its rows. */
+static void print_read(const uint64_t *read, uint32_t n, uint32_t rank)
+{
+    printf("rank %" PRIu32 "\n0 put_vars_all ok\n1 get_vars_all ok", rank);
+    for (uint32_t y = rank; y < n; y += RANKS)
+        for (uint32_t k = 0; k < DOUBLES / STEP; k++)
+            printf(" x%016" PRIX64, be64toh(read[y * (DOUBLES / STEP) + k]));
+    printf("\npending 0\n");
+}
+
+/* n rows of 1 MiB, written one by one, and read back in whole windows for an element of each 4 KiB. */
+static int rows_of_doubles(int file, uint32_t n)
+{
+    const uint32_t some = WINDOW / (8 * DOUBLES);
+    uint64_t *window = malloc(WINDOW), *read = malloc((size_t)n * (DOUBLES / STEP) * sizeof *read);
+    need(window != NULL && read != NULL, "no memory");
+    begin_header(0);
+    list(DIMENSIONS, 2);
+    dimension("y", n);
+    dimension("x", DOUBLES);
+    list(ATTRIBUTES, 0);
+    list(VARIABLES, 1);
+    variable("field", 2);
+    list(ATTRIBUTES, 0);
+    uint32_t begin = head_len + 12, kept = 0;
+    end_variable(DOUBLE, 8 * DOUBLES * n, begin);
+    write_at(file, head, head_len, 0);
+    for (uint32_t y = 0; y < n; y++) {
+        for (uint32_t x = 0; x < DOUBLES; x++)
+            window[x] = htobe64(element(y, x));
+        write_at(file, window, 8 * DOUBLES, begin + (off_t)y * 8 * DOUBLES);
+    }
+    for (uint32_t from = 0; from < n; from += some) {
+        uint32_t count = n - from < some ? n - from : some;
+        read_at(file, window, 8 * ((size_t)count * DOUBLES - STEP + 1), begin + (off_t)from * 8 * DOUBLES);
+        for (uint32_t k = 0; k < count * (DOUBLES / STEP); k++)
+            read[kept++] = window[(size_t)k * STEP];
+    }
+    print_start(RANKS, 2);
+    for (uint32_t rank = 0; rank < RANKS; rank++)
+        print_read(read, n, rank);
+    print_format(begin);
+    printf("  y = %" PRIu32 "\n  x = %d\nfixed-size variables:\n", n, DOUBLES);
+    print_variable("double field(y, x)", begin, 8 * DOUBLES * n);
+    printf("record variables:\n");
+    free(window);
+    free(read);
+    return 0;
+}
+
 /* ---- the words */
 
 static const struct row {
@@ -390,6 +446,8 @@ static const struct row {
     {"waits", waits, NULL},
     {"attributes", attributes, before_attributes},
     {"column", column, before_column},
+    {"aggregators", rows_of_doubles, NULL},
+    {"unthreaded", rows_of_doubles, NULL},
 };
 
 static int opened(const char *path, int flags)

@@ -5,8 +5,10 @@
 """
 import sys
 
-RANKS = 8           # of the row variables
+RANKS = 8           # of the rows variables, aggregators and unthreaded
 COLUMN = 3          # the column that is read
+DOUBLES = 2 ** 17   # a row of 1 MiB
+STEP = 512          # of so many doubles of a row one is read
 
 
 def vector(n):
@@ -42,7 +44,29 @@ def column(n):
     return ["open", "ranks 1", "data", f"0 get_vara_all v [0,{COLUMN}] [{n},1]"]
 
 
-ROWS = {"calls": calls, "variables": variables, "waits": waits, "attributes": attributes, "column": column}
+def rows(n, threads):
+    """n rows of 1 MiB: each of 8 ranks writes every eighth of them, all by one call, and reads an element of each 4 KiB of it. There are 8 aggregators."""
+    lines = ["create 1", f"ranks {RANKS}", f"hint cb_nodes {RANKS}", f"hint threads {threads}",
+             f"dim y {n}", f"dim x {DOUBLES}", "var double field [y,x]", "data"]
+    for rank in range(RANKS):
+        count = len(range(rank, n, RANKS))
+        start = f"[{rank if count else 0},0]"
+        lines.append(f"{rank} put_vars_all field {start} [{count},{DOUBLES}] [{RANKS},1] seqx {count * DOUBLES} x{rank << 32:X} x1")
+        lines.append(f"{rank} get_vars_all field {start} [{count},{DOUBLES // STEP}] [{RANKS},{STEP}]")
+    return lines
+
+
+def aggregators(n):
+    """Rows by aggregators side by side."""
+    return rows(n, "on")
+
+
+def unthreaded(n):
+    """The same on one thread."""
+    return rows(n, "off")
+
+
+ROWS = {"aggregators": aggregators, "unthreaded": unthreaded, "calls": calls, "variables": variables, "waits": waits, "attributes": attributes, "column": column}
 
 
 def script(row, n):

@@ -1,4 +1,5 @@
 // The leaves of a step, and whole steps, on small files.
+mod aggregators;
 mod domains;
 mod overlaps;
 mod sieving;

@@ -97,12 +97,22 @@ fn a_rank_steps_while_the_owner_waits(rt: HostRuntime) -> Result<(), Fail> {
     meet(&rt, rt.alloc(), Point::Arrival(0), Point::RankStep(0, 0))
 }
 
+#[test]
+fn the_second_aggregator_begins_while_the_first_waits(rt: HostRuntime) -> Result<(), Fail> {
+    meet(&rt, rt.alloc(), Point::Window(0, 0), Point::Window(1, 0))
+}
+
+#[test]
+fn the_first_aggregator_begins_while_the_second_waits(rt: HostRuntime) -> Result<(), Fail> {
+    meet(&rt, rt.alloc(), Point::Window(1, 0), Point::Window(0, 0))
+}
+
 const ON: &[u8] = b"hint threads on\n";
 
 const OFF: &[u8] = b"hint threads off\n";
 
-// What stands in a script before its hints, and behind them.
-const SCRIPTS: [[&[u8]; 2]; 3] = [
+// What stands in a script before its hints, and behind them. In the fourth there is an aggregator for each byte.
+const SCRIPTS: [[&[u8]; 2]; 5] = [
     [
         TWO_RANKS,
         b"dim x 4\nvar int v [x]\ndata\n0 put_vara_all v [0] [2] 1 2\n1 put_vara_all v [2] [2] 3 4\nend\n",
@@ -116,17 +126,50 @@ const SCRIPTS: [[&[u8]; 2]; 3] = [
         b"dim y 2\ndim x 3\nvar int w [y,x]\ndata\n0 put_varm_all w [0,0] [2,3] [1,1] [1,2] 1 2 3 4 5 6\n\
         0 get_varm_all w [0,0] [2,3] [1,1] [1,2]\n0 get_var_all w\nend\n",
     ],
+    [
+        b"create 1\nranks 1\nhint cb_nodes 64\n",
+        b"dim x 4\nvar int v [x]\ndata\n0 put_var_all v 1 2 3 4\n0 get_var_all v\nend\n",
+    ],
+    [
+        b"create 1\nranks 1\nhint cb_nodes 3\nhint cb_buffer_size 3\n",
+        b"dim x 4\nvar int v [x]\ndata\n0 put_var_all v 1 2 3 4\n0 get_var_all v\nend\n",
+    ],
 ];
 
+// Ways in which ranks and aggregators run.
+const WAYS: [&[u8]; 3] = [OFF, b"hint line_room 1\n", b"hint line_room 64\n"];
+
 #[test]
-fn threads_change_no_byte(rt: HostRuntime) -> Result<(), Fail> {
+fn no_way_changes_a_byte_or_a_call(rt: HostRuntime) -> Result<(), Fail> {
     let alloc = rt.alloc();
     for [head, rest] in &SCRIPTS {
-        let on = run(&rt, alloc, &[head, ON, rest], &OpenGate)?;
-        let off = run(&rt, alloc, &[head, OFF, rest], &OpenGate)?;
-        assert_eq!(rt; on.text, off.text);
-        assert_eq!(rt; on.file, off.file);
+        let plain = run(&rt, alloc, &[head, ON, rest], &OpenGate)?;
+        for way in &WAYS {
+            let ran = run(&rt, alloc, &[head, way, rest], &OpenGate)?;
+            assert_eq!(rt; ran.text, plain.text);
+            assert_eq!(rt; ran.file, plain.file);
+            assert_eq!(rt; ran.calls, plain.calls);
+        }
     }
+    Ok(())
+}
+
+// Each aggregator has one byte, and they write side by side: the calls stand in the order of the bytes.
+#[test]
+fn an_aggregator_for_each_byte(rt: HostRuntime) -> Result<(), Fail> {
+    let alloc = rt.alloc();
+    let head = b"create 1\nranks 1\nhint cb_nodes 64\nhint line_room 1\n";
+    let rest = b"dim x 4\nvar int v [x]\ndata\n0 put_var_all v 1 2 3 4\nend\n";
+    let ran = run(&rt, alloc, &[head, rest], &OpenGate)?;
+    let mut wanted = vec![in alloc; DiskCall::Grow(96), DiskCall::Store(0, 80)]?;
+    for at in 80..96 {
+        wanted.push(DiskCall::Store(at, 1))?;
+    }
+    assert!(rt;
+        ran.calls
+            .is_some_and(|calls| calls.as_slice() == wanted.as_slice())
+    );
+    assert_eq!(rt; ran.file, blob(alloc, &[A_FRONT, AT_80, ONE_TO_FOUR])?);
     Ok(())
 }
 

@@ -18,7 +18,9 @@ const HOLE: Run = Run {
     orders: &[&[
         Call::Grow(96),
         Call::Store(0, A_HEADER),
+        Call::Split(80),
         Call::Store(80, ONE_TO_FOUR),
+        Call::Split(80),
         Call::Load(80, 16),
         Call::Store(80, SEVEN_TO_EIGHT),
     ]],
@@ -34,13 +36,27 @@ const LOWER: Call = Call::Store(80, b"\x00\x00\x00\x01\x00\x00\x00\x02");
 
 const UPPER: Call = Call::Store(88, b"\x00\x00\x00\x03\x00\x00\x00\x04");
 
-// Two ranks write the halves, by two aggregators.
+// Two ranks write the halves, by two aggregators. One goes on where the other is refused.
 const HALVES: Run = Run {
     script: b"create 1\nranks 2\nhint cb_nodes 2\ndim x 4\nvar int v [x]\ndata\n\
         0 put_vara_all v [0] [2] 1 2\n1 put_vara_all v [2] [2] 3 4\nend\n",
     orders: &[
-        &[Call::Grow(96), Call::Store(0, A_HEADER), LOWER, UPPER],
-        &[Call::Grow(96), Call::Store(0, A_HEADER), UPPER, LOWER],
+        &[
+            Call::Grow(96),
+            Call::Store(0, A_HEADER),
+            Call::Split(80),
+            Call::Split(88),
+            LOWER,
+            UPPER,
+        ],
+        &[
+            Call::Grow(96),
+            Call::Store(0, A_HEADER),
+            Call::Split(80),
+            Call::Split(88),
+            UPPER,
+            LOWER,
+        ],
     ],
     ..PLAIN
 };
@@ -57,6 +73,7 @@ const RECORDS: Run = Run {
         Call::Grow(80),
         Call::Store(0, B),
         Call::Grow(88),
+        Call::Split(86),
         Call::Store(86, b"\x00\x07"),
         Call::Store(4, b"\x00\x00\x00\x04"),
     ]],
@@ -77,6 +94,7 @@ const FILLED: Run = Run {
         Call::Store(0, A_HEADER),
         Call::Store(80, b"\x80\x00\x00\x01\x80\x00\x00\x01"),
         Call::Store(88, b"\x80\x00\x00\x01\x80\x00\x00\x01"),
+        Call::Split(88),
         Call::Store(88, b"\x00\x00\x00\x05"),
     ]],
     ..PLAIN

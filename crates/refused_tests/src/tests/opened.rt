@@ -15,6 +15,7 @@ const HOLE: Run = Run {
     script: b"open\nranks 1\nhint cb_buffer_size 16\ndata\n0 put_vars_all v [0] [2] [3] 7 8\nend\n",
     orders: &[&[
         Call::Load(0, 96),
+        Call::Split(80),
         Call::Load(80, 16),
         Call::Store(80, SEVEN_TO_EIGHT),
     ]],
@@ -89,6 +90,7 @@ const REDEFINED: Run = Run {
         Call::Store(132, &[0; 6]),
         Call::Store(138, &[0; 2]),
         Call::Store(0, Q_HEADER),
+        Call::Split(116),
         Call::Load(116, 16),
     ]],
     len: 140,

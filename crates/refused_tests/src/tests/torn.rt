@@ -7,10 +7,11 @@ use std::sync::Wait;
 use std::test::Fail as TestFail;
 use std::thread::Threads;
 
-/// A call of the disk, and what it writes.
+/// A call of the disk, and what it writes. A split changes no byte.
 #[derive(Clone, Copy)]
 pub(crate) enum Call {
     Grow(usize),
+    Split(usize),
     Load(usize, usize),
     Store(usize, &'static [u8]),
 }
@@ -38,6 +39,7 @@ fn strikes(fault: Fail, call: &Call) -> bool {
     let at = fault.at as usize;
     match (fault.op, call) {
         (FailOp::Grow, Call::Grow(size)) => at < *size,
+        (FailOp::Split, Call::Split(place)) => at == *place,
         (FailOp::Load, Call::Load(from, len)) => holds(*from, *len, at),
         (FailOp::Store, Call::Store(from, bytes)) => holds(*from, bytes.len(), at),
         _ => false,
@@ -60,7 +62,7 @@ fn make(file: &mut Vec<u8>, call: &Call) -> Result<(), AllocError> {
                 file.push(0)?;
             }
         }
-        Call::Load(_, _) => (),
+        Call::Split(_) | Call::Load(_, _) => (),
         Call::Store(from, bytes) => write(file, *from, bytes),
     }
     Ok(())
@@ -112,7 +114,7 @@ pub(crate) fn is_refused_anywhere<R: Abort + Threads + Wait + Sync>(
     alloc: Global,
     run: &Run,
 ) -> Result<(), TestFail> {
-    for op in [FailOp::Grow, FailOp::Load, FailOp::Store] {
+    for op in [FailOp::Grow, FailOp::Split, FailOp::Load, FailOp::Store] {
         for at in 0..run.len {
             let fault = Fail { op, at };
             let left = left_by(rt, alloc, run.script, run.held, fault)?;

@@ -19,12 +19,13 @@ use std::alloc::{AllocError, Global};
 use std::process::Abort;
 use std::sync::Wait;
 use std::test::Fail;
+use std::thread::Threads;
 use type_external::size_of;
 use var_layout::{file_end, lay_out};
 use vara_extents::{check, records_needed};
 
 /// One aggregator, with windows of one int; one rank alone has windows of eight bytes.
-const HINTS: Hints = Hints {
+pub(super) const HINTS: Hints = Hints {
     cb_nodes: 1,
     cb_buffer: 4,
     rd_buffer: 8,
@@ -61,13 +62,13 @@ fn one_after_another() -> Hints
 
 /// A dataset, and how its steps are done.
 #[derive(Drop)]
-struct Dataset {
-    header: Header,
-    hints: Hints,
+pub(super) struct Dataset {
+    pub(super) header: Header,
+    pub(super) hints: Hints,
 }
 
 // The dimension x of this length, and the variable v over it without a begin.
-fn unplaced(alloc: Global, len: u64, kind: NcType) -> Result<Header, AllocError>
+pub(super) fn unplaced(alloc: Global, len: u64, kind: NcType) -> Result<Header, AllocError>
     ensures { IfOk result (λ header. is_unplaced header ≡ true) }
 {
     let x = Dim {
@@ -91,7 +92,7 @@ fn unplaced(alloc: Global, len: u64, kind: NcType) -> Result<Header, AllocError>
 }
 
 // The same with its begin, which is 80.
-fn placed(rt: &impl Abort, mut header: Header) -> Header
+pub(super) fn placed(rt: &impl Abort, mut header: Header) -> Header
     requires { is_unplaced header ≡ true }
     ensures { is_sound result ≡ true }
 {
@@ -106,7 +107,7 @@ fn list_of(alloc: Global, number: u64) -> Result<SizeList, AllocError> {
 }
 
 /// A request for elements of v.
-fn post(
+pub(super) fn post(
     alloc: Global,
     from: u64,
     count: u64,
@@ -209,7 +210,7 @@ fn is_long(rt: &impl Abort, header: &Header, disk: &MemDisk)
 }
 
 /// How the puts of two ranks end, one each, and the record count then.
-fn put_two<R: Abort + Wait>(
+pub(super) fn put_two<R: Abort + Threads + Wait + Sync>(
     rt: &R,
     alloc: Global,
     disk: &mut MemDisk,
@@ -240,7 +241,7 @@ fn put_two<R: Abort + Wait>(
 }
 
 /// What two ranks get, one blob each.
-fn get_two<R: Abort + Wait>(
+pub(super) fn get_two<R: Abort + Threads + Wait + Sync>(
     rt: &R,
     alloc: Global,
     disk: &mut MemDisk,
@@ -383,7 +384,7 @@ fn puts_go_domain_by_domain(rt: HostRuntime) -> Result<(), Fail> {
     has(&rt, alloc, &disk, &calls, tail)
 }
 
-fn has_blob(rt: &impl Abort, table: &GotTable, rank: usize, bytes: &[u8]) {
+pub(super) fn has_blob(rt: &impl Abort, table: &GotTable, rank: usize, bytes: &[u8]) {
     let ranks = table.as_slice();
     assert!(rt; rank < ranks.len());
     let blobs = ranks[rank].as_slice();
