@@ -3,7 +3,12 @@
 --     feed_left ranks feed      their pieces
 --     IsFeed feed               what holds of a feed at every moment
 --     HaveFed ranks old new     what was left is what was put, and what is left now
-use Rattle.std.specs.Prelude.{◌≡◌, ℕ, ◌+◌, ◌^◌, ◌<◌, ◌≤◌, List, [], ◌∷◌, ◌++◌, Option, Some, None}
+--     next_round_of feed        the round of its next window
+--     HasRound seats round      some part's next window is of the round
+--     IsNotBefore round feed    its next window is of the round or a later one
+--     turns_in seats            how many windows are left
+--     HasPacked ranks old new   pieces of a part were put, and the rest is left
+use Rattle.std.specs.Prelude.{◌≡◌, ℕ, ◌+◌, ◌^◌, ◌<◌, ◌≤◌, min, List, [], ◌∷◌, ◌++◌, flat_map, length, slice_get, Option, Some, None}
 use Rattle.nc_base.specs.declared.plan.Owned.{Owned}
 use Rattle.overlay_laws.specs.Entries.{In}
 use Rattle.overlay_laws.specs.Lines.{extents, EndBelow}
@@ -11,6 +16,7 @@ use Rattle.aggregator_rounds.specs.Pieces.{told_window}
 use Rattle.piece_exchange.specs.Pieces.{pieces_in, pieces_of}
 use Rattle.piece_exchange.specs.Turns.{Told, turns_ahead, IsTurnWalk}
 use Rattle.piece_exchange.specs.declared.packing.Feed.{Feed}
+use Rattle.piece_exchange.specs.declared.starting.Seat.{Seat}
 use Rattle.piece_exchange.specs.declared.walk.Turn.{Turn}
 use Rattle.piece_exchange.specs.declared.walk.TurnWalk.{TurnWalk}
 
@@ -49,3 +55,34 @@ IsFeed f = IsFeedOf f.turn f.walk
 pub record HaveFed (ranks : ℕ) (old new : Feed) : Type 0 where
   pub of : new.line.of ≡ old.line.of
   pub put : new.line.items ++ feed_left ranks new ≡ old.line.items ++ feed_left ranks old
+
+-- ---- rounds
+
+abbrev pub round_of : Option Turn → Option ℕ
+round_of None = None
+round_of (Some t) = Some t.window.round
+
+abbrev pub next_round_of : Feed → Option ℕ
+next_round_of f = round_of f.turn
+
+abbrev pub earlier_of : Option ℕ → Option ℕ → Option ℕ
+earlier_of (Some a) (Some b) = Some (min a b)
+earlier_of (Some a) None = Some a
+earlier_of None other = other
+
+pub record HasRound {D : Type 0} (seats : List (Seat D)) (round : ℕ) : Type 0 where
+  pub place : ℕ
+  pub seat : Seat D
+  pub found : slice_get seats place ≡ Some seat
+  pub next : next_round_of seat.feed ≡ Some round
+
+abbrev pub IsNotBefore : ℕ → Feed → Type 0
+IsNotBefore round f = (next : ℕ) → next_round_of f ≡ Some next → round ≤ next
+
+abbrev pub turns_in : {D : Type 0} → List (Seat D) → ℕ
+turns_in seats = length (flat_map (λ seat. turns_left seat.feed) seats)
+
+pub record HasPacked {D : Type 0} (ranks : ℕ) (old new : Seat D) : Type 0 where
+  pub helper : new.helper ≡ old.helper
+  pub ready : IsFeed new.feed
+  pub fed : HaveFed ranks old.feed new.feed

@@ -1,8 +1,8 @@
 // What the caller does: round by round it puts the pieces of all parts on their lines.
-ghost use Rattle.std.specs.Prelude.{◌≡◌, ◌+◌, ◌++◌, ◌<◌, ◌^◌, ℕ, [], length, slice_get, IfSome, IfNone, Some};
+ghost use Rattle.std.specs.Prelude.{◌≡◌, ◌+◌, ◌++◌, ◌<◌, ◌≤◌, ◌^◌, ℕ, [], length, slice_get, IfSome, IfNone, Some};
 ghost use Rattle.aggregator_rounds.specs.Pieces.{told_window};
 ghost use Rattle.overlay_laws.specs.Lines.{extents, EndBelow};
-ghost use Rattle.piece_exchange.specs.Feeds.{feed_left, turns_left, HaveFed, IsFeed};
+ghost use Rattle.piece_exchange.specs.Feeds.{earlier_of, feed_left, next_round_of, turns_in, turns_left, HasPacked, HasRound, HaveFed, IsFeed, IsNotBefore};
 ghost use Rattle.piece_exchange.specs.Pieces.{of_rank, pieces_in, pieces_of};
 ghost use Rattle.piece_exchange.specs.Plan.{planned_turns, IsPlanned};
 ghost use Rattle.piece_exchange.specs.Seats.{HasFed};
@@ -43,51 +43,69 @@ pub(crate) fn pack_all<R: Wait, D: Disk>(rt: &R, ranks: u32, seats: &mut [Seat<D
     ensures long { length seats.new ≡ length seats.old }
     ensures fed { (k : ℕ) (old new : Seat D) → slice_get seats.old k ≡ Some old → slice_get seats.new k ≡ Some new → HasFed ranks old new }
 {
-    'rounds: while let Some(k) = least_round(seats) {
-        let seat = &mut seats[k];
-        pack_turn(rt, ranks, &mut seat.feed);
+    'rounds: while let Some(round) = least_round(seats) {
+        pack_round(rt, ranks, round, seats);
     }
 }
 
-// The first of the parts whose next window is of the least round.
-fn least_round<D: Disk>(seats: &[Seat<D>]) -> Option<usize>
-    ensures some { IfSome result (λ k. (k < length seats.now) × ((seat : Seat D) → slice_get seats.now k ≡ Some seat → turns_left seat.feed ≡ [] → ⊥)) }
+// The least round of the parts' next windows.
+fn least_round<D: Disk>(seats: &[Seat<D>]) -> Option<u64>
+    ensures some { IfSome result (λ round. HasRound seats.now round) }
+    ensures least { IfSome result (λ round. (k : ℕ) (seat : Seat D) → slice_get seats.now k ≡ Some seat → IsNotBefore round seat.feed) }
     ensures none { IfNone result ((k : ℕ) (seat : Seat D) → slice_get seats.now k ≡ Some seat → turns_left seat.feed ≡ []) }
 {
     let mut least = None;
-    let mut round = None;
-    for (k, seat) in seats.iter().enumerate() {
-        let earlier = round_before(&seat.feed, round);
-        if earlier.is_some() {
-            least = Some(k);
-            round = earlier;
-        }
+    for seat in seats {
+        least = earlier(least, seat.feed.next_round());
     }
     least
 }
 
-// The round of the next window of a part, where it has one that is earlier.
-fn round_before(feed: &Feed, than: Option<u64>) -> Option<u64>
-    ensures some { IfSome result (λ _. turns_left feed.now ≡ [] → ⊥) }
-    ensures none { IfNone result (than ≡ None → turns_left feed.now ≡ []) }
+// The earlier of two rounds, where there are two.
+fn earlier(one: Option<u64>, other: Option<u64>) -> Option<u64>
+    ensures { result ≡ earlier_of one other }
 {
-    let round = feed.turn?.window.round;
-    match than {
-        Some(other) if other <= round => None,
-        _ => Some(round),
+    match (one, other) {
+        (Some(a), Some(b)) => Some(a.min(b)),
+        (Some(a), None) => Some(a),
+        (None, _) => other,
     }
 }
 
-// Puts the pieces of the next window of one part, if it has one.
-fn pack_turn<R: Wait>(rt: &R, ranks: u32, feed: &mut Feed)
+impl<'a> Feed<'a> {
+    // The round of the next window.
+    fn next_round(&self) -> Option<u64>
+        ensures { result ≡ next_round_of self.now }
+    {
+        Some(self.turn?.window.round)
+    }
+}
+
+// Puts the pieces of a round on the lines of all parts whose next window is of that round.
+fn pack_round<R: Wait, D: Disk>(rt: &R, ranks: u32, round: u64, seats: &mut [Seat<D>])
+    requires { (k : ℕ) (seat : Seat D) → slice_get seats.old k ≡ Some seat → IsFeed seat.feed }
+    ensures long { length seats.new ≡ length seats.old }
+    ensures packed { (k : ℕ) (old new : Seat D) → slice_get seats.old k ≡ Some old → slice_get seats.new k ≡ Some new → HasPacked ranks old new }
+    ensures fewer { HasRound seats.old round → turns_in seats.new < turns_in seats.old }
+{
+    for seat in seats.iter_mut() {
+        pack_turn(rt, ranks, round, &mut seat.feed);
+    }
+}
+
+// Puts the pieces of the next window of one part, if it is of this round.
+fn pack_turn<R: Wait>(rt: &R, ranks: u32, round: u64, feed: &mut Feed)
     requires ready { IsFeed feed.old }
     ensures ready { IsFeed feed.new }
     ensures fed { HaveFed ranks feed.old feed.new }
-    ensures fewer { (turns_left feed.old ≡ [] → ⊥) → length (turns_left feed.new) < length (turns_left feed.old) }
+    ensures no_more { length (turns_left feed.new) ≤ length (turns_left feed.old) }
+    ensures fewer { next_round_of feed.old ≡ Some round → length (turns_left feed.new) < length (turns_left feed.old) }
 {
     if let Some(turn) = feed.turn {
-        pack_pieces(rt, ranks, &turn, &mut feed.line);
-        feed.turn = feed.walk.next_turn();
+        if turn.window.round == round {
+            pack_pieces(rt, ranks, &turn, &mut feed.line);
+            feed.turn = feed.walk.next_turn();
+        }
     }
 }
 
