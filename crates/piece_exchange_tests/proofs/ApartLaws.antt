@@ -148,22 +148,25 @@ each_whole {X} P xs i h before x m = before x (subst (λ (ys : List X). In ys x)
 
 -- ---- a plan
 
-pub planned : (batches : List Batch) (list : List Owned) (cover : List Extent) (size : ℕ) → length batches ≤ 64 → ArePieces (source_of batches) list
-    → ((o : Owned) → In list o → o.rank < length batches) → AreApart list → IsCover cover → HaveSame (spans cover) (ranges list) → EndBelow (2 ^ 62) cover → size ≡ 8
-    → IsPlan batches list cover size
-planned batches list cover size few pieces below apart covers bytes ends eight =
-    record {
+-- of what was seen to
+pub planned : (batches seen : List Batch) (list entries : List Owned) (cover : List Extent) (size : ℕ) → seen ≡ batches → entries ≡ list
+    → length seen ≤ 64 → ArePieces (source_of seen) entries → ((o : Owned) → In entries o → o.rank < length seen) → AreApart entries
+    → IsCover cover → HaveSame (spans cover) (ranges entries) → EndBelow (2 ^ 62) cover → size ≡ 8 → IsPlan batches list cover size
+planned batches seen list entries cover size e f few pieces below apart covers bytes ends eight =
+    subst (λ (bs : List Batch). IsPlan bs list cover size) e
+    (subst (λ (os : List Owned). IsPlan seen os cover size) f
+    (record {
       few = few;
-      sorted = apart_by_place list apart;
-      ends = pieces_end (source_of batches) list pieces;
+      sorted = apart_by_place entries apart;
+      ends = pieces_end (source_of seen) entries pieces;
       pieces = pieces;
       below = below;
-      one = apart_once (source_of batches) list apart;
+      one = apart_once (source_of seen) entries apart;
       covers = covers;
       cover_ends = ends;
       cover_bytes = bytes;
       some = omega arith;
-    }
+    }))
 
 -- a domain that is a whole part
 pub whole_domain : (list : List Owned) (from len : ℕ) (domain : Extent) → domain.at ≡ from → domain.len ≡ len → IsDomainOf list from len domain

@@ -39,7 +39,7 @@ pack_turn-requires g c =
     let test = c.loop-seat-test.true in
     let long = c.loop-seat.auto.seats in
     let own = slice_get-get_or now i c.seat-item.result (omega arith) in
-    c.requires i (get_or now i c.seat-item.result) (sym (c.loop-seat.invariant.left i (omega arith)) ∙ own)
+    record { ready = c.requires i (get_or now i c.seat-item.result) (sym (c.loop-seat.invariant.left i (omega arith)) ∙ own) }
 
 pub loop-seat-preserved : goal.loop-seat-preserved
 loop-seat-preserved g c =
