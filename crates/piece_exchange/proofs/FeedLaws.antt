@@ -4,41 +4,18 @@ use Rattle.std.proofs.lemmas.Bool.Decides.{nat_tests}
 use Rattle.std.proofs.lemmas.List.{append-nil, length-append}
 use Rattle.std.proofs.lemmas.Option.{slice_get-get_or}
 use Rattle.std.specs.Prelude.{flat_map, nat_lt, slice_get, IfSome, IfNone}
-use Rattle.std.specs.List.{range_with_len}
 use Rattle.list_laws.proofs.Places.{entry_set, entry_set_other}
 use Rattle.nc_base.specs.declared.plan.Owned.{Owned}
 use Rattle.overlay_laws.specs.Entries.{In}
 use Rattle.aggregator_rounds.specs.Pieces.{told_window}
 use Rattle.data_sieving.specs.Serving.{AreBegun, IsPast}
-use Rattle.piece_exchange.specs.Feeds.{earlier_of, pieces_left_of, turns_left_of, AreApart, IsAhead, IsFeedOf}
-use Rattle.piece_exchange.specs.Pieces.{of_rank, pieces_in, pieces_of}
+use Rattle.piece_exchange.specs.Feeds.{earlier_of, pieces_left_of, turns_left_of, AreApart, FitsInFor, IsAhead, IsFeedOf}
+use Rattle.piece_exchange.specs.Pieces.{pieces_in, pieces_of}
 use Rattle.piece_exchange.specs.Turns.{Told, turns_ahead, IsTurnWalk}
 use Rattle.piece_exchange.specs.declared.walk.Turn.{Turn}
 use Rattle.piece_exchange.specs.declared.walk.TurnWalk.{TurnWalk}
 use Rattle.piece_exchange.proofs.PieceLaws.{pieces_served}
 use Rattle.piece_exchange.proofs.TurnLaws.{AreServed, served_ends}
-
--- ---- one rank more
-
-flat_next : {X : Type 0} (f : ℕ → List X) (a n : ℕ) → flat_map f (range_with_len a (suc n)) ≡ flat_map f (range_with_len a n) ++ f (a + n)
-flat_next f a zero = let same : a ≡ a + zero = omega arith in append-nil (f a) ∙ ap f same
-flat_next f a (suc n) =
-    let same : a + 1 + n ≡ a + suc n = omega arith in
-    ap (λ xs. f a ++ xs) (flat_next f (a + 1) n)
-    ∙ sym (append_assoc (f a) (flat_map f (range_with_len (a + 1) n)) (f (a + 1 + n)))
-    ∙ ap (λ (k : ℕ). (f a ++ flat_map f (range_with_len (a + 1) n)) ++ f k) same
-
-pub ranks_next : (r k : ℕ) (list : List Owned) (t : Told) (before mid now : List Owned) → mid ≡ before ++ pieces_in r list t → now ≡ mid ++ of_rank t.0 (t.0 + t.1) r list → k ≡ r + 1
-    → now ≡ before ++ pieces_in k list t
-ranks_next r k list t before mid now e f g =
-    let next : k ≡ suc r = omega arith in
-    let same : 0 + r ≡ r = omega arith in
-    f
-    ∙ ap (λ (os : List Owned). os ++ of_rank t.0 (t.0 + t.1) r list) e
-    ∙ append_assoc before (pieces_in r list t) (of_rank t.0 (t.0 + t.1) r list)
-    ∙ ap (λ (os : List Owned). before ++ os)
-    (ap (λ (n : ℕ). pieces_in r list t ++ of_rank t.0 (t.0 + t.1) n list) (sym same)
-    ∙ sym (flat_next (λ n. of_rank t.0 (t.0 + t.1) n list) 0 r) ∙ ap (λ (n : ℕ). pieces_in n list t) (sym next))
 
 -- ---- one window more
 
@@ -94,6 +71,24 @@ pub fewer_next : (next : Option Turn) (w v : TurnWalk) (t : Told) → IfSome nex
     → length (turns_left_of next v) < length (t ∷ turns_ahead w)
 fewer_next None w v t some = omega arith
 fewer_next (Some u) w v t some = let same = ap (λ (ts : List Told). length ts) some in omega arith
+
+-- ---- room for the entries
+
+pub fits_next : (room : ℕ) (next : Option Turn) (w v : TurnWalk) → length w.entries.now ≤ room
+    → IfSome next (λ t. AreBegun (t.window.hull.at + t.window.hull.len) w.entries.now t.entries.now)
+    → IfSome next (λ t. IsPast (t.window.hull.at + t.window.hull.len) w.entries.now v.entries.now)
+    → FitsInFor room next v
+fits_next room None w v l begun past = tt
+fits_next room (Some t) w v l begun past =
+    let first = ap (λ (os : List Owned). length os) begun.joined in
+    let second = ap (λ (os : List Owned). length os) past.joined in
+    let a = length-append t.entries.now begun.rest in
+    let b = length-append past.front v.entries.now in
+    (omega arith, omega arith)
+
+pub fits_more : (n m : ℕ) (turn : Option Turn) (walk : TurnWalk) → n ≤ m → FitsInFor n turn walk → FitsInFor m turn walk
+fits_more n m None walk l h = tt
+fits_more n m (Some t) walk l h = let a = h.0 in let b = h.1 in (omega arith, omega arith)
 
 -- ---- many feeds
 

@@ -50,7 +50,7 @@ list_says source (o ∷ list) x v h =
 
 pub apart_once : (source : Source) (list : List Owned) → AreApart list → IsOneValued (said_by (map (λ o. cell_of source o) list))
 apart_once source [] a x v w h k = absurd h
-apart_once source (o ∷ list) a x v w h k = by_entry (says_cases first rest x v h) (says_cases first rest x w k)
+apart_once source (o ∷ list) a x v w h k = by_entry (λ g m. apart_once source list a.1 x v w g m) (says_cases first rest x v h) (says_cases first rest x w k)
   where
     first : List (ℕ × ℕ)
     first = enumerate_from o.extent.at (cell_of source o).1
@@ -67,12 +67,12 @@ apart_once source (o ∷ list) a x v w h k = by_entry (says_cases first rest x v
         let high = own.1 in
         omega arith
 
-    by_entry : Says first x v ⊎ Says rest x v → Says first x w ⊎ Says rest x w → v ≡ w
-    by_entry (inl g) (inl m) =
+    by_entry : (Says rest x v → Says rest x w → v ≡ w) → Says first x v ⊎ Says rest x v → Says first x w ⊎ Says rest x w → v ≡ w
+    by_entry both (inl g) (inl m) =
         same_Some v w (sym (says_place o.extent.at (cell_of source o).1 x v g).1 ∙ (says_place o.extent.at (cell_of source o).1 x w m).1)
-    by_entry (inl g) (inr m) = absurd (far v w g m)
-    by_entry (inr g) (inl m) = absurd (far w v m g)
-    by_entry (inr g) (inr m) = apart_once source list a.1 x v w g m
+    by_entry both (inl g) (inr m) = absurd (far v w g m)
+    by_entry both (inr g) (inl m) = absurd (far w v m g)
+    by_entry both (inr g) (inr m) = both g m
 
 -- ---- by place
 

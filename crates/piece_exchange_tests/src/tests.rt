@@ -22,8 +22,11 @@ use std::thread::Threads;
 
 const NO_MEMORY: &str = "no memory";
 
-/// How often a helper that is held looks whether the other point was reached.
-const TURNS: u64 = 10_000_000;
+/// How often a helper that is held looks whether the other point was reached, where it is to be reached.
+const MANY_TURNS: u64 = 10_000_000;
+
+/// The same where it can't be reached before the helper goes on.
+const FEW_TURNS: u64 = 10_000;
 
 /// What the elements hold before, in each byte.
 const OLD: u8 = 9;
@@ -186,16 +189,14 @@ fn bytes_of<R: Abort>(rt: &R, alloc: Global, parts: &[MemDisk]) -> Result<Vec<u8
     Ok(all)
 }
 
-/// Puts, while whoever passes the first point waits for the second one. Each byte is the puts' then.
+/// Puts, and tells whether the points of the gate met. Each byte is the puts' then.
 fn put_and_meet<R: Abort + Threads + Wait + Sync>(
     rt: &R,
     alloc: Global,
     line_room: u32,
-    first: Point,
-    second: Point,
+    gate: &MeetGate,
 ) -> Result<bool, Fail> {
-    let gate = MeetGate::new(first, second, TURNS);
-    let ended = put(rt, alloc, line_room, old_disk(rt, alloc, &[]), &gate)?;
+    let ended = put(rt, alloc, line_room, old_disk(rt, alloc, &[]), gate)?;
     assert!(rt; ended.end == Ok(()));
     let got = bytes_of(rt, alloc, ended.parts.as_slice())?;
     assert!(rt; got.as_slice() == ONE_TO_EIGHT.as_slice());
@@ -204,55 +205,31 @@ fn put_and_meet<R: Abort + Threads + Wait + Sync>(
 
 #[test]
 fn the_second_helper_works_while_the_first_waits(rt: HostRuntime) -> Result<(), Fail> {
-    let met = put_and_meet(
-        &rt,
-        rt.alloc(),
-        4,
-        Point::Window(0, 0),
-        Point::Window(1, 0),
-    )?;
-    assert!(rt; met);
+    let gate = MeetGate::new(Point::Window(0, 0), Point::Window(1, 0), MANY_TURNS);
+    assert!(rt; put_and_meet(&rt, rt.alloc(), 4, &gate)?);
     Ok(())
 }
 
 #[test]
 fn the_first_helper_works_while_the_second_waits(rt: HostRuntime) -> Result<(), Fail> {
-    let met = put_and_meet(
-        &rt,
-        rt.alloc(),
-        4,
-        Point::Window(1, 0),
-        Point::Window(0, 0),
-    )?;
-    assert!(rt; met);
+    let gate = MeetGate::new(Point::Window(1, 0), Point::Window(0, 0), MANY_TURNS);
+    assert!(rt; put_and_meet(&rt, rt.alloc(), 4, &gate)?);
     Ok(())
 }
 
-// The first helper, which waits, has taken none of its two pieces of the first round. One goes on its line, and the caller waits with the
-// second, before the next round.
+// The first helper, which waits, has taken none of its two pieces of the first round. One of them goes on its line, and the caller waits
+// with the other, before the next round.
 #[test]
 fn a_full_line_holds_the_next_round_back(rt: HostRuntime) -> Result<(), Fail> {
-    let met = put_and_meet(
-        &rt,
-        rt.alloc(),
-        1,
-        Point::Window(0, 0),
-        Point::Window(1, 1),
-    )?;
-    assert!(rt; !met);
+    let gate = MeetGate::new(Point::Window(0, 0), Point::Window(1, 1), FEW_TURNS);
+    assert!(rt; !put_and_meet(&rt, rt.alloc(), 1, &gate)?);
     Ok(())
 }
 
 #[test]
 fn a_line_with_room_lets_the_next_round_go_on(rt: HostRuntime) -> Result<(), Fail> {
-    let met = put_and_meet(
-        &rt,
-        rt.alloc(),
-        64,
-        Point::Window(0, 0),
-        Point::Window(1, 1),
-    )?;
-    assert!(rt; met);
+    let gate = MeetGate::new(Point::Window(0, 0), Point::Window(1, 1), MANY_TURNS);
+    assert!(rt; put_and_meet(&rt, rt.alloc(), 64, &gate)?);
     Ok(())
 }
 

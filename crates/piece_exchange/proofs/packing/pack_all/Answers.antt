@@ -1,8 +1,8 @@
 -- One round was packed.
-use Rattle.std.proofs.Common.{◌≡◌, ◌∙◌, ℕ, sym, Some, get_or, arith}
+use Rattle.std.proofs.Common.{◌∙◌, ℕ, sym, subst, get_or, vec_capacity, arith}
 use Rattle.std.proofs.lemmas.Option.{slice_get-get_or, slice_get_within}
 use Rattle.std.specs.Prelude.{slice_get}
-use Rattle.piece_exchange.specs.Feeds.{HasPacked, HaveFed}
+use Rattle.piece_exchange.specs.Feeds.{FitsIn, HasPacked, HaveFed}
 use Rattle.piece_exchange.specs.declared.packing.Feed.{Feed}
 use Rattle.piece_exchange.specs.declared.starting.Seat.{Seat}
 use Rattle.piece_exchange.proofs.FeedLaws.{each_twice}
@@ -12,20 +12,30 @@ fed_twice : (ranks : ℕ) (a b c : Feed) → HaveFed ranks a b → HaveFed ranks
 fed_twice ranks a b c f h = record { of = h.of ∙ f.of; put = h.put ∙ f.put }
 
 packed_twice : {D : Type 0} (ranks : ℕ) (x y z : Seat D) → HasPacked ranks x y → HasPacked ranks y z → HasPacked ranks x z
-packed_twice ranks x y z f h = record { helper = h.helper ∙ f.helper; ready = h.ready; fed = fed_twice ranks x.feed y.feed z.feed f.fed h.fed }
+packed_twice ranks x y z f h = record { helper = h.helper ∙ f.helper; ready = h.ready; fed = fed_twice ranks x.feed y.feed z.feed f.fed h.fed; fits = λ room q. h.fits room (f.fits room q) }
 
-pub pack_round-requires-after_bounds : goal.pack_round-requires-after_bounds
-pack_round-requires-after_bounds g c κs within = λ k seat e.
-    let within = slice_get_within c.rounds.seats k seat e in
+pub pack_round-requires-clause-ready : goal.pack_round-requires-clause-ready
+pack_round-requires-clause-ready g c κs within = λ k seat e.
+    let there = slice_get_within c.rounds.seats k seat e in
     let long = c.rounds.invariant.long in
     let first = slice_get-get_or c.args.seats.now k seat (omega arith) in
     (c.rounds.invariant.packed k (get_or c.args.seats.now k seat) seat first e).ready
+
+pub pack_round-requires-clause-fits : goal.pack_round-requires-clause-fits
+pack_round-requires-clause-fits g c κs within = λ k seat e.
+    let there = slice_get_within c.rounds.seats k seat e in
+    let long = c.rounds.invariant.long in
+    let old = get_or c.args.seats.now k seat in
+    let first = slice_get-get_or c.args.seats.now k seat (omega arith) in
+    subst (λ (n : ℕ). FitsIn n seat.feed) (sym c.rounds.invariant.room)
+    ((c.rounds.invariant.packed k old seat first e).fits (vec_capacity c.args.order.now) (c.requires.fits k old first))
 
 pub rounds-smaller : goal.rounds-smaller
 rounds-smaller g c = c.pack_round.ensures.fewer c.in-Some.ensures.some
 
 pub rounds-preserved : goal.rounds-preserved
 rounds-preserved g c = record {
+  room = c.pack_round.ensures.room ∙ c.rounds.invariant.room;
   long = c.pack_round.ensures.long ∙ c.rounds.invariant.long;
   packed = each_twice (HasPacked c.args.ranks) (HasPacked c.args.ranks) (HasPacked c.args.ranks) c.args.seats.now c.rounds.seats c.pack_round.new.seats c.pack_round.ensures.long
       c.rounds.invariant.packed c.pack_round.ensures.packed (packed_twice c.args.ranks);

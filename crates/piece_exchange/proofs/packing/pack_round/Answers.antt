@@ -3,7 +3,7 @@ use Rattle.std.proofs.Common.{◌≡◌, ℕ, ◌+◌, ◌<◌, ◌≤◌, refl,
 use Rattle.std.proofs.lemmas.Bool.Decides.{nat_tests}
 use Rattle.std.proofs.lemmas.Option.{same_Some, slice_get-get_or}
 use Rattle.std.specs.Prelude.{nat_lt, slice_get}
-use Rattle.piece_exchange.specs.Feeds.{next_round_of, turns_in, turns_left, HasPacked}
+use Rattle.piece_exchange.specs.Feeds.{next_round_of, turns_in, turns_left, FitsIn, HasPacked}
 use Rattle.piece_exchange.specs.Turns.{Told}
 use Rattle.piece_exchange.specs.declared.starting.Seat.{Seat}
 use Rattle.piece_exchange.proofs.FeedLaws.{each_more, fewer_all, get_long, left_more, no_more_all}
@@ -32,14 +32,24 @@ one_fewer {D} round i old now seat new first own before less fewer each k s l e 
         let one = fewer_all left now i seat new own (fewer (ap (λ (x : Seat D). next_round_of x.feed) is ∙ n)) in
         omega arith
 
-pub pack_turn-requires : goal.pack_turn-requires
-pack_turn-requires g c =
+pub pack_turn-requires-clause-ready : goal.pack_turn-requires-clause-ready
+pack_turn-requires-clause-ready g c =
     let now = c.loop-seat.seats in
     let i = c.loop-seat.seat-index in
     let test = c.loop-seat-test.true in
     let long = c.loop-seat.auto.seats in
     let own = slice_get-get_or now i c.seat-item.result (omega arith) in
-    record { ready = c.requires i (get_or now i c.seat-item.result) (sym (c.loop-seat.invariant.left i (omega arith)) ∙ own) }
+    c.requires.ready i (get_or now i c.seat-item.result) (sym (c.loop-seat.invariant.left i (omega arith)) ∙ own)
+
+pub pack_turn-requires-clause-fits : goal.pack_turn-requires-clause-fits
+pack_turn-requires-clause-fits g c =
+    let now = c.loop-seat.seats in
+    let i = c.loop-seat.seat-index in
+    let test = c.loop-seat-test.true in
+    let long = c.loop-seat.auto.seats in
+    let own = slice_get-get_or now i c.seat-item.result (omega arith) in
+    subst (λ (n : ℕ). FitsIn n (get_or now i c.seat-item.result).feed) (sym c.loop-seat.invariant.room)
+    (c.requires.fits i (get_or now i c.seat-item.result) (sym (c.loop-seat.invariant.left i (omega arith)) ∙ own))
 
 pub loop-seat-preserved : goal.loop-seat-preserved
 loop-seat-preserved g c =
@@ -55,9 +65,10 @@ loop-seat-preserved g c =
     let less = no_more_all (λ (s : Seat g.row.D.Denot). turns_left s.feed) now i seat new own c.pack_turn.ensures.no_more in
     let before = c.loop-seat.invariant.no_more in
     record {
+      room = c.pack_turn.ensures.room ∙ c.loop-seat.invariant.room;
       long = length-set now i new ∙ c.loop-seat.invariant.long;
       packed = λ r a b l e f.
-          each_more (λ x y. HasPacked c.args.ranks x y) old now i seat new first own (record { helper = refl; ready = c.pack_turn.ensures.ready; fed = c.pack_turn.ensures.fed })
+          each_more (λ x y. HasPacked c.args.ranks x y) old now i seat new first own (record { helper = refl; ready = c.pack_turn.ensures.ready; fed = c.pack_turn.ensures.fed; fits = c.pack_turn.ensures.fits })
           (λ q x y k u v. c.loop-seat.invariant.packed q x y k u v) r a b l e f;
       left = left_more old now i new c.loop-seat.invariant.left;
       no_more = omega arith;
