@@ -78,12 +78,14 @@ apart_once source (o ∷ list) a x v w h k = by_entry (λ g m. apart_once source
 
 pub apart_by_place : (list : List Owned) → AreApart list → IsByPlace (extents list)
 apart_by_place [] a = tt
-apart_by_place (o ∷ list) a =
-    ((λ e m.
-    let from = map_in (λ (p : Owned). p.extent) list e m in
-    let past = a.0 from.0 from.1 in
-    let at : from.0.extent.at ≡ e.at = ap (λ (d : Extent). d.at) from.2 in
-    omega arith), apart_by_place list a.1)
+apart_by_place (o ∷ list) a = (
+  (λ e m.
+      let from = map_in (λ (p : Owned). p.extent) list e m in
+      let past = a.0 from.0 from.1 in
+      let at : from.0.extent.at ≡ e.at = ap (λ (d : Extent). d.at) from.2 in
+      omega arith),
+  apart_by_place list a.1,
+)
 
 pub pieces_end : (source : Source) (list : List Owned) → ArePieces source list → EndBelow (2 ^ 62) (extents list)
 pieces_end source list p e m =
@@ -95,14 +97,16 @@ pieces_end source list p e m =
 
 apart_last : (list : List Owned) (p : Owned) → AreApart list → ((o : Owned) → In list o → o.extent.at + o.extent.len ≤ p.extent.at) → AreApart (list ++ p ∷ [])
 apart_last [] p a h = ((λ q m. absurd m), tt)
-apart_last (o ∷ list) p a h =
-    ((λ q m. elim (in_either list (p ∷ []) q m) [
-      | inl k ↦ a.0 q k
-      | inr k ↦ elim k [
-        | inl e ↦ subst (λ (r : Owned). o.extent.at + o.extent.len ≤ r.extent.at) e (h o (inl refl))
-        | inr n ↦ absurd n
-      ]
-    ]), apart_last list p a.1 (λ q m. h q (inr m)))
+apart_last (o ∷ list) p a h = (
+  (λ q m. elim (in_either list (p ∷ []) q m) [
+    | inl k ↦ a.0 q k
+    | inr k ↦ elim k [
+      | inl e ↦ subst (λ (r : Owned). o.extent.at + o.extent.len ≤ r.extent.at) e (h o (inl refl))
+      | inr n ↦ absurd n
+    ]
+  ]),
+  apart_last list p a.1 (λ q m. h q (inr m)),
+)
 
 -- the entries so far lie apart, and end before a place
 pub record AreBefore (list : List Owned) (end : ℕ) : Type 0 where

@@ -141,7 +141,11 @@ fn place_of(part: &MemDisk) -> Extent
 }
 
 /// The halves of a disk of 32 bytes, and where they lie.
-fn halves(rt: &impl Abort, alloc: Global, disk: MemDisk) -> Result<(Vec<MemDisk>, [Extent; 2]), Fail>
+fn halves(
+    rt: &impl Abort,
+    alloc: Global,
+    disk: MemDisk,
+) -> Result<(Vec<MemDisk>, [Extent; 2]), Fail>
     ensures two { IfOk result (λ halves. length halves.0.items ≡ 2) }
     ensures places { IfOk result (λ halves. (k : ℕ) (part : DiskState) (place : Extent) → slice_get halves.0.items k ≡ Some part → slice_get halves.1 k ≡ Some place
         → (place.at ≡ part.from) × (place.len ≡ length part.bytes)) }

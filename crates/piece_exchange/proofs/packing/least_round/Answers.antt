@@ -7,7 +7,7 @@ use Rattle.piece_exchange.specs.Feeds.{earlier_of, next_round_of, round_of, turn
 use Rattle.piece_exchange.specs.declared.starting.Seat.{Seat}
 use Rattle.piece_exchange.specs.declared.walk.Turn.{Turn}
 use Rattle.piece_exchange.specs.declared.walk.TurnWalk.{TurnWalk}
-use Rattle.piece_exchange.proofs.FeedLaws.{earlier_first, earlier_none, earlier_second, earlier_some, get_long}
+use Rattle.piece_exchange.proofs.FeedLaws.{earlier_none, earlier_second, earlier_some, get_long}
 use Rattle.piece_exchange.proofs.packing.least_round.Goals as goal
 
 no_turn : (turn : Option Turn) (walk : TurnWalk) → round_of turn ≡ None → turns_left_of turn walk ≡ []

@@ -1,7 +1,6 @@
 -- One round was packed.
 use Rattle.std.proofs.Common.{◌∙◌, ℕ, sym, subst, get_or, vec_capacity, arith}
 use Rattle.std.proofs.lemmas.Option.{slice_get-get_or, slice_get_within}
-use Rattle.std.specs.Prelude.{slice_get}
 use Rattle.piece_exchange.specs.Feeds.{FitsIn, HasPacked, HaveFed}
 use Rattle.piece_exchange.specs.declared.packing.Feed.{Feed}
 use Rattle.piece_exchange.specs.declared.starting.Seat.{Seat}

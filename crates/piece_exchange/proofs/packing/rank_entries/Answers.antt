@@ -1,5 +1,5 @@
 -- One entry more.
-use Rattle.std.proofs.Common.{◌≡◌, ◌∙◌, ◌+◌, ◌<◌, List, ◌++◌, ap, sym, refl, length, get_or, Bool, true, false, ◌&&◌, vec_capacity}
+use Rattle.std.proofs.Common.{◌≡◌, ◌∙◌, ◌+◌, ◌++◌, ap, sym, get_or, Bool, true, false, ◌&&◌, vec_capacity}
 use Rattle.std.proofs.lemmas.Bool.{lt-ltb, le-ltb}
 use Rattle.std.proofs.lemmas.List.{append-nil}
 use Rattle.data_sieving.proofs.SplitSteps.{entry_ends}

@@ -1,5 +1,5 @@
 -- One entry more.
-use Rattle.std.proofs.Common.{◌<◌, length, refl, arith}
+use Rattle.std.proofs.Common.{◌<◌, length}
 use Rattle.nc_base.specs.declared.plan.Owned.{Owned}
 use Rattle.piece_exchange.specs.Pieces.{IsPiece}
 use Rattle.piece_exchange.specs.Turns.{source_of}
@@ -14,8 +14,8 @@ loop-entry-init c = record { pieces = λ o m. absurd m; below = λ o m. absurd m
 
 pub loop-entry-preserved : goal.loop-entry-preserved
 loop-entry-preserved c = record {
-  pieces = each_taken (IsPiece (source_of c.args.batches.now)) c.args.list.now c.loop-entry.entry-index none c.loop-entry-test.true c.loop-entry.invariant.pieces ?;
-  below = each_taken (λ (o : Owned). o.rank < length c.args.batches.now) c.args.list.now c.loop-entry.entry-index none c.loop-entry-test.true c.loop-entry.invariant.below ?;
+  pieces = each_taken (IsPiece (source_of c.args.batches.now)) c.args.list.now c.loop-entry.entry-index none c.loop-entry-test.true c.loop-entry.invariant.pieces (c.is_piece.ensures.piece c.if-not-is_piece.false);
+  below = each_taken (λ (o : Owned). o.rank < length c.args.batches.now) c.args.list.now c.loop-entry.entry-index none c.loop-entry-test.true c.loop-entry.invariant.below (c.is_piece.ensures.below c.if-not-is_piece.false);
 }
 
 pub returns-clause-pieces : goal.returns-clause-pieces
