@@ -2,7 +2,7 @@
 use Rattle.std.proofs.Common.{◌≡◌, ℕ, zero, suc, ◌+◌, ◌<◌, ◌≤◌, ◌⊎◌, inl, inr, refl, sym, ◌∙◌, ap, subst, List, [], ◌∷◌, ◌++◌, length, take, get_or, Bool, true, false, cond, ◌&&◌, append_assoc, is_lt, arith}
 use Rattle.std.proofs.lemmas.Bool.{eqb-true, lt-ltb, le-ltb, cases_lt}
 use Rattle.std.proofs.lemmas.Bool.Decides.{nat_tests}
-use Rattle.std.proofs.lemmas.List.{append-nil, length-append, map-append, take_more}
+use Rattle.std.proofs.lemmas.List.{append-nil, length-append, length-take-le, map-append, take_more}
 use Rattle.std.proofs.lemmas.List.Sorted.{sum_by-IsPermutation}
 use Rattle.std.proofs.lemmas.List.Sums.{sum_by-append, sum_by-cons}
 use Rattle.std.specs.Prelude.{filter, flat_map, map, nat_lt, ◌==◌}
@@ -337,7 +337,7 @@ ranked_last goes place (p ∷ es) o =
 pub ranked_more : (goes : Owned → Bool) (i : ℕ) (es : List Owned) (t : Bool) (before now : List Ranked) → i < length es → before ≡ ranked_from goes 0 (take i es)
     → goes (get_or es i no_entry) ≡ t → now ≡ before ++ one_ranked t (get_or es i no_entry).rank i → now ≡ ranked_from goes 0 (take (i + 1) es)
 ranked_more goes i es t before now l e g h =
-    let long : length (take i es) ≡ i = length-take-within i es l in
+    let long = length-take-le i es (omega arith) in
     let place : 0 + length (take i es) ≡ i = omega arith in
     h
     ∙ ap (λ (zs : List Ranked). zs ++ one_ranked t (get_or es i no_entry).rank i) e
@@ -345,11 +345,6 @@ ranked_more goes i es t before now l e g h =
     ∙ ap (λ (k : ℕ). ranked_from goes 0 (take i es) ++ one_ranked (goes (get_or es i no_entry)) (get_or es i no_entry).rank k) (sym place)
     ∙ sym (ranked_last goes 0 (take i es) (get_or es i no_entry))
     ∙ sym (ap (ranked_from goes 0) (take_more es i no_entry l))
-  where
-    length-take-within : (i : ℕ) (es : List Owned) → i < length es → length (take i es) ≡ i
-    length-take-within zero es l = refl
-    length-take-within (suc i) [] l = absurd (omega arith)
-    length-take-within (suc i) (o ∷ es) l = let rest = length-take-within i es (omega arith) in omega arith
 
 pub few_more : (before now : List Ranked) (t : Bool) (rank i : ℕ) → length before ≤ i → now ≡ before ++ one_ranked t rank i → length now ≤ i + 1
 few_more before now true rank i l e =
@@ -360,12 +355,3 @@ few_more before now false rank i l e =
     let joined = ap (λ (zs : List Ranked). length zs) e in
     let long = length-append before (one_ranked false rank i) in
     omega arith
-
-pub put_more : (es : List Owned) (order : List Ranked) (i : ℕ) (d : Ranked) (before mid now : List Owned) → i < length order → mid ≡ before ++ map (λ z. entry_at es z.place) (take i order)
-    → now ≡ mid ++ entry_at es (get_or order i d).place ∷ [] → now ≡ before ++ map (λ z. entry_at es z.place) (take (i + 1) order)
-put_more es order i d before mid now l e f =
-    f
-    ∙ ap (λ (os : List Owned). os ++ entry_at es (get_or order i d).place ∷ []) e
-    ∙ append_assoc before (map (λ z. entry_at es z.place) (take i order)) (entry_at es (get_or order i d).place ∷ [])
-    ∙ ap (λ (os : List Owned). before ++ os) (sym (map-append (λ z. entry_at es z.place) (take i order) (get_or order i d ∷ [])))
-    ∙ ap (λ (zs : List Ranked). before ++ map (λ z. entry_at es z.place) zs) (sym (take_more order i d l))
