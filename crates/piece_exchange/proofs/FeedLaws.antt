@@ -1,44 +1,22 @@
 -- What of a part's pieces is left to be put, as its windows are gone over.
-use Rattle.std.proofs.Common.{◌≡◌, ℕ, zero, suc, ◌+◌, ◌<◌, ◌≤◌, inl, inr, refl, sym, ◌∙◌, ap, subst, List, [], ◌∷◌, ◌++◌, length, set, Bool, true, false, Option, Some, None, append_assoc, arith}
+use Rattle.std.proofs.Common.{◌≡◌, ℕ, zero, suc, ◌+◌, ◌<◌, ◌≤◌, ◌⊎◌, min, inl, inr, refl, sym, ◌∙◌, ap, subst, List, [], ◌∷◌, ◌++◌, length, get_or, set, Bool, true, false, Option, Some, None, append_assoc, arith}
 use Rattle.std.proofs.lemmas.Bool.Decides.{nat_tests}
 use Rattle.std.proofs.lemmas.List.{append-nil, length-append}
+use Rattle.std.proofs.lemmas.Option.{slice_get-get_or}
 use Rattle.std.specs.Prelude.{flat_map, nat_lt, slice_get, IfSome, IfNone}
-use Rattle.std.specs.List.{range_with_len}
 use Rattle.list_laws.proofs.Places.{entry_set, entry_set_other}
 use Rattle.nc_base.specs.declared.plan.Owned.{Owned}
 use Rattle.overlay_laws.specs.Entries.{In}
 use Rattle.aggregator_rounds.specs.Pieces.{told_window}
 use Rattle.data_sieving.specs.Serving.{AreBegun, IsPast}
-use Rattle.piece_exchange.specs.Feeds.{pieces_left_of, turns_left_of, AreApart, IsAhead, IsFeedOf}
-use Rattle.piece_exchange.specs.Pieces.{of_rank, pieces_in, pieces_of}
+use Rattle.piece_exchange.specs.Feeds.{earlier_of, pieces_left_of, turns_left_of, AreApart, FitsInFor, IsAhead, IsFeedOf}
+use Rattle.piece_exchange.specs.Pieces.{pieces_in, pieces_of}
 use Rattle.piece_exchange.specs.Turns.{Told, turns_ahead, IsTurnWalk}
 use Rattle.piece_exchange.specs.declared.walk.Turn.{Turn}
 use Rattle.piece_exchange.specs.declared.walk.TurnWalk.{TurnWalk}
 use Rattle.piece_exchange.proofs.PieceLaws.{pieces_served}
 use Rattle.piece_exchange.specs.Cursor.{AreServed}
 use Rattle.piece_exchange.proofs.TurnLaws.{served_ends}
-
--- ---- one rank more
-
-flat_next : {X : Type 0} (f : ℕ → List X) (a n : ℕ) → flat_map f (range_with_len a (suc n)) ≡ flat_map f (range_with_len a n) ++ f (a + n)
-flat_next f a zero = let same : a ≡ a + zero = omega arith in append-nil (f a) ∙ ap f same
-flat_next f a (suc n) =
-    let same : a + 1 + n ≡ a + suc n = omega arith in
-    ap (λ xs. f a ++ xs) (flat_next f (a + 1) n)
-    ∙ sym (append_assoc (f a) (flat_map f (range_with_len (a + 1) n)) (f (a + 1 + n)))
-    ∙ ap (λ (k : ℕ). (f a ++ flat_map f (range_with_len (a + 1) n)) ++ f k) same
-
-pub ranks_next : (r k : ℕ) (list : List Owned) (t : Told) (before mid now : List Owned) → mid ≡ before ++ pieces_in r list t → now ≡ mid ++ of_rank t.0 (t.0 + t.1) r list → k ≡ r + 1
-    → now ≡ before ++ pieces_in k list t
-ranks_next r k list t before mid now e f g =
-    let next : k ≡ suc r = omega arith in
-    let same : 0 + r ≡ r = omega arith in
-    f
-    ∙ ap (λ (os : List Owned). os ++ of_rank t.0 (t.0 + t.1) r list) e
-    ∙ append_assoc before (pieces_in r list t) (of_rank t.0 (t.0 + t.1) r list)
-    ∙ ap (λ (os : List Owned). before ++ os)
-    (ap (λ (n : ℕ). pieces_in r list t ++ of_rank t.0 (t.0 + t.1) n list) (sym same)
-    ∙ sym (flat_next (λ n. of_rank t.0 (t.0 + t.1) n list) 0 r) ∙ ap (λ (n : ℕ). pieces_in n list t) (sym next))
 
 -- ---- one window more
 
@@ -95,6 +73,24 @@ pub fewer_next : (next : Option Turn) (w v : TurnWalk) (t : Told) → IfSome nex
 fewer_next None w v t some = omega arith
 fewer_next (Some u) w v t some = let same = ap (λ (ts : List Told). length ts) some in omega arith
 
+-- ---- room for the entries
+
+pub fits_next : (room : ℕ) (next : Option Turn) (w v : TurnWalk) → length w.entries.now ≤ room
+    → IfSome next (λ t. AreBegun (t.window.hull.at + t.window.hull.len) w.entries.now t.entries.now)
+    → IfSome next (λ t. IsPast (t.window.hull.at + t.window.hull.len) w.entries.now v.entries.now)
+    → FitsInFor room next v
+fits_next room None w v l begun past = tt
+fits_next room (Some t) w v l begun past =
+    let first = ap (λ (os : List Owned). length os) begun.joined in
+    let second = ap (λ (os : List Owned). length os) past.joined in
+    let a = length-append t.entries.now begun.rest in
+    let b = length-append past.front v.entries.now in
+    (omega arith, omega arith)
+
+pub fits_more : (n m : ℕ) (turn : Option Turn) (walk : TurnWalk) → n ≤ m → FitsInFor n turn walk → FitsInFor m turn walk
+fits_more n m None walk l h = tt
+fits_more n m (Some t) walk l h = let a = h.0 in let b = h.1 in (omega arith, omega arith)
+
 -- ---- many feeds
 
 pub fewer_all : {X Y : Type 0} (f : X → List Y) (xs : List X) (i : ℕ) (x y : X) → slice_get xs i ≡ Some x → length (f y) < length (f x)
@@ -108,6 +104,21 @@ fewer_all f (z ∷ xs) zero x y e h =
     omega arith
 fewer_all f (z ∷ xs) (suc i) x y e h =
     let rest = fewer_all f xs i x y e h in
+    let a = length-append (f z) (flat_map f xs) in
+    let b = length-append (f z) (flat_map f (set xs i y)) in
+    omega arith
+
+pub no_more_all : {X Y : Type 0} (f : X → List Y) (xs : List X) (i : ℕ) (x y : X) → slice_get xs i ≡ Some x → length (f y) ≤ length (f x)
+    → length (flat_map f (set xs i y)) ≤ length (flat_map f xs)
+no_more_all f [] i x y e h = absurd cc
+no_more_all f (z ∷ xs) zero x y e h =
+    let same : z ≡ x = cc in
+    let long = ap (λ w. length (f w)) same in
+    let a = length-append (f z) (flat_map f xs) in
+    let b = length-append (f y) (flat_map f xs) in
+    omega arith
+no_more_all f (z ∷ xs) (suc i) x y e h =
+    let rest = no_more_all f xs i x y e h in
     let a = length-append (f z) (flat_map f xs) in
     let b = length-append (f z) (flat_map f (set xs i y)) in
     omega arith
@@ -154,6 +165,43 @@ pub get_long : {X : Type 0} (xs : List X) (k : ℕ) (x : X) → slice_get xs k �
 get_long [] k x e = absurd cc
 get_long (z ∷ xs) zero x e = omega arith
 get_long (z ∷ xs) (suc k) x e = let l = get_long xs k x e in omega arith
+
+-- what holds of two lists and of two more, place by place, joined
+pub each_twice : {X : Type 0} (R S T : X → X → Type 0) (xs ys zs : List X) → length zs ≡ length ys
+    → ((k : ℕ) (x y : X) → slice_get xs k ≡ Some x → slice_get ys k ≡ Some y → R x y) → ((k : ℕ) (y z : X) → slice_get ys k ≡ Some y → slice_get zs k ≡ Some z → S y z)
+    → ((x y z : X) → R x y → S y z → T x z)
+    → (k : ℕ) (x z : X) → slice_get xs k ≡ Some x → slice_get zs k ≡ Some z → T x z
+each_twice R S T xs ys zs long first second join k x z e f =
+    let within = get_long zs k z f in
+    let y = get_or ys k z in
+    let mid = slice_get-get_or ys k z (omega arith) in
+    join x y z (first k x y e mid) (second k y z mid f)
+
+-- ---- the least round
+
+pub earlier_some : (one other : Option ℕ) (round : ℕ) → earlier_of one other ≡ Some round → (one ≡ Some round) ⊎ (other ≡ Some round)
+earlier_some (Some a) (Some b) round e = by_order (nat_lt b a) refl
+  where
+    by_order : (t : Bool) → nat_lt b a ≡ t → (Some a ≡ Some round) ⊎ (Some b ≡ Some round)
+    by_order true u = let l : b < a = grind (arith, nat_tests) in let same : min a b ≡ b = omega arith in inr (ap (λ (n : ℕ). Some n) (sym same) ∙ e)
+    by_order false u = let l : a ≤ b = grind (arith, nat_tests) in let same : min a b ≡ a = omega arith in inl (ap (λ (n : ℕ). Some n) (sym same) ∙ e)
+earlier_some (Some a) None round e = inl e
+earlier_some None other round e = inr e
+
+pub earlier_first : (one other : Option ℕ) (round next : ℕ) → earlier_of one other ≡ Some round → one ≡ Some next → round ≤ next
+earlier_first (Some a) (Some b) round next e f = let p : min a b ≡ round = cc in let q : a ≡ next = cc in omega arith
+earlier_first (Some a) None round next e f = let p : a ≡ round = cc in let q : a ≡ next = cc in omega arith
+earlier_first None other round next e f = absurd cc
+
+pub earlier_second : (one other : Option ℕ) (round next : ℕ) → earlier_of one other ≡ Some round → other ≡ Some next → round ≤ next
+earlier_second (Some a) (Some b) round next e f = let p : min a b ≡ round = cc in let q : b ≡ next = cc in omega arith
+earlier_second (Some a) None round next e f = absurd cc
+earlier_second None other round next e f = let p : Some round ≡ Some next = cc in let q : round ≡ next = cc in omega arith
+
+pub earlier_none : (one other : Option ℕ) → earlier_of one other ≡ None → (one ≡ None) × (other ≡ None)
+earlier_none (Some a) (Some b) e = absurd cc
+earlier_none (Some a) None e = absurd cc
+earlier_none None other e = (refl, e)
 
 -- ---- one window of one feed
 

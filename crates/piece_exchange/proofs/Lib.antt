@@ -4,6 +4,7 @@ pub mod PieceLaws
 pub mod TakenLaws
 pub mod ServeLaws
 pub mod InTurnLaws
+pub mod OrderLaws
 pub mod FeedLaws
 pub mod BackLaws
 pub mod SeatLaws

@@ -6,7 +6,7 @@ use Rattle.std.specs.List.{AllZip}
 use Rattle.nc_base.specs.declared.plan.Extent.{Extent}
 use Rattle.nc_base.specs.declared.plan.Owned.{Owned}
 use Rattle.overlay_laws.specs.Entries.{In}
-use Rattle.piece_exchange.specs.Feeds.{feed_left, pieces_left_of, turns_left_of, IsFeed}
+use Rattle.piece_exchange.specs.Feeds.{feed_left, pieces_left_of, turns_left_of, FitsIn, IsFeed}
 use Rattle.piece_exchange.specs.Plan.{planned_pieces}
 use Rattle.piece_exchange.specs.Put.{SomeZip}
 use Rattle.piece_exchange.specs.Seats.{domain_of, part_of, HasFed, IsFed, IsFresh, IsSeat, IsToldToGo}
@@ -24,6 +24,7 @@ pub record IsTold {D : Type 0} (plan : PutPlan) (seat : Seat D) : Type 0 where
   pub seat_is : IsSeat plan seat
   pub word : seat.helper.word.items ≡ Go ∷ []
   pub ready : IsFeed seat.feed
+  pub fits : FitsIn (length plan.list.now) seat.feed
   pub line : seat.feed.line.items ≡ []
   pub left : feed_left (length plan.job.now.batches) seat.feed ≡ planned_pieces plan (domain_of seat)
 
@@ -41,6 +42,7 @@ go_seat plan old new t f =
       };
       word = t.words ∙ ap (λ words. words ++ Go ∷ []) f.word;
       ready = subst (λ (feed : Feed). IsFeed feed) (sym t.feed) f.ready;
+      fits = subst (λ (feed : Feed). FitsIn (length plan.list.now) feed) (sym t.feed) f.fits;
       line = ap (λ (feed : Feed). feed.line.items) t.feed ∙ f.line;
       left = ap (λ (feed : Feed). feed_left (length plan.job.now.batches) feed) t.feed ∙ f.left ∙ sym (ap (λ child. planned_pieces plan child.promise.domain.value) t.child);
     }

@@ -3,14 +3,28 @@
 --     feed_left ranks feed      their pieces
 --     IsFeed feed               what holds of a feed at every moment
 --     HaveFed ranks old new     what was left is what was put, and what is left now
-use Rattle.std.specs.Prelude.{◌≡◌, ℕ, ◌+◌, ◌^◌, ◌<◌, ◌≤◌, List, [], ◌∷◌, ◌++◌, Option, Some, None}
+--     next_round_of feed        the round of its next window
+--     HasRound seats round      some part's next window is of the round
+--     IsNotBefore round feed    its next window is of the round or a later one
+--     turns_in seats            how many windows are left
+--     HasPacked ranks old new   pieces of a part were put, and the rest is left
+--     FitsIn room feed          no window has more entries than there is room for
+--     goes_in ranks lo hi o     an entry of one of these ranks has a byte from lo to hi
+--     ranked_from goes i list   where those entries stand, which begin at place i
+--     ranked_cmp                the order by rank, and then by place
+--     entry_at list place       the entry there
+use Rattle.std.specs.Prelude.{◌≡◌, ℕ, ◌+◌, ◌^◌, ◌<◌, ◌≤◌, min, List, [], ◌∷◌, ◌++◌, flat_map, length, slice_get, slice_index_or, Bool, true, false, ◌&&◌, nat_lt, Option, Some, None}
+use Rattle.std.specs.Ordering.{nat_cmp, ordering_then}
+use Rattle.std.specs.declared.cmp.Ordering.{Ordering}
 use Rattle.nc_base.specs.declared.plan.Owned.{Owned}
 use Rattle.overlay_laws.specs.Entries.{In}
 use Rattle.overlay_laws.specs.Lines.{extents, EndBelow}
 use Rattle.aggregator_rounds.specs.Pieces.{told_window}
-use Rattle.piece_exchange.specs.Pieces.{pieces_in, pieces_of}
+use Rattle.piece_exchange.specs.Pieces.{meets, pieces_in, pieces_of}
 use Rattle.piece_exchange.specs.Turns.{Told, turns_ahead, IsTurnWalk}
 use Rattle.piece_exchange.specs.declared.packing.Feed.{Feed}
+use Rattle.piece_exchange.specs.declared.packing.Ranked.{Ranked}
+use Rattle.piece_exchange.specs.declared.starting.Seat.{Seat}
 use Rattle.piece_exchange.specs.declared.walk.Turn.{Turn}
 use Rattle.piece_exchange.specs.declared.walk.TurnWalk.{TurnWalk}
 
@@ -49,3 +63,66 @@ IsFeed f = IsFeedOf f.turn f.walk
 pub record HaveFed (ranks : ℕ) (old new : Feed) : Type 0 where
   pub of : new.line.of ≡ old.line.of
   pub put : new.line.items ++ feed_left ranks new ≡ old.line.items ++ feed_left ranks old
+
+-- ---- room for the entries of a window
+
+abbrev pub FitsInFor : ℕ → Option Turn → TurnWalk → Type 0
+FitsInFor room None walk = Unit {0}
+FitsInFor room (Some t) walk = (length t.entries.now ≤ room) × (length walk.entries.now ≤ room)
+
+abbrev pub FitsIn : ℕ → Feed → Type 0
+FitsIn room f = FitsInFor room f.turn f.walk
+
+-- ---- rounds
+
+abbrev pub round_of : Option Turn → Option ℕ
+round_of None = None
+round_of (Some t) = Some t.window.round
+
+abbrev pub next_round_of : Feed → Option ℕ
+next_round_of f = round_of f.turn
+
+abbrev pub earlier_of : Option ℕ → Option ℕ → Option ℕ
+earlier_of (Some a) (Some b) = Some (min a b)
+earlier_of (Some a) None = Some a
+earlier_of None other = other
+
+pub record HasRound {D : Type 0} (seats : List (Seat D)) (round : ℕ) : Type 0 where
+  pub place : ℕ
+  pub seat : Seat D
+  pub found : slice_get seats place ≡ Some seat
+  pub next : next_round_of seat.feed ≡ Some round
+
+abbrev pub IsNotBefore : ℕ → Feed → Type 0
+IsNotBefore round f = (next : ℕ) → next_round_of f ≡ Some next → round ≤ next
+
+abbrev pub turns_in : {D : Type 0} → List (Seat D) → ℕ
+turns_in seats = length (flat_map (λ seat. turns_left seat.feed) seats)
+
+pub record HasPacked {D : Type 0} (ranks : ℕ) (old new : Seat D) : Type 0 where
+  pub helper : new.helper ≡ old.helper
+  pub ready : IsFeed new.feed
+  pub fed : HaveFed ranks old.feed new.feed
+  pub fits : (room : ℕ) → FitsIn room old.feed → FitsIn room new.feed
+
+-- ---- the order within a window
+
+abbrev pub goes_in : ℕ → ℕ → ℕ → Owned → Bool
+goes_in ranks lo hi o = nat_lt o.rank ranks && meets lo hi o
+
+abbrev pub one_ranked : Bool → ℕ → ℕ → List Ranked
+one_ranked true rank place = record { rank = rank; place = place } ∷ []
+one_ranked false rank place = []
+
+abbrev pub ranked_from : (Owned → Bool) → ℕ → List Owned → List Ranked
+ranked_from goes place [] = []
+ranked_from goes place (o ∷ list) = one_ranked (goes o) o.rank place ++ ranked_from goes (place + 1) list
+
+abbrev pub ranked_cmp : Ranked → Ranked → Ordering
+ranked_cmp a b = ordering_then (nat_cmp a.rank b.rank) (nat_cmp a.place b.place)
+
+abbrev pub no_entry : Owned
+no_entry = record { extent = record { at = 0; len = 0 }; rank = 0; request = 0; slot = 0; from = 0 }
+
+abbrev pub entry_at : List Owned → ℕ → Owned
+entry_at list place = slice_index_or list place no_entry

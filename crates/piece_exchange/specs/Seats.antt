@@ -8,7 +8,7 @@
 --     HasFed ranks old new    what was left to be put was put
 use Rattle.std.specs.Prelude.{◌≡◌, ℕ, ◌++◌, ◌∷◌, [], length}
 use Rattle.nc_base.specs.declared.plan.Extent.{Extent}
-use Rattle.piece_exchange.specs.Feeds.{feed_left, turns_left, HaveFed, IsFeed}
+use Rattle.piece_exchange.specs.Feeds.{feed_left, turns_left, FitsIn, HaveFed, IsFeed}
 use Rattle.piece_exchange.specs.Plan.{planned_pieces}
 use Rattle.piece_exchange.specs.declared.crew.Word.TheVariants.{Go}
 use Rattle.piece_exchange.specs.declared.plan.PutPlan.{PutPlan}
@@ -32,6 +32,7 @@ pub record IsFresh {D : Type 0} (plan : PutPlan) (seat : Seat D) : Type 0 where
   pub seat_is : IsSeat plan seat
   pub word : seat.helper.word.items ≡ []
   pub ready : IsFeed seat.feed
+  pub fits : FitsIn (length plan.list.now) seat.feed
   pub line : seat.feed.line.items ≡ []
   pub left : feed_left (length plan.job.now.batches) seat.feed ≡ planned_pieces plan (domain_of seat)
 

@@ -118,6 +118,10 @@ fn put_in_scope<'s, E, R: Threads + Wait + Sync, D: Disk + 's, G: Gate>(
     ensures failed { IfSome result.1 (λ end. IsErrOf end Failed → SomeZip (λ old new. Rose (D.faults old) (D.faults new)) parts.items result.0.items) }
     ensures kept { IfNone result.1 (result.0.items ≡ parts.items) }
 {
+    let entries = plan.list.len();
+    let Ok(mut order) = Vec::with_capacity(tools.alloc, entries) else {
+        return (parts, None);
+    };
     let mut crew = crew;
     let mut back = back;
     start_all(scope, tools, plan, domains, parts, &mut crew);
@@ -128,7 +132,12 @@ fn put_in_scope<'s, E, R: Threads + Wait + Sync, D: Disk + 's, G: Gate>(
         return (back, None);
     }
     tell_all(tools.rt, &mut seats);
-    pack_all(tools.rt, plan.job.batches.len() as u32, &mut seats);
+    pack_all(
+        tools.rt,
+        plan.job.batches.len() as u32,
+        &mut seats,
+        &mut order,
+    );
     let end = join_all(tools.rt, plan, seats, &mut back);
     (back, Some(end))
 }

@@ -1,11 +1,13 @@
 // What the caller does: round by round it puts the pieces of all parts on their lines.
-ghost use Rattle.std.specs.Prelude.{◌≡◌, ◌+◌, ◌++◌, ◌<◌, ◌^◌, ℕ, [], length, slice_get, IfSome, IfNone, Some};
+ghost use Rattle.std.specs.Prelude.{◌≡◌, ◌+◌, ◌++◌, ◌<◌, ◌≤◌, ◌^◌, ℕ, [], length, map, slice_get, vec_capacity, IfSome, IfNone, Some};
 ghost use Rattle.aggregator_rounds.specs.Pieces.{told_window};
+ghost use Rattle.overlay_laws.specs.Entries.{In};
 ghost use Rattle.overlay_laws.specs.Lines.{extents, EndBelow};
-ghost use Rattle.piece_exchange.specs.Feeds.{feed_left, turns_left, HaveFed, IsFeed};
-ghost use Rattle.piece_exchange.specs.Pieces.{of_rank, pieces_in, pieces_of};
+ghost use Rattle.piece_exchange.specs.Feeds.{earlier_of, entry_at, feed_left, goes_in, next_round_of, ranked_from, turns_in, turns_left, FitsIn, HasPacked, HasRound, HaveFed, IsFeed, IsNotBefore};
+ghost use Rattle.piece_exchange.specs.Pieces.{pieces_in, pieces_of};
 ghost use Rattle.piece_exchange.specs.Plan.{planned_turns, IsPlanned};
 ghost use Rattle.piece_exchange.specs.Seats.{HasFed};
+ghost use Rattle.piece_exchange.specs.declared.packing.Ranked.{Ranked};
 ghost use Rattle.piece_exchange.specs.declared.starting.Seat.{Seat};
 
 use crate::plan::PutPlan;
@@ -25,10 +27,18 @@ pub(crate) struct Feed<'a> {
     pub walk: TurnWalk<'a>,
 }
 
+/// An entry of a window by its rank, and its place among the window's entries: the pieces of a window go in this order.
+#[derive(Clone, Copy, Debug, PartialEq, Eq, PartialOrd, Ord)]
+pub(crate) struct Ranked {
+    pub rank: u32,
+    pub place: usize,
+}
+
 /// The caller's end of a line, and all pieces of a domain to be put on it.
 pub(crate) fn feed_of<'a>(plan: &PutPlan<'a>, domain: Extent, line: LinePut<Owned>) -> Feed<'a>
     requires plan { IsPlanned plan.now }
     ensures ready { IsFeed result }
+    ensures fits { FitsIn (length plan.now.list.now) result }
     ensures line { result.line ≡ line }
     ensures left { (ranks : ℕ) → feed_left ranks result ≡ pieces_of ranks plan.now.list.now (planned_turns plan.now domain) }
 {
@@ -37,83 +47,143 @@ pub(crate) fn feed_of<'a>(plan: &PutPlan<'a>, domain: Extent, line: LinePut<Owne
     Feed { line, turn, walk }
 }
 
-/// Puts all pieces: round by round, in a round by aggregator, and in a window by rank, and then by place.
-pub(crate) fn pack_all<R: Wait, D: Disk>(rt: &R, ranks: u32, seats: &mut [Seat<D>])
-    requires { (k : ℕ) (seat : Seat D) → slice_get seats.old k ≡ Some seat → IsFeed seat.feed }
+/// Puts all pieces: round by round, in a round by aggregator, and in a window by rank, and then by place. The list has room for the
+/// entries of each window; what stands in it doesn't count.
+pub(crate) fn pack_all<R: Wait, D: Disk>(
+    rt: &R,
+    ranks: u32,
+    seats: &mut [Seat<D>],
+    order: &mut Vec<Ranked>,
+)
+    requires ready { (k : ℕ) (seat : Seat D) → slice_get seats.old k ≡ Some seat → IsFeed seat.feed }
+    requires fits { (k : ℕ) (seat : Seat D) → slice_get seats.old k ≡ Some seat → FitsIn (vec_capacity order.old) seat.feed }
     ensures long { length seats.new ≡ length seats.old }
     ensures fed { (k : ℕ) (old new : Seat D) → slice_get seats.old k ≡ Some old → slice_get seats.new k ≡ Some new → HasFed ranks old new }
 {
-    'rounds: while let Some(k) = least_round(seats) {
-        let seat = &mut seats[k];
-        pack_turn(rt, ranks, &mut seat.feed);
+    'rounds: while let Some(round) = least_round(seats) {
+        pack_round(rt, ranks, round, seats, order);
     }
 }
 
-// The first of the parts whose next window is of the least round.
-fn least_round<D: Disk>(seats: &[Seat<D>]) -> Option<usize>
-    ensures some { IfSome result (λ k. (k < length seats.now) × ((seat : Seat D) → slice_get seats.now k ≡ Some seat → turns_left seat.feed ≡ [] → ⊥)) }
+// The least round of the parts' next windows.
+fn least_round<D: Disk>(seats: &[Seat<D>]) -> Option<u64>
+    ensures some { IfSome result (λ round. HasRound seats.now round) }
+    ensures least { IfSome result (λ round. (k : ℕ) (seat : Seat D) → slice_get seats.now k ≡ Some seat → IsNotBefore round seat.feed) }
     ensures none { IfNone result ((k : ℕ) (seat : Seat D) → slice_get seats.now k ≡ Some seat → turns_left seat.feed ≡ []) }
 {
     let mut least = None;
-    let mut round = None;
-    for (k, seat) in seats.iter().enumerate() {
-        let earlier = round_before(&seat.feed, round);
-        if earlier.is_some() {
-            least = Some(k);
-            round = earlier;
-        }
+    for seat in seats {
+        least = earlier(least, seat.feed.next_round());
     }
     least
 }
 
-// The round of the next window of a part, where it has one that is earlier.
-fn round_before(feed: &Feed, than: Option<u64>) -> Option<u64>
-    ensures some { IfSome result (λ _. turns_left feed.now ≡ [] → ⊥) }
-    ensures none { IfNone result (than ≡ None → turns_left feed.now ≡ []) }
+// The earlier of two rounds, where there are two.
+fn earlier(one: Option<u64>, other: Option<u64>) -> Option<u64>
+    ensures { result ≡ earlier_of one other }
 {
-    let round = feed.turn?.window.round;
-    match than {
-        Some(other) if other <= round => None,
-        _ => Some(round),
+    match (one, other) {
+        (Some(a), Some(b)) => Some(a.min(b)),
+        (Some(a), None) => Some(a),
+        (None, _) => other,
     }
 }
 
-// Puts the pieces of the next window of one part, if it has one.
-fn pack_turn<R: Wait>(rt: &R, ranks: u32, feed: &mut Feed)
+impl<'a> Feed<'a> {
+    // The round of the next window.
+    fn next_round(&self) -> Option<u64>
+        ensures { result ≡ next_round_of self.now }
+    {
+        Some(self.turn?.window.round)
+    }
+}
+
+// Puts the pieces of a round on the lines of all parts whose next window is of that round.
+fn pack_round<R: Wait, D: Disk>(
+    rt: &R,
+    ranks: u32,
+    round: u64,
+    seats: &mut [Seat<D>],
+    order: &mut Vec<Ranked>,
+)
+    requires ready { (k : ℕ) (seat : Seat D) → slice_get seats.old k ≡ Some seat → IsFeed seat.feed }
+    requires fits { (k : ℕ) (seat : Seat D) → slice_get seats.old k ≡ Some seat → FitsIn (vec_capacity order.old) seat.feed }
+    ensures room { vec_capacity order.new ≡ vec_capacity order.old }
+    ensures long { length seats.new ≡ length seats.old }
+    ensures packed { (k : ℕ) (old new : Seat D) → slice_get seats.old k ≡ Some old → slice_get seats.new k ≡ Some new → HasPacked ranks old new }
+    ensures fewer { HasRound seats.old round → turns_in seats.new < turns_in seats.old }
+{
+    for seat in seats.iter_mut() {
+        pack_turn(rt, ranks, round, &mut seat.feed, order);
+    }
+}
+
+// Puts the pieces of the next window of one part, if it is of this round.
+fn pack_turn<R: Wait>(rt: &R, ranks: u32, round: u64, feed: &mut Feed, order: &mut Vec<Ranked>)
     requires ready { IsFeed feed.old }
+    requires fits { FitsIn (vec_capacity order.old) feed.old }
+    ensures room { vec_capacity order.new ≡ vec_capacity order.old }
     ensures ready { IsFeed feed.new }
+    ensures fits { (room : ℕ) → FitsIn room feed.old → FitsIn room feed.new }
     ensures fed { HaveFed ranks feed.old feed.new }
-    ensures fewer { (turns_left feed.old ≡ [] → ⊥) → length (turns_left feed.new) < length (turns_left feed.old) }
+    ensures no_more { length (turns_left feed.new) ≤ length (turns_left feed.old) }
+    ensures fewer { next_round_of feed.old ≡ Some round → length (turns_left feed.new) < length (turns_left feed.old) }
 {
     if let Some(turn) = feed.turn {
-        pack_pieces(rt, ranks, &turn, &mut feed.line);
-        feed.turn = feed.walk.next_turn();
+        if turn.window.round == round {
+            pack_pieces(rt, ranks, &turn, order, &mut feed.line);
+            feed.turn = feed.walk.next_turn();
+        }
     }
 }
 
-// Puts the pieces of a window, by rank, and then by place.
-fn pack_pieces<R: Wait>(rt: &R, ranks: u32, turn: &Turn, line: &mut LinePut<Owned>)
+// Puts the pieces of a window, by rank, and then by place. The list has room for the window's entries; what stands in it doesn't count.
+fn pack_pieces<R: Wait>(
+    rt: &R,
+    ranks: u32,
+    turn: &Turn,
+    order: &mut Vec<Ranked>,
+    line: &mut LinePut<Owned>,
+)
     requires ends { EndBelow (2 ^ 62) (extents turn.now.entries.now) }
     requires hull { turn.now.window.hull.at + turn.now.window.hull.len < 2 ^ 62 }
+    requires room { length turn.now.entries.now ≤ vec_capacity order.old }
     ensures of { line.new.of ≡ line.old.of }
     ensures put { line.new.items ≡ line.old.items ++ pieces_in ranks turn.now.entries.now (told_window turn.now.window) }
+    ensures room { vec_capacity order.new ≡ vec_capacity order.old }
 {
-    for rank in 0..ranks {
-        pack_rank(rt, rank, turn, line);
+    rank_entries(ranks, turn, order);
+    order.sort_unstable();
+    put_ranked(rt, turn.entries, order, line);
+}
+
+// Lists where the entries stand that have a piece in the window.
+fn rank_entries(ranks: u32, turn: &Turn, order: &mut Vec<Ranked>)
+    requires ends { EndBelow (2 ^ 62) (extents turn.now.entries.now) }
+    requires hull { turn.now.window.hull.at + turn.now.window.hull.len < 2 ^ 62 }
+    requires room { length turn.now.entries.now ≤ vec_capacity order.old }
+    ensures ranked { order.new.items ≡ ranked_from (goes_in ranks turn.now.window.hull.at (turn.now.window.hull.at + turn.now.window.hull.len)) 0 turn.now.entries.now }
+    ensures room { vec_capacity order.new ≡ vec_capacity order.old }
+{
+    order.clear();
+    for (place, entry) in turn.entries.iter().enumerate() {
+        let goes = entry.rank < ranks && has_piece(turn.window.hull, entry);
+        if goes {
+            order.push_reserved(Ranked {
+                rank: entry.rank,
+                place,
+            });
+        }
     }
 }
 
-// Puts the pieces of one rank in a window, by place.
-fn pack_rank<R: Wait>(rt: &R, rank: u32, turn: &Turn, line: &mut LinePut<Owned>)
-    requires ends { EndBelow (2 ^ 62) (extents turn.now.entries.now) }
-    requires hull { turn.now.window.hull.at + turn.now.window.hull.len < 2 ^ 62 }
+// Puts the entries that stand there.
+fn put_ranked<R: Wait>(rt: &R, entries: &[Owned], order: &[Ranked], line: &mut LinePut<Owned>)
+    requires { (ranked : Ranked) → In order.now ranked → ranked.place < length entries.now }
     ensures of { line.new.of ≡ line.old.of }
-    ensures put { line.new.items ≡ line.old.items ++ of_rank turn.now.window.hull.at (turn.now.window.hull.at + turn.now.window.hull.len) rank turn.now.entries.now }
+    ensures put { line.new.items ≡ line.old.items ++ map (λ ranked. entry_at entries.now ranked.place) order.now }
 {
-    for entry in turn.entries {
-        let goes = entry.rank == rank && has_piece(turn.window.hull, entry);
-        if goes {
-            line.put(rt, *entry);
-        }
+    for ranked in order {
+        line.put(rt, entries[ranked.place]);
     }
 }

@@ -1,5 +1,5 @@
 -- The helpers that were started, told to go, fed and joined.
-use Rattle.std.proofs.Common.{◌≡◌, ◌∙◌, ◌++◌, ℕ, List, sym, ap, subst, length, take, drop, Some, rules, arith}
+use Rattle.std.proofs.Common.{◌≡◌, ◌≤◌, ◌∙◌, ◌++◌, ℕ, List, sym, ap, subst, length, take, drop, vec_capacity, Some, rules, arith}
 use Rattle.std.proofs.lemmas.Grind.{common_steps}
 use Rattle.std.specs.Prelude.{slice_get}
 use Rattle.std.specs.List.{AllZip}
@@ -12,11 +12,12 @@ use Rattle.piece_exchange.specs.Put.{HasPut, PartState, SomeZip}
 use Rattle.piece_exchange.specs.Seats.{domain_of, part_of, HasFed, IsToldToGo}
 use Rattle.piece_exchange.specs.declared.starting.Seat.{Seat}
 use Rattle.piece_exchange.proofs.BackLaws.{no_items, slice_kept}
+use Rattle.piece_exchange.proofs.FeedLaws.{fits_more}
 use Rattle.piece_exchange.proofs.SeatLaws.{all_failed, all_put, done_by, fed_seats, told_seats}
 use Rattle.piece_exchange.proofs.exchange.put_in_scope.Goals as goal
 
-pub pack_all-requires-after_bounds : goal.pack_all-requires-after_bounds
-pack_all-requires-after_bounds g c κs within =
+pub pack_all-requires-clause-ready : goal.pack_all-requires-clause-ready
+pack_all-requires-clause-ready g c κs within =
     let first = c.start_all.new.crew.seats.items in
     let mid = c.tell_all.new.seats in
     let n : c.start_all.new.crew.seats.len ≡ length first = first_of (search rules, grind (arith, common_steps)) in
@@ -27,6 +28,23 @@ pack_all-requires-after_bounds g c κs within =
     λ k seat e.
     (told_seats c.args.plan.now first mid long told c.start_all.ensures.seats seat
     (at_in mid k seat (subst (λ (ss : List (Seat g.row.D.Denot)). slice_get ss k ≡ Some seat) again e))).ready
+
+pub pack_all-requires-clause-fits : goal.pack_all-requires-clause-fits
+pack_all-requires-clause-fits g c κs within =
+    let first = c.start_all.new.crew.seats.items in
+    let mid = c.tell_all.new.seats in
+    let n : c.start_all.new.crew.seats.len ≡ length first = first_of (search rules, grind (arith, common_steps)) in
+    let lent = c.deref_mut.ensures.value in
+    let long : length mid ≡ length first = c.tell_all.ensures.long ∙ ap (λ (ss : List (Seat g.row.D.Denot)). length ss) lent in
+    let again : c.deref_mut-2.result.now ≡ mid = c.deref_mut-2.ensures.value ∙ slice_kept c.start_all.new.crew.seats.len mid first n long in
+    let told = subst (λ (ss : List (Seat g.row.D.Denot)). (k : ℕ) (a b : Seat g.row.D.Denot) → slice_get ss k ≡ Some a → slice_get mid k ≡ Some b → IsToldToGo a b) lent c.tell_all.ensures.told in
+    let entries : c.len-entries.result ≡ length c.args.plan.now.list.now = c.len-entries.ensures in
+    let reserved = c.in-Ok.ensures.capacity in
+    let room : length c.args.plan.now.list.now ≤ vec_capacity c.in-Ok.order = omega arith in
+    λ k seat e.
+    fits_more (length c.args.plan.now.list.now) (vec_capacity c.in-Ok.order) seat.feed.turn seat.feed.walk room
+    (told_seats c.args.plan.now first mid long told c.start_all.ensures.seats seat
+    (at_in mid k seat (subst (λ (ss : List (Seat g.row.D.Denot)). slice_get ss k ≡ Some seat) again e))).fits
 
 pub join_all-end-requires-clause-seats : goal.join_all-end-requires-clause-seats
 join_all-end-requires-clause-seats g c κs within =

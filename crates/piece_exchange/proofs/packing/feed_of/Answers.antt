@@ -1,12 +1,12 @@
 -- The first window is the walk's next, and all pieces are left.
-use Rattle.std.proofs.Common.{◌∙◌, List, min, sym, ap, subst}
+use Rattle.std.proofs.Common.{◌∙◌, List, length, min, sym, ap, subst, arith}
 use Rattle.nc_base.specs.declared.plan.Owned.{Owned}
 use Rattle.piece_exchange.specs.Feeds.{AreApart}
 use Rattle.piece_exchange.specs.Pieces.{pieces_of}
 use Rattle.piece_exchange.specs.Plan.{planned_turns}
 use Rattle.piece_exchange.specs.Turns.{Told, turns_ahead}
 use Rattle.piece_exchange.proofs.DomainTurns.{domain_turns, turns_apart}
-use Rattle.piece_exchange.proofs.FeedLaws.{feed_next, left_next}
+use Rattle.piece_exchange.proofs.FeedLaws.{feed_next, fits_next, left_next}
 use Rattle.piece_exchange.proofs.packing.feed_of.Goals as goal
 
 pub returns-clause-ready : goal.returns-clause-ready
@@ -17,6 +17,11 @@ returns-clause-ready c =
     (domain_turns plan.hints.now.cb_buffer c.args.domain plan.list.now plan.cover.now c.requires.plan.some c.requires.plan.covers c.requires.plan.cover_bytes)) in
     feed_next c.next_turn-turn.result c.new-walk.result c.next_turn-turn.new.self c.new-walk.ensures.ready apart
     c.next_turn-turn.ensures.ready c.next_turn-turn.ensures.some c.next_turn-turn.ensures.begun
+
+pub returns-clause-fits : goal.returns-clause-fits
+returns-clause-fits c =
+    let same = ap (λ (os : List Owned). length os) c.new-walk.ensures.entries in
+    fits_next (length c.args.plan.now.list.now) c.next_turn-turn.result c.new-walk.result c.next_turn-turn.new.self (omega arith) c.next_turn-turn.ensures.begun c.next_turn-turn.ensures.past
 
 pub returns-clause-left : goal.returns-clause-left
 returns-clause-left c = λ ranks.

@@ -1,0 +1,5 @@
+//! Tests of piece_exchange.
+#![tactic(auto)]
+
+#[cfg(test)]
+mod tests;
