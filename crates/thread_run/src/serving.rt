@@ -16,6 +16,7 @@ ghost use Rattle.thread_run.specs.Owned.{desk_calls, opening_standing, standing,
 ghost use Rattle.thread_run.specs.Refused.{HasCutService};
 ghost use Rattle.thread_run.specs.Serving.{arrived, gained, opening, HasFailed, HasTaken, HasToldAlong, HavePut, IsDone, IsDoneSo};
 ghost use Rattle.thread_run.specs.Stopping.{HaveEnded};
+ghost use Rattle.var_layout.specs.Measures.{AreMeasures};
 
 use crate::desk::Desk;
 use crate::stopping::{Door, stop_arrival, stop_held, stop_rest};
@@ -25,6 +26,7 @@ use rank_items::SentItem;
 use ruled_line::{InTake, LinePutList};
 use std::alloc::Global;
 use std::sync::Wait;
+use var_layout::Measures;
 
 /// Why nothing more is done.
 #[derive(Clone, Copy)]
@@ -45,6 +47,7 @@ pub fn serve<R: Wait, D: Disk, G: Gate, T: Told>(
     alloc: Global,
     disk: &mut D,
     header: &Header,
+    measures: &Measures,
     records: &mut u64,
     hints: &Hints,
     inbox: &mut InTake<SentItem>,
@@ -53,6 +56,7 @@ pub fn serve<R: Wait, D: Disk, G: Gate, T: Told>(
     told: &mut T,
 ) -> ServeEnd
     requires sound { is_sound header.now ≡ true }
+    requires measured { AreMeasures header.now measures.now }
     requires hints { are_lawful_hints hints.now ≡ true }
     requires records { records.old ≡ header.now.records }
     requires from { D.from disk.old ≡ 0 }
@@ -89,7 +93,7 @@ pub fn serve<R: Wait, D: Disk, G: Gate, T: Told>(
 {
     let mut door = Door::new();
     let (order, halt) = open_desk(
-        rt, alloc, disk, header, records, hints, &mut door, inbox, back, gate, told,
+        rt, alloc, disk, header, measures, records, hints, &mut door, inbox, back, gate, told,
     );
     finish(rt, halt, &mut door, inbox, back, gate);
     ServeEnd {
@@ -143,6 +147,7 @@ fn open_desk<R: Wait, D: Disk, G: Gate, T: Told>(
     alloc: Global,
     disk: &mut D,
     header: &Header,
+    measures: &Measures,
     records: &mut u64,
     hints: &Hints,
     door: &mut Door,
@@ -152,6 +157,7 @@ fn open_desk<R: Wait, D: Disk, G: Gate, T: Told>(
     told: &mut T,
 ) -> (MarkList, Halt)
     requires sound { is_sound header.now ≡ true }
+    requires measured { AreMeasures header.now measures.now }
     requires hints { are_lawful_hints hints.now ≡ true }
     requires count { IsCount header.now (D.len disk.old) records.old }
     requires from { D.from disk.old ≡ 0 }
@@ -170,7 +176,8 @@ fn open_desk<R: Wait, D: Disk, G: Gate, T: Told>(
         Err(_) => (MarkList::new(alloc), Halt::Fault(StepErr::Memory)),
         Ok(mut desk) => {
             let halt = serve_all(
-                rt, alloc, disk, header, records, hints, &mut desk, door, inbox, back, gate, told,
+                rt, alloc, disk, header, measures, records, hints, &mut desk, door, inbox, back,
+                gate, told,
             );
             (desk.order, halt)
         }
@@ -183,6 +190,7 @@ fn serve_all<R: Wait, D: Disk, G: Gate, T: Told>(
     alloc: Global,
     disk: &mut D,
     header: &Header,
+    measures: &Measures,
     records: &mut u64,
     hints: &Hints,
     desk: &mut Desk,
@@ -193,6 +201,7 @@ fn serve_all<R: Wait, D: Disk, G: Gate, T: Told>(
     told: &mut T,
 ) -> Halt
     requires sound { is_sound header.now ≡ true }
+    requires measured { AreMeasures header.now measures.now }
     requires hints { are_lawful_hints hints.now ≡ true }
     requires from { D.from disk.old ≡ 0 }
     requires lines { length back.old ≡ inbox.old.senders }
@@ -213,13 +222,13 @@ fn serve_all<R: Wait, D: Disk, G: Gate, T: Told>(
             return Halt::Ended;
         }
         let (number, item) = door.take(rt, inbox, gate);
-        if desk.is_strange(header, number, &item) {
+        if desk.is_strange(header, measures, number, &item) {
             stop_held(rt, back, &desk.seats);
             stop_arrival(rt, back, number, &item);
             return Halt::Stranger(number);
         }
         let done = desk.arrive(
-            rt, alloc, disk, header, records, hints, back, gate, told, number, item,
+            rt, alloc, disk, header, measures, records, hints, back, gate, told, number, item,
         );
         if let Err(fault) = done {
             return Halt::Fault(fault);

@@ -12,6 +12,7 @@ ghost use Rattle.thread_run.specs.Owned.{desk_of, replies, standing, Grows, HasD
 ghost use Rattle.thread_run.specs.Refused.{IsRefusedAlone, IsRefusedArrival, IsRefusedTogether};
 ghost use Rattle.turn_run.specs.Steps.{batches_of, known_of};
 ghost use Rattle.thread_run.specs.Stopping.{held_stops, stop_each, stops_for};
+ghost use Rattle.var_layout.specs.Measures.{AreMeasures};
 
 use crate::desk::{Desk, all_hold, take_all};
 use crate::stopping::{stop_arrival, stop_each, stop_held};
@@ -24,6 +25,7 @@ use ruled_line::LinePutList;
 use std::alloc::Global;
 use std::sync::Wait;
 use turn_run::{meet_on_file, note_step, solo_reply};
+use var_layout::Measures;
 
 impl Desk {
     /// Does what an arrival brings that is not strange. After an error each offer that is held, and the one that arrived, has a stop.
@@ -33,6 +35,7 @@ impl Desk {
         alloc: Global,
         disk: &mut D,
         header: &Header,
+        measures: &Measures,
         records: &mut u64,
         hints: &Hints,
         back: &mut LinePutList<OwnerItem>,
@@ -42,6 +45,7 @@ impl Desk {
         item: RankItem,
     ) -> Result<(), StepErr>
         requires sound { is_sound header.now ≡ true }
+        requires measured { AreMeasures header.now measures.now }
         requires hints { are_lawful_hints hints.now ≡ true }
         requires number { number < length self.old.seats.items }
         requires own { HasOwnPuts item }
@@ -69,12 +73,15 @@ impl Desk {
             }
             RankItem::Offer(call, offer) => match offer.kind {
                 OfferKind::Solo => self.do_alone(
-                    rt, alloc, disk, header, *records, hints, back, told, number, call, &offer,
+                    rt, alloc, disk, header, measures, *records, hints, back, told, number, call,
+                    &offer,
                 ),
                 OfferKind::Meet(_) => {
                     self.seats[number as usize].hold(offer);
                     if all_hold(&self.seats) {
-                        self.do_together(rt, alloc, disk, header, records, hints, back, gate, told)
+                        self.do_together(
+                            rt, alloc, disk, header, measures, records, hints, back, gate, told,
+                        )
                     } else {
                         Ok(())
                     }
@@ -90,6 +97,7 @@ impl Desk {
         alloc: Global,
         disk: &mut D,
         header: &Header,
+        measures: &Measures,
         records: u64,
         hints: &Hints,
         back: &mut LinePutList<OwnerItem>,
@@ -99,6 +107,7 @@ impl Desk {
         offer: &Offer,
     ) -> Result<(), StepErr>
         requires sound { is_sound header.now ≡ true }
+        requires measured { AreMeasures header.now measures.now }
         requires hints { are_lawful_hints hints.now ≡ true }
         requires number { number < length self.old.seats.items }
         requires lines { length back.old ≡ length self.old.seats.items }
@@ -121,7 +130,7 @@ impl Desk {
         ensures cause { HasStepCause (D.faults disk.old) (D.faults disk.new) result }
     {
         match self.reply_alone(
-            rt, alloc, disk, header, records, hints, back, told, number, call, offer,
+            rt, alloc, disk, header, measures, records, hints, back, told, number, call, offer,
         ) {
             Ok(()) => Ok(()),
             Err(fault) => {
@@ -139,6 +148,7 @@ impl Desk {
         alloc: Global,
         disk: &mut D,
         header: &Header,
+        measures: &Measures,
         records: u64,
         hints: &Hints,
         back: &mut LinePutList<OwnerItem>,
@@ -148,6 +158,7 @@ impl Desk {
         offer: &Offer,
     ) -> Result<(), StepErr>
         requires sound { is_sound header.now ≡ true }
+        requires measured { AreMeasures header.now measures.now }
         requires hints { are_lawful_hints hints.now ≡ true }
         requires number { number < length back.old }
         requires fit { IsFit header.now (D.len disk.old) offer.now }
@@ -168,7 +179,7 @@ impl Desk {
         ensures longer { D.len disk.old ≤ D.len disk.new }
         ensures cause { HasStepCause (D.faults disk.old) (D.faults disk.new) result }
     {
-        let reply = solo_reply(alloc, disk, header, hints, number, offer)?;
+        let reply = solo_reply(alloc, disk, header, measures, hints, number, offer)?;
         let mark = Mark::Solo(number, call);
         note_step(rt, alloc, &mut self.order, told, mark, records)?;
         self.reached = self.reached.max(reply.records);
@@ -183,6 +194,7 @@ impl Desk {
         alloc: Global,
         disk: &mut D,
         header: &Header,
+        measures: &Measures,
         records: &mut u64,
         hints: &Hints,
         back: &mut LinePutList<OwnerItem>,
@@ -190,6 +202,7 @@ impl Desk {
         told: &mut T,
     ) -> Result<(), StepErr>
         requires sound { is_sound header.now ≡ true }
+        requires measured { AreMeasures header.now measures.now }
         requires hints { are_lawful_hints hints.now ≡ true }
         requires all { list_all holds self.old.seats.items ≡ true }
         requires steady { IsSteady header.now (D.len disk.old) (standing self.old records.old (D.held disk.old) (D.calls disk.old) (T.heard told.old) back.old) }
@@ -208,7 +221,9 @@ impl Desk {
         ensures longer { D.len disk.old ≤ D.len disk.new }
         ensures cause { HasStepCause (D.faults disk.old) (D.faults disk.new) result }
     {
-        match self.reply_together(rt, alloc, disk, header, records, hints, back, gate, told) {
+        match self.reply_together(
+            rt, alloc, disk, header, measures, records, hints, back, gate, told,
+        ) {
             Ok(()) => Ok(()),
             Err(fault) => {
                 stop_each(rt, back);
@@ -236,6 +251,7 @@ impl Desk {
         alloc: Global,
         disk: &mut D,
         header: &Header,
+        measures: &Measures,
         records: &mut u64,
         hints: &Hints,
         back: &mut LinePutList<OwnerItem>,
@@ -243,6 +259,7 @@ impl Desk {
         told: &mut T,
     ) -> Result<(), StepErr>
         requires sound { is_sound header.now ≡ true }
+        requires measured { AreMeasures header.now measures.now }
         requires hints { are_lawful_hints hints.now ≡ true }
         requires all { list_all holds self.old.seats.items ≡ true }
         requires steady { IsSteady header.now (D.len disk.old) (standing self.old records.old (D.held disk.old) (D.calls disk.old) (T.heard told.old) back.old) }
@@ -263,7 +280,7 @@ impl Desk {
     {
         let (job, known) = self.take_job(alloc)?;
         let (pair, table) = meet_on_file(
-            rt, alloc, disk, header, records, hints, gate, &job, known,
+            rt, alloc, disk, header, measures, records, hints, gate, &job, known,
         )?;
         let met = next_number(self.met)?;
         let mark = Mark::Meet(self.met);
