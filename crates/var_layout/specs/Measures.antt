@@ -16,7 +16,9 @@ first_end header v = if is_record header v then v.begin + last_share header v el
 abbrev pub record_end : Header → ℕ
 record_end header = greatest (map (λ v. first_end header v) header.vars)
 
-pub record AreMeasures (header : Header) (m : Measures) : Type 0 where
-  pub record_size : m.record_size ≡ capped (recsize header)
-  pub fixed_end : m.fixed_end ≡ capped (end_of header (header_len header) 0)
-  pub record_end : m.record_end ≡ capped (record_end header)
+-- Crates above pass it on, and look into it no more.
+unfoldable pub AreMeasures : Header → Measures → Type 0
+AreMeasures header m =
+    (m.record_size ≡ capped (recsize header))
+    × (m.fixed_end ≡ capped (end_of header (header_len header) 0))
+    × (m.record_end ≡ capped (record_end header))

@@ -25,6 +25,7 @@ pub struct Measures {
 
 impl Measures {
     /// Measures a header, by a walk over all of it.
+    #[tactic(auto, unfolding(crate::specs::Measures::AreMeasures))]
     pub fn of(header: &Header) -> Self
         ensures { AreMeasures header.now result }
     {
