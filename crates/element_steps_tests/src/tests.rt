@@ -18,7 +18,7 @@ use std::alloc::{AllocError, Global};
 use std::process::Abort;
 use std::test::Fail;
 use type_external::size_of;
-use var_layout::lay_out;
+use var_layout::{Measures, lay_out};
 use vara_extents::check;
 
 // The dimension x of this length, and the variable v over it without a begin.
@@ -109,7 +109,14 @@ fn byte_count(rt: &impl Abort, header: &Header, post: &Post) -> u64
 fn is_put(rt: &impl Abort, header: &Header, post: &Post)
     ensures { IsPut header.now post.now }
 {
-    let checked = check(header, post.var as usize, &post.region, 0, Direction::Put);
+    let checked = check(
+        header,
+        &Measures::of(header),
+        post.var as usize,
+        &post.region,
+        0,
+        Direction::Put,
+    );
     assert!(rt; checked.is_ok());
     assert!(rt; byte_count(rt, header, post) == post.bytes.len() as u64);
 }
@@ -118,7 +125,14 @@ fn is_put(rt: &impl Abort, header: &Header, post: &Post)
 fn is_get(rt: &impl Abort, header: &Header, post: &Post)
     ensures { IsAccepted header.now post.now.var post.now.region }
 {
-    let checked = check(header, post.var as usize, &post.region, 0, Direction::Get);
+    let checked = check(
+        header,
+        &Measures::of(header),
+        post.var as usize,
+        &post.region,
+        0,
+        Direction::Get,
+    );
     assert!(rt; checked.is_ok());
 }
 

@@ -2,7 +2,7 @@
 --     is_below names name place  the name at a place is less than this
 --     place_cmp names a b        the order of two places: by their names, then by place
 --     IsInOrder names places     each place once, in that order
---     IsIndexOf header names     the variables and the dimensions of the header so
+--     IsIndexOf header names     the variables and the dimensions of the header so, and its measures
 use Rattle.std.specs.Prelude.{◌≡◌, ℕ, Bool, true, false, List, [], length, map, slice_index_or}
 use Rattle.std.specs.Cmp.Lexicographic.{slice_cmp}
 use Rattle.std.specs.declared.cmp.Ordering.{Ordering}
@@ -10,6 +10,7 @@ use Rattle.std.specs.List.{range_with_len}
 use Rattle.std.specs.List.Sorted.{IsPartitionPoint, IsPermutation, IsSorted}
 use Rattle.std.specs.Ordering.{is_lt, nat_cmp, ordering_then}
 use Rattle.nc_base.specs.declared.header.Header.{Header}
+use Rattle.var_layout.specs.Measures.{AreMeasures}
 use Rattle.rank_core.specs.declared.names.Names.{Names}
 
 abbrev pub name_at : List (List ℕ) → ℕ → List ℕ
@@ -32,3 +33,4 @@ pub record IsInOrder (names : List (List ℕ)) (places : List ℕ) : Type 0 wher
 pub record IsIndexOf (header : Header) (names : Names) : Type 0 where
   pub vars : IsInOrder (map (λ v. v.name) header.vars) names.vars.items
   pub dims : IsInOrder (map (λ d. d.name) header.dims) names.dims.items
+  pub measures : AreMeasures header names.measures

@@ -1,5 +1,6 @@
 -- The variable that a call is on. (own)
 --     IsTarget t                        the header has it at its place
+--     IsMeasured t                      the measures are the header's
 --     look_at, look_region, look_parts  what serial_spec says of a call on it
 --     look_record                       what it says of the filling of a share of a record
 use Rattle.std.specs.Prelude.{◌≡◌, ◌≤◌, ℕ, List, map, Option, Some, slice_get}
@@ -10,10 +11,14 @@ use Rattle.nc_base.specs.declared.request.Values.{Values}
 use Rattle.serial_spec.specs.Layout.{length_of, product}
 use Rattle.serial_spec.specs.Limits.{most_elements}
 use Rattle.serial_spec.specs.RankMachine as machine
+use Rattle.var_layout.specs.Measures.{AreMeasures}
 use Rattle.rank_core.specs.declared.looking.target.Target.{Target}
 
 abbrev pub IsTarget : Target → Type 0
 IsTarget t = slice_get t.header.now.vars t.place ≡ Some t.var.now
+
+abbrev pub IsMeasured : Target → Type 0
+IsMeasured t = AreMeasures t.header.now t.measures.now
 
 unfoldable pub look_at : Target → Given → Option Values → machine.Look
 look_at t given values = machine.look_at t.header.now t.known t.id t.place given values (Some t.var.now)

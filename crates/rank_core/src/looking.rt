@@ -6,7 +6,7 @@ ghost use Rattle.serial_spec.specs.RankMachine as machine;
 ghost use Rattle.rank_core.specs.Indexed.{IsIndexOf};
 ghost use Rattle.rank_core.specs.Looked.{as_look, posts_looked, settled, AreLooked, ArePutsLooked, ComesTo};
 ghost use Rattle.rank_core.specs.Targets as targets;
-ghost use Rattle.rank_core.specs.Targets.{IsTarget};
+ghost use Rattle.rank_core.specs.Targets.{IsMeasured, IsTarget};
 
 mod filling;
 mod parts;
@@ -55,7 +55,7 @@ pub(crate) fn look_over(
     match names.find_var(header, name) {
         None => Ok(Look::Refused(Code::ENotVar)),
         Some(place) => {
-            let target = target_at(header, place, known, id);
+            let target = target_at(header, names.measures(header), place, known, id);
             settle(look_at(alloc, &target, given, values))
         }
     }
@@ -69,6 +69,7 @@ fn look_at(
     values: Option<&Values>,
 ) -> Result<PostList, CallErr>
     requires there { IsTarget target.now }
+    requires measured { IsMeasured target.now }
     ensures { ComesTo (targets.look_at target.now given.now (option_copied values.entry)) result }
 {
     match given.form {
@@ -111,7 +112,7 @@ pub(crate) fn look_fill(
     match names.find_var(header, name) {
         None => Ok(Look::Refused(Code::ENotVar)),
         Some(place) => {
-            let target = target_at(header, place, 0, 0);
+            let target = target_at(header, names.measures(header), place, 0, 0);
             settle(look_record(alloc, &target, number, rank, ranks))
         }
     }

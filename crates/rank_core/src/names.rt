@@ -5,19 +5,23 @@ ghost use Rattle.std.specs.Cmp.Lexicographic.{slice_cmp};
 ghost use Rattle.std.specs.List.Sorted.{IsPermutation, IsSorted};
 ghost use Rattle.std.specs.Ordering.{nat_cmp};
 ghost use Rattle.serial_spec.specs.RankMachine as machine;
+ghost use Rattle.var_layout.specs.Measures.{AreMeasures};
 ghost use Rattle.rank_core.specs.Indexed.{is_below, name_at, place_cmp, IsIndexOf, IsInOrder, IsSplitAt};
 
 use nc_base::{Dim, Header, Memory, Var};
 use std::alloc::Global;
 use std::cmp::Ordering;
+use var_layout::Measures;
 
-/// The variables and dimensions of a header in the order of their names, by which a rank finds them. All ranks of a run share one.
+/// What the ranks of a run share of a header: its variables and dimensions in the order of their names, by which a rank finds them,
+/// and its measures.
 #[derive(Debug, Drop)]
 pub struct Names {
     /// The places of the variables in the header's list, in the order of their names.
     vars: Vec<usize>,
     /// The places of the dimensions.
     dims: Vec<usize>,
+    measures: Measures,
 }
 
 impl Names {
@@ -27,7 +31,16 @@ impl Names {
         Ok(Names {
             vars: in_order(alloc, header.vars.as_slice())?,
             dims: in_order(alloc, header.dims.as_slice())?,
+            measures: Measures::of(header),
         })
+    }
+
+    /// The measures of the header.
+    pub fn measures(&self, header: &Header) -> &Measures
+        requires names { IsIndexOf header.now self.now }
+        ensures { AreMeasures header.now result.now }
+    {
+        &self.measures
     }
 
     /// The place of the first variable of this name.

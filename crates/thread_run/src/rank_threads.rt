@@ -15,6 +15,7 @@ ghost use Rattle.turn_run.specs.Telling.{HasTold};
 ghost use Rattle.thread_run.specs.Resident.{AreOf, AreResidents, IsToldToGo};
 ghost use Rattle.thread_run.specs.Threads.{HasRooms};
 ghost use Rattle.thread_run.specs.declared.resident.Resident.{Resident};
+ghost use Rattle.var_layout.specs.Measures.{AreMeasures};
 
 use crate::rank_ends::end_run;
 use crate::resident::{Resident, Word, start};
@@ -30,6 +31,7 @@ use std::sync::Wait;
 use std::thread;
 use std::thread::{Scope, Threads};
 use turn_run::run_in_turn_told;
+use var_layout::Measures;
 
 /// Runs the ranks of a script, each on a thread of its own, whose offers this thread takes as they come. Where the threads are off, or
 /// one can't be started, the ranks run in turn.
@@ -274,6 +276,7 @@ fn run_in_scope<'s, 'd, 't, E, R: Threads + Wait + Sync, D: Disk, G: Gate, T: To
         alloc,
         disk,
         header,
+        names.measures(header),
         &mut records,
         script,
         gate,
@@ -355,6 +358,7 @@ fn run_started<R: Threads + Wait + Sync, D: Disk, G: Gate, T: Told>(
     alloc: Global,
     disk: &mut D,
     header: &Header,
+    measures: &Measures,
     records: &mut u64,
     script: &Script,
     gate: &G,
@@ -362,6 +366,7 @@ fn run_started<R: Threads + Wait + Sync, D: Disk, G: Gate, T: Told>(
     crew: Crew,
 ) -> RunEnd
     requires sound { is_sound header.now ≡ true }
+    requires measured { AreMeasures header.now measures.now }
     requires lawful { is_lawful script.now ≡ true }
     requires records { records.old ≡ header.now.records }
     requires from { D.from disk.old ≡ 0 }
@@ -390,6 +395,7 @@ fn run_started<R: Threads + Wait + Sync, D: Disk, G: Gate, T: Told>(
         alloc,
         disk,
         header,
+        measures,
         records,
         &script.hints,
         &mut inbox,

@@ -16,6 +16,7 @@ ghost use Rattle.thread_run.specs.Owned.{desk_calls, opening_standing, standing,
 ghost use Rattle.thread_run.specs.Refused.{HasCutService};
 ghost use Rattle.thread_run.specs.Serving.{arrived, gained, opening, HasFailed, HasTaken, HasToldAlong, HavePut, IsDone, IsDoneSo};
 ghost use Rattle.thread_run.specs.Stopping.{HaveEnded};
+ghost use Rattle.var_layout.specs.Measures.{AreMeasures};
 
 use crate::desk::Desk;
 use crate::stopping::{Door, stop_arrival, stop_held, stop_rest};
@@ -26,6 +27,7 @@ use ruled_line::{InTake, LinePutList};
 use std::alloc::Global;
 use std::sync::Wait;
 use std::thread::Threads;
+use var_layout::Measures;
 
 /// Why nothing more is done.
 #[derive(Clone, Copy)]
@@ -46,6 +48,7 @@ pub fn serve<R: Threads + Wait + Sync, D: Disk, G: Gate, T: Told>(
     alloc: Global,
     disk: &mut D,
     header: &Header,
+    measures: &Measures,
     records: &mut u64,
     hints: &Hints,
     inbox: &mut InTake<SentItem>,
@@ -54,6 +57,7 @@ pub fn serve<R: Threads + Wait + Sync, D: Disk, G: Gate, T: Told>(
     told: &mut T,
 ) -> ServeEnd
     requires sound { is_sound header.now ≡ true }
+    requires measured { AreMeasures header.now measures.now }
     requires hints { are_lawful_hints hints.now ≡ true }
     requires records { records.old ≡ header.now.records }
     requires from { D.from disk.old ≡ 0 }
@@ -90,7 +94,7 @@ pub fn serve<R: Threads + Wait + Sync, D: Disk, G: Gate, T: Told>(
 {
     let mut door = Door::new();
     let (order, halt) = open_desk(
-        rt, alloc, disk, header, records, hints, &mut door, inbox, back, gate, told,
+        rt, alloc, disk, header, measures, records, hints, &mut door, inbox, back, gate, told,
     );
     finish(rt, halt, &mut door, inbox, back, gate);
     ServeEnd {
@@ -144,6 +148,7 @@ fn open_desk<R: Threads + Wait + Sync, D: Disk, G: Gate, T: Told>(
     alloc: Global,
     disk: &mut D,
     header: &Header,
+    measures: &Measures,
     records: &mut u64,
     hints: &Hints,
     door: &mut Door,
@@ -153,6 +158,7 @@ fn open_desk<R: Threads + Wait + Sync, D: Disk, G: Gate, T: Told>(
     told: &mut T,
 ) -> (MarkList, Halt)
     requires sound { is_sound header.now ≡ true }
+    requires measured { AreMeasures header.now measures.now }
     requires hints { are_lawful_hints hints.now ≡ true }
     requires count { IsCount header.now (D.len disk.old) records.old }
     requires from { D.from disk.old ≡ 0 }
@@ -171,7 +177,8 @@ fn open_desk<R: Threads + Wait + Sync, D: Disk, G: Gate, T: Told>(
         Err(_) => (MarkList::new(alloc), Halt::Fault(StepErr::Memory)),
         Ok(mut desk) => {
             let halt = serve_all(
-                rt, alloc, disk, header, records, hints, &mut desk, door, inbox, back, gate, told,
+                rt, alloc, disk, header, measures, records, hints, &mut desk, door, inbox, back,
+                gate, told,
             );
             (desk.order, halt)
         }
@@ -184,6 +191,7 @@ fn serve_all<R: Threads + Wait + Sync, D: Disk, G: Gate, T: Told>(
     alloc: Global,
     disk: &mut D,
     header: &Header,
+    measures: &Measures,
     records: &mut u64,
     hints: &Hints,
     desk: &mut Desk,
@@ -194,6 +202,7 @@ fn serve_all<R: Threads + Wait + Sync, D: Disk, G: Gate, T: Told>(
     told: &mut T,
 ) -> Halt
     requires sound { is_sound header.now ≡ true }
+    requires measured { AreMeasures header.now measures.now }
     requires hints { are_lawful_hints hints.now ≡ true }
     requires from { D.from disk.old ≡ 0 }
     requires lines { length back.old ≡ inbox.old.senders }
@@ -214,13 +223,13 @@ fn serve_all<R: Threads + Wait + Sync, D: Disk, G: Gate, T: Told>(
             return Halt::Ended;
         }
         let (number, item) = door.take(rt, inbox, gate);
-        if desk.is_strange(header, number, &item) {
+        if desk.is_strange(header, measures, number, &item) {
             stop_held(rt, back, &desk.seats);
             stop_arrival(rt, back, number, &item);
             return Halt::Stranger(number);
         }
         let done = desk.arrive(
-            rt, alloc, disk, header, records, hints, back, gate, told, number, item,
+            rt, alloc, disk, header, measures, records, hints, back, gate, told, number, item,
         );
         if let Err(fault) = done {
             return Halt::Fault(fault);

@@ -12,6 +12,7 @@ ghost use Rattle.thread_run.specs.Owned.{desk_of, replies, standing, Grows, HasD
 ghost use Rattle.thread_run.specs.Refused.{IsRefusedAlone, IsRefusedArrival, IsRefusedTogether};
 ghost use Rattle.turn_run.specs.Steps.{batches_of, known_of};
 ghost use Rattle.thread_run.specs.Stopping.{held_stops, stop_each, stops_for};
+ghost use Rattle.var_layout.specs.Measures.{AreMeasures};
 
 use crate::desk::{Desk, all_hold, take_all};
 use crate::stopping::{stop_arrival, stop_each, stop_held};
@@ -25,6 +26,7 @@ use std::alloc::Global;
 use std::sync::Wait;
 use std::thread::Threads;
 use turn_run::{meet_on_file, note_step, solo_reply};
+use var_layout::Measures;
 
 impl Desk {
     /// Does what an arrival brings that is not strange. After an error each offer that is held, and the one that arrived, has a stop.
@@ -34,6 +36,7 @@ impl Desk {
         alloc: Global,
         disk: &mut D,
         header: &Header,
+        measures: &Measures,
         records: &mut u64,
         hints: &Hints,
         back: &mut LinePutList<OwnerItem>,
@@ -43,6 +46,7 @@ impl Desk {
         item: RankItem,
     ) -> Result<(), StepErr>
         requires sound { is_sound header.now ≡ true }
+        requires measured { AreMeasures header.now measures.now }
         requires hints { are_lawful_hints hints.now ≡ true }
         requires number { number < length self.old.seats.items }
         requires own { HasOwnPuts item }
@@ -70,12 +74,15 @@ impl Desk {
             }
             RankItem::Offer(call, offer) => match offer.kind {
                 OfferKind::Solo => self.do_alone(
-                    rt, alloc, disk, header, *records, hints, back, told, number, call, &offer,
+                    rt, alloc, disk, header, measures, *records, hints, back, told, number, call,
+                    &offer,
                 ),
                 OfferKind::Meet(_) => {
                     self.seats[number as usize].hold(offer);
                     if all_hold(&self.seats) {
-                        self.do_together(rt, alloc, disk, header, records, hints, back, gate, told)
+                        self.do_together(
+                            rt, alloc, disk, header, measures, records, hints, back, gate, told,
+                        )
                     } else {
                         Ok(())
                     }
@@ -91,6 +98,7 @@ impl Desk {
         alloc: Global,
         disk: &mut D,
         header: &Header,
+        measures: &Measures,
         records: u64,
         hints: &Hints,
         back: &mut LinePutList<OwnerItem>,
@@ -100,6 +108,7 @@ impl Desk {
         offer: &Offer,
     ) -> Result<(), StepErr>
         requires sound { is_sound header.now ≡ true }
+        requires measured { AreMeasures header.now measures.now }
         requires hints { are_lawful_hints hints.now ≡ true }
         requires number { number < length self.old.seats.items }
         requires lines { length back.old ≡ length self.old.seats.items }
@@ -122,7 +131,7 @@ impl Desk {
         ensures cause { HasStepCause (D.faults disk.old) (D.faults disk.new) result }
     {
         match self.reply_alone(
-            rt, alloc, disk, header, records, hints, back, told, number, call, offer,
+            rt, alloc, disk, header, measures, records, hints, back, told, number, call, offer,
         ) {
             Ok(()) => Ok(()),
             Err(fault) => {
@@ -140,6 +149,7 @@ impl Desk {
         alloc: Global,
         disk: &mut D,
         header: &Header,
+        measures: &Measures,
         records: u64,
         hints: &Hints,
         back: &mut LinePutList<OwnerItem>,
@@ -149,6 +159,7 @@ impl Desk {
         offer: &Offer,
     ) -> Result<(), StepErr>
         requires sound { is_sound header.now ≡ true }
+        requires measured { AreMeasures header.now measures.now }
         requires hints { are_lawful_hints hints.now ≡ true }
         requires number { number < length back.old }
         requires fit { IsFit header.now (D.len disk.old) offer.now }
@@ -169,7 +180,7 @@ impl Desk {
         ensures longer { D.len disk.old ≤ D.len disk.new }
         ensures cause { HasStepCause (D.faults disk.old) (D.faults disk.new) result }
     {
-        let reply = solo_reply(alloc, disk, header, hints, number, offer)?;
+        let reply = solo_reply(alloc, disk, header, measures, hints, number, offer)?;
         let mark = Mark::Solo(number, call);
         note_step(rt, alloc, &mut self.order, told, mark, records)?;
         self.reached = self.reached.max(reply.records);
@@ -184,6 +195,7 @@ impl Desk {
         alloc: Global,
         disk: &mut D,
         header: &Header,
+        measures: &Measures,
         records: &mut u64,
         hints: &Hints,
         back: &mut LinePutList<OwnerItem>,
@@ -191,6 +203,7 @@ impl Desk {
         told: &mut T,
     ) -> Result<(), StepErr>
         requires sound { is_sound header.now ≡ true }
+        requires measured { AreMeasures header.now measures.now }
         requires hints { are_lawful_hints hints.now ≡ true }
         requires all { list_all holds self.old.seats.items ≡ true }
         requires steady { IsSteady header.now (D.len disk.old) (standing self.old records.old (D.held disk.old) (D.calls disk.old) (T.heard told.old) back.old) }
@@ -209,7 +222,9 @@ impl Desk {
         ensures longer { D.len disk.old ≤ D.len disk.new }
         ensures cause { HasStepCause (D.faults disk.old) (D.faults disk.new) result }
     {
-        match self.reply_together(rt, alloc, disk, header, records, hints, back, gate, told) {
+        match self.reply_together(
+            rt, alloc, disk, header, measures, records, hints, back, gate, told,
+        ) {
             Ok(()) => Ok(()),
             Err(fault) => {
                 stop_each(rt, back);
@@ -237,6 +252,7 @@ impl Desk {
         alloc: Global,
         disk: &mut D,
         header: &Header,
+        measures: &Measures,
         records: &mut u64,
         hints: &Hints,
         back: &mut LinePutList<OwnerItem>,
@@ -244,6 +260,7 @@ impl Desk {
         told: &mut T,
     ) -> Result<(), StepErr>
         requires sound { is_sound header.now ≡ true }
+        requires measured { AreMeasures header.now measures.now }
         requires hints { are_lawful_hints hints.now ≡ true }
         requires all { list_all holds self.old.seats.items ≡ true }
         requires steady { IsSteady header.now (D.len disk.old) (standing self.old records.old (D.held disk.old) (D.calls disk.old) (T.heard told.old) back.old) }
@@ -264,7 +281,7 @@ impl Desk {
     {
         let (job, known) = self.take_job(alloc)?;
         let (pair, table) = meet_on_file(
-            rt, alloc, disk, header, records, hints, gate, &job, known,
+            rt, alloc, disk, header, measures, records, hints, gate, &job, known,
         )?;
         let met = next_number(self.met)?;
         let mark = Mark::Meet(self.met);

@@ -10,33 +10,56 @@ ghost use Rattle.serial_spec.specs.Layout.{product};
 ghost use Rattle.serial_spec.specs.Limits.{most_elements};
 ghost use Rattle.thread_run.specs.Strange.{fails_as_offer, fails_test, leaves_behind};
 ghost use Rattle.thread_run.specs.Owned.{desk_of};
+ghost use Rattle.var_layout.specs.Measures.{AreMeasures};
 
 use crate::desk::{Desk, DeskSeat};
 use nc_base::{Direction, Header, Offer, OfferKind, Post, RankItem};
 use type_external::size_of;
+use var_layout::Measures;
 use vara_extents::check;
 
 impl Desk {
     /// Whether no rank of a script makes this arrival.
-    pub(crate) fn is_strange(&self, header: &Header, number: u32, item: &RankItem) -> bool
-        requires { number < length self.now.seats.items }
+    pub(crate) fn is_strange(
+        &self,
+        header: &Header,
+        measures: &Measures,
+        number: u32,
+        item: &RankItem,
+    ) -> bool
+        requires measured { AreMeasures header.now measures.now }
+        requires number { number < length self.now.seats.items }
         ensures { (s : Setting) (file : List ℕ) (records : ℕ) → s.header ≡ header.now
             → is_strange s (desk_of self.now file records) (number, item.now) ≡ result }
     {
-        self.fails_test(header, &self.seats[number as usize], item)
+        self.fails_test(header, measures, &self.seats[number as usize], item)
     }
 
     /// Whether an item of a seat fails a test.
-    fn fails_test(&self, header: &Header, seat: &DeskSeat, item: &RankItem) -> bool
+    fn fails_test(
+        &self,
+        header: &Header,
+        measures: &Measures,
+        seat: &DeskSeat,
+        item: &RankItem,
+    ) -> bool
+        requires measured { AreMeasures header.now measures.now }
         ensures { result ≡ fails_test header.now self.now.seats.items self.now.reached seat.now item.now }
     {
         seat.has_ended()
             || leaves_behind(&self.seats, seat, item)
-            || self.fails_as_offer(header, seat, item)
+            || self.fails_as_offer(header, measures, seat, item)
     }
 
     /// Whether an item of a seat is an offer that is none at this time, or that no step takes.
-    fn fails_as_offer(&self, header: &Header, seat: &DeskSeat, item: &RankItem) -> bool
+    fn fails_as_offer(
+        &self,
+        header: &Header,
+        measures: &Measures,
+        seat: &DeskSeat,
+        item: &RankItem,
+    ) -> bool
+        requires measured { AreMeasures header.now measures.now }
         ensures { result ≡ fails_as_offer header.now self.now.seats.items self.now.reached seat.now item.now }
     {
         match item {
@@ -45,7 +68,7 @@ impl Desk {
                 seat.holds()
                     || differs(&self.seats, offer.kind)
                     || offer.known > self.reached
-                    || is_bad(header, offer)
+                    || is_bad(header, measures, offer)
             }
         }
     }
@@ -91,25 +114,30 @@ fn differs(seats: &[DeskSeat], kind: OfferKind) -> bool
 }
 
 /// Whether no step takes the posts of an offer.
-fn is_bad(header: &Header, offer: &Offer) -> bool
+fn is_bad(header: &Header, measures: &Measures, offer: &Offer) -> bool
+    requires measured { AreMeasures header.now measures.now }
     ensures { result ≡ bad_batch header.now offer.now }
 {
-    has_bad_put(header, offer) || has_refused_get(header, offer) || has_too_many(offer)
+    has_bad_put(header, measures, offer)
+        || has_refused_get(header, measures, offer)
+        || has_too_many(offer)
 }
 
-fn has_bad_put(header: &Header, offer: &Offer) -> bool
+fn has_bad_put(header: &Header, measures: &Measures, offer: &Offer) -> bool
+    requires measured { AreMeasures header.now measures.now }
     ensures { result ≡ list_any (λ p. refused header.now offer.now.known way.Put p || wrong_length header.now p) offer.now.batch.puts }
 {
     let puts = offer.batch.puts.as_slice();
-    puts.iter().any(|put| is_bad_put(header, offer.known, put))
+    puts.iter()
+        .any(|put| is_bad_put(header, measures, offer.known, put))
 }
 
-fn has_refused_get(header: &Header, offer: &Offer) -> bool
+fn has_refused_get(header: &Header, measures: &Measures, offer: &Offer) -> bool
+    requires measured { AreMeasures header.now measures.now }
     ensures { result ≡ list_any (λ p. refused header.now offer.now.known way.Get p) offer.now.batch.gets }
 {
     let gets = offer.batch.gets.as_slice();
-    gets.iter()
-        .any(|get| is_refused(header, offer.known, Direction::Get, get))
+    gets.iter().any(|get| is_refused(header, measures, offer.known, Direction::Get, get))
 }
 
 fn has_too_many(offer: &Offer) -> bool
@@ -119,16 +147,32 @@ fn has_too_many(offer: &Offer) -> bool
 }
 
 /// Whether a put has a region that is refused, or not the bytes of its elements.
-fn is_bad_put(header: &Header, known: u64, put: &Post) -> bool
+fn is_bad_put(header: &Header, measures: &Measures, known: u64, put: &Post) -> bool
+    requires measured { AreMeasures header.now measures.now }
     ensures { result ≡ (refused header.now known way.Put put.now || wrong_length header.now put.now) }
 {
-    is_refused(header, known, Direction::Put, put) || has_other_length(header, known, put)
+    is_refused(header, measures, known, Direction::Put, put) || has_other_length(header, known, put)
 }
 
-fn is_refused(header: &Header, known: u64, direction: Direction, post: &Post) -> bool
+fn is_refused(
+    header: &Header,
+    measures: &Measures,
+    known: u64,
+    direction: Direction,
+    post: &Post,
+) -> bool
+    requires measured { AreMeasures header.now measures.now }
     ensures { result ≡ refused header.now known direction post.now }
 {
-    check(header, post.var as usize, &post.region, known, direction).is_err()
+    check(
+        header,
+        measures,
+        post.var as usize,
+        &post.region,
+        known,
+        direction,
+    )
+    .is_err()
 }
 
 /// Whether a put of an accepted region has not the bytes of its elements.

@@ -22,6 +22,7 @@ ghost use Rattle.run_laws.specs.Arrivals.{calls_over, step_to, all_calls_over, e
 ghost use Rattle.turn_run.specs.Stages.{arrived_all, stage, HasLed};
 ghost use Rattle.turn_run.specs.Telling.{HasTold, HasToldMore};
 ghost use Rattle.turn_run.specs.Steps.{first_seat};
+ghost use Rattle.var_layout.specs.Measures.{AreMeasures};
 
 use crate::closing::{answers_of, close, pending_of};
 use crate::meeting::meet;
@@ -32,6 +33,7 @@ use rank_core::Names;
 use std::alloc::Global;
 use std::sync::Wait;
 use std::thread::Threads;
+use var_layout::Measures;
 
 /// Runs the ranks of a script on one thread. Each goes on until it meets the others; a meeting is done when all have come to it, and
 /// then rank 0 goes on first. The last thing done is the close, which raises the record count to the greatest that a rank knows.
@@ -88,7 +90,17 @@ pub fn run_in_turn_told<R: Threads + Wait + Sync, D: Disk, G: Gate, T: Told>(
         Err(_) => return stopped(alloc, order, StepErr::Memory),
     };
     match make_calls(
-        rt, alloc, disk, header, records, script, gate, &mut seats, &mut order, told,
+        rt,
+        alloc,
+        disk,
+        header,
+        names.measures(header),
+        records,
+        script,
+        gate,
+        &mut seats,
+        &mut order,
+        told,
     ) {
         Ok(()) => ended(alloc, order, seats),
         Err(cause) => cut_off(alloc, order, seats, cause),
@@ -120,6 +132,7 @@ fn make_calls<R: Threads + Wait + Sync, D: Disk, G: Gate, T: Told>(
     alloc: Global,
     disk: &mut D,
     header: &Header,
+    measures: &Measures,
     records: &mut u64,
     script: &Script,
     gate: &G,
@@ -128,6 +141,7 @@ fn make_calls<R: Threads + Wait + Sync, D: Disk, G: Gate, T: Told>(
     told: &mut T,
 ) -> Result<(), StepErr>
     requires sound { is_sound header.now ≡ true }
+    requires measured { AreMeasures header.now measures.now }
     requires lawful { is_lawful script.now ≡ true }
     requires none { order.old ≡ [] }
     requires seats { AreSeats script.now header.now (D.len disk.old) order.old seats.old }
@@ -152,7 +166,7 @@ fn make_calls<R: Threads + Wait + Sync, D: Disk, G: Gate, T: Told>(
     ensures cause { HasStepCause (D.faults disk.old) (D.faults disk.new) result }
 {
     hold_meetings(
-        rt, alloc, disk, header, records, script, gate, seats, order, told,
+        rt, alloc, disk, header, measures, records, script, gate, seats, order, told,
     )?;
     close(alloc, disk, header, records, seats)?;
     Ok(())
@@ -164,6 +178,7 @@ fn hold_meetings<R: Threads + Wait + Sync, D: Disk, G: Gate, T: Told>(
     alloc: Global,
     disk: &mut D,
     header: &Header,
+    measures: &Measures,
     records: &mut u64,
     script: &Script,
     gate: &G,
@@ -172,6 +187,7 @@ fn hold_meetings<R: Threads + Wait + Sync, D: Disk, G: Gate, T: Told>(
     told: &mut T,
 ) -> Result<(), StepErr>
     requires sound { is_sound header.now ≡ true }
+    requires measured { AreMeasures header.now measures.now }
     requires lawful { is_lawful script.now ≡ true }
     requires none { order.old ≡ [] }
     requires seats { AreSeats script.now header.now (D.len disk.old) order.old seats.old }
@@ -197,15 +213,15 @@ fn hold_meetings<R: Threads + Wait + Sync, D: Disk, G: Gate, T: Told>(
 {
     let mut meetings = 0;
     arrive_all(
-        rt, alloc, disk, header, *records, script, gate, seats, order, told,
+        rt, alloc, disk, header, measures, *records, script, gate, seats, order, told,
     )?;
     'meetings: while all_hold(seats) {
         meet(
-            rt, alloc, disk, header, records, script, gate, seats, meetings, order, told,
+            rt, alloc, disk, header, measures, records, script, gate, seats, meetings, order, told,
         )?;
         meetings += 1;
         arrive_all(
-            rt, alloc, disk, header, *records, script, gate, seats, order, told,
+            rt, alloc, disk, header, measures, *records, script, gate, seats, order, told,
         )?;
     }
     Ok(())
@@ -217,6 +233,7 @@ fn arrive_all<R: Threads + Wait + Sync, D: Disk, G: Gate, T: Told>(
     alloc: Global,
     disk: &mut D,
     header: &Header,
+    measures: &Measures,
     records: u64,
     script: &Script,
     gate: &G,
@@ -225,6 +242,7 @@ fn arrive_all<R: Threads + Wait + Sync, D: Disk, G: Gate, T: Told>(
     told: &mut T,
 ) -> Result<(), StepErr>
     requires sound { is_sound header.now ≡ true }
+    requires measured { AreMeasures header.now measures.now }
     requires lawful { is_lawful script.now ≡ true }
     requires seats { AreSeats script.now header.now (D.len disk.old) order.old seats.old }
     requires free { AreFree seats.old }
@@ -251,6 +269,7 @@ fn arrive_all<R: Threads + Wait + Sync, D: Disk, G: Gate, T: Told>(
             alloc,
             disk,
             header,
+            measures,
             records,
             script,
             gate,

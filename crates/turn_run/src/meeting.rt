@@ -23,6 +23,7 @@ ghost use Rattle.turn_run.specs.Seated.{AreFree, AreFreed, IsFreed, AreHeard, Ar
 ghost use Rattle.turn_run.specs.Stages.{arrived_all, stage, HasLed};
 ghost use Rattle.turn_run.specs.Telling.{HasToldMore};
 ghost use Rattle.turn_run.specs.Steps.{batches_of, held_offers, known_of, met, met_calls, IsJob, IsOneRise};
+ghost use Rattle.var_layout.specs.Measures.{AreMeasures};
 
 use crate::noting::note_step;
 use crate::seats::Seat;
@@ -36,6 +37,7 @@ use nc_outside::{Disk, Gate, Told};
 use std::alloc::Global;
 use std::sync::Wait;
 use std::thread::Threads;
+use var_layout::Measures;
 
 /// Does the meeting whose offers the ranks hold, and lets each hear its reply.
 pub(crate) fn meet<R: Threads + Wait + Sync, D: Disk, G: Gate, T: Told>(
@@ -43,6 +45,7 @@ pub(crate) fn meet<R: Threads + Wait + Sync, D: Disk, G: Gate, T: Told>(
     alloc: Global,
     disk: &mut D,
     header: &Header,
+    measures: &Measures,
     records: &mut u64,
     script: &Script,
     gate: &G,
@@ -52,6 +55,7 @@ pub(crate) fn meet<R: Threads + Wait + Sync, D: Disk, G: Gate, T: Told>(
     told: &mut T,
 ) -> Result<(), StepErr>
     requires sound { is_sound header.now ≡ true }
+    requires measured { AreMeasures header.now measures.now }
     requires lawful { is_lawful script.now ≡ true }
     requires number { number ≡ meetings order.old }
     requires seats { AreSeats script.now header.now (D.len disk.old) order.old seats.old }
@@ -84,6 +88,7 @@ pub(crate) fn meet<R: Threads + Wait + Sync, D: Disk, G: Gate, T: Told>(
         alloc,
         disk,
         header,
+        measures,
         records,
         &script.hints,
         gate,
@@ -157,6 +162,7 @@ pub fn meet_on_file<R: Threads + Wait + Sync, D: Disk, G: Gate>(
     alloc: Global,
     disk: &mut D,
     header: &Header,
+    measures: &Measures,
     records: &mut u64,
     hints: &Hints,
     gate: &G,
@@ -164,6 +170,7 @@ pub fn meet_on_file<R: Threads + Wait + Sync, D: Disk, G: Gate>(
     known: u64,
 ) -> Result<(Option<Pair>, GotTable), StepErr>
     requires sound { is_sound header.now ≡ true }
+    requires measured { AreMeasures header.now measures.now }
     requires hints { are_lawful_hints hints.now ≡ true }
     requires job { IsJob header.now (D.len disk.old) job.now.batches }
     requires known { IsRise header.now (D.len disk.old) known }
@@ -184,9 +191,9 @@ pub fn meet_on_file<R: Threads + Wait + Sync, D: Disk, G: Gate>(
     ensures cause { HasStepCause (D.faults disk.old) (D.faults disk.new) result }
 {
     let _size = disk.size();
-    let end = put_all(rt, alloc, disk, header, records, job, hints, gate)?;
+    let end = put_all(rt, alloc, disk, header, measures, records, job, hints, gate)?;
     raise_records(alloc, disk, header, records, known)?;
-    let table = get_all(rt, alloc, disk, header, job, hints, gate)?;
+    let table = get_all(rt, alloc, disk, header, measures, job, hints, gate)?;
     Ok((told_pair(end), table))
 }
 

@@ -13,6 +13,7 @@ ghost use Rattle.serial_spec.specs.RankMachine.{new_rank};
 ghost use Rattle.serial_spec.specs.RankSide.{wanted};
 ghost use Rattle.serial_spec.specs.SerialEnd.{advance, hears, setting_of};
 ghost use Rattle.collective_round.specs.Rounds.{HasStepCause};
+ghost use Rattle.var_layout.specs.Measures.{AreMeasures};
 ghost use Rattle.rank_core.specs.Indexed.{IsIndexOf};
 ghost use Rattle.run_laws.specs.Ways.{IsOnWay};
 ghost use Rattle.turn_run.specs.Counts.{IsAsked, IsCount};
@@ -34,6 +35,7 @@ use rank_core::{Names, Rank};
 use std::alloc::Global;
 use std::sync::Wait;
 use std::thread::Threads;
+use var_layout::Measures;
 
 /// A rank of a run with its answers so far. Its next call is the one after those that it has answered.
 #[derive(Drop)]
@@ -66,6 +68,7 @@ impl<'a> Seat<'a> {
         alloc: Global,
         disk: &mut D,
         header: &Header,
+        measures: &Measures,
         records: u64,
         script: &Script,
         gate: &G,
@@ -74,6 +77,7 @@ impl<'a> Seat<'a> {
         told: &mut T,
     ) -> Result<(), StepErr>
         requires sound { is_sound header.now ≡ true }
+        requires measured { AreMeasures header.now measures.now }
         requires lawful { is_lawful script.now ≡ true }
         requires number { number < script.now.ranks }
         requires free { self.old.held ≡ None }
@@ -101,7 +105,7 @@ impl<'a> Seat<'a> {
         self.go_on(rt, gate, header, script, number, calls)?;
         'alone: while let Some(offer) = self.take_alone() {
             self.do_alone(
-                rt, alloc, disk, header, records, script, number, order, told, offer,
+                rt, alloc, disk, header, measures, records, script, number, order, told, offer,
             )?;
             self.go_on(rt, gate, header, script, number, calls)?;
         }
@@ -168,6 +172,7 @@ impl<'a> Seat<'a> {
         alloc: Global,
         disk: &mut D,
         header: &Header,
+        measures: &Measures,
         records: u64,
         script: &Script,
         number: u32,
@@ -176,6 +181,7 @@ impl<'a> Seat<'a> {
         offer: Offer,
     ) -> Result<(), StepErr>
         requires sound { is_sound header.now ≡ true }
+        requires measured { AreMeasures header.now measures.now }
         requires lawful { is_lawful script.now ≡ true }
         requires header { self.old.rank.header ≡ header.now }
         requires free { self.old.held ≡ None }
@@ -202,7 +208,7 @@ impl<'a> Seat<'a> {
         ensures longer { D.len disk.old ≤ D.len disk.new }
         ensures cause { HasStepCause (D.faults disk.old) (D.faults disk.new) result }
     {
-        let reply = solo_reply(alloc, disk, header, &script.hints, number, &offer)?;
+        let reply = solo_reply(alloc, disk, header, measures, &script.hints, number, &offer)?;
         note_step(
             rt,
             alloc,

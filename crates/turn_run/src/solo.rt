@@ -14,11 +14,13 @@ ghost use Rattle.collective_round.specs.Ended.{pair_of};
 ghost use Rattle.collective_round.specs.Rounds.{counted, setting, HasStepCause};
 ghost use Rattle.turn_run.specs.Counts.{IsCount, IsFit};
 ghost use Rattle.turn_run.specs.Steps.{needed_after};
+ghost use Rattle.var_layout.specs.Measures.{AreMeasures};
 
 use collective_round::{PutEnd, get_solo, put_solo, records_needed_by};
 use nc_base::{Header, Hints, Offer, Pair, Reply, StepErr};
 use nc_outside::Disk;
 use std::alloc::Global;
+use var_layout::Measures;
 
 /// Does the puts and then the gets of a rank's offer, and makes the reply. The record count of the file stays: the rank alone knows
 /// what its puts need.
@@ -26,11 +28,13 @@ pub fn solo_reply<D: Disk>(
     alloc: Global,
     disk: &mut D,
     header: &Header,
+    measures: &Measures,
     hints: &Hints,
     number: u32,
     offer: &Offer,
 ) -> Result<Reply, StepErr>
     requires sound { is_sound header.now ≡ true }
+    requires measured { AreMeasures header.now measures.now }
     requires hints { are_lawful_hints hints.now ≡ true }
     requires fit { IsFit header.now (D.len disk.old) offer.now }
     requires from { D.from disk.old ≡ 0 }
@@ -48,8 +52,8 @@ pub fn solo_reply<D: Disk>(
     ensures cause { HasStepCause (D.faults disk.old) (D.faults disk.new) result }
 {
     let _size = disk.size();
-    let end = put_solo(alloc, disk, header, number, &offer.batch, hints)?;
-    let got = get_solo(alloc, disk, header, &offer.batch, hints)?;
+    let end = put_solo(alloc, disk, header, measures, number, &offer.batch, hints)?;
+    let got = get_solo(alloc, disk, header, measures, &offer.batch, hints)?;
     Ok(Reply {
         pair: told_pair(end),
         records: records_known(header, offer, end),

@@ -1,4 +1,5 @@
 pub mod Capping
+pub mod EndLaws
 pub mod Soundness
 pub mod WrittenLengths
 pub mod ElementPlaces

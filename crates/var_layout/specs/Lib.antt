@@ -1,4 +1,5 @@
 pub mod Begins
 pub mod Capped
+pub mod Measures
 pub mod Reached
 pub mod Unplaced

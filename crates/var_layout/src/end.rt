@@ -6,9 +6,9 @@ ghost use Rattle.serial_spec.specs.HeaderGrammar.{is_sound, header_len};
 ghost use Rattle.var_layout.specs.Capped.{capped};
 
 use crate::capped;
-use crate::record::{is_lone, last_share, record_size};
+use crate::measures::Measures;
+use crate::record::last_share;
 use crate::sizes::{is_record, vsize_of};
-use crate::written::header_len;
 use nc_base::{Header, Var};
 
 /// Where a variable ends in a file of so many records, where a record takes `size`.
@@ -33,13 +33,7 @@ pub(crate) fn end_of_var(header: &Header, lone: bool, size: u64, records: u64, v
 pub fn file_end(header: &Header, records: u64) -> u64
     ensures { result ≡ capped (layout.end_of header.now (header_len header.now) records) }
 {
-    let lone = is_lone(header);
-    let size = record_size(header, lone);
-    let mut end = header_len(header);
-    for var in header.vars.as_slice() {
-        end = end.max(end_of_var(header, lone, size, records, var));
-    }
-    end
+    Measures::of(header).file_end(header, records)
 }
 
 /// The length of a file with so many records.

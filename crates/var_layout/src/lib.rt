@@ -2,14 +2,16 @@
 //! "Computing file offsets").
 //!
 //! No call here takes memory. A variable is named by its place in the header's list, from 0. All sizes and places
-//! are in bytes. What a call reads bounds what it costs: the whole header for `header_len`, `file_end` and `end_of`, all
-//! variables for `measure`, `lay_out`, `recsize` and `place`, one variable for `slab` and `vsize`.
+//! are in bytes. What a call reads bounds what it costs: the whole header for `header_len`, `file_end`, `end_of` and
+//! `Measures::of`, all variables for `measure`, `lay_out`, `recsize` and `place`, one variable for `slab` and `vsize`. With the
+//! [`Measures`] of a header, which a run takes once, `recsize` and the end of a file cost no walk.
 #![tactic(auto)]
 
 mod bounds;
 mod capped;
 mod elements;
 mod end;
+mod measures;
 mod names;
 mod placing;
 mod record;
@@ -19,6 +21,7 @@ mod written;
 pub use bounds::measure;
 pub use elements::{elements_lie_apart, place};
 pub use end::{end_of, file_end, sound_files_end};
+pub use measures::Measures;
 pub use names::{find_dim, find_var};
 pub use placing::lay_out;
 pub use record::{recsize, recsize_of};

@@ -4,11 +4,12 @@ ghost use Rattle.std.specs.List.{list_any};
 ghost use Rattle.nc_base.specs.declared.answer.Code.TheVariants as code;
 ghost use Rattle.serial_spec.specs.Layout as layout;
 ghost use Rattle.serial_spec.specs.RegionCheck as spec;
+ghost use Rattle.var_layout.specs.Measures.{AreMeasures};
 ghost use Rattle.vara_extents.specs.Bounds.{bounds_of};
 
 use crate::needs::{is_too_large, variable};
 use nc_base::{Code, Direction, Header, Region, Var};
-use var_layout::length_of;
+use var_layout::{Measures, length_of};
 
 /// Whether a call on a region is refused. The first of these causes answers, an order that is this project's:
 /// `ENotVar` for a variable that the header has not; `EInvalCoords` for lists of another length than the variable's
@@ -16,30 +17,34 @@ use var_layout::length_of;
 /// `EInvalCoords` for a start above the length of its dimension, or at it with a count above 0; `EEdge` for a last
 /// element that is not below the length; `ETooLarge` for more than 2^20 elements, or a place of memory from 2^20 on,
 /// or a record count or a file's end past its limit. The record dimension has the `known` length for a get, and no
-/// bound for a put.
+/// bound for a put. `measures` are the header's.
 pub fn check(
     header: &Header,
+    measures: &Measures,
     var: usize,
     region: &Region,
     known: u64,
     direction: Direction,
 ) -> Result<(), Code>
+    requires measured { AreMeasures header.now measures.now }
     ensures ok { OnOk result (spec.check header.now var region.now known direction ≡ code.Ok) }
     ensures refused { IfErr result (λ refusal. (refusal ≡ spec.check header.now var region.now known direction) × (refusal ≡ code.Ok → ⊥)) }
 {
     match variable(header, var) {
         None => Err(Code::ENotVar),
-        Some(var) => check_var(header, var, region, known, direction),
+        Some(var) => check_var(header, measures, var, region, known, direction),
     }
 }
 
 pub(crate) fn check_var(
     header: &Header,
+    measures: &Measures,
     var: &Var,
     region: &Region,
     known: u64,
     direction: Direction,
 ) -> Result<(), Code>
+    requires measured { AreMeasures header.now measures.now }
     ensures ok { OnOk result (spec.check_var header.now var.now region.now known direction ≡ code.Ok) }
     ensures refused { IfErr result (λ refusal. (refusal ≡ spec.check_var header.now var.now region.now known direction) × (refusal ≡ code.Ok → ⊥)) }
 {
@@ -59,7 +64,7 @@ pub(crate) fn check_var(
     if some_edge(header, ends, ids, starts, counts, region.stride.as_slice()) {
         return Err(Code::EEdge);
     }
-    if is_too_large(header, var, region) {
+    if is_too_large(header, measures, var, region) {
         return Err(Code::ETooLarge);
     }
     Ok(())

@@ -6,13 +6,14 @@ ghost use Rattle.serial_spec.specs.Limits as limits;
 ghost use Rattle.serial_spec.specs.RegionCheck as spec;
 ghost use Rattle.serial_spec.specs.Records.{records_of};
 ghost use Rattle.var_layout.specs.Capped.{capped};
+ghost use Rattle.var_layout.specs.Measures.{AreMeasures};
 ghost use Rattle.vara_extents.specs.Accepted.{IsAccepted};
 
 use crate::causes::last_of;
 use nc_base::{
     CLASSIC_RECORD_LIMIT, FILE_LIMIT, Header, MAX_ELEMENTS, MAX_REACH, RECORD_LIMIT, Region, Var,
 };
-use var_layout::{file_end, is_record};
+use var_layout::{Measures, is_record};
 
 /// The number, or 2^62 where it is more.
 fn cap(n: u128) -> u64
@@ -90,7 +91,8 @@ fn record_limit(version: u8) -> u64
 }
 
 /// Whether a region has too many elements, reaches too far in memory, or needs too many records or too long a file.
-pub(crate) fn is_too_large(header: &Header, var: &Var, region: &Region) -> bool
+pub(crate) fn is_too_large(header: &Header, measures: &Measures, var: &Var, region: &Region) -> bool
+    requires measured { AreMeasures header.now measures.now }
     requires shape { spec.other_shape (length var.now.dims) region.now ≡ false }
     ensures { result ≡ spec.is_too_large header.now var.now region.now }
 {
@@ -105,7 +107,7 @@ pub(crate) fn is_too_large(header: &Header, var: &Var, region: &Region) -> bool
     if records >= record_limit(header.version) {
         return true;
     }
-    file_end(header, records) >= FILE_LIMIT
+    measures.file_end(header, records) >= FILE_LIMIT
 }
 
 fn reaches_too_far(region: &Region) -> bool

@@ -4,6 +4,7 @@ ghost use Rattle.nc_base.specs.declared.answer.Code.TheVariants as code;
 ghost use Rattle.serial_spec.specs.Layout.{product};
 ghost use Rattle.serial_spec.specs.RegionCheck as spec;
 ghost use Rattle.var_layout.specs.Capped.{capped};
+ghost use Rattle.var_layout.specs.Measures.{AreMeasures};
 ghost use Rattle.vara_extents.specs.Boxes.{boxes_meet, meets_any, some_meet};
 ghost use Rattle.vara_extents.specs.Parts.{code_by_boxes, parts_code, without_variable, IsRefusal};
 
@@ -14,6 +15,7 @@ use nc_base::{
     CallErr, Code, Direction, Given, Header, MAX_ELEMENTS, Memory, Part, Region, SizeList, Var,
 };
 use std::alloc::Global;
+use var_layout::Measures;
 
 /// Whether a call of form `varn` is refused. The first of these causes answers, an order that is this project's: that of
 /// the first part that `check` refuses, as a region of its own with strides of 1; `ETooLarge` for parts that together have
@@ -22,15 +24,17 @@ use std::alloc::Global;
 pub fn check_parts(
     alloc: Global,
     header: &Header,
+    measures: &Measures,
     var: usize,
     given: &Given,
     known: u64,
     direction: Direction,
 ) -> Result<(), CallErr>
+    requires measured { AreMeasures header.now measures.now }
     ensures ok { OnOk result (parts_code header.now var given.now known direction ≡ code.Ok) }
     ensures refused { IfErr result (IsRefusal (parts_code header.now var given.now known direction)) }
 {
-    match parts_code(alloc, header, var, given, known, direction) {
+    match parts_code(alloc, header, measures, var, given, known, direction) {
         Ok(code) => as_result(code),
         Err(_) => Err(CallErr::Memory),
     }
@@ -52,16 +56,26 @@ fn as_result(answer: Code) -> Result<(), CallErr>
 fn parts_code(
     alloc: Global,
     header: &Header,
+    measures: &Measures,
     var: usize,
     given: &Given,
     known: u64,
     direction: Direction,
 ) -> Result<Code, Memory>
+    requires measured { AreMeasures header.now measures.now }
     ensures { IfOk result (λ c. c ≡ parts_code header.now var given.now known direction) }
 {
     match variable(header, var) {
         None => Ok(without_variable(given.parts.as_slice())),
-        Some(var) => code_of(alloc, header, var, given.parts.as_slice(), known, direction),
+        Some(var) => code_of(
+            alloc,
+            header,
+            measures,
+            var,
+            given.parts.as_slice(),
+            known,
+            direction,
+        ),
     }
 }
 
@@ -78,15 +92,17 @@ fn without_variable(parts: &[Part]) -> Code
 fn code_of(
     alloc: Global,
     header: &Header,
+    measures: &Measures,
     var: &Var,
     parts: &[Part],
     known: u64,
     direction: Direction,
 ) -> Result<Code, Memory>
+    requires measured { AreMeasures header.now measures.now }
     ensures { IfOk result (λ c. c ≡ spec.check_parts header.now var.now (map (spec.part_region var.now) parts.now) known direction) }
 {
     let regions = part_regions(alloc, var, parts)?;
-    Ok(code_by_boxes(header, var, regions.as_slice(), known, direction))
+    Ok(code_by_boxes(header, measures, var, regions.as_slice(), known, direction))
 }
 
 /// The parts as regions of their own.
@@ -115,14 +131,16 @@ fn part_region(alloc: Global, var: &Var, part: &Part) -> Result<Region, Memory>
 #[tactic(auto, unfolding(crate::specs::Parts::code_by_boxes))]
 fn code_by_boxes(
     header: &Header,
+    measures: &Measures,
     var: &Var,
     regions: &[Region],
     known: u64,
     direction: Direction,
 ) -> Code
+    requires measured { AreMeasures header.now measures.now }
     ensures { result ≡ code_by_boxes header.now var.now regions.now known direction }
 {
-    let refusal = first_refusal(header, var, regions, known, direction);
+    let refusal = first_refusal(header, measures, var, regions, known, direction);
     if !is_ok(refusal) {
         return refusal;
     }
@@ -138,15 +156,17 @@ fn code_by_boxes(
 /// The code of the first part that is refused, or `Ok`.
 fn first_refusal(
     header: &Header,
+    measures: &Measures,
     var: &Var,
     regions: &[Region],
     known: u64,
     direction: Direction,
 ) -> Code
+    requires measured { AreMeasures header.now measures.now }
     ensures { result ≡ spec.first_refusal (map (λ g. spec.check_var header.now var.now g known direction) regions.now) }
 {
     for region in regions {
-        let code = region_code(header, var, region, known, direction);
+        let code = region_code(header, measures, var, region, known, direction);
         if !is_ok(code) {
             return code;
         }
@@ -156,14 +176,16 @@ fn first_refusal(
 
 fn region_code(
     header: &Header,
+    measures: &Measures,
     var: &Var,
     region: &Region,
     known: u64,
     direction: Direction,
 ) -> Code
+    requires measured { AreMeasures header.now measures.now }
     ensures { result ≡ spec.check_var header.now var.now region.now known direction }
 {
-    match check_var(header, var, region, known, direction) {
+    match check_var(header, measures, var, region, known, direction) {
         Ok(()) => Code::Ok,
         Err(code) => code,
     }

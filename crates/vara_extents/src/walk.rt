@@ -9,7 +9,7 @@ use crate::needs::{element_count, variable_at};
 use crate::runs::{place_of, run_of};
 use nc_base::{Extent, Header, Region, Var};
 use type_external::size_of;
-use var_layout::recsize;
+use var_layout::Measures;
 
 /// The bytes of a region's elements in row-major order, as extents of the file: neighbours in file and order are joined,
 /// and none is empty. It takes no memory.
@@ -37,19 +37,26 @@ struct Taken {
 impl<'a> Extents<'a> {
     ghost use Rattle.std.specs.Prelude.{◌≡◌, ◌∷◌, ◌<◌, ◌≤◌, ◌+◌, ◌^◌, IfSome, slice_get, true};
     ghost use Rattle.serial_spec.specs.HeaderGrammar.{is_sound};
+    ghost use Rattle.var_layout.specs.Measures.{AreMeasures};
     ghost use Rattle.vara_extents.specs.Accepted.{IsAccepted};
     ghost use Rattle.vara_extents.specs.Joined.{joined_to, extents_of};
     ghost use Rattle.vara_extents.specs.Left.{extents_from, extents_left, IsReady};
 
-    /// The extents of a region of the variable at this place of the header's list.
-    pub fn new(header: &'a Header, var: usize, region: &'a Region) -> Extents<'a>
+    /// The extents of a region of the variable at this place of the header's list. `measures` are the header's.
+    pub fn new(
+        header: &'a Header,
+        measures: &Measures,
+        var: usize,
+        region: &'a Region,
+    ) -> Extents<'a>
         requires sound { is_sound header.now ≡ true }
+        requires measured { AreMeasures header.now measures.now }
         requires accepted { IsAccepted header.now var region.now }
         ensures extents { IfSome (slice_get header.now.vars var) (λ v. extents_left result ≡ extents_of header.now v region.now) }
         ensures ready { IsReady result }
     {
         let var = variable_at(header, var);
-        let recsize = recsize(header);
+        let recsize = measures.recsize(header);
         let elements = element_count(region.count.as_slice());
         let run = if elements == 0 {
             1

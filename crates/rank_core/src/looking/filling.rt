@@ -7,9 +7,10 @@ ghost use Rattle.serial_spec.specs.Layout as layout;
 ghost use Rattle.serial_spec.specs.Layout.{product};
 ghost use Rattle.serial_spec.specs.Limits as limits;
 ghost use Rattle.serial_spec.specs.RankMachine as machine;
+ghost use Rattle.var_layout.specs.Measures.{AreMeasures};
 ghost use Rattle.rank_core.specs.Looked.{ComesTo};
 ghost use Rattle.rank_core.specs.Targets as targets;
-ghost use Rattle.rank_core.specs.Targets.{IsSmall, IsTarget};
+ghost use Rattle.rank_core.specs.Targets.{IsMeasured, IsSmall, IsTarget};
 
 use super::parts::element_count;
 use super::target::Target;
@@ -20,7 +21,7 @@ use nc_base::{
 };
 use std::alloc::Global;
 use type_external::size_of;
-use var_layout::{file_end, is_record, length_of, slab};
+use var_layout::{Measures, is_record, length_of, slab};
 
 pub(super) fn look_record(
     alloc: Global,
@@ -31,6 +32,7 @@ pub(super) fn look_record(
 ) -> Result<PostList, CallErr>
     requires sound { is_sound target.now.header.now ≡ true }
     requires there { IsTarget target.now }
+    requires measured { IsMeasured target.now }
     requires rank { rank < ranks }
     requires ranks { ranks ≤ 64 }
     ensures { ComesTo (targets.look_record target.now number rank ranks) result }
@@ -39,7 +41,7 @@ pub(super) fn look_record(
         return Err(CallErr::Code(Code::ENotRec));
     }
     let (from, to) = share(record_elements(target), rank, ranks);
-    if is_too_large(target.header, number, to - from) {
+    if is_too_large(target.header, target.measures, number, to - from) {
         return Err(CallErr::Code(Code::ETooLarge));
     }
     let lengths = inner_lengths(alloc, target.header, target.var)?;
@@ -79,20 +81,22 @@ fn lengths_of(alloc: Global, header: &Header, ids: &[u32]) -> Result<SizeList, M
 }
 
 /// Whether a share has more elements than one request may have, or its record lies past a limit.
-fn is_too_large(header: &Header, number: u64, elements: u64) -> bool
+fn is_too_large(header: &Header, measures: &Measures, number: u64, elements: u64) -> bool
+    requires measured { AreMeasures header.now measures.now }
     ensures { result ≡ (nat_lt limits.most_elements elements || machine.is_record_past header.now number) }
 {
-    elements > MAX_ELEMENTS || is_record_past(header, number)
+    elements > MAX_ELEMENTS || is_record_past(header, measures, number)
 }
 
 /// Whether a record count or the file's end passes its limit where the file has this record.
-fn is_record_past(header: &Header, number: u64) -> bool
+fn is_record_past(header: &Header, measures: &Measures, number: u64) -> bool
+    requires measured { AreMeasures header.now measures.now }
     ensures { result ≡ machine.is_record_past header.now number }
 {
     if number >= record_limit(header.version) - 1 {
         return true;
     }
-    file_end(header, number + 1) >= FILE_LIMIT
+    measures.file_end(header, number + 1) >= FILE_LIMIT
 }
 
 /// A record count is below this.

@@ -11,7 +11,7 @@ ghost use Rattle.serial_spec.specs.RegionCheck as spec;
 ghost use Rattle.serial_spec.specs.Request as request;
 ghost use Rattle.rank_core.specs.Looked.{ext_at, some_unfit, unfit_at, ComesTo, HasValues, IsCode};
 ghost use Rattle.rank_core.specs.Targets as targets;
-ghost use Rattle.rank_core.specs.Targets.{IsTarget};
+ghost use Rattle.rank_core.specs.Targets.{IsMeasured, IsTarget};
 
 use super::region::has_element;
 use super::target::{Target, direction_of};
@@ -29,11 +29,20 @@ pub(super) fn look_parts(
     values: Option<&Values>,
 ) -> Result<PostList, CallErr>
     requires there { IsTarget target.now }
+    requires measured { IsMeasured target.now }
     ensures { ComesTo (targets.look_parts target.now given.now (option_copied values.entry)) result }
 {
     let direction = direction_of(values);
     let place = target.place as usize;
-    check_parts(alloc, target.header, place, given, target.known, direction)?;
+    check_parts(
+        alloc,
+        target.header,
+        target.measures,
+        place,
+        given,
+        target.known,
+        direction,
+    )?;
     let regions = asked_regions(alloc, target.var, given.parts.as_slice())?;
     if regions.is_empty() {
         return Ok(PostList::new(alloc));

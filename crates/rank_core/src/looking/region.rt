@@ -9,7 +9,7 @@ ghost use Rattle.serial_spec.specs.Layout.{product};
 ghost use Rattle.serial_spec.specs.RankMachine as machine;
 ghost use Rattle.rank_core.specs.Looked.{ComesTo};
 ghost use Rattle.rank_core.specs.Targets as targets;
-ghost use Rattle.rank_core.specs.Targets.{IsTarget};
+ghost use Rattle.rank_core.specs.Targets.{IsMeasured, IsTarget};
 
 use super::target::{Target, direction_of};
 use imap_extents::pack;
@@ -24,12 +24,14 @@ pub(super) fn look_region(
     values: Option<&Values>,
 ) -> Result<PostList, CallErr>
     requires there { IsTarget target.now }
+    requires measured { IsMeasured target.now }
     ensures { ComesTo (targets.look_region target.now given.now (option_copied values.entry)) result }
 {
     let place = target.place as usize;
     let region = widen(alloc, target.header, place, given, target.known)?;
     check(
         target.header,
+        target.measures,
         place,
         &region,
         target.known,

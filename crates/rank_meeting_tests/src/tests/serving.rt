@@ -17,6 +17,7 @@ use std::alloc::Global;
 use std::process::Abort;
 use std::sync::Wait;
 use std::test::*;
+use var_layout::Measures;
 
 /// Serves two senders, on a file of 96 zeros.
 pub(crate) fn served<R: Wait, T: Told>(
@@ -40,6 +41,7 @@ pub(crate) fn served<R: Wait, T: Told>(
         alloc,
         disk,
         &header,
+        &Measures::of(&header),
         &mut records,
         &HINTS,
         taken,

@@ -7,6 +7,7 @@ use nc_base::{
 };
 use std::alloc::Global;
 use std::test::Fail;
+use var_layout::Measures;
 use vara_extents::{check, widen};
 
 fn one(alloc: Global, number: u64) -> Result<SizeList, Memory> {
@@ -65,11 +66,12 @@ fn causes_of_refusals(rt: HostRuntime) -> Result<(), Fail> {
     ] {
         let header = header_of(alloc, len)?;
         let region = region_of(alloc, start, count, stride)?;
-        match check(&header, 0, &region, 0, Direction::Put) {
+        let measures = Measures::of(&header);
+        match check(&header, &measures, 0, &region, 0, Direction::Put) {
             Ok(()) => assert!(rt; code == Code::Ok),
             Err(refusal) => assert!(rt; refusal == code),
         }
-        assert!(rt; check(&header, 1, &region, 0, Direction::Put) == Err(Code::ENotVar));
+        assert!(rt; check(&header, &measures, 1, &region, 0, Direction::Put) == Err(Code::ENotVar));
     }
     Ok(())
 }

@@ -21,7 +21,7 @@ use std::sync::Wait;
 use std::test::Fail;
 use std::thread::Threads;
 use type_external::size_of;
-use var_layout::{file_end, lay_out};
+use var_layout::{Measures, file_end, lay_out};
 use vara_extents::{check, records_needed};
 
 /// One aggregator, with windows of one int; one rank alone has windows of eight bytes.
@@ -181,7 +181,14 @@ fn byte_count(rt: &impl Abort, header: &Header, post: &Post) -> u64
 fn is_put(rt: &impl Abort, header: &Header, post: &Post)
     ensures { IsPut header.now post.now }
 {
-    let checked = check(header, post.var as usize, &post.region, 0, Direction::Put);
+    let checked = check(
+        header,
+        &Measures::of(header),
+        post.var as usize,
+        &post.region,
+        0,
+        Direction::Put,
+    );
     assert!(rt; checked.is_ok());
     assert!(rt; byte_count(rt, header, post) == post.bytes.len() as u64);
 }
@@ -191,7 +198,14 @@ fn is_get(rt: &impl Abort, header: &Header, len: u64, post: &Post)
     requires { len < 1000 }
     ensures { IsGet header.now len post.now }
 {
-    let checked = check(header, post.var as usize, &post.region, 0, Direction::Get);
+    let checked = check(
+        header,
+        &Measures::of(header),
+        post.var as usize,
+        &post.region,
+        0,
+        Direction::Get,
+    );
     assert!(rt; checked.is_ok());
     let needed = records_needed(header, post.var as usize, &post.region);
     assert!(rt; file_end(header, needed) <= len);
@@ -232,6 +246,7 @@ pub(super) fn put_two<R: Abort + Threads + Wait + Sync>(
         alloc,
         disk,
         header,
+        &Measures::of(header),
         &mut records,
         &job,
         &set.hints,
@@ -258,7 +273,10 @@ pub(super) fn get_two<R: Abort + Threads + Wait + Sync>(
     is_get(rt, header, len, &a);
     is_get(rt, header, len, &b);
     let job = job_of(alloc, batch_of_get(alloc, a)?, batch_of_get(alloc, b)?)?;
-    Ok(get_all(rt, alloc, disk, header, &job, &set.hints, &OpenGate))
+    let measures = Measures::of(header);
+    Ok(get_all(
+        rt, alloc, disk, header, &measures, &job, &set.hints, &OpenGate,
+    ))
 }
 
 /// How the put of a rank alone ends.
@@ -274,7 +292,8 @@ fn put_one<R: Abort>(
     is_put(rt, header, &a);
     is_long(rt, header, disk);
     let batch = batch_of_put(alloc, a)?;
-    Ok(put_solo(alloc, disk, header, 3, &batch, &HINTS))
+    let measures = Measures::of(header);
+    Ok(put_solo(alloc, disk, header, &measures, 3, &batch, &HINTS))
 }
 
 fn zeros(alloc: Global, len: usize) -> Result<MemDisk, Fail> {

@@ -12,7 +12,7 @@ use nc_base::{
 use std::alloc::Global;
 use std::process::Abort;
 use std::test::Fail;
-use var_layout::lay_out;
+use var_layout::{Measures, lay_out};
 use vara_extents::{Extents, check};
 
 fn dimension(alloc: Global, len: u64) -> Dim
@@ -143,10 +143,11 @@ fn assert_extents(
 fn assert_given(rt: &impl Abort, header: &Header, region: &Region, wanted: &[(u64, u64)])
     requires { is_sound header.now ≡ true }
 {
-    let answer = check(header, 0, region, 0, Direction::Put);
+    let measures = Measures::of(header);
+    let answer = check(header, &measures, 0, region, 0, Direction::Put);
     assert!(rt; answer.is_ok());
     let mut wanted = wanted.iter();
-    for extent in Extents::new(header, 0, region) {
+    for extent in Extents::new(header, &measures, 0, region) {
         assert_eq!(rt; wanted.next(), Some(&(extent.at, extent.len)));
     }
     assert_eq!(rt; wanted.next(), None);

@@ -4,6 +4,7 @@ use nc_base::{CallErr, Code, Direction, Form, Given, Header, Memory, Part, PartL
 use std::alloc::Global;
 use std::process::Abort;
 use std::test::Fail;
+use var_layout::Measures;
 use vara_extents::check_parts;
 
 /// Two boxes of one dimension, each with its start and count.
@@ -38,7 +39,15 @@ fn assert_code(
     code: Code,
 ) -> Result<(), Memory> {
     let given = given_of(alloc, boxes)?;
-    match check_parts(alloc, header, 0, &given, 0, direction) {
+    match check_parts(
+        alloc,
+        header,
+        &Measures::of(header),
+        0,
+        &given,
+        0,
+        direction,
+    ) {
         Ok(()) => assert!(rt; code == Code::Ok),
         Err(refusal) => assert!(rt; refusal == CallErr::Code(code)),
     }

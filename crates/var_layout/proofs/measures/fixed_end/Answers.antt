@@ -5,7 +5,7 @@ use Rattle.serial_spec.specs.HeaderGrammar.{header_len}
 use Rattle.serial_spec.specs.Layout.{greatest, end_of_var}
 use Rattle.var_layout.specs.Capped.{capped}
 use Rattle.var_layout.proofs.Capping.{capped_greatest_more}
-use Rattle.var_layout.proofs.end.file_end.Goals as goal
+use Rattle.var_layout.proofs.measures.fixed_end.Goals as goal
 
 pub loop-var-preserved : goal.loop-var-preserved
 loop-var-preserved c =
@@ -14,14 +14,14 @@ loop-var-preserved c =
     let same = ap (λ (vs : List Var). length vs) c.as_slice-var-items.ensures in
     let there = c.var-item.is ∙ ap (λ (vs : List Var). get_or vs c.loop-var.var-index item) c.as_slice-var-items.ensures in
     c.max-end.ensures
-    ∙ capped_greatest_more (λ v. end_of_var header c.args.records v) header.vars c.loop-var.var-index item (header_len header) c.loop-var.end c.end_of_var.result
-    (omega arith) c.loop-var.invariant (c.end_of_var.ensures ∙ ap (λ (v : Var). capped (end_of_var header c.args.records v)) there)
+    ∙ capped_greatest_more (λ v. end_of_var header 0 v) header.vars c.loop-var.var-index item (header_len header) c.loop-var.end c.end_if_fixed.result
+    (omega arith) c.loop-var.invariant (c.end_if_fixed.ensures ∙ ap (λ (v : Var). capped (end_of_var header 0 v)) there)
 
 pub returns : goal.returns
 returns c =
     let header = c.args.header.now in
     let same = ap (λ (vs : List Var). length vs) c.as_slice-var-items.ensures in
-    let whole : c.loop-var.end ≡ capped (max (header_len header) (greatest (map (λ v. end_of_var header c.args.records v) header.vars))) =
-    c.loop-var.invariant ∙ ap (λ (vs : List Var). capped (max (header_len header) (greatest (map (λ v. end_of_var header c.args.records v) vs))))
+    let whole : c.loop-var.end ≡ capped (max (header_len header) (greatest (map (λ v. end_of_var header 0 v) header.vars))) =
+    c.loop-var.invariant ∙ ap (λ (vs : List Var). capped (max (header_len header) (greatest (map (λ v. end_of_var header 0 v) vs))))
     (take_all c.loop-var.var-index header.vars (omega arith)) in
     whole

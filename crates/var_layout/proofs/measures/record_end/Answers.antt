@@ -1,0 +1,27 @@
+use Rattle.std.proofs.Common.{◌≡◌, List, length, get_or, map, max, ap, ◌∙◌, arith}
+use Rattle.std.proofs.lemmas.List.{take_all}
+use Rattle.nc_base.specs.declared.header.Var.{Var}
+use Rattle.serial_spec.specs.Layout.{greatest}
+use Rattle.var_layout.specs.Capped.{capped}
+use Rattle.var_layout.specs.Measures.{first_end, record_end}
+use Rattle.var_layout.proofs.Capping.{capped_greatest_more}
+use Rattle.var_layout.proofs.measures.record_end.Goals as goal
+
+pub loop-var-preserved : goal.loop-var-preserved
+loop-var-preserved c =
+    let header = c.args.header.now in
+    let item = c.var-item.result in
+    let same = ap (λ (vs : List Var). length vs) c.as_slice-var-items.ensures in
+    let there = c.var-item.is ∙ ap (λ (vs : List Var). get_or vs c.loop-var.var-index item) c.as_slice-var-items.ensures in
+    c.max-end.ensures
+    ∙ capped_greatest_more (λ v. first_end header v) header.vars c.loop-var.var-index item 0 c.loop-var.end c.first_end.result
+    (omega arith) c.loop-var.invariant (c.first_end.ensures ∙ ap (λ (v : Var). capped (first_end header v)) there)
+
+pub returns : goal.returns
+returns c =
+    let header = c.args.header.now in
+    let same = ap (λ (vs : List Var). length vs) c.as_slice-var-items.ensures in
+    let whole : c.loop-var.end ≡ capped (max 0 (record_end header)) =
+    c.loop-var.invariant ∙ ap (λ (vs : List Var). capped (max 0 (greatest (map (λ v. first_end header v) vs))))
+    (take_all c.loop-var.var-index header.vars (omega arith)) in
+    omega arith

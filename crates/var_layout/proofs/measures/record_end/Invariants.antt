@@ -1,0 +1,8 @@
+use Rattle.std.proofs.Common.{◌≡◌, map, take, max}
+use Rattle.serial_spec.specs.Layout.{greatest}
+use Rattle.var_layout.specs.Capped.{capped}
+use Rattle.var_layout.specs.Measures.{first_end}
+use Rattle.var_layout.proofs.measures.record_end.Given as goal
+
+abbrev pub invariant-loop-var : goal.invariant-loop-var
+invariant-loop-var l = l.end ≡ capped (max 0 (greatest (map (λ v. first_end l.header v) (take l.var-index l.header.vars))))
