@@ -1,6 +1,6 @@
 -- The index of a header's names, and what an addition makes of it.
-use Rattle.std.proofs.Common.{◌≡◌, ◌∙◌, ℕ, zero, suc, ◌+◌, ◌<◌, ◌≤◌, List, [], ◌∷◌, ◌++◌, length, get_or, map, position, take, set, Bool, true, false, not, cond, nat_lt, ◌==◌, ◌&&◌, ◌||◌, Option, Some, None, is_some, slice_get, bytes_eq, refl, sym, ap, subst, arith}
-use Rattle.std.specs.Prelude.{nat_eq, find}
+use Rattle.std.proofs.Common.{◌≡◌, ◌∙◌, ℕ, zero, suc, ◌+◌, ◌<◌, ◌≤◌, List, [], ◌∷◌, ◌++◌, length, get_or, map, position, set, Bool, true, false, not, cond, nat_lt, ◌==◌, ◌&&◌, ◌||◌, Option, Some, None, is_some, slice_get, bytes_eq, refl, sym, ap, subst, arith}
+use Rattle.std.specs.Prelude.{nat_eq}
 use Rattle.std.specs.Borrow.{Bor}
 use Rattle.std.specs.BTreeMap as tree
 use Rattle.std.specs.BTreeMap.{BTreeMap}
@@ -28,7 +28,7 @@ use Rattle.nc_base.specs.declared.header.Attr.{Attr}
 use Rattle.nc_base.specs.declared.header.Dim.{Dim}
 use Rattle.nc_base.specs.declared.header.Header.{Header}
 use Rattle.nc_base.specs.declared.header.Var.{Var}
-use Rattle.serial_spec.specs.RankMachine.{find_dim, find_var}
+use Rattle.serial_spec.specs.RankMachine.{find_var}
 use Rattle.serial_spec.specs.Redefinition.{attrs_of_var, has_attr, with_attr}
 use Rattle.redef_mover.specs.Indexed.{place_of, has_name, is_same, attrs_among, attrs_at, given, IsIndexOf}
 use Rattle.redef_mover.specs.declared.name_index.NameIndex.{NameIndex}
