@@ -6,6 +6,7 @@ use Rattle.std.specs.List.{range_with_len}
 use Rattle.std.proofs.Math.ListN.{drop_of_length-le}
 use Rattle.std.proofs.lemmas.List.{drop_more, length-replicate, map-append, take-replicate}
 use Rattle.overlay_laws.proofs.SaidLaws.{same_file}
+use Rattle.list_laws.proofs.Ranges.{range_append}
 use Rattle.nc_base.specs.declared.step.DiskCall.{DiskCall}
 use Rattle.nc_base.specs.declared.step.DiskCall.TheVariants.{Store}
 use Rattle.serial_spec.specs.DeviceCalls.{Slab, stores}
@@ -20,7 +21,7 @@ use Rattle.redef_mover.specs.declared.slabs.Slabs.{Slabs}
 use Rattle.redef_mover.specs.Moves.{all_cleared, behind, cleared, further, gap_calls, gaps_before, listed, slab_of, slabs_at, AreClearable, AreSpaced}
 use Rattle.redef_mover.proofs.MovesLaws.{map_id, no_further}
 use Rattle.redef_mover.proofs.SlabLaws.{below_or}
-use Rattle.redef_mover.proofs.WindowLaws.{count_is, range_joined, windows_of}
+use Rattle.redef_mover.proofs.WindowLaws.{count_is, windows_of}
 
 -- ---- one gap
 
@@ -93,7 +94,7 @@ stores_more z x len j place n bytes e k long =
     (λ t. stores_before z x len j ++ Store (e t) ((long ∙ k) t) ∷ [])
     ∙ ap (λ (i : ℕ). stores_before z x len j ++ Store (x + i * z) (min z (len - i * z)) ∷ []) first
     ∙ sym (map-append (λ i. Store (x + i * z) (min z (len - i * z))) (range_with_len 0 j) (range_with_len (0 + j) 1))
-    ∙ ap (λ js. map (λ i. Store (x + i * z) (min z (len - i * z))) js) (range_joined 0 j 1 (j + 1) refl)
+    ∙ ap (λ js. map (λ i. Store (x + i * z) (min z (len - i * z))) js) (sym (range_append 0 j 1))
 
 pub all_stored : (z x len j count : ℕ) → 0 < z → j ≡ count → count ≡ windows_of z len → stores_before z x len j ≡ stores z x len
 all_stored z x len j count h e k = ap (λ (i : ℕ). stores_before z x len i) (e ∙ k ∙ count_is z len h)

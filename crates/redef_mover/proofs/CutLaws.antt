@@ -27,10 +27,6 @@ pub on_err : {T E P : Type 0} (r : Result T E) → P → OnErr r P
 on_err (Ok x) p = tt
 on_err (Err e) p = p
 
-pub err_as : {T E P Q : Type 0} (r : Result T E) → (P → Q) → OnErr r P → OnErr r Q
-err_as (Ok x) f p = tt
-err_as (Err e) f p = f p
-
 -- ---- bytes that neither moves nor zeros change
 
 -- the byte is before the slabs and gaps, or past them, or in a slab that has its place

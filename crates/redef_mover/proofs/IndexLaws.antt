@@ -1,17 +1,16 @@
 -- The index of a header's names, and what an addition makes of it.
-use Rattle.std.proofs.Common.{◌≡◌, ◌∙◌, ℕ, zero, suc, ◌+◌, ◌<◌, ◌≤◌, List, [], ◌∷◌, ◌++◌, length, get_or, map, position, take, set, Bool, true, false, not, cond, nat_lt, ◌==◌, ◌&&◌, ◌||◌, Option, Some, None, is_some, slice_get, bytes_eq, refl, sym, ap, subst, arith}
-use Rattle.std.specs.Prelude.{nat_eq, find}
+use Rattle.std.proofs.Common.{◌≡◌, ◌∙◌, ℕ, zero, suc, ◌+◌, ◌<◌, ◌≤◌, List, [], ◌∷◌, ◌++◌, length, get_or, map, position, set, Bool, true, false, not, cond, nat_lt, ◌==◌, ◌&&◌, ◌||◌, Option, Some, None, is_some, slice_get, bytes_eq, refl, sym, ap, subst, arith}
+use Rattle.std.specs.Prelude.{nat_eq}
 use Rattle.std.specs.Borrow.{Bor}
 use Rattle.std.specs.BTreeMap as tree
 use Rattle.std.specs.BTreeMap.{BTreeMap}
 use Rattle.std.specs.BTreeSet as sorted
 use Rattle.std.specs.BTreeSet.{BTreeSet}
-use Rattle.std.specs.Cmp.{tied_then}
+use Rattle.std.specs.Cmp.{tied_then, unsigned_tied}
 use Rattle.std.specs.Cmp.Lexicographic.{slice_cmp}
 use Rattle.std.specs.List.{list_any, position_from, position_or_len, prefix_len}
 use Rattle.std.specs.Option.{option_or, option_cmp}
 use Rattle.std.specs.Ordering.{is_eq, nat_cmp, ordering_then}
-use Rattle.std.specs.declared.cmp.Ordering.TheVariants.{Less, Equal, Greater}
 use Rattle.std.proofs.lemmas.Bool.{ltb-false}
 use Rattle.std.proofs.lemmas.Bool.Decides.{nat_tests, same_from_decides, Decides-eqb, Decides-like}
 use Rattle.std.proofs.lemmas.Iterator.Adapters.{position_from-zero}
@@ -28,7 +27,7 @@ use Rattle.nc_base.specs.declared.header.Attr.{Attr}
 use Rattle.nc_base.specs.declared.header.Dim.{Dim}
 use Rattle.nc_base.specs.declared.header.Header.{Header}
 use Rattle.nc_base.specs.declared.header.Var.{Var}
-use Rattle.serial_spec.specs.RankMachine.{find_dim, find_var}
+use Rattle.serial_spec.specs.RankMachine.{find_var}
 use Rattle.serial_spec.specs.Redefinition.{attrs_of_var, has_attr, with_attr}
 use Rattle.redef_mover.specs.Indexed.{place_of, has_name, is_same, attrs_among, attrs_at, given, IsIndexOf}
 use Rattle.redef_mover.specs.declared.name_index.NameIndex.{NameIndex}
@@ -92,20 +91,11 @@ places_next name_of xs ys x k old new more long known put q =
 
 -- ---- names of attributes
 
-tied_numbers : (x y : ℕ) → is_eq (nat_cmp x y) ≡ nat_eq x y
-tied_numbers x y = by_test (nat_lt x y) refl (x == y) refl
-  where
-    by_test : (s : Bool) → nat_lt x y ≡ s → (t : Bool) → (x == y) ≡ t → is_eq (cond s Less (cond t Equal Greater)) ≡ t
-    by_test true e true f = absurd (grind (arith, nat_tests))
-    by_test true e false f = refl
-    by_test false e true f = refl
-    by_test false e false f = refl
-
 tied_owners : (a b : Option ℕ) → is_eq (option_cmp nat_cmp a b) ≡ is_same a b
 tied_owners None None = refl
 tied_owners None (Some y) = refl
 tied_owners (Some x) None = refl
-tied_owners (Some x) (Some y) = tied_numbers x y
+tied_owners (Some x) (Some y) = unsigned_tied x y
 
 or_last : (a : Bool) → a ≡ (a || false)
 or_last true = refl

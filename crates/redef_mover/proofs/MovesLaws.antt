@@ -7,6 +7,7 @@ use Rattle.std.proofs.lemmas.List.{append-nil, map-append, reverse-append, take_
 use Rattle.std.proofs.lemmas.List.Elements.{filter-append}
 use Rattle.overlay_laws.proofs.Members.{entry_in, in_map}
 use Rattle.list_laws.proofs.Maps.{map_map}
+use Rattle.list_laws.proofs.Ranges.{range_append}
 use Rattle.nc_base.specs.declared.step.DiskCall.{DiskCall}
 use Rattle.nc_outside.specs.Told.{after, with_end}
 use Rattle.nc_outside.proofs.ToldLaws.{after-after, after-same, with_end-with_end, with_end-nil}
@@ -17,7 +18,6 @@ use Rattle.redef_laws.specs.Rising.{changes}
 use Rattle.redef_mover.specs.declared.slabs.Shift.{Shift}
 use Rattle.redef_mover.specs.declared.slabs.Slabs.{Slabs}
 use Rattle.redef_mover.specs.Moves.{all_calls, all_moved, further, listed, slab_calls, slab_moved, slab_of, slabs_at}
-use Rattle.redef_mover.proofs.WindowLaws.{range_joined}
 
 -- ---- two lists of slabs
 
@@ -95,7 +95,7 @@ record_first slabs r n a b e f g =
     let f_of = slabs_at slabs.step slabs.records.items in
     let fixed = map slab_of slabs.fixed.items in
     ap (λ (m : ℕ). below slabs m) e
-    ∙ ap (λ rs. reverse (fixed ++ flat_map f_of rs)) (sym (range_joined 0 r 1 (r + 1) refl))
+    ∙ ap (λ rs. reverse (fixed ++ flat_map f_of rs)) (range_append 0 r 1)
     ∙ ap (λ ss. reverse (fixed ++ ss)) (flat_map-append f_of (range_with_len 0 r) (range_with_len (0 + r) 1))
     ∙ ap (λ ss. reverse ss) (sym (append_assoc fixed (flat_map f_of (range_with_len 0 r)) (flat_map f_of (range_with_len (0 + r) 1))))
     ∙ reverse-append (fixed ++ flat_map f_of (range_with_len 0 r)) (flat_map f_of (range_with_len (0 + r) 1))

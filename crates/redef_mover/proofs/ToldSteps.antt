@@ -7,10 +7,6 @@ use Rattle.nc_outside.proofs.ToldLaws.{with_end-with_end}
 
 -- ---- what holds of bytes that are told
 
-pub for_told : {A : Type 0} {P Q : A → Type 0} (held : Option A) → ((x : A) → P x → Q x) → IfSome held P → IfSome held Q
-for_told None f h = tt
-for_told (Some x) f h = f x h
-
 pub when_ok : {T E A : Type 0} (r : Result T E) (x a b : A) → x ≡ (if is_ok r then a else b) → OnOk r (x ≡ a)
 when_ok (Ok y) x a b h = h
 when_ok (Err e) x a b h = tt

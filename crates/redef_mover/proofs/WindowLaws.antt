@@ -7,6 +7,7 @@ use Rattle.std.proofs.lemmas.Grind.{div_ceil_times, flat_map-append}
 use Rattle.std.proofs.lemmas.List.{append-nil}
 use Rattle.std.proofs.lemmas.Nat.{div-add-mod', div-mul-add, mod_below}
 use Rattle.overlay_laws.proofs.OriginLaws.{slice_step}
+use Rattle.list_laws.proofs.Ranges.{range_append}
 use Rattle.nc_base.specs.declared.step.DiskCall.{DiskCall}
 use Rattle.serial_spec.specs.DeviceCalls.{Slab, move_window, window_count}
 use Rattle.serial_spec.specs.File.{at, read, written}
@@ -99,24 +100,13 @@ whole_moved z j s file h =
 abbrev pub calls_before : ℕ → Slab → ℕ → List DiskCall
 calls_before z s j = flat_map (move_window z s) (range_with_len 0 j)
 
-pub range_joined : (a m n k : ℕ) → k ≡ m + n → range_with_len a m ++ range_with_len (a + m) n ≡ range_with_len a k
-range_joined a zero n k e =
-    let first : a + 0 ≡ a = omega arith in
-    let all : n ≡ k = omega arith in
-    λ t. range_with_len (first t) (all t)
-range_joined a (suc m) n zero e = absurd (omega arith)
-range_joined a (suc m) n (suc k) e =
-    let next : a + suc m ≡ a + 1 + m = omega arith in
-    ap (λ (b : ℕ). a ∷ range_with_len (a + 1) m ++ range_with_len b n) next
-    ∙ ap (λ ns. a ∷ ns) (range_joined (a + 1) m n k (omega arith))
-
 pub window_called : (z j : ℕ) (s : Slab) → calls_before z s j ++ window_calls (window z s j) ≡ calls_before z s (j + 1)
 window_called z j s =
     let first : j ≡ 0 + j = omega arith in
     ap (λ calls. calls_before z s j ++ calls) (sym (append-nil (move_window z s j)))
     ∙ ap (λ (i : ℕ). calls_before z s j ++ flat_map (move_window z s) (range_with_len i 1)) first
     ∙ sym (flat_map-append (move_window z s) (range_with_len 0 j) (range_with_len (0 + j) 1))
-    ∙ ap (λ js. flat_map (move_window z s) js) (range_joined 0 j 1 (j + 1) refl)
+    ∙ ap (λ js. flat_map (move_window z s) js) (sym (range_append 0 j 1))
 
 pub all_called : (z j count : ℕ) (s : Slab) → 0 < z → j ≡ count → count ≡ windows_of z s.len → calls_before z s j ≡ slab_calls z s
 all_called z j count s h e k = ap (λ (i : ℕ). calls_before z s i) (e ∙ k ∙ count_is z s.len h)

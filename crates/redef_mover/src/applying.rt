@@ -18,7 +18,7 @@ use std::alloc::Global;
 /// Refused is the first extra, from the front, that can't be added; then a variable or a header that is too large, and, in the
 /// order of placing, a begin out of range. This order and the begins are this project's own.
 ///
-/// Each name in an extra is looked for in a list of the header, and the fixed variables are sorted once.
+/// Each name in an extra is found by an index of the header's names, and the fixed variables are sorted once.
 pub fn apply(alloc: Global, header: &Header, extra: &ExtraList) -> Result<Header, RedefErr>
     requires redefinable { is_redefinable header.now ≡ true }
     requires lawful { list_all is_lawful_extra extra.now ≡ true }

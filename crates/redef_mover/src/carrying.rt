@@ -8,7 +8,7 @@ ghost use Rattle.serial_spec.specs.DeviceCalls.{grow_to};
 ghost use Rattle.serial_spec.specs.File.{longer};
 ghost use Rattle.serial_spec.specs.Torn.{IsLengthened};
 
-use crate::clearing::clear_gaps;
+use crate::clearing::{Zeros, clear_gaps};
 use crate::moving::move_all;
 use crate::slabs::Slabs;
 use cdf_header::encode;
@@ -46,7 +46,11 @@ pub(crate) fn carry<D: Disk>(
     grow_to(alloc, disk, end)?;
     move_all(alloc, disk, &slabs, size, &mut buf)?;
     buf.fill(0);
-    clear_gaps(alloc, disk, &slabs, head.len() as u64, end, size, &buf)?;
+    let zeros = Zeros {
+        bytes: &buf,
+        window: size,
+    };
+    clear_gaps(alloc, disk, &slabs, head.len() as u64, end, zeros)?;
     disk.write_at(alloc, 0, head.as_slice())
 }
 

@@ -1,6 +1,6 @@
 -- The lists stand for all slabs, which rise below the new end.
 use Rattle.std.proofs.Common.{◌≡◌, ◌∙◌, ◌-◌, ◌≤◌, refl, subst, ap, length, List, ℕ, arith}
-use Rattle.std.proofs.lemmas.Result.{on_ok_weaker}
+use Rattle.std.proofs.lemmas.Result.{on_err_weaker, on_ok_weaker}
 use Rattle.serial_spec.specs.DeviceCalls.{Slab}
 use Rattle.serial_spec.specs.HeaderGrammar.{header_len}
 use Rattle.overlay_laws.specs.Entries.{In}
@@ -8,7 +8,7 @@ use Rattle.redef_laws.specs.Rising.{gaps, rising}
 use Rattle.redef_laws.specs.Shifted.{new_end}
 use Rattle.redef_mover.specs.Moves.{listed}
 use Rattle.redef_mover.proofs.CallsLaws.{carry_called}
-use Rattle.redef_mover.proofs.CutLaws.{err_as, not_begun, on_err, on_way_cleared, on_way_end, on_way_grown, on_way_headed, on_way_moved, room_grown, room_kept}
+use Rattle.redef_mover.proofs.CutLaws.{not_begun, on_err, on_way_cleared, on_way_end, on_way_grown, on_way_headed, on_way_moved, room_grown, room_kept}
 use Rattle.redef_mover.specs.Kept.{IsBeside, IsUnmoved}
 use Rattle.redef_mover.proofs.CarryLaws.{carriable_spaced}
 use Rattle.redef_mover.proofs.ListedLaws.{risen_up}
@@ -99,7 +99,7 @@ returns-clause-refused g c =
     (room_kept (IsUnmoved (listed c.in_ok-slabs.slabs)) (g.D.Disk.held c.grow_to.new.disk) (g.D.Disk.held c.move_all.new.disk) c.end_of-end.result
     (room_grown (g.D.Disk.held c.args.disk.now) (g.D.Disk.held c.grow_to.new.disk) c.end_of-end.result c.in_ok-grow_to.ensures.bytes) c.in_ok-move_all.ensures.kept)
     c.in_ok-clear_gaps.ensures.kept in
-    err_as c.write_at.result
+    on_err_weaker c.write_at.result
     (on_way_headed c.args.old.now c.args.new.now (g.D.Disk.held c.args.disk.now) (g.D.Disk.held c.clear_gaps.new.disk) (g.D.Disk.held c.write_at.new.self) c.as_slice.result.now
     (0 - g.D.Disk.from c.clear_gaps.new.disk) c.end_of-end.result c.requires.carriable (c.as_slice.ensures ∙ c.in_ok-head.ensures) place room fits cleared)
     c.write_at.ensures.refused

@@ -1,25 +1,25 @@
 -- Each window goes on where the one before it ended.
-use Rattle.std.proofs.Common.{◌≡◌, ◌∙◌, ◌+◌, ◌-◌, ◌*◌, ◌<◌, ◌≤◌, min, refl, ap, length, [], ◌∷◌, arith}
+use Rattle.std.proofs.Common.{◌≡◌, ◌∙◌, ◌+◌, ◌-◌, ◌*◌, ◌<◌, ◌≤◌, min, refl, sym, ap, subst, ℕ, length, [], ◌∷◌, arith}
 use Rattle.nc_base.specs.declared.step.DiskCall.TheVariants.{Store}
-use Rattle.nc_outside.specs.Told.{with_end}
+use Rattle.nc_outside.specs.Told.{after, with_end}
 use Rattle.serial_spec.specs.File.{written}
 use Rattle.redef_mover.specs.Kept.{IsOutside}
 use Rattle.redef_mover.specs.Moves.{cleared}
 use Rattle.redef_mover.proofs.KeptLaws.{first_kept, kept_long, kept_more, kept_written, outside_part}
 use Rattle.redef_mover.proofs.ClearLaws.{all_stored, stores_before, stores_more, window_cleared, window_zeros, zeros_count}
 use Rattle.redef_mover.proofs.ToldSteps.{calls_more, told_more}
-use Rattle.redef_mover.proofs.WindowLaws.{window_inside}
+use Rattle.redef_mover.proofs.WindowLaws.{window_inside, windows_reach}
 use Rattle.redef_mover.proofs.clearing.clear.Goals as goal
 
 pub loop-window-preserved : goal.loop-window-preserved
 loop-window-preserved g c =
     let x = c.args.at in
-    let z = c.args.size in
+    let z = c.args.zeros.window in
     let len = c.args.len in
     let j = c.loop-window.window in
     let inside : j * z < len = window_inside z len j c.div_ceil-window-end.result c.requires.some c.div_ceil-window-end.ensures c.loop-window-test.true in
-    let room : c.min.result ≤ length c.args.zeros.now = (let some = c.min.ensures in let most = c.requires.room in omega arith) in
-    let zeros = window_zeros c.args.zeros.now c.first_of-bytes.result.now c.min.result c.requires.zeros room c.first_of-bytes.ensures in
+    let room : c.min.result ≤ length c.args.zeros.bytes.now = (let some = c.min.ensures in let most = c.requires.room in omega arith) in
+    let zeros = window_zeros c.args.zeros.bytes.now c.first_of-bytes.result.now c.min.result c.requires.zeros room c.first_of-bytes.ensures in
     let later = c.in_ok-write_at.ensures.cause.later in
     let before = c.loop-window.invariant.faults in
     let end = c.requires.inside in
@@ -40,21 +40,33 @@ loop-window-preserved g c =
       faults = omega arith;
     }
 
+pub returns-clause-bytes : goal.returns-clause-bytes
+returns-clause-bytes g c =
+    let z = c.args.zeros.window in
+    let len = c.args.len in
+    let count = c.div_ceil-window-end.result in
+    let j = c.loop-window.window in
+    let reach = windows_reach z len count c.requires.some c.div_ceil-window-end.ensures in
+    let same : j ≡ count = omega arith in
+    let far : len ≤ j * z = subst (λ (n : ℕ). len ≤ n * z) (sym same) reach in
+    let whole : min len (j * z) ≡ len = omega (arith, far) in
+    c.loop-window.invariant.bytes ∙ ap (λ (n : ℕ). after (λ file. cleared file (c.args.at, n)) (g.D.Disk.held c.args.disk.now)) whole
+
 pub returns-clause-calls : goal.returns-clause-calls
 returns-clause-calls g c =
     c.loop-window.invariant.calls
     ∙ ap (λ calls. with_end (g.D.Disk.calls c.args.disk.now) calls)
-    (all_stored c.args.size c.args.at c.args.len c.loop-window.window c.div_ceil-window-end.result c.requires.some (omega arith) c.div_ceil-window-end.ensures)
+    (all_stored c.args.zeros.window c.args.at c.args.len c.loop-window.window c.div_ceil-window-end.result c.requires.some (omega arith) c.div_ceil-window-end.ensures)
 
 pub returns-in_err-write_at-clause-kept : goal.returns-in_err-write_at-clause-kept
 returns-in_err-write_at-clause-kept g c =
     let x = c.args.at in
-    let z = c.args.size in
+    let z = c.args.zeros.window in
     let len = c.args.len in
     let j = c.loop-window.window in
     let inside : j * z < len = window_inside z len j c.div_ceil-window-end.result c.requires.some c.div_ceil-window-end.ensures c.loop-window-test.true in
-    let room : c.min.result ≤ length c.args.zeros.now = (let some = c.min.ensures in let most = c.requires.room in omega arith) in
-    let zeros = window_zeros c.args.zeros.now c.first_of-bytes.result.now c.min.result c.requires.zeros room c.first_of-bytes.ensures in
+    let room : c.min.result ≤ length c.args.zeros.bytes.now = (let some = c.min.ensures in let most = c.requires.room in omega arith) in
+    let zeros = window_zeros c.args.zeros.bytes.now c.first_of-bytes.result.now c.min.result c.requires.zeros room c.first_of-bytes.ensures in
     let end = c.requires.inside in
     let some = c.min.ensures in
     let zero = c.loop-window.invariant.from in
@@ -70,5 +82,5 @@ returns-in_err-write_at-clause-kept g c =
 
 pub returns-clause-kept : goal.returns-clause-kept
 returns-clause-kept g c =
-    first_kept (g.D.Disk.held c.args.disk.now) (g.D.Disk.held c.loop-window.disk) c.args.at (min c.args.len (c.loop-window.window * c.args.size)) c.args.len (g.D.Disk.len c.args.disk.now)
+    first_kept (g.D.Disk.held c.args.disk.now) (g.D.Disk.held c.loop-window.disk) c.args.at (min c.args.len (c.loop-window.window * c.args.zeros.window)) c.args.len (g.D.Disk.len c.args.disk.now)
     c.size-length.ensures.told (omega arith) c.requires.inside c.loop-window.invariant.bytes

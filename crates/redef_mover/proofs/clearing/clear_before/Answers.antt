@@ -19,7 +19,7 @@ slab_at a b ss k = further a b (slab_of (get_or ss k none))
 
 pub overflow_add-place : goal.overflow_add-place
 overflow_add-place g c =
-    let first = first_clearable (g.D.Disk.len c.args.disk.now) c.args.size (length c.args.zeros.now) c.loop-slab.at
+    let first = first_clearable (g.D.Disk.len c.args.disk.now) c.args.zeros.window (length c.args.zeros.bytes.now) c.loop-slab.at
     (slab_at c.args.offset.old c.args.offset.new c.args.slabs.now c.loop-slab.slab-index) (left c.args.offset.old c.args.offset.new (drop (c.loop-slab.slab-index + 1) c.args.slabs.now))
     (left c.args.offset.old c.args.offset.new (drop c.loop-slab.slab-index c.args.slabs.now))
     (slabs_left c.args.offset.old c.args.offset.new c.args.slabs.now c.loop-slab.slab-index none c.loop-slab-test.true) c.loop-slab.invariant.clearable in
@@ -28,14 +28,14 @@ overflow_add-place g c =
 
 pub overflow_sub-place : goal.overflow_sub-place
 overflow_sub-place g c =
-    (first_clearable (g.D.Disk.len c.args.disk.now) c.args.size (length c.args.zeros.now) c.loop-slab.at
+    (first_clearable (g.D.Disk.len c.args.disk.now) c.args.zeros.window (length c.args.zeros.bytes.now) c.loop-slab.at
     (slab_at c.args.offset.old c.args.offset.new c.args.slabs.now c.loop-slab.slab-index) (left c.args.offset.old c.args.offset.new (drop (c.loop-slab.slab-index + 1) c.args.slabs.now))
     (left c.args.offset.old c.args.offset.new (drop c.loop-slab.slab-index c.args.slabs.now))
     (slabs_left c.args.offset.old c.args.offset.new c.args.slabs.now c.loop-slab.slab-index none c.loop-slab-test.true) c.loop-slab.invariant.clearable).low
 
 pub clear-requires-clause-inside : goal.clear-requires-clause-inside
 clear-requires-clause-inside g c κs within =
-    let first = first_clearable (g.D.Disk.len c.args.disk.now) c.args.size (length c.args.zeros.now) c.loop-slab.at
+    let first = first_clearable (g.D.Disk.len c.args.disk.now) c.args.zeros.window (length c.args.zeros.bytes.now) c.loop-slab.at
     (slab_at c.args.offset.old c.args.offset.new c.args.slabs.now c.loop-slab.slab-index) (left c.args.offset.old c.args.offset.new (drop (c.loop-slab.slab-index + 1) c.args.slabs.now))
     (left c.args.offset.old c.args.offset.new (drop c.loop-slab.slab-index c.args.slabs.now))
     (slabs_left c.args.offset.old c.args.offset.new c.args.slabs.now c.loop-slab.slab-index none c.loop-slab-test.true) c.loop-slab.invariant.clearable in
@@ -46,14 +46,14 @@ clear-requires-clause-inside g c κs within =
 
 pub clear-requires-clause-room : goal.clear-requires-clause-room
 clear-requires-clause-room g c κs within =
-    (first_clearable (g.D.Disk.len c.args.disk.now) c.args.size (length c.args.zeros.now) c.loop-slab.at
+    (first_clearable (g.D.Disk.len c.args.disk.now) c.args.zeros.window (length c.args.zeros.bytes.now) c.loop-slab.at
     (slab_at c.args.offset.old c.args.offset.new c.args.slabs.now c.loop-slab.slab-index) (left c.args.offset.old c.args.offset.new (drop (c.loop-slab.slab-index + 1) c.args.slabs.now))
     (left c.args.offset.old c.args.offset.new (drop c.loop-slab.slab-index c.args.slabs.now))
     (slabs_left c.args.offset.old c.args.offset.new c.args.slabs.now c.loop-slab.slab-index none c.loop-slab-test.true) c.loop-slab.invariant.clearable).fits
 
 pub overflow_add-at : goal.overflow_add-at
 overflow_add-at g c =
-    let first = first_clearable (g.D.Disk.len c.args.disk.now) c.args.size (length c.args.zeros.now) c.loop-slab.at
+    let first = first_clearable (g.D.Disk.len c.args.disk.now) c.args.zeros.window (length c.args.zeros.bytes.now) c.loop-slab.at
     (slab_at c.args.offset.old c.args.offset.new c.args.slabs.now c.loop-slab.slab-index) (left c.args.offset.old c.args.offset.new (drop (c.loop-slab.slab-index + 1) c.args.slabs.now))
     (left c.args.offset.old c.args.offset.new (drop c.loop-slab.slab-index c.args.slabs.now))
     (slabs_left c.args.offset.old c.args.offset.new c.args.slabs.now c.loop-slab.slab-index none c.loop-slab-test.true) c.loop-slab.invariant.clearable in
@@ -83,7 +83,7 @@ loop-slab-preserved g c =
     let s : Slab = slab_at a b ss i in
     let others : List Slab = left a b (drop (i + 1) ss) in
     let split = slabs_left a b ss i none c.loop-slab-test.true in
-    let first = first_clearable (g.D.Disk.len c.args.disk.now) c.args.size (length c.args.zeros.now) at s others (left a b (drop i ss)) split c.loop-slab.invariant.clearable in
+    let first = first_clearable (g.D.Disk.len c.args.disk.now) c.args.zeros.window (length c.args.zeros.bytes.now) at s others (left a b (drop i ss)) split c.loop-slab.invariant.clearable in
     let gaps = ap (λ xs. gaps_before at xs) split in
     let later = c.in_ok-clear.ensures.cause.later in
     let before = c.loop-slab.invariant.faults in
@@ -95,8 +95,8 @@ loop-slab-preserved g c =
       bytes = left_cleared (after (λ file. all_cleared file (gaps_before c.args.at (left a b ss))) (g.D.Disk.held c.args.disk.now))
           (g.D.Disk.held c.loop-slab.disk) (g.D.Disk.held c.clear.new.disk) (at, s.to - at) (gaps_before (s.to + s.len) others) (gaps_before at (left a b (drop i ss)))
           gaps c.loop-slab.invariant.bytes c.in_ok-clear.ensures.bytes;
-      calls = left_stored (with_end (g.D.Disk.calls c.args.disk.now) (gap_calls c.args.size (gaps_before c.args.at (left a b ss))))
-          (g.D.Disk.calls c.loop-slab.disk) (g.D.Disk.calls c.clear.new.disk) c.args.size (at, s.to - at) (gaps_before (s.to + s.len) others) (gaps_before at (left a b (drop i ss)))
+      calls = left_stored (with_end (g.D.Disk.calls c.args.disk.now) (gap_calls c.args.zeros.window (gaps_before c.args.at (left a b ss))))
+          (g.D.Disk.calls c.loop-slab.disk) (g.D.Disk.calls c.clear.new.disk) c.args.zeros.window (at, s.to - at) (gaps_before (s.to + s.len) others) (gaps_before at (left a b (drop i ss)))
           gaps c.loop-slab.invariant.calls c.in_ok-clear.ensures.calls;
       others = λ x h. beside_rest (at, s.to - at) (gaps_before (s.to + s.len) others) (gaps_before at (left a b (drop i ss))) x gaps (c.loop-slab.invariant.others x h);
       kept = kept_more (IsOutside at (s.to - at)) (IsBeside (gaps_before c.args.at (left a b ss))) (g.D.Disk.held c.args.disk.now) (g.D.Disk.held c.loop-slab.disk) (g.D.Disk.held c.clear.new.disk)
@@ -122,8 +122,8 @@ returns-clause-bytes g c =
 pub returns-clause-calls : goal.returns-clause-calls
 returns-clause-calls g c =
     let all : length c.args.slabs.now ≤ c.loop-slab.slab-index = omega arith in
-    none_unstored (with_end (g.D.Disk.calls c.args.disk.now) (gap_calls c.args.size (gaps_before c.args.at (left c.args.offset.old c.args.offset.new c.args.slabs.now))))
-    (g.D.Disk.calls c.loop-slab.disk) c.args.size (gaps_before c.loop-slab.at (left c.args.offset.old c.args.offset.new (drop c.loop-slab.slab-index c.args.slabs.now)))
+    none_unstored (with_end (g.D.Disk.calls c.args.disk.now) (gap_calls c.args.zeros.window (gaps_before c.args.at (left c.args.offset.old c.args.offset.new c.args.slabs.now))))
+    (g.D.Disk.calls c.loop-slab.disk) c.args.zeros.window (gaps_before c.loop-slab.at (left c.args.offset.old c.args.offset.new (drop c.loop-slab.slab-index c.args.slabs.now)))
     (ap (λ xs. gaps_before c.loop-slab.at xs) (none_after c.args.offset.old c.args.offset.new c.args.slabs.now c.loop-slab.slab-index all)) c.loop-slab.invariant.calls
 
 pub returns-in_err-clear-clause-kept : goal.returns-in_err-clear-clause-kept

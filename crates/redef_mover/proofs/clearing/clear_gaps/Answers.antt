@@ -15,7 +15,7 @@ front ss a b = map (further a b) (map slab_of ss)
 
 pub clear_before-requires-clause-clearable : goal.clear_before-requires-clause-clearable
 clear_before-requires-clause-clearable g c κs within =
-    front_clearable (g.D.Disk.len c.args.disk.now) c.args.size (length c.args.zeros.now) c.args.first c.args.end
+    front_clearable (g.D.Disk.len c.args.disk.now) c.args.zeros.window (length c.args.zeros.bytes.now) c.args.first c.args.end
     (front c.deref.result.now 0 0) (above c.args.slabs.now 0) (listed c.args.slabs.now)
     (fixed_first c.args.slabs.now 0 0 refl refl ∙ ap (λ (ss : List Shift). front ss 0 0 ++ above c.args.slabs.now 0) (sym c.deref.ensures.value))
     c.requires.spaced c.requires.inside c.requires.room
@@ -33,8 +33,8 @@ loop-record-init g c =
           (gaps c.in_ok-at.at c.args.end (above c.args.slabs.now 0)) (gaps c.args.first c.args.end (listed c.args.slabs.now))
           (gaps_on c.args.first c.in_ok-at.at c.args.end (front c.deref.result.now 0 0) (above c.args.slabs.now 0) (listed c.args.slabs.now) split c.in_ok-at.ensures.place)
           refl c.in_ok-at.ensures.bytes;
-      calls = all_left_stored (with_end (g.D.Disk.calls c.args.disk.now) (gap_calls c.args.size (gaps c.args.first c.args.end (listed c.args.slabs.now))))
-          (g.D.Disk.calls c.args.disk.now) (g.D.Disk.calls c.clear_before.new.disk) c.args.size (gaps_before c.args.first (front c.deref.result.now 0 0))
+      calls = all_left_stored (with_end (g.D.Disk.calls c.args.disk.now) (gap_calls c.args.zeros.window (gaps c.args.first c.args.end (listed c.args.slabs.now))))
+          (g.D.Disk.calls c.args.disk.now) (g.D.Disk.calls c.clear_before.new.disk) c.args.zeros.window (gaps_before c.args.first (front c.deref.result.now 0 0))
           (gaps c.in_ok-at.at c.args.end (above c.args.slabs.now 0)) (gaps c.args.first c.args.end (listed c.args.slabs.now))
           (gaps_on c.args.first c.in_ok-at.at c.args.end (front c.deref.result.now 0 0) (above c.args.slabs.now 0) (listed c.args.slabs.now) split c.in_ok-at.ensures.place)
           refl c.in_ok-at.ensures.calls;
@@ -54,7 +54,7 @@ pub clear_before-requires-in-loop-record-clause-clearable : goal.clear_before-re
 clear_before-requires-in-loop-record-clause-clearable g c κs within =
     let inside = c.requires.inside in
     let same = c.loop-record.invariant.len in
-    front_clearable (g.D.Disk.len c.loop-record.disk) c.args.size (length c.args.zeros.now) c.loop-record.at c.args.end
+    front_clearable (g.D.Disk.len c.loop-record.disk) c.args.zeros.window (length c.args.zeros.bytes.now) c.loop-record.at c.args.end
     (front c.deref-in-loop-record.result.now c.times-offset.result.old c.times-offset.result.new) (above c.args.slabs.now (c.loop-record.record + 1))
     (above c.args.slabs.now c.loop-record.record)
     (next_record c.args.slabs.now c.loop-record.record c.times-offset.result.old c.times-offset.result.new c.loop-record-test.true c.times-offset.ensures.old c.times-offset.ensures.new
@@ -81,8 +81,8 @@ loop-record-preserved g c =
           (gaps c.in_ok-at-2.at c.args.end next) (gaps c.loop-record.at c.args.end all)
           (gaps_on c.loop-record.at c.in_ok-at-2.at c.args.end (front ss a b) next all split c.in_ok-at-2.ensures.place)
           c.loop-record.invariant.bytes c.in_ok-at-2.ensures.bytes;
-      calls = all_left_stored (with_end (g.D.Disk.calls c.args.disk.now) (gap_calls c.args.size (gaps c.args.first c.args.end (listed c.args.slabs.now))))
-          (g.D.Disk.calls c.loop-record.disk) (g.D.Disk.calls c.clear_before-in-loop-record.new.disk) c.args.size (gaps_before c.loop-record.at (front ss a b))
+      calls = all_left_stored (with_end (g.D.Disk.calls c.args.disk.now) (gap_calls c.args.zeros.window (gaps c.args.first c.args.end (listed c.args.slabs.now))))
+          (g.D.Disk.calls c.loop-record.disk) (g.D.Disk.calls c.clear_before-in-loop-record.new.disk) c.args.zeros.window (gaps_before c.loop-record.at (front ss a b))
           (gaps c.in_ok-at-2.at c.args.end next) (gaps c.loop-record.at c.args.end all)
           (gaps_on c.loop-record.at c.in_ok-at-2.at c.args.end (front ss a b) next all split c.in_ok-at-2.ensures.place)
           c.loop-record.invariant.calls c.in_ok-at-2.ensures.calls;

@@ -14,8 +14,8 @@ invariant-loop-record g l = record {
   spaced : AreSpaced l.at l.end (above l.slabs l.record);
   bytes : after (λ file. all_cleared file (gaps l.at l.end (above l.slabs l.record))) (g.D.Disk.held l.disk)
       ≡ after (λ file. all_cleared file (gaps l.fn.first l.end (listed l.slabs))) (g.D.Disk.held l.fn.disk);
-  calls : with_end (g.D.Disk.calls l.disk) (gap_calls l.size (gaps l.at l.end (above l.slabs l.record)))
-      ≡ with_end (g.D.Disk.calls l.fn.disk) (gap_calls l.size (gaps l.fn.first l.end (listed l.slabs)));
+  calls : with_end (g.D.Disk.calls l.disk) (gap_calls l.zeros.window (gaps l.at l.end (above l.slabs l.record)))
+      ≡ with_end (g.D.Disk.calls l.fn.disk) (gap_calls l.zeros.window (gaps l.fn.first l.end (listed l.slabs)));
   others : (x : ℕ) → IsBeside (gaps l.fn.first l.end (listed l.slabs)) x → IsBeside (gaps l.at l.end (above l.slabs l.record)) x;
   kept : BothTold (IsKept (IsBeside (gaps l.fn.first l.end (listed l.slabs)))) (g.D.Disk.held l.fn.disk) (g.D.Disk.held l.disk);
   faults : g.D.Disk.faults l.fn.disk ≤ g.D.Disk.faults l.disk;

@@ -1,4 +1,4 @@
-use Rattle.std.proofs.Common.{◌∙◌, ◌+◌, ◌<◌, ◌||◌, ◌&&◌, List, ℕ, Option, None, get_or, Some, [], ◌∷◌, ◌++◌, length, take, sym, ap, arith}
+use Rattle.std.proofs.Common.{◌∙◌, ◌+◌, ◌<◌, ◌||◌, ◌&&◌, List, None, get_or, Some, [], ◌∷◌, ◌++◌, length, take, sym, ap, arith}
 use Rattle.std.proofs.lemmas.List.{take_more, take_all, length-take-le}
 use Rattle.nc_base.specs.declared.header.Attr.{Attr}
 use Rattle.nc_base.specs.declared.header.Var.{Var}

@@ -1,6 +1,7 @@
 -- The laws of a redefinition, of the two headers.
 use Rattle.std.proofs.Common.{◌∙◌, ◌<◌, ap, List, arith}
-use Rattle.std.proofs.lemmas.Result.{on_ok_weaker}
+use Rattle.std.proofs.lemmas.Option.{IfSome_then}
+use Rattle.std.proofs.lemmas.Result.{on_err_weaker, on_ok_weaker}
 use Rattle.nc_base.specs.declared.header.Header.{Header}
 use Rattle.nc_base.specs.declared.script.Extra.{Extra}
 use Rattle.nc_outside.specs.Told.{with_end}
@@ -12,8 +13,7 @@ use Rattle.redef_laws.proofs.RisingLaws.{rising_all}
 use Rattle.redef_laws.proofs.WrittenLaws.{written}
 use Rattle.redef_mover.specs.Carried.{carried}
 use Rattle.redef_mover.proofs.AppliedLaws.{has_laws, HasLaws, relocated, relocation_called}
-use Rattle.redef_mover.proofs.CutLaws.{err_as, relocation_keeps, relocation_torn}
-use Rattle.redef_mover.proofs.ToldSteps.{for_told}
+use Rattle.redef_mover.proofs.CutLaws.{relocation_keeps, relocation_torn}
 use Rattle.redef_mover.proofs.relocating.relocate.Goals as goal
 
 laws : (old new : Header) (extras : List Extra) → IsApplied old extras new → HasLaws old new
@@ -35,21 +35,21 @@ pub returns-clause-calls : goal.returns-clause-calls
 returns-clause-calls g c =
     let some : 0 < c.args.size = omega arith in
     on_ok_weaker c.carry.result
-    (λ calls. for_told (g.D.Disk.held c.args.disk.now)
+    (λ calls. IfSome_then (g.D.Disk.held c.args.disk.now) calls
     (λ file told. told ∙ ap (λ more. with_end (g.D.Disk.calls c.args.disk.now) more)
-    (relocation_called c.args.size c.args.old.now c.args.new.now file (laws c.args.old.now c.args.new.now c.requires.applied.0 c.requires.applied.1) some)) calls)
+    (relocation_called c.args.size c.args.old.now c.args.new.now file (laws c.args.old.now c.args.new.now c.requires.applied.0 c.requires.applied.1) some)))
     c.carry.ensures.calls
 
 pub returns-clause-refused : goal.returns-clause-refused
 returns-clause-refused g c =
-    err_as c.carry.result
+    on_err_weaker c.carry.result
     (relocation_torn c.args.old.now c.args.new.now (g.D.Disk.held c.args.disk.now) (g.D.Disk.held c.carry.new.disk)
     (laws c.args.old.now c.args.new.now c.requires.applied.0 c.requires.applied.1))
     c.carry.ensures.refused
 
 pub returns-clause-stays : goal.returns-clause-stays
 returns-clause-stays g c =
-    err_as c.carry.result
+    on_err_weaker c.carry.result
     (relocation_keeps c.args.old.now c.args.new.now (g.D.Disk.held c.args.disk.now) (g.D.Disk.held c.carry.new.disk)
     (laws c.args.old.now c.args.new.now c.requires.applied.0 c.requires.applied.1))
     c.carry.ensures.refused

@@ -1,4 +1,4 @@
-use Rattle.std.proofs.Common.{◌∙◌, List, ℕ, Some, None, [], ◌∷◌, ◌++◌, cond, bytes_eq, refl, sym, ap, subst}
+use Rattle.std.proofs.Common.{◌∙◌, List, ℕ, Some, None, cond, bytes_eq, refl, sym, ap, subst}
 use Rattle.std.specs.Option.{option_or}
 use Rattle.nc_base.specs.declared.header.Var.{Var}
 use Rattle.redef_mover.specs.declared.name_index.NameIndex.{NameIndex}
