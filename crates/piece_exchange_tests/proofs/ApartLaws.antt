@@ -1,8 +1,8 @@
 -- Entries one after another stand by place, and say one value of a byte.
-use Rattle.std.proofs.Common.{◌≡◌, ℕ, zero, suc, ◌+◌, ◌-◌, ◌^◌, ◌<◌, ◌≤◌, ◌⊎◌, inl, inr, refl, sym, ◌∙◌, ap, subst, List, [], ◌∷◌, ◌++◌, length, take, drop, get_or, Some, arith}
+use Rattle.std.proofs.Common.{◌≡◌, ℕ, ◌+◌, ◌-◌, ◌^◌, ◌<◌, ◌≤◌, ◌⊎◌, inl, inr, refl, sym, ◌∙◌, ap, subst, List, [], ◌∷◌, ◌++◌, length, take, drop, get_or, arith}
 use Rattle.std.proofs.lemmas.List.{take_all, take_more}
 use Rattle.std.proofs.lemmas.Option.{same_Some, slice_get_within}
-use Rattle.std.specs.Prelude.{map, slice_get}
+use Rattle.std.specs.Prelude.{map}
 use Rattle.std.specs.List.{enumerate_from}
 use Rattle.list_laws.proofs.Places.{take_at_most}
 use Rattle.nc_base.specs.declared.plan.Batch.{Batch}
@@ -15,8 +15,6 @@ use Rattle.overlay_laws.specs.Walks.{spans, IsCover}
 use Rattle.overlay_laws.proofs.EntryLaws.{says_cases, says_place}
 use Rattle.overlay_laws.proofs.HullLaws.{in_either}
 use Rattle.overlay_laws.proofs.Members.{map_in}
-use Rattle.file_domains.specs.Domains.{LiesIn}
-use Rattle.data_sieving.specs.Serving.{IsCovered}
 use Rattle.piece_exchange.specs.Pieces.{ArePieces}
 use Rattle.piece_exchange.specs.Plan.{IsDomainOf, IsPlan}
 use Rattle.piece_exchange.specs.Turns.{source_of}

@@ -1,5 +1,5 @@
 -- One entry more.
-use Rattle.std.proofs.Common.{◌+◌, refl, arith}
+use Rattle.std.proofs.Common.{refl, arith}
 use Rattle.nc_base.specs.declared.plan.Owned.{Owned}
 use Rattle.piece_exchange_tests.proofs.ApartLaws.{all_apart, before_next, none_before}
 use Rattle.piece_exchange_tests.proofs.tests.checked.are_apart.Goals as goal
