@@ -26,7 +26,7 @@ const NO_MEMORY: &str = "no memory";
 const MANY_TURNS: u64 = 10_000_000;
 
 /// The same where it can't be reached before the helper goes on.
-const FEW_TURNS: u64 = 10_000;
+const FEW_TURNS: u64 = 2_000;
 
 /// What the elements hold before, in each byte.
 const OLD: u8 = 9;
