@@ -1,12 +1,11 @@
 -- The windows of all parts, each read of its own part, are the file's bytes of all entries.
-use Rattle.std.proofs.Common.{◌≡◌, ℕ, ◌+◌, ◌-◌, ◌^◌, ◌<◌, ◌≤◌, ◌⊎◌, inl, inr, refl, sym, ◌∙◌, ap, subst, List, [], ◌∷◌, ◌++◌, length, map, take, Option, Some, None, Result, Ok, Err, arith}
+use Rattle.std.proofs.Common.{◌≡◌, ℕ, ◌+◌, ◌-◌, ◌<◌, ◌≤◌, ◌⊎◌, inl, inr, refl, sym, ◌∙◌, ap, subst, List, [], ◌∷◌, ◌++◌, length, map, take, Option, Some, None, Result, Ok, Err, arith}
 use Rattle.std.proofs.lemmas.List.{append-nil, length-map}
 use Rattle.std.specs.Prelude.{slice_get, zip, IfErr, IfSome, IsErrOf, IsOk, OnOk}
 use Rattle.std.specs.List.{AllZip}
 use Rattle.std.specs.Result.{result_and}
 use Rattle.list_laws.proofs.Places.{entry_below}
 use Rattle.nc_base.specs.declared.plan.Extent.{Extent}
-use Rattle.nc_base.specs.declared.plan.Owned.{Owned}
 use Rattle.nc_outside.specs.declared.disk.DiskErr.{DiskErr}
 use Rattle.nc_outside.specs.declared.disk.DiskErr.TheVariants.{Failed, Memory}
 use Rattle.serial_spec.specs.File.{at, read}
@@ -116,18 +115,18 @@ seats_read {D} from held plan mids lasts old now long ready kept none t read = r
   collected = t.collected;
   all = λ p u m k. all_in p u (zip_seat lasts p m) k;
   only = λ e m. (
-    let r = t.only e m in
-    let mid = ready r.old (at_in mids r.number r.old r.at_old) in
-    let keeps = kept r.number r.old r.new r.at_old r.at_new in
-    let last = at_in lasts r.number r.new r.at_new in
-    record {
-      pair = (part_of r.new, domain_of r.new);
-      inside = seat_zip lasts r.new last;
-      turn = subst (λ (ts : List Told). In ts e.0) (own_told plan r.old r.new r.own mid keeps (none r.number r.new r.at_new) r.taken) (in_map (λ (v : Told × List ℕ). v.0) r.own e r.inside);
-      told = told_at (held (part_of r.new)) (from (part_of r.new)) r.own e r.inside
-          (own_read from held plan r.old r.new r.own mid keeps (none r.number r.new r.at_new) r.taken (read r.new last));
-    }
-  );
+      let r = t.only e m in
+      let mid = ready r.old (at_in mids r.number r.old r.at_old) in
+      let keeps = kept r.number r.old r.new r.at_old r.at_new in
+      let last = at_in lasts r.number r.new r.at_new in
+      record {
+        pair = (part_of r.new, domain_of r.new);
+        inside = seat_zip lasts r.new last;
+        turn = subst (λ (ts : List Told). In ts e.0) (own_told plan r.old r.new r.own mid keeps (none r.number r.new r.at_new) r.taken) (in_map (λ (v : Told × List ℕ). v.0) r.own e r.inside);
+        told = told_at (held (part_of r.new)) (from (part_of r.new)) r.own e r.inside
+            (own_read from held plan r.old r.new r.own mid keeps (none r.number r.new r.at_new) r.taken (read r.new last));
+      }
+      );
 }
   where
     zip_seat : (ss : List (ReadSeat D)) (p : D × Extent) → In (zip (map (λ seat. part_of seat) ss) (map (λ seat. domain_of seat) ss)) p

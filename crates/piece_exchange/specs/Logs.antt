@@ -1,14 +1,19 @@
 -- Hulls that were read and collected, in whatever order, each with its bytes. (own)
---     Log                                  hulls, each with its bytes
---     told_in log                          the hulls
---     log_cells list log                   the bytes that entries have in the hulls, each at its place in its blob
---     HasCollectedLog list log old new     each blob with the bytes that its entries have in the hulls
---     HasReadTurn list from held t ..      a hull was read of the part that begins at `from`, and collected
---     HasReadTurns list ts from held ..    the same of hulls one after another
---     HasReadParts from held plan pairs ..     the same of all windows of many parts, each beside its domain
---     HasTaken own old new                 hulls were taken off a shelf's line
---     HasTakenTurn list old new ..         and collected
---     HaveTakenTurns list olds news ..     hulls were taken off the lines of helpers, and collected
+--     Log                                      hulls, each with its bytes
+--     told_in log                              the hulls
+--     log_cells list log                       the bytes that entries have in the hulls, each at its place in its blob
+--     HasCollectedLog list log old new         each blob with the bytes that its entries have in the hulls
+--     HasReadTurn list from held t ..          a hull was read of the part that begins at `from`, and collected
+--     HasReadTurns list ts from held ..        the same of hulls one after another
+--     IsReadOf from held plan pairs e          a hull of a log was read of one of many parts, each beside its domain
+--     HasReadParts from held plan pairs ..     all windows of the parts were read, and collected
+--     IsShelfIn list shelf                     what holds of a shelf at every moment, whatever the room of a window
+--     HasTaken own old new                     hulls were taken off a shelf's line
+--     HasTakenTurn list old new ..             and collected
+--     HasTakenOf log old new                   hulls were taken off a shelf's line, and stand in a log
+--     IsTakenOf olds news e                    a hull of a log was taken off the line of one of the helpers
+--     HaveTakenTurns list olds news ..         hulls were taken off the lines of helpers, and collected
+--     IsKept old new                           the helper and its line are as they were
 use Rattle.std.specs.Prelude.{◌≡◌, ℕ, ◌+◌, ◌-◌, List, ◌++◌, map, flat_map, length, Option, Some, IfSome, slice_get}
 use Rattle.nc_base.specs.declared.plan.Extent.{Extent}
 use Rattle.nc_base.specs.declared.plan.Owned.{Owned}
@@ -54,7 +59,6 @@ pub record HasReadTurns (list : List Owned) (ts : List Told) (from : ℕ) (held 
 
 -- ---- hulls of many parts, each part beside its domain
 
--- a hull of the log was read of one of the parts
 pub record IsReadOf {D : Type 0} (from : D → ℕ) (held : D → Option (List ℕ)) (plan : GetPlan) (pairs : List (D × Extent)) (e : Told × List ℕ) : Type 0 where
   pub pair : D × Extent
   pub inside : In pairs pair
@@ -69,7 +73,6 @@ pub record HasReadParts {D : Type 0} (from : D → ℕ) (held : D → Option (Li
 
 -- ---- hulls that helpers read
 
--- whatever the room is
 abbrev pub IsShelfIn : List Owned → Shelf → Type 0
 IsShelfIn list shelf = (room : ℕ) × IsShelf list room shelf
 
@@ -82,13 +85,11 @@ pub record HasTakenTurn (list : List Owned) (old new : Shelf) (before now : List
   pub taken : HasTaken own old new
   pub collected : HasCollectedLog list own before now
 
--- what was taken of one helper stands in the log
 pub record HasTakenOf (log : Log) (old new : Shelf) : Type 0 where
   pub own : Log
   pub taken : HasTaken own old new
   pub inside : (e : Told × List ℕ) → In own e → In log e
 
--- a hull of the log was taken of one of the helpers
 pub record IsTakenOf {D : Type 0} (olds news : List (ReadSeat D)) (e : Told × List ℕ) : Type 0 where
   pub number : ℕ
   pub old : ReadSeat D
@@ -105,7 +106,6 @@ pub record HaveTakenTurns {D : Type 0} (list : List Owned) (olds news : List (Re
   pub each : (k : ℕ) (old new : ReadSeat D) → slice_get olds k ≡ Some old → slice_get news k ≡ Some new → HasTakenOf log old.shelf new.shelf
   pub only : (e : Told × List ℕ) → In log e → IsTakenOf olds news e
 
--- its helper and its line are as they were
 pub record IsKept {D : Type 0} (old new : ReadSeat D) : Type 0 where
   pub helper : new.helper ≡ old.helper
   pub of : new.shelf.line.of ≡ old.shelf.line.of

@@ -51,10 +51,10 @@ pub fn exchange_put<R: Threads + Wait + Sync, D: Disk, G: Gate>(
         return put_in_turn(&tools, plan, domains, parts);
     }
     let (back, end) = put_on_threads(&tools, plan, domains, parts);
-    if let Some(end) = end {
-        return (back, end);
+    match end {
+        Some(end) => (back, end),
+        None => put_in_turn(&tools, plan, domains, back),
     }
-    put_in_turn(&tools, plan, domains, back)
 }
 
 // The puts by helpers. None where one can't be started: then nothing was done, and the parts come back as they were.

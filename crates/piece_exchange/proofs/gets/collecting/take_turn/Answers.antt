@@ -1,5 +1,5 @@
 -- The bytes of the window's hull were copied, and the next window is the part's next.
-use Rattle.std.proofs.Common.{◌≡◌, ◌+◌, ◌∙◌, ◌∷◌, ◌++◌, [], List, Option, sym, ap, subst, rules, arith}
+use Rattle.std.proofs.Common.{◌+◌, ◌∙◌, ◌∷◌, List, Option, sym, ap, subst, rules, arith}
 use Rattle.std.proofs.lemmas.Grind.{common_steps}
 use Rattle.aggregator_rounds.specs.Pieces.{told_window}
 use Rattle.piece_exchange.specs.Feeds.{turns_left_of}

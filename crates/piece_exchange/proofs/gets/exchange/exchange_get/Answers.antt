@@ -1,5 +1,5 @@
 -- The windows of all parts were read, so each blob has the file's bytes of its entries.
-use Rattle.std.proofs.Common.{◌≡◌, ◌∙◌, ◌×◌, List, ℕ, Option, Some, None, Result, subst, sym, rules, arith}
+use Rattle.std.proofs.Common.{◌≡◌, ◌∙◌, List, ℕ, Option, Some, Result, subst, sym, rules, arith}
 use Rattle.std.proofs.lemmas.Grind.{common_steps}
 use Rattle.std.specs.Prelude.{slice_get, zip, IfNone, IfSome, OnOk}
 use Rattle.nc_outside.specs.declared.disk.DiskErr.{DiskErr}

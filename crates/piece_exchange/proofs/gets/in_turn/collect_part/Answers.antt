@@ -1,9 +1,7 @@
 -- Each window is read, and the entries' bytes in it are placed.
-use Rattle.std.proofs.Common.{◌≡◌, ◌+◌, ◌∙◌, refl, inl, sym, subst, min, ℕ, List, arith}
-use Rattle.overlay_laws.specs.Entries.{In}
+use Rattle.std.proofs.Common.{◌+◌, ◌∙◌, refl, min, arith}
 use Rattle.aggregator_rounds.specs.Pieces.{told_window}
 use Rattle.piece_exchange.specs.Gets.{get_turns}
-use Rattle.piece_exchange.specs.Turns.{Told}
 use Rattle.piece_exchange.proofs.BackLaws.{err_not_ok}
 use Rattle.piece_exchange.proofs.CollectLaws.{filled_served, fit_as_long, fit_served}
 use Rattle.piece_exchange.proofs.DomainTurns.{domain_turns}

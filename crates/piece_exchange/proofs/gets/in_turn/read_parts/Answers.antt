@@ -1,5 +1,5 @@
 -- One part more was read.
-use Rattle.std.proofs.Common.{◌≡◌, ◌<◌, ◌∙◌, ◌++◌, ◌∷◌, [], refl, sym, ap, subst, length, append_assoc, get_or, List, Result, rules, arith}
+use Rattle.std.proofs.Common.{◌≡◌, ◌<◌, ◌∙◌, ◌++◌, ◌∷◌, [], refl, sym, ap, subst, length, append_assoc, get_or, List, Result, Ok, rules, arith}
 use Rattle.std.proofs.lemmas.Grind.{common_steps}
 use Rattle.std.specs.Prelude.{zip, OnOk}
 use Rattle.std.specs.List.{AllZip}
@@ -21,16 +21,21 @@ abbrev none : Extent
 none = record { at = 0; len = 0 }
 
 pub loop-part-init : goal.loop-part-init
-loop-part-init g c = record {
-  all = first_of (search rules, grind (arith, common_steps));
-  long = ap (λ (ds : List g.row.D.Denot). length ds) c.requires.none;
-  room = refl;
-  buf = refl;
-  got = none_zip _ c.args.back.items c.requires.none;
-  read = parts_none (λ d. g.D.Disk.from d) (λ d. g.D.Disk.held d) c.args.plan.now c.args.desk.now.table.items;
-  blobs = refl;
-  failed = λ f. absurd cc;
-}
+loop-part-init g c =
+    let state : g.row.D.Denot → PartState
+    = λ d. record { from = g.D.Disk.from d; len = g.D.Disk.len d; held = g.D.Disk.held d; calls = g.D.Disk.calls d; faults = g.D.Disk.faults d } in
+    let Got : Result (Unit {0}) DiskErr → g.row.D.Denot × Extent → g.row.D.Denot → Type 0
+    = λ r p d. HasGot (get_turns c.args.plan.now p.1) (state p.0) (state d) r in
+    record {
+      all = first_of (search rules, grind (arith, common_steps));
+      long = ap (λ (ds : List g.row.D.Denot). length ds) c.requires.none;
+      room = refl;
+      buf = refl;
+      got = none_zip (Got (Ok tt)) c.args.back.items c.requires.none;
+      read = parts_none (λ d. g.D.Disk.from d) (λ d. g.D.Disk.held d) c.args.plan.now c.args.desk.now.table.items;
+      blobs = refl;
+      failed = λ f. absurd cc;
+    }
 
 pub read_next-part-requires-clause-domain : goal.read_next-part-requires-clause-domain
 read_next-part-requires-clause-domain g c κs within =
