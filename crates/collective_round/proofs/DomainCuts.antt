@@ -24,8 +24,7 @@ use Rattle.file_domains.specs.Domains.{border, low_of, share_of}
 use Rattle.file_domains.specs.Rounds.{bytes_in}
 use Rattle.piece_exchange.specs.Turns.{turns_of, Told}
 use Rattle.collective_round.specs.Parts.{begin_or, Adjoin, AreDomains}
-use Rattle.collective_round.proofs.ShareSteps.{collective_is}
-use Rattle.collective_round.proofs.DomainSteps.{in_range_hints, same_domains}
+use Rattle.collective_round.proofs.DomainSteps.{collective_is, in_range_hints, same_domains}
 
 -- ---- domains that adjoin
 

@@ -244,7 +244,7 @@ pub whole_calls : (disk front : PartState) (calls : Extent → List DiskCall) (d
     → AllZip (λ p new. new.calls ≡ with_end p.0.calls (calls p.1)) (zip (parts_of disk domains) domains) news → (with_parts front news).calls ≡ with_end disk.calls (flat_map calls domains)
 whole_calls disk front calls domains news f h = calls_from disk front calls domains news [] (f.calls ∙ sym (with_end-nil disk.calls)) h
 
-flat_flat : {A B C : Type 0} (g : B → List C) (f : A → List B) (xs : List A) → flat_map g (flat_map f xs) ≡ flat_map (λ x. flat_map g (f x)) xs
+pub flat_flat : {A B C : Type 0} (g : B → List C) (f : A → List B) (xs : List A) → flat_map g (flat_map f xs) ≡ flat_map (λ x. flat_map g (f x)) xs
 flat_flat g f [] = refl
 flat_flat g f (x ∷ xs) = flat_map-append g (f x) (flat_map f xs) ∙ ap (λ r. flat_map g (f x) ++ r) (flat_flat g f xs)
 

@@ -1,5 +1,5 @@
 -- What holds of a step, as it holds of the calls of a disk.
-use Rattle.std.proofs.Common.{◌≡◌, ℕ, refl, ◌∙◌, ap, List, [], ◌∷◌, Option, Some, None, Result, Ok, Err, append_assoc}
+use Rattle.std.proofs.Common.{◌≡◌, ℕ, ◌∙◌, ap, List, Option, Some, None, Result, Ok, Err}
 use Rattle.std.proofs.lemmas.List.Folds.{flat_map-map}
 use Rattle.std.specs.Prelude.{map, flat_map, is_ok, OnErr, OnOk}
 use Rattle.nc_base.specs.declared.step.DiskCall.{DiskCall}
@@ -7,7 +7,7 @@ use Rattle.nc_outside.specs.Told.{with_end, BothTold}
 use Rattle.serial_spec.specs.DeviceCalls.{overlays, loads}
 use Rattle.overlay_laws.specs.Changes.{load_calls, store_calls}
 use Rattle.overlay_laws.specs.Walks.{told_of}
-use Rattle.collective_round.specs.Turns.{Told}
+use Rattle.piece_exchange.specs.Turns.{Told}
 
 -- what is Ok as a step was Ok as a call of the disk
 pub on_ok_as : {T E F P Q : Type 0} (r : Result T E) (q : Result T F) → is_ok q ≡ is_ok r → (P → Q) → OnOk r P → OnOk q Q
@@ -28,12 +28,6 @@ told_as R S None now f b = b
 told_as R S (Some old) now f b = (b.0, b.1, f old b.0 b.2)
 
 -- ---- the calls
-
-pub calls_more : (f : Told → List DiskCall) (t : Told) (ts : List Told) (mid now : Option (List DiskCall)) → now ≡ with_end mid (f t)
-    → with_end now (flat_map f ts) ≡ with_end mid (flat_map f (t ∷ ts))
-calls_more f t ts None now e = ap (λ (m : Option (List DiskCall)). with_end m (flat_map f ts)) e
-calls_more f t ts (Some calls) now e =
-    ap (λ (m : Option (List DiskCall)). with_end m (flat_map f ts)) e ∙ ap Some (append_assoc calls (f t) (flat_map f ts))
 
 pub stores_are : (ws : List (List ℕ)) → flat_map store_calls (map told_of ws) ≡ flat_map overlays ws
 stores_are ws = flat_map-map store_calls told_of ws

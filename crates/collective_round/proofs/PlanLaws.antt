@@ -1,4 +1,4 @@
--- The entries of puts and their cover are a plan of what is to be put.
+-- The entries of puts or gets and their cover are a plan of what is to be done.
 use Rattle.std.proofs.Common.{◌≡◌, ℕ, ◌+◌, ◌-◌, ◌^◌, ◌<◌, ◌≤◌, ap, inl, inr, refl, subst, sym, List, [], ◌∷◌, length, map, Option, Some, None, arith}
 use Rattle.std.specs.Prelude.{slice_get}
 use Rattle.file_domains.proofs.CoverParts.{get_is}
@@ -12,11 +12,12 @@ use Rattle.overlay_laws.specs.Lines.{EndBelow}
 use Rattle.overlay_laws.specs.Origins.{AreFound}
 use Rattle.overlay_laws.specs.Walks.{spans, IsCover}
 use Rattle.overlay_laws.proofs.Members.{in_map}
+use Rattle.piece_exchange.specs.Gets.{IsGetPlan}
 use Rattle.piece_exchange.specs.Pieces.{ArePieces}
 use Rattle.piece_exchange.specs.Plan.{IsPlan}
 use Rattle.piece_exchange.specs.Turns as turns
 use Rattle.serial_spec.specs.SharedByte.{Puts}
-use Rattle.collective_round.specs.Laid.{source_of, AreLaid, AreSorted}
+use Rattle.collective_round.specs.Laid.{source_of, AreGot, AreLaid, AreSorted}
 use Rattle.collective_round.proofs.PutLaws.{cover_ends}
 
 -- where the first batch is that of rank 0
@@ -66,3 +67,15 @@ laid_plan header puts batches list cover size few laid covers bytes some = recor
 
     pieces : ArePieces (turns.source_of batches) list
     pieces = are_pieces (turns.source_of batches) list exchanged.found laid.sorted
+
+pub got_plan : (header : Header) (batches : List Batch) (list : List Owned) (cover : List Extent) (size : ℕ) → AreGot header 0 batches list
+    → IsCover cover → HaveSame (spans cover) (ranges list) → 1 ≤ size → IsGetPlan list cover size
+got_plan header batches list cover size got covers bytes some = record {
+  sorted = got.sorted.by_place;
+  ends = got.sorted.ends;
+  filled = got.sorted.filled;
+  covers = covers;
+  cover_ends = cover_ends cover list covers bytes got.sorted.ends;
+  cover_bytes = bytes;
+  some = some;
+}

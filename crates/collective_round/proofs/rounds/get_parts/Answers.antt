@@ -1,0 +1,110 @@
+-- The gets of the parts are those of the disk.
+use Rattle.std.proofs.Common.{◌≡◌, ◌∙◌, ◌<◌, ◌^◌, ◌+◌, ◌≤◌, ℕ, ap, List, length, map, rules, arith}
+use Rattle.std.proofs.lemmas.Grind.{common_steps}
+use Rattle.std.specs.Prelude.{flat_map}
+use Rattle.list_laws.proofs.Optional.{if_some_at}
+use Rattle.piece_exchange.specs.Gets.{get_turns}
+use Rattle.piece_exchange.specs.Blobs.{HasRead}
+use Rattle.piece_exchange.specs.Put.{PartState}
+use Rattle.collective_round.proofs.PartLaws.{as_many_parts, domain_of_part, joined_rose, on_some_part}
+use Rattle.collective_round.proofs.PartSplits.{joined_at_least}
+use Rattle.collective_round.proofs.PutPartLaws.{cover_room, plan_room, AreSplit}
+use Rattle.collective_round.proofs.GetPartLaws.{gets_follow, part_read, parts_got, told_read, HasGotWhole}
+use Rattle.collective_round.proofs.rounds.get_parts.Given.{Over}
+use Rattle.collective_round.proofs.rounds.get_parts.Goals as goal
+
+abbrev state : (g : Over) → g.row.D.Denot → PartState
+state g d = record { from = g.D.Disk.from d; len = g.D.Disk.len d; held = g.D.Disk.held d; calls = g.D.Disk.calls d; faults = g.D.Disk.faults d }
+
+pub split-requires-clause-room : goal.split-requires-clause-room
+split-requires-clause-room g c κs within =
+    let plan = c.args.plan.now in
+    plan_room plan.cover.now c.args.domains.now plan.list.now (g.D.Disk.len c.args.disk.now) c.requires.plan.covers c.requires.plan.cover_bytes c.requires.on_disk c.requires.domains
+
+pub exchange_get-parts-requires-clause-one_each : goal.exchange_get-parts-requires-clause-one_each
+exchange_get-parts-requires-clause-one_each g c κs within =
+    as_many_parts (state g) (state g c.args.disk.now) c.args.domains.now c.in_ok-parts.parts.items c.in_ok-parts.ensures.parts
+
+pub exchange_get-parts-requires-clause-domains : goal.exchange_get-parts-requires-clause-domains
+exchange_get-parts-requires-clause-domains g c κs within =
+    let plan = c.args.plan.now in
+    domain_of_part (state g) plan.list.now plan.cover.now c.args.domains.now (state g c.args.disk.now) c.in_ok-parts.parts.items c.in_ok-parts.ensures.parts
+    c.requires.plan.covers c.requires.plan.cover_bytes c.requires.domains
+    (cover_room plan.cover.now plan.list.now (g.D.Disk.len c.args.disk.now) c.requires.plan.covers c.requires.plan.cover_bytes c.requires.on_disk)
+
+pub exchange_get-parts-requires-clause-whole : goal.exchange_get-parts-requires-clause-whole
+exchange_get-parts-requires-clause-whole g c κs within =
+    let plan = c.args.plan.now in
+    on_some_part (state g) plan.list.now plan.cover.now c.args.domains.now (state g c.args.disk.now) c.in_ok-parts.parts.items c.in_ok-parts.ensures.parts
+    c.requires.plan.covers c.requires.plan.cover_bytes c.requires.domains
+    (cover_room plan.cover.now plan.list.now (g.D.Disk.len c.args.disk.now) c.requires.plan.covers c.requires.plan.cover_bytes c.requires.on_disk)
+
+pub append_all-requires-after_bounds : goal.append_all-requires-after_bounds
+append_all-requires-after_bounds g c κs within =
+    let plan = c.args.plan.now in
+    gets_follow (state g) (λ d. get_turns plan d) (state g c.args.disk.now) (state g c.split.new.disk) c.args.domains.now c.in_ok-parts.parts.items c.exchange_get-parts.result.0.items
+    c.exchange_get-parts.result.1
+    (record {
+      begin = c.requires.from;
+      line = c.requires.domains.line;
+      room = plan_room plan.cover.now c.args.domains.now plan.list.now (g.D.Disk.len c.args.disk.now) c.requires.plan.covers c.requires.plan.cover_bytes c.requires.on_disk c.requires.domains;
+      front_is = c.in_ok-parts.ensures.front;
+      parts_are = c.in_ok-parts.ensures.parts;
+    })
+    c.exchange_get-parts.ensures.got
+
+split_so : (g : Over) (c : goal.After-append_all g) → AreSplit (state g) (state g c.args.disk.now) (state g c.split.new.disk) c.args.domains.now c.in_ok-parts.parts.items
+split_so g c =
+    let plan = c.args.plan.now in
+    record {
+      begin = c.requires.from;
+      line = c.requires.domains.line;
+      room = plan_room plan.cover.now c.args.domains.now plan.list.now (g.D.Disk.len c.args.disk.now) c.requires.plan.covers c.requires.plan.cover_bytes c.requires.on_disk c.requires.domains;
+      front_is = c.in_ok-parts.ensures.front;
+      parts_are = c.in_ok-parts.ensures.parts;
+    }
+
+got_done : (g : Over) (c : goal.After-append_all g)
+    → HasGotWhole (flat_map (λ d. get_turns c.args.plan.now d) c.args.domains.now) (state g c.args.disk.now) (state g c.append_all.new.disk) c.exchange_get-parts.result.1
+got_done g c =
+    parts_got (state g) (λ d. get_turns c.args.plan.now d) (state g c.args.disk.now) (state g c.split.new.disk) (state g c.append_all.new.disk) c.args.domains.now c.in_ok-parts.parts.items
+    c.exchange_get-parts.result.0.items c.exchange_get-parts.result.1 (split_so g c) c.size-size.ensures.told c.exchange_get-parts.ensures.got c.append_all.ensures
+
+pub returns-clause-read : goal.returns-clause-read
+returns-clause-read g c =
+    told_read c.exchange_get-parts.result.1 (g.D.Disk.held c.args.disk.now) (λ file. HasRead file c.args.plan.now.list.now c.args.into.now c.exchange_get-parts.new.into)
+    (λ file told. c.exchange_get-parts.ensures.read file
+    (part_read (state g) (state g c.args.disk.now) (state g c.split.new.disk) c.args.domains.now c.in_ok-parts.parts.items file (split_so g c)
+    (if_some_at (λ (f : List ℕ). length f ≡ g.D.Disk.len c.args.disk.now) (g.D.Disk.held c.args.disk.now) file told c.size-size.ensures.told) told))
+
+pub returns-clause-bytes : goal.returns-clause-bytes
+returns-clause-bytes g c = (got_done g c).held
+
+pub returns-clause-calls : goal.returns-clause-calls
+returns-clause-calls g c = (got_done g c).device
+
+pub returns-clause-from : goal.returns-clause-from
+returns-clause-from g c = (got_done g c).place.from ∙ c.requires.from
+
+pub returns-clause-len : goal.returns-clause-len
+returns-clause-len g c = (got_done g c).place.len
+
+pub returns-clause-cause : goal.returns-clause-cause
+returns-clause-cause g c =
+    let before = g.D.Disk.faults c.args.disk.now in
+    let front = state g c.split.new.disk in
+    let news = c.exchange_get-parts.result.0.items in
+    let cause = c.in_ok-parts.ensures.cause c.size-size.ensures.counted in
+    let faults = ap (λ (s : PartState). s.faults) c.append_all.ensures in
+    record {
+      later = (let l = joined_at_least before front (map (state g) news) c.size-size.ensures.counted cause.later in omega arith);
+      failed = λ e.
+          (let r = joined_rose (state g) before (state g c.args.disk.now) front c.args.domains.now c.in_ok-parts.parts.items news c.in_ok-parts.ensures.parts cause.later
+          (c.exchange_get-parts.ensures.failed e) in
+          omega arith);
+    }
+
+pub returns-in_err-parts-clause-cause : goal.returns-in_err-parts-clause-cause
+returns-in_err-parts-clause-cause g c =
+    let cause = c.in_err-parts.ensures.cause c.size-size.ensures.counted in
+    record { later = cause.later; failed = λ e. cause.failed (first_of (search rules, grind (arith, common_steps))) }
