@@ -118,9 +118,12 @@ const PUT: [u8; 32] = [
 /// The file with the puts done but from one place to another, where each byte is its place.
 fn put_but(alloc: Global, from: usize, to: usize) -> Result<Blob, Fail> {
     let mut bytes = numbered(alloc, 112)?.into_vec();
-    for ((place, own), new) in bytes.iter_mut().enumerate().skip(80).zip(PUT) {
+    for (k, new) in PUT.iter().enumerate() {
+        let place = k.saturating_add(80);
         if place < from || to <= place {
-            *own = new;
+            if let Some(own) = bytes.get_mut(place) {
+                *own = *new;
+            }
         }
     }
     Ok(Blob::from_vec(bytes))
