@@ -1,5 +1,5 @@
 -- Gets on the parts of a disk, which are joined again.
-use Rattle.std.proofs.Common.{◌≡◌, ◌∙◌, ℕ, ◌+◌, ◌-◌, ◌≤◌, inl, inr, refl, sym, ap, subst, List, [], ◌∷◌, length, map, take, drop, Option, Some, None, Result, Ok, Err, arith}
+use Rattle.std.proofs.Common.{◌≡◌, ◌∙◌, ℕ, ◌+◌, ◌≤◌, inl, inr, refl, sym, ap, subst, List, [], ◌∷◌, length, map, Option, Some, None, Result, Ok, Err, arith}
 use Rattle.std.specs.Prelude.{flat_map, zip, IfSome, OnOk}
 use Rattle.std.specs.List.{AllZip}
 use Rattle.aggregator_rounds.proofs.PieceLaws.{read_slice}
@@ -14,7 +14,7 @@ use Rattle.piece_exchange.specs.Gets.{HasGot}
 use Rattle.piece_exchange.specs.Put.{PartState}
 use Rattle.piece_exchange.specs.Turns.{Told}
 use Rattle.serial_spec.specs.File.{read}
-use Rattle.collective_round.specs.Parts.{begin_or, parts_of, with_parts, Adjoin, Follow}
+use Rattle.collective_round.specs.Parts.{parts_of, with_parts, Adjoin, Follow}
 use Rattle.collective_round.proofs.PartLaws.{each_weaker, flat_flat, follow_again, on_states, part_bytes, whole_calls, whole_kept, whole_place, IsInPlace}
 use Rattle.collective_round.proofs.PartSplits.{next_begin}
 use Rattle.collective_round.proofs.PutPartLaws.{AreSplit}

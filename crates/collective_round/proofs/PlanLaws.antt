@@ -1,5 +1,5 @@
 -- The entries of puts or gets and their cover are a plan of what is to be done.
-use Rattle.std.proofs.Common.{◌≡◌, ℕ, ◌+◌, ◌-◌, ◌^◌, ◌<◌, ◌≤◌, ap, inl, inr, refl, subst, sym, List, [], ◌∷◌, length, map, Option, Some, None, arith}
+use Rattle.std.proofs.Common.{◌≡◌, ℕ, ◌+◌, ◌-◌, ◌<◌, ◌≤◌, inl, inr, refl, subst, List, [], ◌∷◌, length, Option, Some, None, arith}
 use Rattle.std.specs.Prelude.{slice_get}
 use Rattle.file_domains.proofs.CoverParts.{get_is}
 use Rattle.nc_base.specs.declared.header.Header.{Header}
@@ -8,7 +8,6 @@ use Rattle.nc_base.specs.declared.plan.Extent.{Extent}
 use Rattle.nc_base.specs.declared.plan.Owned.{Owned}
 use Rattle.data_sieving.specs.Sieving.{bytes_of_post}
 use Rattle.overlay_laws.specs.Entries.{Source, In, HaveSame, ranges}
-use Rattle.overlay_laws.specs.Lines.{EndBelow}
 use Rattle.overlay_laws.specs.Origins.{AreFound}
 use Rattle.overlay_laws.specs.Walks.{spans, IsCover}
 use Rattle.overlay_laws.proofs.Members.{in_map}

@@ -6,7 +6,7 @@ use Rattle.nc_base.specs.declared.plan.Extent.{Extent}
 use Rattle.nc_base.specs.declared.plan.Owned.{Owned}
 use Rattle.data_sieving.specs.Sieving.{AreFilled, LieOn}
 use Rattle.data_sieving.proofs.PutSteps.{entries_within}
-use Rattle.overlay_laws.specs.Entries.{cell_of, ranges, In, HaveSame, Source}
+use Rattle.overlay_laws.specs.Entries.{ranges, In, HaveSame, Source}
 use Rattle.overlay_laws.specs.Walks.{end_after, spans, IsCover}
 use Rattle.overlay_laws.proofs.HullLaws.{flat_in, in_left, in_range, in_right, range_high}
 use Rattle.piece_exchange.specs.Put.{HasPut, PartState}

@@ -2,14 +2,14 @@
 use Rattle.overlay_laws.proofs.Members.{each_in}
 use Rattle.list_laws.proofs.Truth.{and_first, and_second}
 use Rattle.std.proofs.lemmas.Bool.{leb-true, le-leb, lt-ltb}
-use Rattle.std.proofs.Common.{◌≡◌, ℕ, zero, suc, ◌+◌, ◌-◌, ◌<◌, ◌≤◌, refl, sym, ap, subst, ◌∙◌, inl, inr, ◌⊎◌, List, [], ◌∷◌, ◌++◌, length, take, drop, get_or, Bool, true, false, cond, ◌||◌, ◌&&◌, max, Option, Some, None, Result, Ok, Err, length-append, arith}
+use Rattle.std.proofs.Common.{◌≡◌, ℕ, zero, suc, ◌+◌, ◌-◌, ◌<◌, ◌≤◌, refl, sym, ap, subst, ◌∙◌, inl, inr, ◌⊎◌, List, [], ◌∷◌, length, take, drop, Bool, true, false, cond, ◌||◌, ◌&&◌, max, Option, Some, None, length-append, arith}
 use Rattle.std.proofs.lemmas.Grind.{common_steps}
 use Rattle.std.proofs.lemmas.Bool.Decides.{nat_tests}
 use Rattle.std.proofs.lemmas.List.{length-replicate}
 use Rattle.std.proofs.lemmas.List.Folds.{list_any-append}
-use Rattle.std.specs.Prelude.{fold, flat_map, map, nat_lt, nat_le, ◌==◌, slice_get, replicate, is_ok, OnErr, IfSome}
+use Rattle.std.specs.Prelude.{fold, flat_map, map, nat_lt, nat_le, ◌==◌, slice_get, replicate}
 use Rattle.std.specs.List.{list_any, range_with_len}
-use Rattle.std.specs.Int.{byte_len, w32, w64, to_be_bytes}
+use Rattle.std.specs.Int.{byte_len}
 use borrow.Author.Tests.{ltb-true, ltb-false, eqb-true}
 use Rattle.nc_base.specs.declared.header.Header.{Header}
 use Rattle.nc_base.specs.declared.header.Var.{Var}
@@ -21,7 +21,7 @@ use Rattle.nc_outside.specs.Told.{after, BothTold}
 use Rattle.serial_spec.specs.ExternalForm.{size_of}
 use Rattle.serial_spec.specs.File.{at, longer, written}
 use Rattle.serial_spec.specs.FileStep.{Setting, Counted, end_for, put_some, put_post, after_puts, raised, told}
-use Rattle.serial_spec.specs.HeaderGrammar.{count, count_width, header_len, is_sound, dimension, list_of}
+use Rattle.serial_spec.specs.HeaderGrammar.{count, count_width, header_len, is_sound}
 use Rattle.serial_spec.specs.Place.{place, IsElementBelow}
 use Rattle.serial_spec.specs.Records.{needed_by, records_of, with_records}
 use Rattle.serial_spec.specs.RegionCheck.{check_some}
@@ -36,9 +36,8 @@ use Rattle.var_layout.proofs.WrittenLengths.{canon_len}
 use Rattle.overlay_laws.specs.Changes.{IsBetween}
 use Rattle.overlay_laws.specs.Entries.{In}
 use Rattle.overlay_laws.proofs.HullLaws.{flat_in, range_low}
-use Rattle.nc_base.specs.declared.plan.Batch.{Batch}
 use Rattle.serial_spec.specs.Desk.{needed_now}
-use Rattle.collective_round.specs.Rounds.{ArePuts, after_round, counted, puts_in}
+use Rattle.collective_round.specs.Rounds.{ArePuts, after_round, counted}
 use Rattle.collective_round.proofs.PutLaws.{laid_round}
 use Rattle.collective_round.proofs.StepLaws.{round_by}
 use Rattle.collective_round.proofs.ResultSteps.{told_as}

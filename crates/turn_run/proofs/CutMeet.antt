@@ -24,7 +24,7 @@ use Rattle.serial_spec.proofs.FileLaws.{at-written_before}
 use Rattle.overlay_laws.proofs.SaidLaws.{same_file}
 use Rattle.collective_round.specs.Rounds.{after_round, counted, puts_in}
 use Rattle.collective_round.proofs.TornLaws.{after_grows, after_keeps, counted_past, raised_grows, round_grows, torn_by, torn_sides}
-use Rattle.collective_round.proofs.TornSteps.{told_as}
+use Rattle.collective_round.proofs.ResultSteps.{told_as}
 use Rattle.nc_base.specs.declared.header.Header.{Header}
 use Rattle.nc_base.specs.declared.script.Script.{Script}
 use Rattle.serial_spec.specs.Lawful.{is_lawful}

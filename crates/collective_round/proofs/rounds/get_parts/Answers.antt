@@ -1,5 +1,5 @@
 -- The gets of the parts are those of the disk.
-use Rattle.std.proofs.Common.{◌≡◌, ◌∙◌, ◌<◌, ◌^◌, ◌+◌, ◌≤◌, ℕ, ap, List, length, map, rules, arith}
+use Rattle.std.proofs.Common.{◌≡◌, ◌∙◌, ℕ, ap, List, length, map, rules, arith}
 use Rattle.std.proofs.lemmas.Grind.{common_steps}
 use Rattle.std.specs.Prelude.{flat_map}
 use Rattle.list_laws.proofs.Optional.{if_some_at}

@@ -1,13 +1,12 @@
 -- The puts of the parts are those of the disk.
-use Rattle.std.proofs.Common.{◌≡◌, ◌∙◌, ◌<◌, ◌^◌, ◌+◌, ◌≤◌, ℕ, ap, List, map, rules, arith}
+use Rattle.std.proofs.Common.{◌∙◌, ap, map, rules, arith}
 use Rattle.std.proofs.lemmas.Grind.{common_steps}
 use Rattle.std.specs.Prelude.{flat_map}
-use Rattle.overlay_laws.specs.Walks.{end_after}
 use Rattle.piece_exchange.specs.Plan.{planned_turns, source_in}
 use Rattle.piece_exchange.specs.Put.{PartState}
 use Rattle.collective_round.proofs.PartLaws.{as_many_parts, domain_of_part, joined_rose, HasPutWhole}
 use Rattle.collective_round.proofs.PartSplits.{joined_at_least}
-use Rattle.collective_round.proofs.PutPartLaws.{cover_room, plan_room, parts_follow, parts_put, AreSplit}
+use Rattle.collective_round.proofs.PutPartLaws.{cover_room, plan_room, parts_follow, parts_put}
 use Rattle.collective_round.proofs.rounds.put_parts.Given.{Over}
 use Rattle.collective_round.proofs.rounds.put_parts.Goals as goal
 
