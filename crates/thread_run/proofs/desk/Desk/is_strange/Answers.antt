@@ -9,5 +9,5 @@ use Rattle.thread_run.proofs.desk.Desk.is_strange.Goals as goal
 
 pub returns : goal.returns
 returns c = λ s file records e.
-    strange_is s (desk_of c.args.self.now file records) c.args.number c.args.item.now c.index.result.now (get_read c.args.self.now.seats.items c.args.number c.index.result.now c.requires c.index.ensures)
+    strange_is s (desk_of c.args.self.now file records) c.args.number c.args.item.now c.index.result.now (get_read c.args.self.now.seats.items c.args.number c.index.result.now c.requires.number c.index.ensures)
     ∙ ap (λ (header : Header). fails_test header c.args.self.now.seats.items c.args.self.now.reached c.index.result.now c.args.item.now) e ∙ sym c.fails_test.ensures
