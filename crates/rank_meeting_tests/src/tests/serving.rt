@@ -17,10 +17,11 @@ use std::alloc::Global;
 use std::process::Abort;
 use std::sync::Wait;
 use std::test::*;
+use std::thread::Threads;
 use var_layout::Measures;
 
 /// Serves two senders, on a file of 96 zeros.
-pub(crate) fn served<R: Wait, T: Told>(
+pub(crate) fn served<R: Threads + Wait + Sync, T: Told>(
     rt: &R,
     alloc: Global,
     disk: &mut MemDisk,

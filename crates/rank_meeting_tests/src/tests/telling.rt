@@ -49,7 +49,7 @@ impl Told for Listener {
 }
 
 /// Serves two ranks of which each makes one call by itself between two meetings, and tells this one.
-fn told_of_two<R: Abort + Wait>(
+fn told_of_two<R: Abort + Threads + Wait + Sync>(
     rt: &R,
     alloc: Global,
     listener: &mut Listener,
