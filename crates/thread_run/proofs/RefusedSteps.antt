@@ -1,5 +1,5 @@
 -- What a refused step leaves, as the owner's event has it.
-use Rattle.std.proofs.Common.{◌≡◌, ℕ, refl, sym, ◌∙◌, ap, subst, inl, inr, ◌⊎◌, List, [], ◌∷◌, ◌++◌, max, set, true, false, Option, Some, None, arith}
+use Rattle.std.proofs.Common.{◌≡◌, ℕ, zero, suc, ◌<◌, length, refl, sym, ◌∙◌, ap, subst, inl, inr, ◌⊎◌, List, [], ◌∷◌, ◌++◌, max, set, Bool, true, false, Option, Some, None, arith}
 use Rattle.std.proofs.lemmas.List.{append-nil}
 use Rattle.std.proofs.lemmas.Option.{same_Some}
 use Rattle.std.specs.Prelude.{slice_get, flat_map, IfSome}
@@ -25,6 +25,7 @@ use Rattle.collective_round.specs.Rounds.{counted, puts_in}
 use Rattle.collective_round.proofs.TornLaws.{torn_by, torn_wider}
 use Rattle.turn_run.specs.Steps.{batches_of, known_of, met, IsOneRise}
 use Rattle.turn_run.proofs.CutMeet.{met_count, met_done, met_torn}
+use Rattle.join_laws.proofs.StrangeLaws.{event_is}
 use Rattle.turn_run.proofs.MeetStep.{met_is, puts_same}
 use Rattle.thread_run.specs.Owned.{desk_at, HoldSingle, IsSingle, IsSingleOffer, Standing}
 use Rattle.thread_run.specs.Refused.{IsFaultAt, IsRefusedAlone, IsRefusedArrival, IsRefusedTogether}
@@ -115,6 +116,35 @@ pub done_once : (s : Setting) (b : Standing) (batches : List Batch) (known n : �
 done_once s b batches known n left e f bytes count single = refused_together s b batches known n left e f (met_done s batches b.records known b.told left bytes) (inr count)
 
 -- ---- an arrival
+
+-- that brings an end, at which nothing is done
+seat_there : (seats : List Seat) (r : ℕ) → r < length seats → (x : Seat) × (slice_get seats r ≡ Some x)
+seat_there [] r h = absurd (omega arith)
+seat_there (x ∷ seats) zero h = (x, refl)
+seat_there (x ∷ seats) (suc r) h = seat_there seats r (omega arith)
+
+pub arrival_ended : (s : Setting) (b : Standing) (r n : ℕ) (i : RankItem) (memory : Bool) (left : Option (List ℕ)) → i ≡ item.Ended memory → r < length b.seats → left ≡ b.told → n ≡ b.records
+    → IsRefusedArrival s (r, i) b left n
+arrival_ended s b r n i memory left is low same count = subst (λ (j : RankItem). IsRefusedArrival s (r, j) b left n) (sym is) (by_told b.told same)
+  where
+    held : List ℕ → List ℕ
+    held file = covered s.header (flat_map puts_of (step_offers (desk_at b file) (r, item.Ended memory)))
+
+    kept : (file : List ℕ) → IsLeft s.header (held file) (counted file b.records) (counted file b.records) file n
+    kept file = (
+      torn_by (held file) (byte_len (count_width s.header.version)) file file file (omega arith) (omega arith) (λ x h. inl refl) (λ x h l k. inl refl) (λ x h k. refl),
+      inl count,
+    )
+
+    by_told : (m : Option (List ℕ)) → left ≡ m
+        → IfSome m (λ file. (now : List ℕ) × (left ≡ Some now) × IsLeft s.header (held file) (counted file b.records) (event s (desk_at b file) (r, item.Ended memory)).desk.state now n)
+    by_told None f = tt
+    by_told (Some file) f =
+        let there = seat_there b.seats r low in (
+          file,
+          f,
+          subst (λ (v : Event). IsLeft s.header (held file) (counted file b.records) v.desk.state file n) (sym (event_is s (desk_at b file) r (item.Ended memory) there.0 there.1)) (kept file),
+        )
 
 -- that brings its number's own step
 pub arrival_alone : (s : Setting) (b : Standing) (r c n : ℕ) (i : RankItem) (o : Offer) (x : Seat) (left : Option (List ℕ)) → i ≡ item.Offer c o → slice_get b.seats r ≡ Some x → o.kind ≡ offer.Solo

@@ -69,6 +69,10 @@ impl Desk {
     {
         match item {
             RankItem::Ended { memory } => {
+                if memory {
+                    stop_held(rt, back, &self.seats);
+                    return Err(StepErr::Memory);
+                }
                 self.seats[number as usize].end(memory);
                 Ok(())
             }

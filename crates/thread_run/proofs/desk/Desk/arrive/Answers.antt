@@ -8,7 +8,7 @@ use Rattle.collective_round.specs.Rounds.{setting}
 use Rattle.thread_run.specs.Owned.{desk_of, standing}
 use Rattle.thread_run.proofs.ArriveSteps.{all_stopped, as_item, done_alone, done_ended, done_held, done_together, good_at, held_as, on_ok_three, seat_read, steady_alone, steady_ended, steady_held, stopped_as}
 use Rattle.turn_run.proofs.ListLaws.{get_read}
-use Rattle.thread_run.proofs.RefusedSteps.{arrival_alone, arrival_together}
+use Rattle.thread_run.proofs.RefusedSteps.{arrival_alone, arrival_ended, arrival_together}
 use Rattle.thread_run.proofs.desk.Desk.arrive.Goals as goal
 
 pub do_alone-requires-clause-fit : goal.do_alone-requires-clause-fit
@@ -32,15 +32,20 @@ do_together-requires-clause-steady g c κs within =
     (held_as good.seat c.index_mut-in-Meet.result.now c.hold.new.self c.in-Offer.offer (seat_read c.args.self.now.seats.items c.args.number good.seat c.index_mut-in-Meet.result.now good.there c.index_mut-in-Meet.ensures.value)
     c.hold.ensures) c.in-Meet.is
 
-pub returns-in-Ended-clause-done : goal.returns-in-Ended-clause-done
-returns-in-Ended-clause-done g c =
+pub returns-then-memory-clause-refused : goal.returns-then-memory-clause-refused
+returns-then-memory-clause-refused g c = λ held single.
+    let b = standing c.args.self.now c.args.records.now (g.D.Disk.held c.args.disk.now) (g.D.Disk.calls c.args.disk.now) (g.T.Told.heard c.args.told.now) c.args.back.now in
+    arrival_ended (setting c.args.header.now c.args.hints.now) b c.args.number c.args.records.now c.args.item c.in-Ended.memory (g.D.Disk.held c.args.disk.now) c.in-Ended.is c.requires.number refl refl
+
+pub returns-else-memory-clause-done : goal.returns-else-memory-clause-done
+returns-else-memory-clause-done g c =
     let b = standing c.args.self.now c.args.records.now (g.D.Disk.held c.args.disk.now) (g.D.Disk.calls c.args.disk.now) (g.T.Told.heard c.args.told.now) c.args.back.now in
     as_item c.args.hints.now (setting c.args.header.now c.args.hints.now) c.args.number c.args.item (item.Ended c.in-Ended.memory) b _ c.in-Ended.is
     (done_ended c.args.hints.now (setting c.args.header.now c.args.hints.now) b c.args.number c.index_mut.result.now c.end.new.self c.in-Ended.memory
     (get_read c.args.self.now.seats.items c.args.number c.index_mut.result.now c.requires.number c.index_mut.ensures.value) c.end.ensures)
 
-pub returns-in-Ended-clause-steady : goal.returns-in-Ended-clause-steady
-returns-in-Ended-clause-steady g c =
+pub returns-else-memory-clause-steady : goal.returns-else-memory-clause-steady
+returns-else-memory-clause-steady g c =
     let b = standing c.args.self.now c.args.records.now (g.D.Disk.held c.args.disk.now) (g.D.Disk.calls c.args.disk.now) (g.T.Told.heard c.args.told.now) c.args.back.now in
     steady_ended c.args.header.now (g.D.Disk.len c.args.disk.now) b c.args.number c.index_mut.result.now c.end.new.self c.in-Ended.memory c.requires.steady
     (get_read c.args.self.now.seats.items c.args.number c.index_mut.result.now c.requires.number c.index_mut.ensures.value) c.end.ensures
@@ -76,7 +81,7 @@ returns-then-all_hold-clause-done g c =
     as_item c.args.hints.now (setting c.args.header.now c.args.hints.now) c.args.number c.args.item (item.Offer c.in-Offer.call c.in-Offer.offer) b now c.in-Offer.is
     (done_together c.args.hints.now (setting c.args.header.now c.args.hints.now) b now c.args.number c.in-Offer.call c.in-Offer.offer good.seat c.hold.new.self c.in-Meet.field-0 good.there
     (held_as good.seat c.index_mut-in-Meet.result.now c.hold.new.self c.in-Offer.offer (seat_read c.args.self.now.seats.items c.args.number good.seat c.index_mut-in-Meet.result.now good.there c.index_mut-in-Meet.ensures.value)
-    c.hold.ensures) c.in-Meet.is (ap (λ ss. list_all holds ss) (sym c.deref.ensures.value) ∙ sym c.all_hold.ensures ∙ c.if-all_hold.true) h)) c.do_together.ensures.done
+    c.hold.ensures) c.in-Meet.is (ap (λ ss. list_all holds ss) (sym c.deref-in-Meet.ensures.value) ∙ sym c.all_hold.ensures ∙ c.if-all_hold.true) h)) c.do_together.ensures.done
 
 pub returns-then-all_hold-clause-stopped : goal.returns-then-all_hold-clause-stopped
 returns-then-all_hold-clause-stopped g c =
@@ -86,7 +91,7 @@ returns-then-all_hold-clause-stopped g c =
     on_err_weaker c.do_together.result (λ h.
     stopped_as (desk_of c.args.self.now [] 0) c.args.number c.args.item (item.Offer c.in-Offer.call c.in-Offer.offer) c.args.back.now c.do_together.new.back c.in-Offer.is
     (all_stopped (desk_of c.args.self.now [] 0) c.args.number c.in-Offer.call c.in-Offer.offer good.seat c.hold.new.self c.args.back.now c.do_together.new.back good.there good.free
-    (ap (λ ss. list_all holds ss) (sym c.deref.ensures.value) ∙ sym c.all_hold.ensures ∙ c.if-all_hold.true) c.requires.steady.one_each h)) c.do_together.ensures.stopped
+    (ap (λ ss. list_all holds ss) (sym c.deref-in-Meet.ensures.value) ∙ sym c.all_hold.ensures ∙ c.if-all_hold.true) c.requires.steady.one_each h)) c.do_together.ensures.stopped
 
 pub returns-else-all_hold-clause-done : goal.returns-else-all_hold-clause-done
 returns-else-all_hold-clause-done g c =
@@ -96,7 +101,7 @@ returns-else-all_hold-clause-done g c =
     as_item c.args.hints.now (setting c.args.header.now c.args.hints.now) c.args.number c.args.item (item.Offer c.in-Offer.call c.in-Offer.offer) b _ c.in-Offer.is
     (done_held c.args.hints.now (setting c.args.header.now c.args.hints.now) b c.args.number c.in-Offer.call c.in-Offer.offer good.seat c.hold.new.self c.in-Meet.field-0 good.there
     (held_as good.seat c.index_mut-in-Meet.result.now c.hold.new.self c.in-Offer.offer (seat_read c.args.self.now.seats.items c.args.number good.seat c.index_mut-in-Meet.result.now good.there c.index_mut-in-Meet.ensures.value)
-    c.hold.ensures) c.in-Meet.is (ap (λ ss. list_all holds ss) (sym c.deref.ensures.value) ∙ sym c.all_hold.ensures ∙ c.if-all_hold.false))
+    c.hold.ensures) c.in-Meet.is (ap (λ ss. list_all holds ss) (sym c.deref-in-Meet.ensures.value) ∙ sym c.all_hold.ensures ∙ c.if-all_hold.false))
 
 pub returns-else-all_hold-clause-steady : goal.returns-else-all_hold-clause-steady
 returns-else-all_hold-clause-steady g c =
@@ -125,4 +130,4 @@ returns-then-all_hold-clause-refused g c =
     arrival_together (setting c.args.header.now c.args.hints.now) b c.args.number c.in-Offer.call c.do_together.new.records c.args.item c.in-Offer.offer good.seat c.hold.new.self c.in-Meet.field-0
     (g.D.Disk.held c.do_together.new.disk) c.in-Offer.is good.there
     (held_as good.seat c.index_mut-in-Meet.result.now c.hold.new.self c.in-Offer.offer (seat_read c.args.self.now.seats.items c.args.number good.seat c.index_mut-in-Meet.result.now good.there c.index_mut-in-Meet.ensures.value)
-    c.hold.ensures) c.in-Meet.is (ap (λ ss. list_all holds ss) (sym c.deref.ensures.value) ∙ sym c.all_hold.ensures ∙ c.if-all_hold.true) h) c.do_together.ensures.refused
+    c.hold.ensures) c.in-Meet.is (ap (λ ss. list_all holds ss) (sym c.deref-in-Meet.ensures.value) ∙ sym c.all_hold.ensures ∙ c.if-all_hold.true) h) c.do_together.ensures.refused
