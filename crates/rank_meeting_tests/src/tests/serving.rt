@@ -6,7 +6,7 @@ use crate::tests::attending::reply;
 use crate::tests::scripts::{HINTS, four_ints, two_alone};
 use nc_base::{
     Batch, Blob, BlobList, Items, Mark, MeetKind, Offer, OfferKind, OwnerItem, PostList, RankStop,
-    Script, ServeEnd,
+    Script, ServeEnd, StepErr,
 };
 use nc_outside::{Deaf, MemDisk, OpenGate, Told};
 use rank_core::Names;
@@ -52,8 +52,8 @@ pub(crate) fn served<R: Threads + Wait + Sync, T: Told>(
     ))
 }
 
-/// The first offer of a rank that begins independent calls and knows of five records, of which there is none.
-fn strange(alloc: Global) -> SentItem {
+/// The first offer of a rank that begins independent calls, and knows of so many records.
+fn begins(alloc: Global, known: u64) -> SentItem {
     let batch = Batch {
         puts: PostList::new(alloc),
         gets: PostList::new(alloc),
@@ -62,7 +62,7 @@ fn strange(alloc: Global) -> SentItem {
         0,
         Offer {
             kind: OfferKind::Meet(MeetKind::Begin),
-            known: 5,
+            known,
             batch,
         },
     )
@@ -85,7 +85,7 @@ fn a_count_that_nobody_reached_is_strange(rt: HostRuntime) -> Result<(), Fail> {
     let mut lines = LinePutList::from_vec(vec![in alloc; first, second]?);
     for mut sender in senders.into_vec() {
         if sender.number() == 0 {
-            sender.put(&rt, strange(alloc));
+            sender.put(&rt, begins(alloc, 5));
         }
         sender.put(&rt, SentItem::ended(false));
     }
@@ -99,6 +99,30 @@ fn a_count_that_nobody_reached_is_strange(rt: HostRuntime) -> Result<(), Fail> {
     assert_eq!(rt; to_first.take(&rt), OwnerItem::Stop);
     lines.put_on(&rt, 1, OwnerItem::Stop);
     assert_eq!(rt; to_second.take(&rt), OwnerItem::Stop);
+    Ok(())
+}
+
+// Rank 0 waits for a meeting to which rank 1 never comes.
+#[test]
+fn want_of_memory_of_one_rank_stops_the_other(rt: HostRuntime) -> Result<(), Fail> {
+    let alloc = rt.alloc();
+    let (senders, mut taken) = inbox::<SentItem>(alloc, 8, 2)?;
+    let (first, mut to_first) = line::<OwnerItem>(alloc, 4)?;
+    let (second, _to_second) = line::<OwnerItem>(alloc, 4)?;
+    let mut lines = LinePutList::from_vec(vec![in alloc; first, second]?);
+    for mut sender in senders.into_vec() {
+        let is_second = sender.number() == 1;
+        if !is_second {
+            sender.put(&rt, begins(alloc, 0));
+        }
+        sender.put(&rt, SentItem::ended(is_second));
+    }
+    let mut disk = disk_of_zeros(alloc)?;
+    let end = served(&rt, alloc, &mut disk, &mut taken, &mut lines, &mut Deaf)?;
+    assert!(rt; end.order.is_empty());
+    assert_eq!(rt; end.fault, Some(StepErr::Memory));
+    assert_eq!(rt; end.stranger, None);
+    assert_eq!(rt; to_first.take(&rt), OwnerItem::Stop);
     Ok(())
 }
 
