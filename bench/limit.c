@@ -163,13 +163,11 @@ static void print_vector(uint32_t n, uint32_t begin)
 
 /* ---- the rows */
 
-/* Two fields over records, record after record, and eight columns of each record read back. */
-static int generate(int file, uint64_t seed, uint32_t size)
+/* Two fields over so many records. */
+static uint32_t fields_header(uint32_t records)
 {
-    static uint32_t temp[PLACES];
-    static uint16_t precip[PLACES];
-    const uint32_t begin = 160, recsize = sizeof temp + sizeof precip;
-    begin_header(size);
+    const uint32_t temp = 4 * PLACES, precip = 2 * PLACES;
+    begin_header(records);
     list(DIMENSIONS, 3);
     dimension("t", 0);
     dimension("y", ROWS);
@@ -178,14 +176,39 @@ static int generate(int file, uint64_t seed, uint32_t size)
     list(VARIABLES, 2);
     variable("temp", 3);
     list(ATTRIBUTES, 0);
-    end_variable(FLOAT, sizeof temp, begin);
+    uint32_t begin = 160;
+    end_variable(FLOAT, temp, begin);
     variable("precip", 3);
     list(ATTRIBUTES, 0);
-    end_variable(SHORT, sizeof precip, begin + sizeof temp);
+    end_variable(SHORT, precip, begin + temp);
     need(head_len == begin, "the header has another length");
+    return begin;
+}
+
+static uint32_t temp[PLACES];
+static uint16_t precip[PLACES];
+static const uint32_t recsize = sizeof temp + sizeof precip;
+
+static void write_record(int file, off_t at)
+{
+    write_at(file, temp, sizeof temp, at);
+    write_at(file, precip, sizeof precip, at + sizeof temp);
+}
+
+/* From the first to the last of the columns that are read. */
+static void read_record(int file, off_t at)
+{
+    const size_t hull = (ROWS - 1) * COLUMNS + (RANKS - 1) * COLUMN_STEP + 1;
+    read_at(file, temp, hull * sizeof *temp, at);
+    read_at(file, precip, hull * sizeof *precip, at + sizeof temp);
+}
+
+/* The made run: record after record, and eight columns of each read back. */
+static int generate(int file, uint64_t seed, uint32_t size)
+{
+    uint32_t begin = fields_header(size);
     write_at(file, head, head_len, 0);
     for (uint32_t t = 0; t < size; t++) {
-        off_t at = begin + (off_t)t * recsize;
         for (uint32_t y = 0; y < ROWS; y++)
             for (uint32_t x = 0; x < COLUMNS; x++) {
                 uint64_t warm = seed % (1 << 23) + 64800 * t + 360 * y + x;
@@ -193,15 +216,11 @@ static int generate(int file, uint64_t seed, uint32_t size)
                 temp[y * COLUMNS + x] = htobe32(0x3F800000 + warm % (1 << 23));
                 precip[y * COLUMNS + x] = htobe16((int)(wet % 20001) - 10000);
             }
-        write_at(file, temp, sizeof temp, at);
-        write_at(file, precip, sizeof precip, at + sizeof temp);
+        write_record(file, begin + (off_t)t * recsize);
     }
     int64_t sum = 0;
-    const size_t hull = (ROWS - 1) * COLUMNS + (RANKS - 1) * COLUMN_STEP + 1;
     for (uint32_t t = 0; t < size; t++) {
-        off_t at = begin + (off_t)t * recsize;
-        read_at(file, temp, hull * sizeof *temp, at);
-        read_at(file, precip, hull * sizeof *precip, at + sizeof temp);
+        read_record(file, begin + (off_t)t * recsize);
         for (uint32_t y = 0; y < ROWS; y++)
             for (uint32_t rank = 0; rank < RANKS; rank++) {
                 uint32_t place = y * COLUMNS + rank * COLUMN_STEP;
@@ -213,6 +232,63 @@ static int generate(int file, uint64_t seed, uint32_t size)
            seed, size, RANKS, RANKS * (3 * size + 4), size + 2);
     printf("put %" PRIu32 "\ngot %" PRIu32 "\nrefused 0\nsum %" PRId64 "\nrecords %" PRIu32 "\nfile %" PRIu64 "\n",
            2 * PLACES * size, 2 * RANKS * ROWS * size, sum, size, begin + (uint64_t)size * recsize);
+    return 0;
+}
+
+/* What one rank is answered: it put a band of both fields in each record, and read a column of all records. */
+static void print_columns(uint32_t n, uint32_t rank, const uint32_t *warm, const uint16_t *wet)
+{
+    printf("rank %" PRIu32 "\n", rank);
+    for (uint32_t k = 0; k < 2 * n; k++)
+        printf("%" PRIu32 " put_vara_all ok\n", k);
+    printf("%" PRIu32 " get_vara_all ok", 2 * n);
+    for (uint32_t k = 0; k < n * ROWS; k++)
+        printf(" x%08" PRIX32, be32toh(warm[k * RANKS + rank]));
+    printf("\n%" PRIu32 " get_vara_all ok", 2 * n + 1);
+    for (uint32_t k = 0; k < n * ROWS; k++)
+        printf(" %d", (int16_t)be16toh(wet[k * RANKS + rank]));
+    printf("\npending 0\n");
+}
+
+/* The two fields of one record, as the ranks put their bands. */
+static void make_record(uint32_t t)
+{
+    for (uint32_t rank = 0; rank < RANKS; rank++)
+        for (uint32_t first = ROWS * rank / RANKS * COLUMNS, k = first; k < ROWS * (rank + 1) / RANKS * COLUMNS; k++) {
+            temp[k] = htobe32(0x3F800000 + PLACES * t + k);
+            precip[k] = htobe16((int)(t + k - first) - 4140);
+        }
+}
+
+/* n records of two fields, and a column of all of them read back for each rank. */
+static int fields(int file, uint32_t n)
+{
+    uint32_t *warm = malloc((size_t)n * ROWS * RANKS * sizeof *warm);
+    uint16_t *wet = malloc((size_t)n * ROWS * RANKS * sizeof *wet);
+    need(warm != NULL && wet != NULL, "no memory");
+    uint32_t begin = fields_header(n), kept = 0;
+    write_at(file, head, head_len, 0);
+    for (uint32_t t = 0; t < n; t++) {
+        make_record(t);
+        write_record(file, begin + (off_t)t * recsize);
+    }
+    for (uint32_t t = 0; t < n; t++) {
+        read_record(file, begin + (off_t)t * recsize);
+        for (uint32_t y = 0; y < ROWS; y++)
+            for (uint32_t rank = 0; rank < RANKS; rank++, kept++) {
+                warm[kept] = temp[y * COLUMNS + rank * COLUMN_STEP];
+                wet[kept] = precip[y * COLUMNS + rank * COLUMN_STEP];
+            }
+    }
+    print_start(RANKS, 2 * n + 2);
+    for (uint32_t rank = 0; rank < RANKS; rank++)
+        print_columns(n, rank, warm, wet);
+    print_format(begin);
+    printf("  t = UNLIMITED // (%" PRIu32 " currently)\n  y = %d\n  x = %d\nfixed-size variables:\nrecord variables:\n", n, ROWS, COLUMNS);
+    print_variable("float temp(t, y, x)", begin, sizeof temp);
+    print_variable("short precip(t, y, x)", begin + sizeof temp, sizeof precip);
+    free(warm);
+    free(wet);
     return 0;
 }
 
@@ -446,6 +522,8 @@ static const struct row {
     {"waits", waits, NULL},
     {"attributes", attributes, before_attributes},
     {"column", column, before_column},
+    {"fields", fields, NULL},
+    {"fields_unthreaded", fields, NULL},
     {"aggregators", rows_of_doubles, NULL},
     {"unthreaded", rows_of_doubles, NULL},
 };

@@ -5,7 +5,8 @@
 """
 import sys
 
-RANKS = 8           # of the rows variables, aggregators and unthreaded
+RANKS = 8           # of the rows variables, fields, aggregators and those beside them on one thread
+ROWS_OF_FIELD, COLUMNS, COLUMN_STEP = 180, 360, 45
 COLUMN = 3          # the column that is read
 DOUBLES = 2 ** 17   # a row of 1 MiB
 STEP = 512          # of so many doubles of a row one is read
@@ -44,6 +45,32 @@ def column(n):
     return ["open", "ranks 1", "data", f"0 get_vara_all v [0,{COLUMN}] [{n},1]"]
 
 
+def records(n, threads):
+    """n records of a field of floats and one of shorts: each of 8 ranks writes its band of rows, by a call for each record and field, and reads a
+    column of all records."""
+    lines = ["create 1", f"ranks {RANKS}", f"hint threads {threads}", "dim t unlimited", f"dim y {ROWS_OF_FIELD}", f"dim x {COLUMNS}",
+             "var float temp [t,y,x]", "var short precip [t,y,x]", "data"]
+    for rank in range(RANKS):
+        y0, y1 = ROWS_OF_FIELD * rank // RANKS, ROWS_OF_FIELD * (rank + 1) // RANKS
+        band, size = f"{y0},0] [1,{y1 - y0},{COLUMNS}]", (y1 - y0) * COLUMNS
+        for t in range(n):
+            lines.append(f"{rank} put_vara_all temp [{t},{band} seqx {size} x{0x3F800000 + ROWS_OF_FIELD * COLUMNS * t + COLUMNS * y0:X} x1")
+            lines.append(f"{rank} put_vara_all precip [{t},{band} seq {size} {t - 4140} 1")
+        for name in ("temp", "precip"):
+            lines.append(f"{rank} get_vara_all {name} [0,0,{COLUMN_STEP * rank}] [{n},{ROWS_OF_FIELD},1]")
+    return lines
+
+
+def fields(n):
+    """Records by ranks and aggregators side by side."""
+    return records(n, "on")
+
+
+def fields_unthreaded(n):
+    """The same on one thread."""
+    return records(n, "off")
+
+
 def rows(n, threads):
     """n rows of 1 MiB: each of 8 ranks writes every eighth of them, all by one call, and reads an element of each 4 KiB of it. There are 8 aggregators."""
     lines = ["create 1", f"ranks {RANKS}", f"hint cb_nodes {RANKS}", f"hint threads {threads}",
@@ -66,7 +93,8 @@ def unthreaded(n):
     return rows(n, "off")
 
 
-ROWS = {"aggregators": aggregators, "unthreaded": unthreaded, "calls": calls, "variables": variables, "waits": waits, "attributes": attributes, "column": column}
+ROWS = {"fields": fields, "fields_unthreaded": fields_unthreaded, "aggregators": aggregators, "unthreaded": unthreaded, "calls": calls, "variables": variables,
+        "waits": waits, "attributes": attributes, "column": column}
 
 
 def script(row, n):
