@@ -4,6 +4,7 @@
 //! start, count and stride for each dimension of its variable, in elements, the slowest dimension first.
 #![tactic(auto)]
 
+mod boxes;
 mod causes;
 mod forms;
 mod laws;

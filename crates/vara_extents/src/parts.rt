@@ -1,13 +1,13 @@
 // Many boxes of one call.
-ghost use Rattle.std.specs.Prelude.{◌≡◌, ◌+◌, map, min, max, slice_get, IfOk, IfErr, OnOk};
+ghost use Rattle.std.specs.Prelude.{◌≡◌, map, slice_get, IfOk, IfErr, OnOk};
 ghost use Rattle.nc_base.specs.declared.answer.Code.TheVariants as code;
 ghost use Rattle.serial_spec.specs.Layout.{product};
 ghost use Rattle.serial_spec.specs.RegionCheck as spec;
 ghost use Rattle.var_layout.specs.Capped.{capped};
 ghost use Rattle.var_layout.specs.Measures.{AreMeasures};
-ghost use Rattle.vara_extents.specs.Boxes.{boxes_meet, meets_any, some_meet};
 ghost use Rattle.vara_extents.specs.Parts.{code_by_boxes, parts_code, without_variable, IsRefusal};
 
+use crate::boxes::some_meet;
 use crate::causes::check_var;
 use crate::forms::repeated;
 use crate::needs::{element_count, sum, variable};
@@ -19,8 +19,8 @@ use var_layout::Measures;
 
 /// Whether a call of form `varn` is refused. The first of these causes answers, an order that is this project's: that of
 /// the first part that `check` refuses, as a region of its own with strides of 1; `ETooLarge` for parts that together have
-/// more than 2^20 elements; for a put, `ESelf` for two parts that share an element. Pairs of parts are compared, not
-/// elements. A copy of the parts is made meanwhile, for want of which `Memory` answers.
+/// more than 2^20 elements; for a put, `ESelf` for two parts that share an element. A copy of the parts is made meanwhile,
+/// for want of which `Memory` answers.
 pub fn check_parts(
     alloc: Global,
     header: &Header,
@@ -102,7 +102,7 @@ fn code_of(
     ensures { IfOk result (λ c. c ≡ spec.check_parts header.now var.now (map (spec.part_region var.now) parts.now) known direction) }
 {
     let regions = part_regions(alloc, var, parts)?;
-    Ok(code_by_boxes(header, measures, var, regions.as_slice(), known, direction))
+    Ok(code_by_boxes(header, measures, var, regions, known, direction))
 }
 
 /// The parts as regions of their own.
@@ -133,18 +133,18 @@ fn code_by_boxes(
     header: &Header,
     measures: &Measures,
     var: &Var,
-    regions: &[Region],
+    regions: Vec<Region>,
     known: u64,
     direction: Direction,
 ) -> Code
     requires measured { AreMeasures header.now measures.now }
-    ensures { result ≡ code_by_boxes header.now var.now regions.now known direction }
+    ensures { result ≡ code_by_boxes header.now var.now regions.items known direction }
 {
-    let refusal = first_refusal(header, measures, var, regions, known, direction);
+    let refusal = first_refusal(header, measures, var, regions.as_slice(), known, direction);
     if !is_ok(refusal) {
         return refusal;
     }
-    if elements_of_all(regions) > MAX_ELEMENTS {
+    if elements_of_all(regions.as_slice()) > MAX_ELEMENTS {
         return Code::ETooLarge;
     }
     if is_put(direction) && some_meet(regions) {
@@ -218,67 +218,4 @@ fn elements_of(region: &Region) -> u64
     ensures { result ≡ capped (product region.now.count) }
 {
     element_count(region.count.as_slice())
-}
-
-/// Whether two parts share an element.
-fn some_meet(regions: &[Region]) -> bool
-    ensures { result ≡ some_meet regions.now }
-{
-    for (k, region) in regions.iter().enumerate() {
-        let (_, later) = regions.split_at(k + 1);
-        if meets_any(region, later) {
-            return true;
-        }
-    }
-    false
-}
-
-/// Whether a part shares an element with one of others.
-fn meets_any(region: &Region, others: &[Region]) -> bool
-    ensures { result ≡ meets_any region.now others.now }
-{
-    for other in others {
-        if regions_meet(region, other) {
-            return true;
-        }
-    }
-    false
-}
-
-fn regions_meet(region: &Region, other: &Region) -> bool
-    ensures { result ≡ boxes_meet region.now.start region.now.count other.now.start other.now.count }
-{
-    meet(
-        region.start.as_slice(),
-        region.count.as_slice(),
-        other.start.as_slice(),
-        other.count.as_slice(),
-    )
-}
-
-/// Whether two boxes share an index.
-fn meet(starts: &[u64], counts: &[u64], others: &[u64], lengths: &[u64]) -> bool
-    ensures { result ≡ boxes_meet starts.now counts.now others.now lengths.now }
-{
-    let [start, starts @ ..] = starts else {
-        return counts.is_empty() && others.is_empty() && lengths.is_empty();
-    };
-    let [count, counts @ ..] = counts else {
-        return false
-    };
-    let [other, others @ ..] = others else {
-        return false
-    };
-    let [length, lengths @ ..] = lengths else {
-        return false
-    };
-    let end = last(*start, *count).min(last(*other, *length));
-    u128::from(*start.max(other)) < end && meet(starts, counts, others, lengths)
-}
-
-/// Where a range ends.
-fn last(start: u64, count: u64) -> u128
-    ensures { result ≡ start + count }
-{
-    u128::from(start) + u128::from(count)
 }
