@@ -108,7 +108,7 @@ later_past : (g other : Region) (others : List Region) → is_past g.start g.cou
 later_past g other [] h up = refl
 later_past g other (x ∷ others) h up =
     λ j. past_apart g.start g.count x.start x.count (past_on g.start g.count other.start x.start h (All-head (BeginsBy other) x others up)) j
-        || later_past g other others h (All-tail (BeginsBy other) x others up) j
+    || later_past g other others h (All-tail (BeginsBy other) x others up) j
 
 -- from the first that begins past a region on, none shares an element with it
 pub none_later : (g : Region) (others : List Region) (i : ℕ) (d : Region) → AreByStart others → i < length others
@@ -168,7 +168,7 @@ none_meet : (xs : List Region) → AllApart xs → some_meet xs ≡ false
 none_meet [] h = refl
 none_meet (x ∷ xs) h =
     λ k. none_meets x xs (λ j d l. h 0 (suc j) d (omega arith) (omega (arith, l)) (λ p. omega (arith, p))) k
-        || none_meet xs (λ i j d l m n. h (suc i) (suc j) d (omega (arith, l)) (omega (arith, m)) (λ p. n (omega (arith, p)))) k
+    || none_meet xs (λ i j d l m n. h (suc i) (suc j) d (omega (arith, l)) (omega (arith, m)) (λ p. n (omega (arith, p)))) k
 
 swapped_apart : (xs : List Region) (a b : ℕ) → a < length xs → b < length xs → AllApart xs → AllApart (swap xs a b)
 swapped_apart xs a b p q h i j d l m n = by_place (place i) (place j)

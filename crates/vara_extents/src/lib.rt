@@ -13,7 +13,7 @@ mod parts;
 mod runs;
 mod walk;
 
-pub use causes::check;
+pub use causes::{Ends, check};
 pub use forms::widen;
 pub use laws::{extents_law, writing_law};
 pub use needs::records_needed;

@@ -1,14 +1,15 @@
 // Many boxes of one call.
-ghost use Rattle.std.specs.Prelude.{◌≡◌, map, slice_get, IfOk, IfErr, OnOk};
+ghost use Rattle.std.specs.Prelude.{◌≡◌, map, nat_lt, slice_get, IfOk, IfErr, OnOk};
 ghost use Rattle.nc_base.specs.declared.answer.Code.TheVariants as code;
 ghost use Rattle.serial_spec.specs.Layout.{product};
+ghost use Rattle.serial_spec.specs.Limits.{most_elements};
 ghost use Rattle.serial_spec.specs.RegionCheck as spec;
 ghost use Rattle.var_layout.specs.Capped.{capped};
 ghost use Rattle.var_layout.specs.Measures.{AreMeasures};
-ghost use Rattle.vara_extents.specs.Parts.{code_by_boxes, parts_code, without_variable, IsRefusal};
+ghost use Rattle.vara_extents.specs.Parts.{code_by_boxes, parts_code, together_code, without_variable, IsRefusal};
 
 use crate::boxes::some_meet;
-use crate::causes::check_var;
+use crate::causes::{Ends, check_var};
 use crate::forms::repeated;
 use crate::needs::{element_count, sum, variable};
 use nc_base::{
@@ -27,14 +28,13 @@ pub fn check_parts(
     measures: &Measures,
     var: usize,
     given: &Given,
-    known: u64,
-    direction: Direction,
+    ends: Ends,
 ) -> Result<(), CallErr>
     requires measured { AreMeasures header.now measures.now }
-    ensures ok { OnOk result (parts_code header.now var given.now known direction ≡ code.Ok) }
-    ensures refused { IfErr result (IsRefusal (parts_code header.now var given.now known direction)) }
+    ensures ok { OnOk result (parts_code header.now var given.now ends.known ends.direction ≡ code.Ok) }
+    ensures refused { IfErr result (IsRefusal (parts_code header.now var given.now ends.known ends.direction)) }
 {
-    match parts_code(alloc, header, measures, var, given, known, direction) {
+    match parts_code(alloc, header, measures, var, given, ends) {
         Ok(code) => as_result(code),
         Err(_) => Err(CallErr::Memory),
     }
@@ -59,23 +59,14 @@ fn parts_code(
     measures: &Measures,
     var: usize,
     given: &Given,
-    known: u64,
-    direction: Direction,
+    ends: Ends,
 ) -> Result<Code, Memory>
     requires measured { AreMeasures header.now measures.now }
-    ensures { IfOk result (λ c. c ≡ parts_code header.now var given.now known direction) }
+    ensures { IfOk result (λ c. c ≡ parts_code header.now var given.now ends.known ends.direction) }
 {
     match variable(header, var) {
         None => Ok(without_variable(given.parts.as_slice())),
-        Some(var) => code_of(
-            alloc,
-            header,
-            measures,
-            var,
-            given.parts.as_slice(),
-            known,
-            direction,
-        ),
+        Some(var) => code_of(alloc, header, measures, var, given.parts.as_slice(), ends),
     }
 }
 
@@ -95,14 +86,13 @@ fn code_of(
     measures: &Measures,
     var: &Var,
     parts: &[Part],
-    known: u64,
-    direction: Direction,
+    ends: Ends,
 ) -> Result<Code, Memory>
     requires measured { AreMeasures header.now measures.now }
-    ensures { IfOk result (λ c. c ≡ spec.check_parts header.now var.now (map (spec.part_region var.now) parts.now) known direction) }
+    ensures { IfOk result (λ c. c ≡ spec.check_parts header.now var.now (map (spec.part_region var.now) parts.now) ends.known ends.direction) }
 {
     let regions = part_regions(alloc, var, parts)?;
-    Ok(code_by_boxes(header, measures, var, regions, known, direction))
+    Ok(code_by_boxes(header, measures, var, regions, ends))
 }
 
 /// The parts as regions of their own.
@@ -128,29 +118,44 @@ fn part_region(alloc: Global, var: &Var, part: &Part) -> Result<Region, Memory>
     })
 }
 
-#[tactic(auto, unfolding(crate::specs::Parts::code_by_boxes))]
 fn code_by_boxes(
     header: &Header,
     measures: &Measures,
     var: &Var,
     regions: Vec<Region>,
-    known: u64,
-    direction: Direction,
+    ends: Ends,
 ) -> Code
     requires measured { AreMeasures header.now measures.now }
-    ensures { result ≡ code_by_boxes header.now var.now regions.items known direction }
+    ensures { result ≡ code_by_boxes header.now var.now regions.items ends.known ends.direction }
 {
-    let refusal = first_refusal(header, measures, var, regions.as_slice(), known, direction);
+    let refusal = first_refusal(header, measures, var, regions.as_slice(), ends);
     if !is_ok(refusal) {
         return refusal;
     }
-    if elements_of_all(regions.as_slice()) > MAX_ELEMENTS {
+    together_code(regions, ends.direction)
+}
+
+/// The code of parts of which none is refused by itself.
+fn together_code(regions: Vec<Region>, direction: Direction) -> Code
+    ensures { result ≡ together_code regions.items direction }
+{
+    if has_too_many(regions.as_slice()) {
         return Code::ETooLarge;
     }
-    if is_put(direction) && some_meet(regions) {
+    if !is_put(direction) {
+        return Code::Ok;
+    }
+    if some_meet(regions) {
         return Code::ESelf;
     }
     Code::Ok
+}
+
+/// Whether the parts have too many elements together.
+fn has_too_many(regions: &[Region]) -> bool
+    ensures { result ≡ nat_lt most_elements (spec.elements_of_all regions.now) }
+{
+    elements_of_all(regions) > MAX_ELEMENTS
 }
 
 /// The code of the first part that is refused, or `Ok`.
@@ -159,14 +164,13 @@ fn first_refusal(
     measures: &Measures,
     var: &Var,
     regions: &[Region],
-    known: u64,
-    direction: Direction,
+    ends: Ends,
 ) -> Code
     requires measured { AreMeasures header.now measures.now }
-    ensures { result ≡ spec.first_refusal (map (λ g. spec.check_var header.now var.now g known direction) regions.now) }
+    ensures { result ≡ spec.first_refusal (map (λ g. spec.check_var header.now var.now g ends.known ends.direction) regions.now) }
 {
     for region in regions {
-        let code = region_code(header, measures, var, region, known, direction);
+        let code = region_code(header, measures, var, region, ends);
         if !is_ok(code) {
             return code;
         }
@@ -174,18 +178,11 @@ fn first_refusal(
     Code::Ok
 }
 
-fn region_code(
-    header: &Header,
-    measures: &Measures,
-    var: &Var,
-    region: &Region,
-    known: u64,
-    direction: Direction,
-) -> Code
+fn region_code(header: &Header, measures: &Measures, var: &Var, region: &Region, ends: Ends) -> Code
     requires measured { AreMeasures header.now measures.now }
-    ensures { result ≡ spec.check_var header.now var.now region.now known direction }
+    ensures { result ≡ spec.check_var header.now var.now region.now ends.known ends.direction }
 {
-    match check_var(header, measures, var, region, known, direction) {
+    match check_var(header, measures, var, region, ends.known, ends.direction) {
         Ok(()) => Code::Ok,
         Err(code) => code,
     }
