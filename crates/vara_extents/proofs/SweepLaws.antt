@@ -1,10 +1,10 @@
 -- Whether regions meet is the same in any order and without those that have no element, and the sweep over regions in the order of
 -- their first elements finds it.
-use Rattle.std.proofs.Common.{◌≡◌, ℕ, zero, suc, ◌+◌, ◌*◌, ◌<◌, ◌≤◌, ◌∙◌, ap, sym, refl, inl, inr, ◌⊎◌, List, [], ◌∷◌, length, drop, get_or, subst, Bool, true, false, cond, ltb, leb, eqb, ◌||◌, ◌&&◌, max, min, arith}
+use Rattle.std.proofs.Common.{◌≡◌, ℕ, zero, suc, ◌+◌, ◌*◌, ◌<◌, ◌≤◌, ◌∙◌, ap, sym, refl, inl, inr, ◌⊎◌, List, [], ◌∷◌, length, drop, get_or, subst, Bool, true, false, cond, ltb, eqb, ◌||◌, ◌&&◌, max, min, arith}
 use Rattle.std.specs.Prelude.{filter}
 use Rattle.std.specs.Cmp.Lexicographic.{slice_cmp}
 use Rattle.std.specs.Cmp.{IsStrictWeakOrder}
-use Rattle.std.specs.List.{swap, All, AllPairs}
+use Rattle.std.specs.List.{swap, All}
 use Rattle.std.specs.List.Sorted.{IsPermutation, IsSortedBy}
 use Rattle.std.specs.Ordering.{is_lt, nat_cmp, ordering_then}
 use Rattle.std.specs.declared.cmp.Ordering.TheVariants.{Less, Equal, Greater}
