@@ -8,5 +8,6 @@ pub mod PartLaws
 pub mod PlaceLaws
 pub mod RowSteps
 pub mod RunLaws
+pub mod SweepLaws
 pub mod WalkLaws
 pub mod WriteLaws

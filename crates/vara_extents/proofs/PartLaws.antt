@@ -163,6 +163,29 @@ unfolding code_by_boxes
 code_is header var parts known direction =
     by_code header var (map (part_region var) parts) known direction (refusal_of header var (map (part_region var) parts) known direction) refl (strides_of var parts)
 
+-- ---- the steps to the code by boxes
+
+pub refused_by : (header : Header) (var : Var) (parts : List Region) (known : ℕ) (direction : Direction) (c : Code)
+    → c ≡ refusal_of header var parts known direction → is_ok_code c ≡ false → c ≡ code_by_boxes header var parts known direction
+unfolding code_by_boxes
+refused_by header var parts known direction c h e =
+    h ∙ sym (ap (λ (b : Bool). cond b (together_code parts direction) (refusal_of header var parts known direction)) (ap is_ok_code (sym h) ∙ e))
+
+pub accepted_by : (header : Header) (var : Var) (parts : List Region) (known : ℕ) (direction : Direction) (c : Code)
+    → c ≡ refusal_of header var parts known direction → is_ok_code c ≡ true → together_code parts direction ≡ code_by_boxes header var parts known direction
+unfolding code_by_boxes
+accepted_by header var parts known direction c h e =
+    sym (ap (λ (b : Bool). cond b (together_code parts direction) (refusal_of header var parts known direction)) (ap is_ok_code (sym h) ∙ e))
+
+pub large_is : (parts listed : List Region) (direction : Direction) → listed ≡ parts → ltb most_elements (elements_of_all listed) ≡ true → code.ETooLarge ≡ together_code parts direction
+large_is parts listed direction same more =
+    sym (ap (λ (b : Bool). cond b code.ETooLarge (cond (is_put direction && some_meet parts) code.ESelf code.Ok)) (ap (λ (l : List Region). ltb most_elements (elements_of_all l)) (sym same) ∙ more))
+
+pub few_are : (parts listed : List Region) (direction : Direction) (put share : Bool) → listed ≡ parts → ltb most_elements (elements_of_all listed) ≡ false
+    → is_put direction ≡ put → some_meet parts ≡ share → cond (put && share) code.ESelf code.Ok ≡ together_code parts direction
+few_are parts listed direction put share same few p s =
+    sym (λ j. cond ((ap (λ (l : List Region). ltb most_elements (elements_of_all l)) (sym same) ∙ few) j) code.ETooLarge (cond (p j && s j) code.ESelf code.Ok))
+
 -- ---- the sum of the elements, one part more
 
 pub one_part_more : (parts : List Region) (k : ℕ) (d : Region) (s n : ℕ) → k < length parts

@@ -1,5 +1,8 @@
 -- Boxes of indices.
-use Rattle.std.specs.Prelude.{◌≡◌, ℕ, ◌+◌, max, min, List, [], ◌∷◌, length, replicate, Bool, true, false, ◌&&◌, ◌||◌, nat_lt}
+use Rattle.std.specs.Prelude.{◌≡◌, ◌==◌, ℕ, ◌+◌, max, min, List, [], ◌∷◌, length, replicate, Bool, true, false, ◌&&◌, ◌||◌, nat_lt}
+use Rattle.std.specs.Cmp.Lexicographic.{slice_cmp}
+use Rattle.std.specs.List.{AllPairs}
+use Rattle.std.specs.Ordering.{is_lt, nat_cmp}
 use Rattle.nc_base.specs.declared.request.Region.{Region}
 
 -- the ranges from the starts meet in each dimension
@@ -20,3 +23,15 @@ some_meet (g ∷ regions) = meets_any g regions || some_meet regions
 -- one start and one count for each dimension, with strides of 1
 abbrev pub IsBox : ℕ → Region → Type 0
 IsBox dims g = (length g.start ≡ dims) × (length g.count ≡ dims) × (g.stride ≡ replicate dims 1)
+
+-- the index comes after the last one of the box, in row-major order
+abbrev pub is_past : List ℕ → List ℕ → List ℕ → Bool
+is_past (s ∷ starts) (n ∷ counts) (x ∷ index) = nat_lt (s + n) (x + 1) || (x + 1 == s + n && is_past starts counts index)
+is_past _ _ _ = false
+
+-- the first region does not begin after the other, in row-major order
+abbrev pub BeginsBy : Region → Region → Type 0
+BeginsBy g h = is_lt (slice_cmp nat_cmp h.start g.start) ≡ false
+
+abbrev pub AreByStart : List Region → Type 0
+AreByStart regions = AllPairs BeginsBy regions

@@ -85,11 +85,12 @@ fn has_zero(strides: &[u64]) -> bool
     strides.iter().any(|stride| *stride == 0)
 }
 
-/// How far the record dimension goes.
+/// How far the record dimension goes: for a get to the known count of records, for a put without bound.
 #[derive(Clone, Copy)]
-struct Ends {
-    direction: Direction,
-    known: u64,
+pub struct Ends {
+    pub direction: Direction,
+    /// The count of records that the caller knows.
+    pub known: u64,
 }
 
 impl Ends {

@@ -1,5 +1,5 @@
 // What a form leaves out.
-ghost use Rattle.std.specs.Prelude.{◌≡◌, ◌<◌, length, map, replicate, true, slice_get, IfOk, IfSome, if◌then◌else◌, ◌==◌, ℕ, List};
+ghost use Rattle.std.specs.Prelude.{◌≡◌, ◌<◌, [], length, map, replicate, true, slice_get, IfOk, IfSome, if◌then◌else◌, ◌==◌, ℕ, List};
 ghost use Rattle.nc_base.specs.declared.request.Form.TheVariants as form;
 ghost use Rattle.serial_spec.specs.HeaderGrammar.{is_sound};
 ghost use Rattle.serial_spec.specs.RegionCheck as spec;
@@ -70,13 +70,20 @@ fn region_of(
             imap: given.imap.clone(alloc)?,
             packed: false,
         }),
-        Form::Varn => Ok(Region {
-            start: SizeList::new(alloc),
-            count: SizeList::new(alloc),
-            stride: SizeList::new(alloc),
-            imap: SizeList::new(alloc),
-            packed: true,
-        }),
+        Form::Varn => Ok(no_region(alloc)),
+    }
+}
+
+/// What stands for the region of a form that has parts in its place.
+fn no_region(alloc: Global) -> Region
+    ensures { result ≡ record { start = []; count = []; stride = []; imap = []; packed = true } }
+{
+    Region {
+        start: SizeList::new(alloc),
+        count: SizeList::new(alloc),
+        stride: SizeList::new(alloc),
+        imap: SizeList::new(alloc),
+        packed: true,
     }
 }
 

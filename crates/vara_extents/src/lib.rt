@@ -4,6 +4,7 @@
 //! start, count and stride for each dimension of its variable, in elements, the slowest dimension first.
 #![tactic(auto)]
 
+mod boxes;
 mod causes;
 mod forms;
 mod laws;
@@ -12,7 +13,7 @@ mod parts;
 mod runs;
 mod walk;
 
-pub use causes::check;
+pub use causes::{Ends, check};
 pub use forms::widen;
 pub use laws::{extents_law, writing_law};
 pub use needs::records_needed;

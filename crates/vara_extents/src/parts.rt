@@ -1,14 +1,15 @@
 // Many boxes of one call.
-ghost use Rattle.std.specs.Prelude.{◌≡◌, ◌+◌, map, min, max, slice_get, IfOk, IfErr, OnOk};
+ghost use Rattle.std.specs.Prelude.{◌≡◌, map, nat_lt, slice_get, IfOk, IfErr, OnOk};
 ghost use Rattle.nc_base.specs.declared.answer.Code.TheVariants as code;
 ghost use Rattle.serial_spec.specs.Layout.{product};
+ghost use Rattle.serial_spec.specs.Limits.{most_elements};
 ghost use Rattle.serial_spec.specs.RegionCheck as spec;
 ghost use Rattle.var_layout.specs.Capped.{capped};
 ghost use Rattle.var_layout.specs.Measures.{AreMeasures};
-ghost use Rattle.vara_extents.specs.Boxes.{boxes_meet, meets_any, some_meet};
-ghost use Rattle.vara_extents.specs.Parts.{code_by_boxes, parts_code, without_variable, IsRefusal};
+ghost use Rattle.vara_extents.specs.Parts.{code_by_boxes, parts_code, together_code, without_variable, IsRefusal};
 
-use crate::causes::check_var;
+use crate::boxes::some_meet;
+use crate::causes::{Ends, check_var};
 use crate::forms::repeated;
 use crate::needs::{element_count, sum, variable};
 use nc_base::{
@@ -19,22 +20,21 @@ use var_layout::Measures;
 
 /// Whether a call of form `varn` is refused. The first of these causes answers, an order that is this project's: that of
 /// the first part that `check` refuses, as a region of its own with strides of 1; `ETooLarge` for parts that together have
-/// more than 2^20 elements; for a put, `ESelf` for two parts that share an element. Pairs of parts are compared, not
-/// elements. A copy of the parts is made meanwhile, for want of which `Memory` answers.
+/// more than 2^20 elements; for a put, `ESelf` for two parts that share an element. A copy of the parts is made meanwhile,
+/// for want of which `Memory` answers.
 pub fn check_parts(
     alloc: Global,
     header: &Header,
     measures: &Measures,
     var: usize,
     given: &Given,
-    known: u64,
-    direction: Direction,
+    ends: Ends,
 ) -> Result<(), CallErr>
     requires measured { AreMeasures header.now measures.now }
-    ensures ok { OnOk result (parts_code header.now var given.now known direction ≡ code.Ok) }
-    ensures refused { IfErr result (IsRefusal (parts_code header.now var given.now known direction)) }
+    ensures ok { OnOk result (parts_code header.now var given.now ends.known ends.direction ≡ code.Ok) }
+    ensures refused { IfErr result (IsRefusal (parts_code header.now var given.now ends.known ends.direction)) }
 {
-    match parts_code(alloc, header, measures, var, given, known, direction) {
+    match parts_code(alloc, header, measures, var, given, ends) {
         Ok(code) => as_result(code),
         Err(_) => Err(CallErr::Memory),
     }
@@ -59,23 +59,14 @@ fn parts_code(
     measures: &Measures,
     var: usize,
     given: &Given,
-    known: u64,
-    direction: Direction,
+    ends: Ends,
 ) -> Result<Code, Memory>
     requires measured { AreMeasures header.now measures.now }
-    ensures { IfOk result (λ c. c ≡ parts_code header.now var given.now known direction) }
+    ensures { IfOk result (λ c. c ≡ parts_code header.now var given.now ends.known ends.direction) }
 {
     match variable(header, var) {
         None => Ok(without_variable(given.parts.as_slice())),
-        Some(var) => code_of(
-            alloc,
-            header,
-            measures,
-            var,
-            given.parts.as_slice(),
-            known,
-            direction,
-        ),
+        Some(var) => code_of(alloc, header, measures, var, given.parts.as_slice(), ends),
     }
 }
 
@@ -95,14 +86,13 @@ fn code_of(
     measures: &Measures,
     var: &Var,
     parts: &[Part],
-    known: u64,
-    direction: Direction,
+    ends: Ends,
 ) -> Result<Code, Memory>
     requires measured { AreMeasures header.now measures.now }
-    ensures { IfOk result (λ c. c ≡ spec.check_parts header.now var.now (map (spec.part_region var.now) parts.now) known direction) }
+    ensures { IfOk result (λ c. c ≡ spec.check_parts header.now var.now (map (spec.part_region var.now) parts.now) ends.known ends.direction) }
 {
     let regions = part_regions(alloc, var, parts)?;
-    Ok(code_by_boxes(header, measures, var, regions.as_slice(), known, direction))
+    Ok(code_by_boxes(header, measures, var, regions, ends))
 }
 
 /// The parts as regions of their own.
@@ -128,29 +118,44 @@ fn part_region(alloc: Global, var: &Var, part: &Part) -> Result<Region, Memory>
     })
 }
 
-#[tactic(auto, unfolding(crate::specs::Parts::code_by_boxes))]
 fn code_by_boxes(
     header: &Header,
     measures: &Measures,
     var: &Var,
-    regions: &[Region],
-    known: u64,
-    direction: Direction,
+    regions: Vec<Region>,
+    ends: Ends,
 ) -> Code
     requires measured { AreMeasures header.now measures.now }
-    ensures { result ≡ code_by_boxes header.now var.now regions.now known direction }
+    ensures { result ≡ code_by_boxes header.now var.now regions.items ends.known ends.direction }
 {
-    let refusal = first_refusal(header, measures, var, regions, known, direction);
+    let refusal = first_refusal(header, measures, var, regions.as_slice(), ends);
     if !is_ok(refusal) {
         return refusal;
     }
-    if elements_of_all(regions) > MAX_ELEMENTS {
+    together_code(regions, ends.direction)
+}
+
+/// The code of parts of which none is refused by itself.
+fn together_code(regions: Vec<Region>, direction: Direction) -> Code
+    ensures { result ≡ together_code regions.items direction }
+{
+    if has_too_many(regions.as_slice()) {
         return Code::ETooLarge;
     }
-    if is_put(direction) && some_meet(regions) {
+    if !is_put(direction) {
+        return Code::Ok;
+    }
+    if some_meet(regions) {
         return Code::ESelf;
     }
     Code::Ok
+}
+
+/// Whether the parts have too many elements together.
+fn has_too_many(regions: &[Region]) -> bool
+    ensures { result ≡ nat_lt most_elements (spec.elements_of_all regions.now) }
+{
+    elements_of_all(regions) > MAX_ELEMENTS
 }
 
 /// The code of the first part that is refused, or `Ok`.
@@ -159,14 +164,13 @@ fn first_refusal(
     measures: &Measures,
     var: &Var,
     regions: &[Region],
-    known: u64,
-    direction: Direction,
+    ends: Ends,
 ) -> Code
     requires measured { AreMeasures header.now measures.now }
-    ensures { result ≡ spec.first_refusal (map (λ g. spec.check_var header.now var.now g known direction) regions.now) }
+    ensures { result ≡ spec.first_refusal (map (λ g. spec.check_var header.now var.now g ends.known ends.direction) regions.now) }
 {
     for region in regions {
-        let code = region_code(header, measures, var, region, known, direction);
+        let code = region_code(header, measures, var, region, ends);
         if !is_ok(code) {
             return code;
         }
@@ -174,18 +178,11 @@ fn first_refusal(
     Code::Ok
 }
 
-fn region_code(
-    header: &Header,
-    measures: &Measures,
-    var: &Var,
-    region: &Region,
-    known: u64,
-    direction: Direction,
-) -> Code
+fn region_code(header: &Header, measures: &Measures, var: &Var, region: &Region, ends: Ends) -> Code
     requires measured { AreMeasures header.now measures.now }
-    ensures { result ≡ spec.check_var header.now var.now region.now known direction }
+    ensures { result ≡ spec.check_var header.now var.now region.now ends.known ends.direction }
 {
-    match check_var(header, measures, var, region, known, direction) {
+    match check_var(header, measures, var, region, ends.known, ends.direction) {
         Ok(()) => Code::Ok,
         Err(code) => code,
     }
@@ -218,67 +215,4 @@ fn elements_of(region: &Region) -> u64
     ensures { result ≡ capped (product region.now.count) }
 {
     element_count(region.count.as_slice())
-}
-
-/// Whether two parts share an element.
-fn some_meet(regions: &[Region]) -> bool
-    ensures { result ≡ some_meet regions.now }
-{
-    for (k, region) in regions.iter().enumerate() {
-        let (_, later) = regions.split_at(k + 1);
-        if meets_any(region, later) {
-            return true;
-        }
-    }
-    false
-}
-
-/// Whether a part shares an element with one of others.
-fn meets_any(region: &Region, others: &[Region]) -> bool
-    ensures { result ≡ meets_any region.now others.now }
-{
-    for other in others {
-        if regions_meet(region, other) {
-            return true;
-        }
-    }
-    false
-}
-
-fn regions_meet(region: &Region, other: &Region) -> bool
-    ensures { result ≡ boxes_meet region.now.start region.now.count other.now.start other.now.count }
-{
-    meet(
-        region.start.as_slice(),
-        region.count.as_slice(),
-        other.start.as_slice(),
-        other.count.as_slice(),
-    )
-}
-
-/// Whether two boxes share an index.
-fn meet(starts: &[u64], counts: &[u64], others: &[u64], lengths: &[u64]) -> bool
-    ensures { result ≡ boxes_meet starts.now counts.now others.now lengths.now }
-{
-    let [start, starts @ ..] = starts else {
-        return counts.is_empty() && others.is_empty() && lengths.is_empty();
-    };
-    let [count, counts @ ..] = counts else {
-        return false
-    };
-    let [other, others @ ..] = others else {
-        return false
-    };
-    let [length, lengths @ ..] = lengths else {
-        return false
-    };
-    let end = last(*start, *count).min(last(*other, *length));
-    u128::from(*start.max(other)) < end && meet(starts, counts, others, lengths)
-}
-
-/// Where a range ends.
-fn last(start: u64, count: u64) -> u128
-    ensures { result ≡ start + count }
-{
-    u128::from(start) + u128::from(count)
 }

@@ -13,23 +13,30 @@ use nc_base::{Header, Region, Var};
 use type_external::size_of;
 use var_layout::{is_record, length_of};
 
-/// How many indices of the dimensions stand before that of the element with this number, and with `before` of the outer
-/// dimensions' before it.
+/// An element on the way from the outer dimensions to the inner ones.
+struct Descent {
+    /// Its number in the dimensions that are left.
+    number: u64,
+    /// How many indices of the outer dimensions stand before it.
+    before: u64,
+}
+
+/// How many indices of all the dimensions stand before that of the element.
 fn row(
     header: &Header,
     ids: &[u32],
     starts: &[u64],
     counts: &[u64],
     strides: &[u64],
-    number: u64,
-    before: u64,
+    element: Descent,
 ) -> u64
-    requires valid { IsIndex (lengths_of header.now ids.now) (index_at starts.now strides.now (coordinates_of counts.now number)) }
-    requires number { number < product counts.now }
+    requires valid { IsIndex (lengths_of header.now ids.now) (index_at starts.now strides.now (coordinates_of counts.now element.number)) }
+    requires number { element.number < product counts.now }
     requires small { product counts.now ≤ 2 ^ 20 }
-    requires below { before * product (lengths_of header.now ids.now) + row_of header.now ids.now starts.now counts.now strides.now number < 2 ^ 62 }
-    ensures { result ≡ before * product (lengths_of header.now ids.now) + row_of header.now ids.now starts.now counts.now strides.now number }
+    requires below { element.before * product (lengths_of header.now ids.now) + row_of header.now ids.now starts.now counts.now strides.now element.number < 2 ^ 62 }
+    ensures { result ≡ element.before * product (lengths_of header.now ids.now) + row_of header.now ids.now starts.now counts.now strides.now element.number }
 {
+    let Descent { number, before } = element;
     let [id, ids @ ..] = ids else { return before };
     let [start, starts @ ..] = starts else {
         return before
@@ -42,8 +49,11 @@ fn row(
     };
     let inner = element_count(counts);
     let index = *start + number / inner * *stride;
-    let rows = before * length_of(header, *id) + index;
-    row(header, ids, starts, counts, strides, number % inner, rows)
+    let element = Descent {
+        number: number % inner,
+        before: before * length_of(header, *id) + index,
+    };
+    row(header, ids, starts, counts, strides, element)
 }
 
 /// The first byte of the element of a fixed variable that has this number.
@@ -59,7 +69,8 @@ fn fixed_place(header: &Header, var: &Var, region: &Region, number: u64) -> u64
     let starts = region.start.as_slice();
     let counts = region.count.as_slice();
     let strides = region.stride.as_slice();
-    let rows = row(header, ids, starts, counts, strides, number, 0);
+    let element = Descent { number, before: 0 };
+    let rows = row(header, ids, starts, counts, strides, element);
     var.begin + rows * size_of(var.kind)
 }
 
@@ -88,7 +99,11 @@ fn record_place(header: &Header, var: &Var, region: &Region, recsize: u64, numbe
     };
     let inner = element_count(counts);
     let record = *start + number / inner * *stride;
-    let rows = row(header, ids, starts, counts, strides, number % inner, 0);
+    let element = Descent {
+        number: number % inner,
+        before: 0,
+    };
+    let rows = row(header, ids, starts, counts, strides, element);
     var.begin + record * recsize + rows * size_of(var.kind)
 }
 

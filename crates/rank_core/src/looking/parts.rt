@@ -20,7 +20,7 @@ use nc_base::{
 };
 use std::alloc::Global;
 use type_external::{encode_into, kind_fits, size_of};
-use vara_extents::check_parts;
+use vara_extents::{Ends, check_parts};
 
 pub(super) fn look_parts(
     alloc: Global,
@@ -33,16 +33,12 @@ pub(super) fn look_parts(
     ensures { ComesTo (targets.look_parts target.now given.now (option_copied values.entry)) result }
 {
     let direction = direction_of(values);
-    let place = target.place as usize;
-    check_parts(
-        alloc,
-        target.header,
-        target.measures,
-        place,
-        given,
-        target.known,
+    let ends = Ends {
         direction,
-    )?;
+        known: target.known,
+    };
+    let place = target.place as usize;
+    check_parts(alloc, target.header, target.measures, place, given, ends)?;
     let regions = asked_regions(alloc, target.var, given.parts.as_slice())?;
     if regions.is_empty() {
         return Ok(PostList::new(alloc));

@@ -5,7 +5,7 @@ use std::alloc::Global;
 use std::process::Abort;
 use std::test::Fail;
 use var_layout::Measures;
-use vara_extents::check_parts;
+use vara_extents::{Ends, check_parts};
 
 /// Two boxes of one dimension, each with its start and count.
 type Boxes = [(u64, u64); 2];
@@ -39,15 +39,11 @@ fn assert_code(
     code: Code,
 ) -> Result<(), Memory> {
     let given = given_of(alloc, boxes)?;
-    match check_parts(
-        alloc,
-        header,
-        &Measures::of(header),
-        0,
-        &given,
-        0,
+    let ends = Ends {
         direction,
-    ) {
+        known: 0,
+    };
+    match check_parts(alloc, header, &Measures::of(header), 0, &given, ends) {
         Ok(()) => assert!(rt; code == Code::Ok),
         Err(refusal) => assert!(rt; refusal == CallErr::Code(code)),
     }

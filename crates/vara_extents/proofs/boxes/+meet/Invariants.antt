@@ -1,5 +1,5 @@
 use Rattle.std.proofs.Common.{length}
-use Rattle.vara_extents.proofs.parts.+meet.Given as goal
+use Rattle.vara_extents.proofs.boxes.+meet.Given as goal
 
 abbrev pub decreases-meet : goal.decreases-meet
 decreases-meet l = length l.starts.now

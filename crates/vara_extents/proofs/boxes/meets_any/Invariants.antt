@@ -1,6 +1,6 @@
 use Rattle.std.proofs.Common.{◌≡◌, drop}
 use Rattle.vara_extents.specs.Boxes.{meets_any}
-use Rattle.vara_extents.proofs.parts.meets_any.Given as goal
+use Rattle.vara_extents.proofs.boxes.meets_any.Given as goal
 
 abbrev pub invariant-loop-other : goal.invariant-loop-other
 invariant-loop-other l = meets_any l.region (drop l.other-index l.others) ≡ meets_any l.region l.others

@@ -1,6 +1,6 @@
 use Rattle.std.proofs.Common.{◌≡◌, drop}
 use Rattle.vara_extents.specs.Boxes.{some_meet}
-use Rattle.vara_extents.proofs.parts.some_meet.Given as goal
+use Rattle.vara_extents.proofs.boxes.some_meet_in_order.Given as goal
 
 abbrev pub invariant-loop-k : goal.invariant-loop-k
 invariant-loop-k l = some_meet (drop l.k l.regions) ≡ some_meet l.regions

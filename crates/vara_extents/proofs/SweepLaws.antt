@@ -1,0 +1,263 @@
+-- Whether regions meet is the same in any order and without those that have no element, and the sweep over regions in the order of
+-- their first elements finds it.
+use Rattle.std.proofs.Common.{◌≡◌, ℕ, zero, suc, ◌+◌, ◌*◌, ◌<◌, ◌≤◌, ◌∙◌, ap, sym, refl, inl, inr, ◌⊎◌, List, [], ◌∷◌, length, drop, get_or, subst, Bool, true, false, cond, ltb, eqb, ◌||◌, ◌&&◌, max, min, arith}
+use Rattle.std.specs.Prelude.{filter}
+use Rattle.std.specs.Cmp.Lexicographic.{slice_cmp}
+use Rattle.std.specs.Cmp.{IsStrictWeakOrder}
+use Rattle.std.specs.List.{swap, All}
+use Rattle.std.specs.List.Sorted.{IsPermutation, IsSortedBy}
+use Rattle.std.specs.Ordering.{is_lt, nat_cmp, ordering_then}
+use Rattle.std.specs.declared.cmp.Ordering.TheVariants.{Less, Equal, Greater}
+use Rattle.std.proofs.lemmas.Bool.{both_ways, ltb-true, lt-ltb, le-ltb, eqb-true, eq-eqb, and_from, and_parts, or_cases, or_left, or_right, or_parts, cases_lt, cases_eq}
+use Rattle.std.proofs.lemmas.Cmp.{nat_list_cmp_total}
+use Rattle.std.proofs.lemmas.Nat.{mul-le}
+use Rattle.std.proofs.lemmas.List.{get_or-drop, get_or_default, length-drop}
+use Rattle.std.proofs.lemmas.List.Edits.{length-swap, swapped_from_swap}
+use Rattle.std.proofs.lemmas.List.Elements.{All-head, All-tail}
+use Rattle.std.proofs.lemmas.List.Sorted.{ranks_by, sorted_far, IsPermutation-keeps, IsPermutation-sym}
+use Rattle.std.proofs.Math.Seq.{drop-cons}
+use Rattle.list_laws.proofs.Truth.{no_false}
+use Rattle.nc_base.specs.declared.request.Region.{Region}
+use Rattle.serial_spec.specs.Layout.{product}
+use Rattle.serial_spec.specs.RegionCheck.{has_element}
+use Rattle.vara_extents.specs.Boxes.{boxes_meet, is_past, meets_any, some_meet, AreByStart, BeginsBy}
+
+-- ---- past the last index of a box
+
+and_false : (a b : Bool) → b ≡ false → (a && b) ≡ false
+and_false true b e = e
+and_false false b e = refl
+
+-- an index that is not before one that is past the box is past it too
+past_on : (starts counts xs ys : List ℕ) → is_past starts counts xs ≡ true → is_lt (slice_cmp nat_cmp ys xs) ≡ false → is_past starts counts ys ≡ true
+past_on (s ∷ starts) (n ∷ counts) (x ∷ xs) [] h k = no_false (sym k)
+past_on (s ∷ starts) (n ∷ counts) (x ∷ xs) (y ∷ ys) h k = by_order (past_on starts counts xs ys) (cases_lt y x) (cases_lt x y)
+  where
+    far : (s + n < x + 1) ⊎ ((x + 1 ≡ s + n) × (is_past starts counts xs ≡ true))
+    far = by_case (or_cases (ltb (s + n) (x + 1)) (eqb (x + 1) (s + n) && is_past starts counts xs) h)
+      where
+        by_case : (ltb (s + n) (x + 1) ≡ true) ⊎ ((eqb (x + 1) (s + n) && is_past starts counts xs) ≡ true) → (s + n < x + 1) ⊎ ((x + 1 ≡ s + n) × (is_past starts counts xs ≡ true))
+        by_case (inl t) = inl (ltb-true (s + n) (x + 1) t)
+        by_case (inr t) = let both = and_parts (eqb (x + 1) (s + n)) (is_past starts counts xs) t in inr (eqb-true (x + 1) (s + n) both.0, both.1)
+
+    beyond : s + n < y + 1 → is_past (s ∷ starts) (n ∷ counts) (y ∷ ys) ≡ true
+    beyond l = or_left (ltb (s + n) (y + 1)) (eqb (y + 1) (s + n) && is_past starts counts ys) (lt-ltb (s + n) (y + 1) l)
+
+    by_order : (is_past starts counts xs ≡ true → is_lt (slice_cmp nat_cmp ys xs) ≡ false → is_past starts counts ys ≡ true) → (y < x) ⊎ (x ≤ y) → (x < y) ⊎ (y ≤ x)
+        → is_past (s ∷ starts) (n ∷ counts) (y ∷ ys) ≡ true
+    by_order again (inl l) g =
+        absurd (both_ways (is_lt (slice_cmp nat_cmp (y ∷ ys) (x ∷ xs))) k (λ j. is_lt (ordering_then (cond (lt-ltb y x l j) Less (cond (eqb y x) Equal Greater)) (slice_cmp nat_cmp ys xs))))
+    by_order again (inr l) (inl g) = by_case far
+      where
+        by_case : (s + n < x + 1) ⊎ ((x + 1 ≡ s + n) × (is_past starts counts xs ≡ true)) → is_past (s ∷ starts) (n ∷ counts) (y ∷ ys) ≡ true
+        by_case (inl t) = beyond (omega (arith, t, g))
+        by_case (inr t) = beyond (omega (arith, t.0, g))
+    by_order again (inr l) (inr g) = by_case far
+      where
+        same : y ≡ x
+        same = omega (arith, l, g)
+
+        rest : is_lt (slice_cmp nat_cmp ys xs) ≡ false
+        rest = sym (λ j. is_lt (ordering_then (cond (le-ltb y x l j) Less (cond (eq-eqb y x same j) Equal Greater)) (slice_cmp nat_cmp ys xs))) ∙ k
+
+        by_case : (s + n < x + 1) ⊎ ((x + 1 ≡ s + n) × (is_past starts counts xs ≡ true)) → is_past (s ∷ starts) (n ∷ counts) (y ∷ ys) ≡ true
+        by_case (inl t) = beyond (omega (arith, t, same))
+        by_case (inr t) =
+            or_right (ltb (s + n) (y + 1)) (eqb (y + 1) (s + n) && is_past starts counts ys)
+            (and_from (eqb (y + 1) (s + n)) (is_past starts counts ys) (eq-eqb (y + 1) (s + n) (omega (arith, t.0, same))) (again t.1 rest))
+past_on (s ∷ starts) (n ∷ counts) [] ys h k = no_false h
+past_on (s ∷ starts) [] xs ys h k = no_false h
+past_on [] counts xs ys h k = no_false h
+
+-- a box that begins past another shares no index with it
+past_apart : (starts counts others lengths : List ℕ) → is_past starts counts others ≡ true → boxes_meet starts counts others lengths ≡ false
+past_apart (s ∷ starts) (n ∷ counts) (t ∷ others) (m ∷ lengths) h =
+    by_case (past_apart starts counts others lengths) (or_cases (ltb (s + n) (t + 1)) (eqb (t + 1) (s + n) && is_past starts counts others) h)
+  where
+    by_case : (is_past starts counts others ≡ true → boxes_meet starts counts others lengths ≡ false) → (ltb (s + n) (t + 1) ≡ true) ⊎ ((eqb (t + 1) (s + n) && is_past starts counts others) ≡ true)
+        → boxes_meet (s ∷ starts) (n ∷ counts) (t ∷ others) (m ∷ lengths) ≡ false
+    by_case again (inl e) =
+        let far = ltb-true (s + n) (t + 1) e in
+        λ j. le-ltb (max s t) (min (s + n) (t + m)) (omega (arith, far)) j && boxes_meet starts counts others lengths
+    by_case again (inr e) =
+        let both = and_parts (eqb (t + 1) (s + n)) (is_past starts counts others) e in
+        and_false (ltb (max s t) (min (s + n) (t + m))) (boxes_meet starts counts others lengths) (again both.1)
+past_apart (s ∷ starts) (n ∷ counts) (t ∷ others) [] h = refl
+past_apart (s ∷ starts) (n ∷ counts) [] lengths h = no_false h
+past_apart (s ∷ starts) [] others lengths h = no_false h
+past_apart [] counts others lengths h = no_false h
+
+-- ---- regions in the order of their first elements
+
+abbrev pub starts_before : Region → Region → Bool
+starts_before g h = is_lt (slice_cmp nat_cmp g.start h.start)
+
+pub start_ranks : IsStrictWeakOrder starts_before
+start_ranks = ranks_by nat_list_cmp_total (λ (g : Region). g.start)
+
+pub by_start : (regions : List Region) → IsSortedBy starts_before regions → AreByStart regions
+by_start regions up i j d l m = sorted_far starts_before start_ranks regions up i j d (omega (arith, l)) m
+
+pub in_order_drop : (n : ℕ) (regions : List Region) → AreByStart regions → AreByStart (drop n regions)
+in_order_drop n regions up i j d l m =
+    let long = length-drop n regions in
+    subst (λ (g : Region). BeginsBy g (get_or (drop n regions) j d)) (sym (get_or-drop n regions i d))
+    (subst (λ (h : Region). BeginsBy (get_or regions (n + i) d) h) (sym (get_or-drop n regions j d)) (up (n + i) (n + j) d (omega (arith, l)) (omega (arith, m, long))))
+
+later_past : (g other : Region) (others : List Region) → is_past g.start g.count other.start ≡ true → All (BeginsBy other) others → meets_any g others ≡ false
+later_past g other [] h up = refl
+later_past g other (x ∷ others) h up =
+    λ j. past_apart g.start g.count x.start x.count (past_on g.start g.count other.start x.start h (All-head (BeginsBy other) x others up)) j
+    || later_past g other others h (All-tail (BeginsBy other) x others up) j
+
+-- from the first that begins past a region on, none shares an element with it
+pub none_later : (g : Region) (others : List Region) (i : ℕ) (d : Region) → AreByStart others → i < length others
+    → is_past g.start g.count (get_or others i d).start ≡ true → meets_any g (drop i others) ≡ false
+none_later g others i d up l h =
+    ap (meets_any g) (drop-cons others i d l)
+    ∙ (λ j. past_apart g.start g.count (get_or others i d).start (get_or others i d).count h j || later_past g (get_or others i d) (drop (suc i) others) h later j)
+  where
+    later : All (BeginsBy (get_or others i d)) (drop (suc i) others)
+    later k e m =
+        let long = length-drop (suc i) others in
+        let far : suc i + k < length others = omega (arith, m, long) in
+        subst (BeginsBy (get_or others i d)) (get_or_default others (suc i + k) d e far ∙ sym (get_or-drop (suc i) others k e)) (up i (suc i + k) d (omega arith) far)
+
+-- ---- regions in another order
+
+abbrev Apart : Region → Region → Type 0
+Apart g h = boxes_meet g.start g.count h.start h.count ≡ false
+
+not_then : (b c : Bool) → (b ≡ true → c ≡ true) → c ≡ false → b ≡ false
+not_then false c f e = refl
+not_then true c f e = absurd (both_ways c e (f refl))
+
+turned : (starts counts others lengths : List ℕ) → boxes_meet starts counts others lengths ≡ true → boxes_meet others lengths starts counts ≡ true
+turned (s ∷ starts) (n ∷ counts) (t ∷ others) (m ∷ lengths) h =
+    let both = and_parts (ltb (max s t) (min (s + n) (t + m))) (boxes_meet starts counts others lengths) h in
+    let meet = ltb-true (max s t) (min (s + n) (t + m)) both.0 in
+    and_from (ltb (max t s) (min (t + m) (s + n))) (boxes_meet others lengths starts counts) (lt-ltb (max t s) (min (t + m) (s + n)) (omega (arith, meet))) (turned starts counts others lengths both.1)
+turned [] [] [] [] h = refl
+turned _ _ _ _ h = no_false h
+
+apart_sym : (g h : Region) → Apart g h → Apart h g
+apart_sym g h e = not_then (boxes_meet h.start h.count g.start g.count) (boxes_meet g.start g.count h.start h.count) (turned h.start h.count g.start g.count) e
+
+-- each two of the list
+abbrev AllApart : List Region → Type 0
+AllApart xs = (i j : ℕ) (d : Region) → i < length xs → j < length xs → (i ≡ j → ⊥) → Apart (get_or xs i d) (get_or xs j d)
+
+each_apart : (g : Region) (xs : List Region) → meets_any g xs ≡ false → (j : ℕ) (d : Region) → j < length xs → Apart g (get_or xs j d)
+each_apart g [] e j d l = absurd (omega (arith, l))
+each_apart g (x ∷ xs) e zero d l = (or_parts (boxes_meet g.start g.count x.start x.count) (meets_any g xs) e).0
+each_apart g (x ∷ xs) e (suc j) d l = each_apart g xs (or_parts (boxes_meet g.start g.count x.start x.count) (meets_any g xs) e).1 j d (omega (arith, l))
+
+none_meets : (g : Region) (xs : List Region) → ((j : ℕ) (d : Region) → j < length xs → Apart g (get_or xs j d)) → meets_any g xs ≡ false
+none_meets g [] h = refl
+none_meets g (x ∷ xs) h = λ k. h 0 x (omega arith) k || none_meets g xs (λ j d l. h (suc j) d (omega (arith, l))) k
+
+all_apart : (xs : List Region) → some_meet xs ≡ false → AllApart xs
+all_apart [] e i j d l m n = absurd (omega (arith, l))
+all_apart (x ∷ xs) e zero zero d l m n = absurd (n refl)
+all_apart (x ∷ xs) e zero (suc j) d l m n = each_apart x xs (or_parts (meets_any x xs) (some_meet xs) e).0 j d (omega (arith, m))
+all_apart (x ∷ xs) e (suc i) zero d l m n = apart_sym x (get_or xs i d) (each_apart x xs (or_parts (meets_any x xs) (some_meet xs) e).0 i d (omega (arith, l)))
+all_apart (x ∷ xs) e (suc i) (suc j) d l m n =
+    all_apart xs (or_parts (meets_any x xs) (some_meet xs) e).1 i j d (omega (arith, l)) (omega (arith, m)) (λ p. n (ap suc p))
+
+none_meet : (xs : List Region) → AllApart xs → some_meet xs ≡ false
+none_meet [] h = refl
+none_meet (x ∷ xs) h =
+    λ k. none_meets x xs (λ j d l. h 0 (suc j) d (omega arith) (omega (arith, l)) (λ p. omega (arith, p))) k
+    || none_meet xs (λ i j d l m n. h (suc i) (suc j) d (omega (arith, l)) (omega (arith, m)) (λ p. n (omega (arith, p)))) k
+
+swapped_apart : (xs : List Region) (a b : ℕ) → a < length xs → b < length xs → AllApart xs → AllApart (swap xs a b)
+swapped_apart xs a b p q h i j d l m n = by_place (place i) (place j)
+  where
+    ys : List Region
+    ys = swap xs a b
+
+    long : length ys ≡ length xs
+    long = length-swap xs a b
+
+    moved : (get_or ys a d ≡ get_or xs b d) × (get_or ys b d ≡ get_or xs a d) × ((k : ℕ) → (k ≡ a → ⊥) → (k ≡ b → ⊥) → get_or ys k d ≡ get_or xs k d)
+    moved = swapped_from_swap xs ys a b d p q refl
+
+    place : (k : ℕ) → (k ≡ a) ⊎ ((k ≡ b) ⊎ ((k ≡ a → ⊥) × (k ≡ b → ⊥)))
+    place k = by_case (cases_eq k a) (cases_eq k b)
+      where
+        by_case : (k ≡ a) ⊎ (k ≡ a → ⊥) → (k ≡ b) ⊎ (k ≡ b → ⊥) → (k ≡ a) ⊎ ((k ≡ b) ⊎ ((k ≡ a → ⊥) × (k ≡ b → ⊥)))
+        by_case (inl e) f = inl e
+        by_case (inr e) (inl f) = inr (inl f)
+        by_case (inr e) (inr f) = inr (inr (e, f))
+
+    from : (i' j' : ℕ) → get_or ys i d ≡ get_or xs i' d → get_or ys j d ≡ get_or xs j' d → i' < length xs → j' < length xs → (i' ≡ j' → ⊥) → Apart (get_or ys i d) (get_or ys j d)
+    from i' j' e f l' m' n' = (λ k. boxes_meet (e k).start (e k).count (f k).start (f k).count) ∙ h i' j' d l' m' n'
+
+    at_a : (k : ℕ) → k ≡ a → get_or ys k d ≡ get_or xs b d
+    at_a k e = ap (λ (x : ℕ). get_or ys x d) e ∙ moved.0
+
+    at_b : (k : ℕ) → k ≡ b → get_or ys k d ≡ get_or xs a d
+    at_b k e = ap (λ (x : ℕ). get_or ys x d) e ∙ moved.1
+
+    low : (k : ℕ) → k < length ys → k < length xs
+    low k g = omega (arith, g, long)
+
+    by_place : (i ≡ a) ⊎ ((i ≡ b) ⊎ ((i ≡ a → ⊥) × (i ≡ b → ⊥))) → (j ≡ a) ⊎ ((j ≡ b) ⊎ ((j ≡ a → ⊥) × (j ≡ b → ⊥))) → Apart (get_or ys i d) (get_or ys j d)
+    by_place (inl e) (inl f) = absurd (n (e ∙ sym f))
+    by_place (inl e) (inr (inl f)) = from b a (at_a i e) (at_b j f) q p (λ g. n (e ∙ sym g ∙ sym f))
+    by_place (inl e) (inr (inr f)) = from b j (at_a i e) (moved.2 j f.0 f.1) q (low j m) (λ g. f.1 (sym g))
+    by_place (inr (inl e)) (inl f) = from a b (at_b i e) (at_a j f) p q (λ g. n (e ∙ sym g ∙ sym f))
+    by_place (inr (inl e)) (inr (inl f)) = absurd (n (e ∙ sym f))
+    by_place (inr (inl e)) (inr (inr f)) = from a j (at_b i e) (moved.2 j f.0 f.1) p (low j m) (λ g. f.0 (sym g))
+    by_place (inr (inr e)) (inl f) = from i b (moved.2 i e.0 e.1) (at_a j f) (low i l) q e.1
+    by_place (inr (inr e)) (inr (inl f)) = from i a (moved.2 i e.0 e.1) (at_b j f) (low i l) p e.0
+    by_place (inr (inr e)) (inr (inr f)) = from i j (moved.2 i e.0 e.1) (moved.2 j f.0 f.1) (low i l) (low j m) n
+
+same_false : (a b : Bool) → (a ≡ false → b ≡ false) → (b ≡ false → a ≡ false) → a ≡ b
+same_false true true f g = refl
+same_false true false f g = g refl
+same_false false true f g = sym (f refl)
+same_false false false f g = refl
+
+any_order : (xs ys : List Region) → IsPermutation xs ys → some_meet xs ≡ some_meet ys
+any_order xs ys p = same_false (some_meet xs) (some_meet ys) (kept xs ys p) (kept ys xs (IsPermutation-sym xs ys p))
+  where
+    kept : (us vs : List Region) → IsPermutation us vs → some_meet us ≡ false → some_meet vs ≡ false
+    kept us vs m e = none_meet vs (IsPermutation-keeps us AllApart (all_apart us e) swapped_apart vs m)
+
+-- ---- regions that have no element
+
+none_shared : (starts counts others lengths : List ℕ) → boxes_meet starts counts others lengths ≡ true → 0 < product counts
+none_shared (s ∷ starts) (n ∷ counts) (t ∷ others) (m ∷ lengths) h =
+    let both = and_parts (ltb (max s t) (min (s + n) (t + m))) (boxes_meet starts counts others lengths) h in
+    let meet = ltb-true (max s t) (min (s + n) (t + m)) both.0 in
+    let some : 1 * 1 ≤ n * product counts = mul-le 1 1 n (product counts) (omega (arith, meet)) (none_shared starts counts others lengths both.1) in
+    omega (arith, some)
+none_shared [] [] [] [] h = omega arith
+none_shared _ _ _ _ h = no_false h
+
+no_element : (g : Region) → has_element g ≡ false → (h : Region) → Apart g h
+no_element g e h =
+    not_then (boxes_meet g.start g.count h.start h.count) (has_element g) (λ m. lt-ltb 0 (product g.count) (none_shared g.start g.count h.start h.count m)) e
+
+meets_with : (g : Region) (xs : List Region) → meets_any g (filter has_element xs) ≡ meets_any g xs
+meets_with g [] = refl
+meets_with g (x ∷ xs) = by_case (meets_with g xs) (has_element x) refl
+  where
+    by_case : meets_any g (filter has_element xs) ≡ meets_any g xs → (b : Bool) → has_element x ≡ b
+        → meets_any g (cond b (x ∷ filter has_element xs) (filter has_element xs)) ≡ meets_any g (x ∷ xs)
+    by_case again true e = ap (λ (r : Bool). boxes_meet g.start g.count x.start x.count || r) again
+    by_case again false e = again ∙ (λ j. sym (apart_sym x g (no_element x e g)) j || meets_any g xs)
+
+some_with : (xs : List Region) → some_meet (filter has_element xs) ≡ some_meet xs
+some_with [] = refl
+some_with (x ∷ xs) = by_case (some_with xs) (has_element x) refl
+  where
+    by_case : some_meet (filter has_element xs) ≡ some_meet xs → (b : Bool) → has_element x ≡ b
+        → some_meet (cond b (x ∷ filter has_element xs) (filter has_element xs)) ≡ some_meet (x ∷ xs)
+    by_case again true e = λ j. meets_with x xs j || again j
+    by_case again false e = again ∙ (λ j. sym (none_meets x xs (λ k d l. no_element x e (get_or xs k d))) j || some_meet xs)
+
+-- what the sweep goes over meets where all meet
+pub swept : (regions in_order : List Region) → IsPermutation (filter has_element regions) in_order → some_meet in_order ≡ some_meet regions
+swept regions in_order p = sym (any_order (filter has_element regions) in_order p) ∙ some_with regions
