@@ -9,6 +9,10 @@ use nc_outside::DiskErr;
 use ruled_line::{LinePut, LineTake, settle};
 use std::alloc::Global;
 
+/// How many bytes of stack a helper's thread has. It calls few functions deep, and the C library keeps stacks of this size from one step
+/// to the next, where it would give back those of its usual size and map them anew.
+pub(crate) const STACK_SIZE: usize = 1 << 20;
+
 /// The word that a helper waits for.
 #[derive(Drop)]
 pub(crate) enum Word {
