@@ -235,19 +235,20 @@ static int generate(int file, uint64_t seed, uint32_t size)
     return 0;
 }
 
-/* What one rank is answered: it put a band of both fields in each record, and read a column of all records. */
+/* What one rank is answered: it posted its band of both fields and waited for them, record after record, and read a column of all records. */
 static void print_columns(uint32_t n, uint32_t rank, const uint32_t *warm, const uint16_t *wet)
 {
-    printf("rank %" PRIu32 "\n", rank);
-    for (uint32_t k = 0; k < 2 * n; k++)
-        printf("%" PRIu32 " put_vara_all ok\n", k);
-    printf("%" PRIu32 " get_vara_all ok", 2 * n);
+    printf("rank %" PRIu32 "\n0 buffer_attach ok\n", rank);
+    for (uint32_t t = 0; t < n; t++)
+        printf("%" PRIu32 " bput_vara ok\n%" PRIu32 " bput_vara ok\n%" PRIu32 " wait_all ok\n  %" PRIu32 " ok\n  %" PRIu32 " ok\n",
+               3 * t + 1, 3 * t + 2, 3 * t + 3, 2 * t, 2 * t + 1);
+    printf("%" PRIu32 " get_vara_all ok", 3 * n + 1);
     for (uint32_t k = 0; k < n * ROWS; k++)
         printf(" x%08" PRIX32, be32toh(warm[k * RANKS + rank]));
-    printf("\n%" PRIu32 " get_vara_all ok", 2 * n + 1);
+    printf("\n%" PRIu32 " get_vara_all ok", 3 * n + 2);
     for (uint32_t k = 0; k < n * ROWS; k++)
         printf(" %d", (int16_t)be16toh(wet[k * RANKS + rank]));
-    printf("\npending 0\n");
+    printf("\n%" PRIu32 " buffer_detach ok\npending 0\n", 3 * n + 3);
 }
 
 /* The two fields of one record, as the ranks put their bands. */
@@ -280,7 +281,7 @@ static int fields(int file, uint32_t n)
                 wet[kept] = precip[y * COLUMNS + rank * COLUMN_STEP];
             }
     }
-    print_start(RANKS, 2 * n + 2);
+    print_start(RANKS, n + 2);
     for (uint32_t rank = 0; rank < RANKS; rank++)
         print_columns(n, rank, warm, wet);
     print_format(begin);
@@ -461,22 +462,8 @@ static uint64_t element(uint32_t y, uint32_t x)
     return ((uint64_t)(y % RANKS) << 32) + (uint64_t)(y / RANKS) * DOUBLES + x;
 }
 
-/* The elements that one rank reads, of each of its rows. */
-static void print_read(const uint64_t *read, uint32_t n, uint32_t rank)
+static uint32_t rows_header(uint32_t n)
 {
-    printf("rank %" PRIu32 "\n0 put_vars_all ok\n1 get_vars_all ok", rank);
-    for (uint32_t y = rank; y < n; y += RANKS)
-        for (uint32_t k = 0; k < DOUBLES / STEP; k++)
-            printf(" x%016" PRIX64, be64toh(read[y * (DOUBLES / STEP) + k]));
-    printf("\npending 0\n");
-}
-
-/* n rows of 1 MiB, written one by one, and read back in whole windows for an element of each 4 KiB. */
-static int rows_of_doubles(int file, uint32_t n)
-{
-    const uint32_t some = WINDOW / (8 * DOUBLES);
-    uint64_t *window = malloc(WINDOW), *read = malloc((size_t)n * (DOUBLES / STEP) * sizeof *read);
-    need(window != NULL && read != NULL, "no memory");
     begin_header(0);
     list(DIMENSIONS, 2);
     dimension("y", n);
@@ -485,23 +472,52 @@ static int rows_of_doubles(int file, uint32_t n)
     list(VARIABLES, 1);
     variable("field", 2);
     list(ATTRIBUTES, 0);
-    uint32_t begin = head_len + 12, kept = 0;
+    uint32_t begin = head_len + 12;
     end_variable(DOUBLE, 8 * DOUBLES * n, begin);
+    return begin;
+}
+
+/* Header and rows, written one by one. */
+static int write_rows(int file, uint32_t n)
+{
+    static uint64_t row[DOUBLES];
+    uint32_t begin = rows_header(n);
     write_at(file, head, head_len, 0);
     for (uint32_t y = 0; y < n; y++) {
         for (uint32_t x = 0; x < DOUBLES; x++)
-            window[x] = htobe64(element(y, x));
-        write_at(file, window, 8 * DOUBLES, begin + (off_t)y * 8 * DOUBLES);
+            row[x] = htobe64(element(y, x));
+        write_at(file, row, sizeof row, begin + (off_t)y * sizeof row);
     }
+    return 0;
+}
+
+/* The elements that one rank reads, of each of its rows. */
+static void print_read(const uint64_t *read, uint32_t n, uint32_t rank)
+{
+    for (uint32_t y = rank; y < n; y += RANKS)
+        for (uint32_t k = 0; k < DOUBLES / STEP; k++)
+            printf(" x%016" PRIX64, be64toh(read[y * (DOUBLES / STEP) + k]));
+    printf("\npending 0\n");
+}
+
+/* Reads the rows in whole windows, and tells an element of each 4 KiB to the rank whose row it is. */
+static int read_rows(int file, uint32_t n, int meetings, const char *calls)
+{
+    const uint32_t some = WINDOW / (8 * DOUBLES), begin = rows_header(n);
+    uint64_t *window = malloc(WINDOW), *read = malloc((size_t)n * (DOUBLES / STEP) * sizeof *read);
+    need(window != NULL && read != NULL, "no memory");
+    uint32_t kept = 0;
     for (uint32_t from = 0; from < n; from += some) {
         uint32_t count = n - from < some ? n - from : some;
         read_at(file, window, 8 * ((size_t)count * DOUBLES - STEP + 1), begin + (off_t)from * 8 * DOUBLES);
         for (uint32_t k = 0; k < count * (DOUBLES / STEP); k++)
             read[kept++] = window[(size_t)k * STEP];
     }
-    print_start(RANKS, 2);
-    for (uint32_t rank = 0; rank < RANKS; rank++)
+    print_start(RANKS, meetings);
+    for (uint32_t rank = 0; rank < RANKS; rank++) {
+        printf("rank %" PRIu32 "\n%s", rank, calls);
         print_read(read, n, rank);
+    }
     print_format(begin);
     printf("  y = %" PRIu32 "\n  x = %d\nfixed-size variables:\n", n, DOUBLES);
     print_variable("double field(y, x)", begin, 8 * DOUBLES * n);
@@ -509,6 +525,21 @@ static int rows_of_doubles(int file, uint32_t n)
     free(window);
     free(read);
     return 0;
+}
+
+/* n rows of 1 MiB, written and read back. */
+static int rows_of_doubles(int file, uint32_t n)
+{
+    write_rows(file, n);
+    return read_rows(file, n, 2, "0 put_vars_all ok\n1 get_vars_all ok");
+}
+
+/* n rows of 1 MiB that are there, read. */
+static int reads(int file, uint32_t n)
+{
+    rows_header(n);
+    read_at(file, head, head_len, 0);
+    return read_rows(file, n, 1, "0 get_vars_all ok");
 }
 
 /* ---- the words */
@@ -524,6 +555,8 @@ static const struct row {
     {"column", column, before_column},
     {"fields", fields, NULL},
     {"fields_unthreaded", fields, NULL},
+    {"reads", reads, write_rows},
+    {"reads_unthreaded", reads, write_rows},
     {"aggregators", rows_of_doubles, NULL},
     {"unthreaded", rows_of_doubles, NULL},
 };

@@ -6,7 +6,7 @@
 import sys
 
 RANKS = 8           # of the rows variables, fields, aggregators and those beside them on one thread
-ROWS_OF_FIELD, COLUMNS, COLUMN_STEP = 180, 360, 45
+ROWS_OF_FIELD, COLUMNS, COLUMN_STEP, ATTACHED = 180, 360, 45, 65536
 COLUMN = 3          # the column that is read
 DOUBLES = 2 ** 17   # a row of 1 MiB
 STEP = 512          # of so many doubles of a row one is read
@@ -46,18 +46,21 @@ def column(n):
 
 
 def records(n, threads):
-    """n records of a field of floats and one of shorts: each of 8 ranks writes its band of rows, by a call for each record and field, and reads a
-    column of all records."""
+    """The calls of the made run: each of 8 ranks posts its band of a field of floats and of one of shorts, waits for both, record after record, and then
+    reads a column of each field in all n records."""
     lines = ["create 1", f"ranks {RANKS}", f"hint threads {threads}", "dim t unlimited", f"dim y {ROWS_OF_FIELD}", f"dim x {COLUMNS}",
              "var float temp [t,y,x]", "var short precip [t,y,x]", "data"]
     for rank in range(RANKS):
         y0, y1 = ROWS_OF_FIELD * rank // RANKS, ROWS_OF_FIELD * (rank + 1) // RANKS
         band, size = f"{y0},0] [1,{y1 - y0},{COLUMNS}]", (y1 - y0) * COLUMNS
+        lines.append(f"{rank} buffer_attach {ATTACHED}")
         for t in range(n):
-            lines.append(f"{rank} put_vara_all temp [{t},{band} seqx {size} x{0x3F800000 + ROWS_OF_FIELD * COLUMNS * t + COLUMNS * y0:X} x1")
-            lines.append(f"{rank} put_vara_all precip [{t},{band} seq {size} {t - 4140} 1")
+            lines.append(f"{rank} bput_vara {2 * t} temp [{t},{band} seqx {size} x{0x3F800000 + ROWS_OF_FIELD * COLUMNS * t + COLUMNS * y0:X} x1")
+            lines.append(f"{rank} bput_vara {2 * t + 1} precip [{t},{band} seq {size} {t - 4140} 1")
+            lines.append(f"{rank} wait_all all")
         for name in ("temp", "precip"):
             lines.append(f"{rank} get_vara_all {name} [0,0,{COLUMN_STEP * rank}] [{n},{ROWS_OF_FIELD},1]")
+        lines.append(f"{rank} buffer_detach")
     return lines
 
 
@@ -93,8 +96,27 @@ def unthreaded(n):
     return rows(n, "off")
 
 
-ROWS = {"fields": fields, "fields_unthreaded": fields_unthreaded, "aggregators": aggregators, "unthreaded": unthreaded, "calls": calls, "variables": variables,
-        "waits": waits, "attributes": attributes, "column": column}
+def get_rows(n, threads):
+    """A get of an element of each 4 KiB of n rows of 1 MiB, every eighth of them by each of 8 ranks. There are 8 aggregators, which read all of it."""
+    lines = ["open", f"ranks {RANKS}", f"hint cb_nodes {RANKS}", f"hint threads {threads}", "data"]
+    for rank in range(RANKS):
+        count = len(range(rank, n, RANKS))
+        lines.append(f"{rank} get_vars_all field [{rank if count else 0},0] [{count},{DOUBLES // STEP}] [{RANKS},{STEP}]")
+    return lines
+
+
+def reads(n):
+    """Reads of windows of megabytes by aggregators side by side."""
+    return get_rows(n, "on")
+
+
+def reads_unthreaded(n):
+    """The same on one thread."""
+    return get_rows(n, "off")
+
+
+ROWS = {"fields": fields, "fields_unthreaded": fields_unthreaded, "reads": reads, "reads_unthreaded": reads_unthreaded, "aggregators": aggregators,
+        "unthreaded": unthreaded, "calls": calls, "variables": variables, "waits": waits, "attributes": attributes, "column": column}
 
 
 def script(row, n):
