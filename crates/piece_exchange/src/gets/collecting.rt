@@ -12,7 +12,7 @@ ghost use Rattle.piece_exchange.specs.Logs.{HasTakenTurn, HaveTakenTurns, IsKept
 ghost use Rattle.piece_exchange.specs.Shelves.{turns_due};
 ghost use Rattle.piece_exchange.specs.declared.gets.starting.ReadSeat.{ReadSeat};
 
-use crate::gets::lending::{Lender, come_back, lend};
+use crate::gets::lending::Lenders;
 use crate::gets::reading::Reading;
 use crate::gets::shelf::Shelf;
 use crate::gets::starting::ReadSeat;
@@ -29,12 +29,12 @@ pub(crate) fn take_all<R: Wait, D: Disk>(
     rt: &R,
     plan: &GetPlan,
     seats: &mut [ReadSeat<D>],
-    lenders: &mut [Lender],
+    lenders: &mut Lenders,
     table: &mut [BlobList],
 ) -> Result<(), DiskErr>
     requires plan { IsGetPlanned plan.now }
     requires one_place { HaveOnePlaces plan.now.list.now }
-    requires lenders { AreReady lenders.old }
+    requires lenders { AreReady lenders.old.each.items }
     requires ready { (k : ℕ) (seat : ReadSeat D) → slice_get seats.old k ≡ Some seat → IsShelfIn plan.now.list.now seat.shelf }
     requires fit { FitTable table.old plan.now.list.now }
     ensures long { length seats.new ≡ length seats.old }
@@ -57,17 +57,17 @@ pub(crate) fn take_all<R: Wait, D: Disk>(
 // Lends the blob that came back from a helper to the next one, where one came.
 fn hand_on<R: Wait>(
     rt: &R,
-    lenders: &mut [Lender],
+    lenders: &mut Lenders,
     number: usize,
     ended: bool,
     blob: Option<Blob>,
 )
-    requires { AreReady lenders.old }
-    ensures { AreReady lenders.new }
+    requires { AreReady lenders.old.each.items }
+    ensures { AreReady lenders.new.each.items }
 {
-    come_back(lenders, number, ended);
+    lenders.come_back(number, ended);
     if let Some(blob) = blob {
-        lend(rt, lenders, blob);
+        lenders.lend(rt, blob);
     }
 }
 

@@ -19,7 +19,7 @@ use crate::crew::{Crew, give_back, make_rooms};
 use crate::gets::collecting::take_all;
 use crate::gets::in_turn::get_in_turn;
 use crate::gets::joining::{join_all, tell_all};
-use crate::gets::lending::{Lending, lend_first, lending_of};
+use crate::gets::lending::{Lending, lending_of};
 use crate::gets::starting::{ReadSeat, Supply, start_all, stop_all};
 use crate::plan::{GetPlan, Tools};
 use nc_base::{BlobList, Extent, GotTable};
@@ -137,7 +137,7 @@ fn get_on_threads<R: Threads + Wait + Sync, D: Disk, G: Gate>(
         thread::scope_env(),
         tools.rt,
         |scope| -> Fetched<D>
-            requires { IsGetPlanned plan.now × AreReady work.lending.lenders.items × (1 ≤ plan.now.hints.now.line_room) × (plan.now.hints.now.line_room ≤ 64) × (length domains.now ≤ 64) × (length domains.now ≡ length work.parts.items)
+            requires { IsGetPlanned plan.now × AreReady work.lending.lenders.each.items × (1 ≤ plan.now.hints.now.line_room) × (plan.now.hints.now.line_room ≤ 64) × (length domains.now ≤ 64) × (length domains.now ≡ length work.parts.items)
                 × ((k : ℕ) (part : D) (domain : Extent) → slice_get work.parts.items k ≡ Some part → slice_get domains.now k ≡ Some domain → IsDomainOf plan.now.list.now (D.from part) (D.len part) domain)
                 × FitTable work.table.items plan.now.list.now × HaveOnePlaces plan.now.list.now
                 × HasRooms (length work.parts.items) work.crew.seats.items work.crew.rest.items work.crew.back.items (vec_capacity work.crew.seats) (vec_capacity work.crew.rest) (vec_capacity work.crew.back) }
@@ -168,7 +168,7 @@ fn get_in_scope<'s, E, R: Threads + Wait + Sync, D: Disk + 's, G: Gate>(
     requires domains { (k : ℕ) (part : D) (domain : Extent) → slice_get work.parts.items k ≡ Some part → slice_get domains.now k ≡ Some domain → IsDomainOf plan.now.list.now (D.from part) (D.len part) domain }
     requires fit { FitTable work.table.items plan.now.list.now }
     requires one_place { HaveOnePlaces plan.now.list.now }
-    requires lenders { AreReady work.lending.lenders.items }
+    requires lenders { AreReady work.lending.lenders.each.items }
     requires rooms { HasRooms (length work.parts.items) work.crew.seats.items work.crew.rest.items work.crew.back.items (vec_capacity work.crew.seats) (vec_capacity work.crew.rest) (vec_capacity work.crew.back) }
     ensures got { IfSome result.end (λ end. AllZip (λ p new. HasGot (get_turns plan.now p.1)
         (record { from = D.from p.0; len = D.len p.0; held = D.held p.0; calls = D.calls p.0; faults = D.faults p.0 })
@@ -194,7 +194,7 @@ fn get_in_scope<'s, E, R: Threads + Wait + Sync, D: Disk + 's, G: Gate>(
         rest,
         mut back,
     } = crew;
-    let lent = lend_first(tools, plan, domains, &mut lenders);
+    let lent = lenders.lend_first(tools, plan, domains);
     if !rest.is_empty() || lent.is_err() {
         stop_all(tools.rt, plan, seats, &mut back);
         give_back(rest, &mut back);

@@ -21,10 +21,16 @@ pub(crate) struct Lender<'a> {
     lent: bool,
 }
 
-/// The lenders of a step, one for each helper, and the helpers' ends of their lines, the last one first.
+/// The lenders of a step, one for each helper.
+#[derive(Drop)]
+pub(crate) struct Lenders<'a> {
+    pub each: Vec<Lender<'a>>,
+}
+
+/// The lenders, and the helpers' ends of their lines, the last one first.
 #[derive(Drop)]
 pub(crate) struct Lending<'a> {
-    pub lenders: Vec<Lender<'a>>,
+    pub lenders: Lenders<'a>,
     pub spares: Vec<LineTake<Blob>>,
 }
 
@@ -35,17 +41,20 @@ pub(crate) fn lending_of<'a>(
     domains: &[Extent],
 ) -> Result<Lending<'a>, Memory>
     requires { IsGetPlanned plan.now }
-    ensures { IfOk result (λ lending. AreReady lending.lenders.items) }
+    ensures { IfOk result (λ lending. AreReady lending.lenders.each.items) }
 {
-    let mut lenders = Vec::new(alloc);
+    let mut each = Vec::new(alloc);
     let mut spares = Vec::new(alloc);
     for domain in domains {
         let (put, take) = line::<Blob>(alloc, 1)?;
-        lenders.push(Lender::new(plan, *domain, put))?;
+        each.push(Lender::new(plan, *domain, put))?;
         spares.push(take)?;
     }
     spares.reverse();
-    Ok(Lending { lenders, spares })
+    Ok(Lending {
+        lenders: Lenders { each },
+        spares,
+    })
 }
 
 impl<'a> Lender<'a> {
@@ -99,45 +108,51 @@ impl<'a> Lender<'a> {
     }
 }
 
-/// Makes blobs, each with room for the longest hull of all, and lends them: two for each item that a line may hold, but no more than one
-/// to a helper. So that many windows are read side by side.
-pub(crate) fn lend_first<R: Wait, G>(
-    tools: &Tools<R, G>,
-    plan: &GetPlan,
-    domains: &[Extent],
-    lenders: &mut [Lender],
-) -> Result<(), Memory>
-    requires plan { IsGetPlanned plan.now }
-    requires ready { AreReady lenders.old }
-    ensures { AreReady lenders.new }
-{
-    let longest = longest_hull(plan, domains) as usize;
-    let count = (plan.hints.line_room as usize).saturating_mul(2);
-    for _ in 0..count.min(lenders.len()) {
-        lend(tools.rt, lenders, Blob::with_capacity(tools.alloc, longest)?);
-    }
-    Ok(())
-}
+impl<'a> Lenders<'a> {
+    ghost use Rattle.piece_exchange.specs.Gets.{IsGetPlanned};
+    ghost use Rattle.piece_exchange.specs.Lenders.{AreReady};
 
-/// The blob of the helper with this number came back. One that has ended reads no more windows.
-pub(crate) fn come_back(lenders: &mut [Lender], number: usize, ended: bool)
-    requires { AreReady lenders.old }
-    ensures { AreReady lenders.new }
-{
-    if number < lenders.len() {
-        lenders[number].come_back(ended);
+    /// Makes blobs, each with room for the longest hull of all, and lends them: two for each item that a line may hold, but no more than
+    /// one to a helper. So many windows are read side by side.
+    pub fn lend_first<R: Wait, G>(
+        &mut self,
+        tools: &Tools<R, G>,
+        plan: &GetPlan,
+        domains: &[Extent],
+    ) -> Result<(), Memory>
+        requires plan { IsGetPlanned plan.now }
+        requires ready { AreReady self.old.each.items }
+        ensures { AreReady self.new.each.items }
+    {
+        let longest = longest_hull(plan, domains) as usize;
+        let count = (plan.hints.line_room as usize).saturating_mul(2);
+        for _ in 0..count.min(self.each.len()) {
+            self.lend(tools.rt, Blob::with_capacity(tools.alloc, longest)?);
+        }
+        Ok(())
     }
-}
 
-/// Lends a blob to the helper whose hull is the next one to be taken of those for which none is lent. Where there is none it is dropped.
-///
-/// So blobs are lent in the order in which hulls are taken, and the helper for whose hull the calling thread waits has one.
-pub(crate) fn lend<R: Wait>(rt: &R, lenders: &mut [Lender], blob: Blob)
-    requires { AreReady lenders.old }
-    ensures { AreReady lenders.new }
-{
-    if let Some(k) = first_wanting(lenders) {
-        lenders[k].lend(rt, blob);
+    /// The blob of the helper with this number came back. One that has ended reads no more windows.
+    pub fn come_back(&mut self, number: usize, ended: bool)
+        requires { AreReady self.old.each.items }
+        ensures { AreReady self.new.each.items }
+    {
+        if number < self.each.len() {
+            self.each[number].come_back(ended);
+        }
+    }
+
+    /// Lends a blob to the helper whose hull is the next one to be taken of those for which none is lent. Where there is none it is
+    /// dropped.
+    ///
+    /// So blobs are lent in the order in which hulls are taken, and the helper for whose hull the calling thread waits has one.
+    pub fn lend<R: Wait>(&mut self, rt: &R, blob: Blob)
+        requires { AreReady self.old.each.items }
+        ensures { AreReady self.new.each.items }
+    {
+        if let Some(k) = first_wanting(&self.each) {
+            self.each[k].lend(rt, blob);
+        }
     }
 }
 

@@ -17,7 +17,7 @@ invariant-rounds g l = record {
   blobs : AreAsLong l.initial.table l.table;
   taken : OnOk l.end (HaveTakenTurns l.plan.list.now l.initial.seats l.seats l.initial.table l.table);
   memory : IfErr l.end (λ e. e ≡ Memory);
-  lenders : AreReady l.lenders;
+  lenders : AreReady l.lenders.each.items;
 }
 
 abbrev pub decreases-rounds : goal.decreases-rounds
