@@ -18,3 +18,4 @@ pub mod TurnReads
 pub mod CrewLaws
 pub mod FetchLaws
 pub mod ShelfLaws
+pub mod LenderLaws

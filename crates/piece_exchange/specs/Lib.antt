@@ -14,3 +14,4 @@ pub mod Gets
 pub mod Fetched
 pub mod Shelves
 pub mod Logs
+pub mod Lenders

@@ -4,6 +4,7 @@ mod exchange;
 mod helper;
 mod in_turn;
 mod joining;
+mod lending;
 mod reading;
 mod shelf;
 mod starting;

@@ -7,10 +7,12 @@ ghost use Rattle.data_sieving.specs.Sieving.{AreFilled};
 ghost use Rattle.data_sieving.specs.Serving.{buffer_cell};
 ghost use Rattle.piece_exchange.specs.Blobs.{blob_at, with_blob, AreAsLong, FitTable, HasCollected, HaveOnePlaces};
 ghost use Rattle.piece_exchange.specs.Gets.{IsGetPlanned};
+ghost use Rattle.piece_exchange.specs.Lenders.{AreReady};
 ghost use Rattle.piece_exchange.specs.Logs.{HasTakenTurn, HaveTakenTurns, IsKept, IsShelfIn};
 ghost use Rattle.piece_exchange.specs.Shelves.{turns_due};
 ghost use Rattle.piece_exchange.specs.declared.gets.starting.ReadSeat.{ReadSeat};
 
+use crate::gets::lending::Lenders;
 use crate::gets::reading::Reading;
 use crate::gets::shelf::Shelf;
 use crate::gets::starting::ReadSeat;
@@ -27,10 +29,12 @@ pub(crate) fn take_all<R: Wait, D: Disk>(
     rt: &R,
     plan: &GetPlan,
     seats: &mut [ReadSeat<D>],
+    lenders: &mut Lenders,
     table: &mut [BlobList],
 ) -> Result<(), DiskErr>
     requires plan { IsGetPlanned plan.now }
     requires one_place { HaveOnePlaces plan.now.list.now }
+    requires lenders { AreReady lenders.old.each.items }
     requires ready { (k : ℕ) (seat : ReadSeat D) → slice_get seats.old k ≡ Some seat → IsShelfIn plan.now.list.now seat.shelf }
     requires fit { FitTable table.old plan.now.list.now }
     ensures long { length seats.new ≡ length seats.old }
@@ -42,11 +46,29 @@ pub(crate) fn take_all<R: Wait, D: Disk>(
 {
     let mut end = Ok(());
     'rounds: while let Some(k) = least_round(seats) {
-        let seat = &mut seats[k];
-        let came = take_turn(rt, plan, &mut seat.shelf, table);
+        let shelf = &mut seats[k].shelf;
+        let (came, blob) = take_turn(rt, plan, shelf, table);
         end = end.and(came);
+        hand_on(rt, lenders, k, shelf.turn.is_none(), blob);
     }
     end
+}
+
+// Lends the blob that came back from a helper to the next one, where one came.
+fn hand_on<R: Wait>(
+    rt: &R,
+    lenders: &mut Lenders,
+    number: usize,
+    ended: bool,
+    blob: Option<Blob>,
+)
+    requires { AreReady lenders.old.each.items }
+    ensures { AreReady lenders.new.each.items }
+{
+    lenders.come_back(number, ended);
+    if let Some(blob) = blob {
+        lenders.lend(rt, blob);
+    }
 }
 
 // The first of the helpers whose next window is of the least round.
@@ -79,12 +101,13 @@ fn round_before(shelf: &Shelf, than: Option<u64>) -> Option<u64>
 }
 
 /// Takes the hull of the next window of a helper, if it has one, and copies the entries' bytes out of it. `Memory` where it didn't come.
+/// The blob comes with it.
 pub(crate) fn take_turn<R: Wait>(
     rt: &R,
     plan: &GetPlan,
     shelf: &mut Shelf,
     table: &mut [BlobList],
-) -> Result<(), DiskErr>
+) -> (Result<(), DiskErr>, Option<Blob>)
     requires plan { IsGetPlanned plan.now }
     requires one_place { HaveOnePlaces plan.now.list.now }
     requires ready { IsShelfIn plan.now.list.now shelf.old }
@@ -93,22 +116,21 @@ pub(crate) fn take_turn<R: Wait>(
     ensures of { shelf.new.line.of ≡ shelf.old.line.of }
     ensures blobs { AreAsLong table.old table.new }
     ensures fewer { (turns_due shelf.old ≡ [] → ⊥) → length (turns_due shelf.new) < length (turns_due shelf.old) }
-    ensures taken { OnOk result (HasTakenTurn plan.now.list.now shelf.old shelf.new table.old table.new) }
-    ensures memory { IfErr result (λ e. e ≡ Memory) }
+    ensures taken { OnOk result.0 (HasTakenTurn plan.now.list.now shelf.old shelf.new table.old table.new) }
+    ensures memory { IfErr result.0 (λ e. e ≡ Memory) }
 {
     let Some(turn) = shelf.turn else {
-        return Ok(());
+        return (Ok(()), None);
     };
     match shelf.line.take(rt) {
         Reading::Hull(blob) => {
             let came = collect_hull(&turn, &blob, table);
-            shelf.spare.put(rt, blob);
             shelf.turn = shelf.walk.next_turn();
-            came
+            (came, Some(blob))
         }
-        Reading::Ended => {
+        Reading::Ended(blob) => {
             shelf.turn = None;
-            Err(DiskErr::Memory)
+            (Err(DiskErr::Memory), Some(blob))
         }
     }
 }

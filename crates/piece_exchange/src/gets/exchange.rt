@@ -9,6 +9,7 @@ ghost use Rattle.serial_spec.specs.File.{read};
 ghost use Rattle.data_sieving.specs.Serving.{IsCovered};
 ghost use Rattle.piece_exchange.specs.Blobs.{AreAsLong, FitTable, HasRead, HaveOnePlaces};
 ghost use Rattle.piece_exchange.specs.Gets.{get_turns, HasGot, IsGetPlanned};
+ghost use Rattle.piece_exchange.specs.Lenders.{AreReady};
 ghost use Rattle.piece_exchange.specs.Logs.{HasReadParts};
 ghost use Rattle.piece_exchange.specs.Plan.{IsDomainOf};
 ghost use Rattle.piece_exchange.specs.Put.{SomeZip};
@@ -18,7 +19,8 @@ use crate::crew::{Crew, give_back, make_rooms};
 use crate::gets::collecting::take_all;
 use crate::gets::in_turn::get_in_turn;
 use crate::gets::joining::{join_all, tell_all};
-use crate::gets::starting::{ReadSeat, start_all, stop_all};
+use crate::gets::lending::{Lending, lending_of};
+use crate::gets::starting::{ReadSeat, Supply, start_all, stop_all};
 use crate::plan::{GetPlan, Tools};
 use nc_base::{BlobList, Extent, GotTable};
 use nc_outside::{Disk, DiskErr, Gate};
@@ -73,6 +75,7 @@ struct Fetching<'a, D: Disk> {
     parts: Vec<D>,
     table: Vec<BlobList>,
     crew: Crew<ReadSeat<'a, D>, D>,
+    lending: Lending<'a>,
 }
 
 // The parts and the blobs as they come back. No end where a helper can't be started: then nothing was done.
@@ -81,6 +84,17 @@ struct Fetched<D: Drop> {
     back: Vec<D>,
     table: Vec<BlobList>,
     end: Option<Result<(), DiskErr>>,
+}
+
+// Where nothing was done.
+fn untouched<D: Drop>(parts: Vec<D>, table: Vec<BlobList>) -> Fetched<D>
+    ensures { result ≡ record { back = parts; table = table; end = None } }
+{
+    Fetched {
+        back: parts,
+        table,
+        end: None,
+    }
 }
 
 // The gets by helpers.
@@ -108,18 +122,22 @@ fn get_on_threads<R: Threads + Wait + Sync, D: Disk, G: Gate>(
     ensures kept { IfNone result.end ((result.back.items ≡ parts.items) × (result.table.items ≡ table.items)) }
 {
     let Ok(crew) = make_rooms(tools.alloc, parts.len()) else {
-        return Fetched {
-            back: parts,
-            table,
-            end: None,
-        };
+        return untouched(parts, table);
     };
-    let work = Fetching { parts, table, crew };
+    let Ok(lending) = lending_of(tools.alloc, plan, domains) else {
+        return untouched(parts, table);
+    };
+    let work = Fetching {
+        parts,
+        table,
+        crew,
+        lending,
+    };
     thread::scope(
         thread::scope_env(),
         tools.rt,
         |scope| -> Fetched<D>
-            requires { IsGetPlanned plan.now × (1 ≤ plan.now.hints.now.line_room) × (plan.now.hints.now.line_room ≤ 64) × (length domains.now ≤ 64) × (length domains.now ≡ length work.parts.items)
+            requires { IsGetPlanned plan.now × AreReady work.lending.lenders.each.items × (1 ≤ plan.now.hints.now.line_room) × (plan.now.hints.now.line_room ≤ 64) × (length domains.now ≤ 64) × (length domains.now ≡ length work.parts.items)
                 × ((k : ℕ) (part : D) (domain : Extent) → slice_get work.parts.items k ≡ Some part → slice_get domains.now k ≡ Some domain → IsDomainOf plan.now.list.now (D.from part) (D.len part) domain)
                 × FitTable work.table.items plan.now.list.now × HaveOnePlaces plan.now.list.now
                 × HasRooms (length work.parts.items) work.crew.seats.items work.crew.rest.items work.crew.back.items (vec_capacity work.crew.seats) (vec_capacity work.crew.rest) (vec_capacity work.crew.back) }
@@ -150,6 +168,7 @@ fn get_in_scope<'s, E, R: Threads + Wait + Sync, D: Disk + 's, G: Gate>(
     requires domains { (k : ℕ) (part : D) (domain : Extent) → slice_get work.parts.items k ≡ Some part → slice_get domains.now k ≡ Some domain → IsDomainOf plan.now.list.now (D.from part) (D.len part) domain }
     requires fit { FitTable work.table.items plan.now.list.now }
     requires one_place { HaveOnePlaces plan.now.list.now }
+    requires lenders { AreReady work.lending.lenders.each.items }
     requires rooms { HasRooms (length work.parts.items) work.crew.seats.items work.crew.rest.items work.crew.back.items (vec_capacity work.crew.seats) (vec_capacity work.crew.rest) (vec_capacity work.crew.back) }
     ensures got { IfSome result.end (λ end. AllZip (λ p new. HasGot (get_turns plan.now p.1)
         (record { from = D.from p.0; len = D.len p.0; held = D.held p.0; calls = D.calls p.0; faults = D.faults p.0 })
@@ -163,24 +182,26 @@ fn get_in_scope<'s, E, R: Threads + Wait + Sync, D: Disk + 's, G: Gate>(
         parts,
         mut table,
         mut crew,
+        lending,
     } = work;
-    start_all(scope, tools, plan, domains, parts, &mut crew);
+    let Lending {
+        mut lenders,
+        spares,
+    } = lending;
+    start_all(scope, tools, plan, domains, Supply { parts, spares }, &mut crew);
     let Crew {
         mut seats,
         rest,
         mut back,
     } = crew;
-    if !rest.is_empty() {
+    let lent = lenders.lend_first(tools, plan, domains);
+    if !rest.is_empty() || lent.is_err() {
         stop_all(tools.rt, plan, seats, &mut back);
         give_back(rest, &mut back);
-        return Fetched {
-            back,
-            table,
-            end: None,
-        };
+        return untouched(back, table);
     }
     tell_all(tools.rt, &mut seats);
-    let came = take_all(tools.rt, plan, &mut seats, &mut table);
+    let came = take_all(tools.rt, plan, &mut seats, &mut lenders, &mut table);
     let end = join_all(tools.rt, plan, seats, &mut back);
     Fetched {
         back,

@@ -1,5 +1,5 @@
 // What a helper does: window after window it reads the hull, and puts it on its line.
-ghost use Rattle.std.specs.Prelude.{◌≡◌, ◌+◌, ◌-◌, ◌≤◌, [], length, map, IfOk, IfSome, IsErrOf, OnOk};
+ghost use Rattle.std.specs.Prelude.{◌≡◌, ◌+◌, ◌-◌, ◌≤◌, [], length, map, IfSome, IsErrOf, OnOk};
 ghost use Rattle.nc_outside.specs.Cause.{HasDiskCause, Rose};
 ghost use Rattle.nc_outside.specs.declared.disk.DiskErr.TheVariants.{Failed};
 ghost use Rattle.nc_outside.specs.Told.{with_end};
@@ -16,6 +16,7 @@ use file_domains::Window;
 use nc_base::Blob;
 use nc_outside::{Disk, DiskErr, Gate, Point};
 use ruled_line::{LinePut, LineTake};
+use std::alloc::Global;
 use std::sync::Wait;
 
 /// What a helper puts on its line.
@@ -23,14 +24,14 @@ use std::sync::Wait;
 pub(crate) enum Reading {
     /// The bytes of a window's hull.
     Hull(Blob),
-    /// No more come.
-    Ended,
+    /// No more come. The blob that there was for the next one comes back.
+    Ended(Blob),
 }
 
 /// Reads the hulls of the windows of an aggregator's domain, which lies on the part, and puts each on the line, in a blob that it takes
 /// off the line of spare ones.
 ///
-/// Refused, it puts `Ended` behind them.
+/// Refused, it puts `Ended` behind them, with the blob that it had.
 pub(crate) fn read_part<R: Wait, D: Disk, G: Gate>(
     tools: &Tools<R, G>,
     plan: &GetPlan,
@@ -62,10 +63,11 @@ pub(crate) fn read_part<R: Wait, D: Disk, G: Gate>(
             tools.rt,
             Point::Window(aggregator.number, turn.window.round),
         );
-        match read_turn(tools, &turn.window, part, spare) {
-            Ok(hull) => line.put(tools.rt, Reading::Hull(hull)),
+        let mut bytes = spare.take(tools.rt).into_vec();
+        match read_turn(tools.alloc, &turn.window, part, &mut bytes) {
+            Ok(()) => line.put(tools.rt, Reading::Hull(Blob::from_vec(bytes))),
             Err(fault) => {
-                line.put(tools.rt, Reading::Ended);
+                line.put(tools.rt, Reading::Ended(Blob::from_vec(bytes)));
                 return Err(fault);
             }
         }
@@ -73,25 +75,24 @@ pub(crate) fn read_part<R: Wait, D: Disk, G: Gate>(
     Ok(())
 }
 
-// Reads the hull of one window into a spare blob, which becomes exactly as long.
-fn read_turn<R: Wait, D: Disk, G>(
-    tools: &Tools<R, G>,
+// Reads the hull of one window into bytes, which become exactly as many.
+fn read_turn<D: Disk>(
+    alloc: Global,
     window: &Window,
     part: &mut D,
-    spare: &mut LineTake<Blob>,
-) -> Result<Blob, DiskErr>
+    bytes: &mut Vec<u8>,
+) -> Result<(), DiskErr>
     requires low { D.from part.old ≤ window.now.hull.at }
     requires high { window.now.hull.at + window.now.hull.len ≤ D.from part.old + D.len part.old }
-    ensures of { spare.new.of ≡ spare.old.of }
-    ensures read { IfOk result (λ hull. IfSome (D.held part.old) (λ file. hull ≡ read file (window.now.hull.at - D.from part.old) window.now.hull.len)) }
+    ensures read { OnOk result (IfSome (D.held part.old) (λ file. bytes.new.items ≡ read file (window.now.hull.at - D.from part.old) window.now.hull.len)) }
     ensures calls { OnOk result (D.calls part.new ≡ with_end (D.calls part.old) (load_calls (told_window window.now))) }
     ensures bytes { D.held part.new ≡ D.held part.old }
     ensures from { D.from part.new ≡ D.from part.old }
     ensures len { D.len part.new ≡ D.len part.old }
     ensures cause { HasDiskCause (D.faults part.old) (D.faults part.new) result }
 {
-    let mut bytes = spare.take(tools.rt).into_vec();
+    let _size = part.size();
     bytes.resize(window.hull.len as usize, 0)?;
-    get_window(tools.alloc, part, window, &mut bytes)?;
-    Ok(Blob::from_vec(bytes))
+    get_window(alloc, part, window, bytes)?;
+    Ok(())
 }

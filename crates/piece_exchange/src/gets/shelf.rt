@@ -1,4 +1,4 @@
-// The calling thread's ends of the lines of a helper, and the windows whose hulls are still to be taken.
+// The calling thread's end of the line of a helper, and the windows whose hulls are still to be taken.
 ghost use Rattle.std.specs.Prelude.{◌≡◌, min};
 ghost use Rattle.piece_exchange.specs.Gets.{get_turns, IsGetPlanned};
 ghost use Rattle.piece_exchange.specs.Shelves.{turns_due, IsShelf};
@@ -6,37 +6,29 @@ ghost use Rattle.piece_exchange.specs.Shelves.{turns_due, IsShelf};
 use crate::gets::reading::Reading;
 use crate::plan::GetPlan;
 use crate::walk::{Turn, TurnWalk};
-use nc_base::{Blob, Extent};
-use ruled_line::{LinePut, LineTake};
+use nc_base::Extent;
+use ruled_line::LineTake;
 
 /// What of a helper's windows is still to be taken: the next one, and those after it.
 #[derive(Drop)]
 pub(crate) struct Shelf<'a> {
     pub line: LineTake<Reading>,
-    pub spare: LinePut<Blob>,
     pub turn: Option<Turn<'a>>,
     pub walk: TurnWalk<'a>,
 }
 
-/// The calling thread's ends, and all windows of a domain to be taken.
+/// The calling thread's end, and all windows of a domain to be taken.
 pub(crate) fn shelf_of<'a>(
     plan: &GetPlan<'a>,
     domain: Extent,
     line: LineTake<Reading>,
-    spare: LinePut<Blob>,
 ) -> Shelf<'a>
     requires plan { IsGetPlanned plan.now }
     ensures ready { IsShelf plan.now.list.now (min plan.now.hints.now.cb_buffer domain.len) result }
     ensures due { turns_due result ≡ get_turns plan.now domain }
     ensures line { result.line ≡ line }
-    ensures spare { result.spare ≡ spare }
 {
     let mut walk = TurnWalk::new(plan.list, plan.cover, plan.hints.cb_buffer, domain);
     let turn = walk.next_turn();
-    Shelf {
-        line,
-        spare,
-        turn,
-        walk,
-    }
+    Shelf { line, turn, walk }
 }

@@ -12,18 +12,24 @@ use crate::gets::helper::{GetHelper, GetLines, start};
 use crate::gets::reading::Reading;
 use crate::gets::shelf::{Shelf, shelf_of};
 use crate::plan::{Aggregator, GetPlan, Tools};
-use file_domains::windows;
-use nc_base::{Blob, Extent, Memory};
+use nc_base::{Blob, Extent};
 use nc_outside::{Disk, Gate};
-use ruled_line::{LinePut, LineTake, line};
+use ruled_line::{LineTake, line};
 use std::sync::Wait;
 use std::thread::{Scope, Threads};
 
-/// A helper, and the calling thread's ends of its lines.
+/// A helper, and the calling thread's end of its line of readings.
 #[derive(Drop)]
 pub(crate) struct ReadSeat<'a, D: Disk> {
     pub helper: GetHelper<D>,
     pub shelf: Shelf<'a>,
+}
+
+/// The parts, and the lines on which blobs are lent for them, the last one first.
+#[derive(Drop)]
+pub(crate) struct Supply<D: Drop> {
+    pub parts: Vec<D>,
+    pub spares: Vec<LineTake<Blob>>,
 }
 
 /// Starts a helper for each part, until one can't be started.
@@ -32,24 +38,25 @@ pub(crate) fn start_all<'s, E, D: Disk + 's, G: Gate, R: Threads + Wait + Sync>(
     tools: &'s Tools<'s, R, G>,
     plan: &'s GetPlan<'s>,
     domains: &[Extent],
-    parts: Vec<D>,
+    supply: Supply<D>,
     crew: &mut Crew<ReadSeat<'s, D>, D>,
 )
     requires plan { IsGetPlanned plan.now }
     requires line_low { 1 ≤ plan.now.hints.now.line_room }
     requires line_high { plan.now.hints.now.line_room ≤ 64 }
     requires few { length domains.now ≤ 64 }
-    requires one_each { length domains.now ≡ length parts.items }
-    requires domains { (k : ℕ) (part : D) (domain : Extent) → slice_get parts.items k ≡ Some part → slice_get domains.now k ≡ Some domain → IsDomainOf plan.now.list.now (D.from part) (D.len part) domain }
+    requires one_each { length domains.now ≡ length supply.parts.items }
+    requires domains { (k : ℕ) (part : D) (domain : Extent) → slice_get supply.parts.items k ≡ Some part → slice_get domains.now k ≡ Some domain → IsDomainOf plan.now.list.now (D.from part) (D.len part) domain }
     requires seats { crew.old.seats.items ≡ [] }
     requires rest { crew.old.rest.items ≡ [] }
-    requires seats_room { length parts.items ≤ vec_capacity crew.old.seats }
-    requires rest_room { length parts.items ≤ vec_capacity crew.old.rest }
-    ensures parts { map (λ seat. part_of seat) crew.new.seats.items ++ crew.new.rest.items ≡ parts.items }
+    requires seats_room { length supply.parts.items ≤ vec_capacity crew.old.seats }
+    requires rest_room { length supply.parts.items ≤ vec_capacity crew.old.rest }
+    ensures parts { map (λ seat. part_of seat) crew.new.seats.items ++ crew.new.rest.items ≡ supply.parts.items }
     ensures back { crew.new.back ≡ crew.old.back }
     ensures domains { map (λ seat. domain_of seat) crew.new.seats.items ≡ take (length crew.new.seats.items) domains.now }
     ensures seats { (seat : ReadSeat D) → In crew.new.seats.items seat → IsFresh plan.now seat }
 {
+    let Supply { parts, mut spares } = supply;
     for part in parts {
         if crew.rest.is_empty() {
             let number = crew.seats.len();
@@ -57,7 +64,7 @@ pub(crate) fn start_all<'s, E, D: Disk + 's, G: Gate, R: Threads + Wait + Sync>(
                 number: number as u32,
                 domain: domains[number],
             };
-            match start_one(scope, tools, plan, aggregator, part) {
+            match start_one(scope, tools, plan, aggregator, part, spares.pop()) {
                 Ok(seat) => crew.seats.push_reserved(seat),
                 Err(part) => crew.rest.push_reserved(part),
             }
@@ -67,13 +74,14 @@ pub(crate) fn start_all<'s, E, D: Disk + 's, G: Gate, R: Threads + Wait + Sync>(
     }
 }
 
-// Starts a helper for a part, with lines of its own and blobs to read into. Where one of them can't be had the part comes back as it was.
+// Starts a helper for a part, with a line for its word and one for its readings. Where one of them can't be had the part comes back as it was.
 fn start_one<'s, E, D: Disk + 's, G: Gate, R: Threads + Wait + Sync>(
     scope: &'s Scope<'s, E>,
     tools: &'s Tools<'s, R, G>,
     plan: &'s GetPlan<'s>,
     aggregator: Aggregator,
     part: D,
+    spare: Option<LineTake<Blob>>,
 ) -> Result<ReadSeat<'s, D>, D>
     requires plan { IsGetPlanned plan.now }
     requires line_low { 1 ≤ plan.now.hints.now.line_room }
@@ -90,7 +98,7 @@ fn start_one<'s, E, D: Disk + 's, G: Gate, R: Threads + Wait + Sync>(
     let Ok((put, taken)) = line::<Reading>(tools.alloc, plan.hints.line_room) else {
         return Err(part);
     };
-    let Ok((back, spare)) = spare_line(tools, plan, aggregator.domain) else {
+    let Some(spare) = spare else {
         return Err(part);
     };
     let ends = Ends {
@@ -99,37 +107,8 @@ fn start_one<'s, E, D: Disk + 's, G: Gate, R: Threads + Wait + Sync>(
         lines: GetLines { line: put, spare },
     };
     let helper = start(scope, tools, plan, aggregator, go, ends)?;
-    let shelf = shelf_of(plan, aggregator.domain, taken, back);
+    let shelf = shelf_of(plan, aggregator.domain, taken);
     Ok(ReadSeat { helper, shelf })
-}
-
-// A line with blobs on it, each of which has room for the longest hull of the domain: two, so that one is filled while the other is copied
-// from, or one where there is one window at most. No more blobs than these go round, so that no put on the line ever waits.
-fn spare_line<R: Wait, G>(
-    tools: &Tools<R, G>,
-    plan: &GetPlan,
-    domain: Extent,
-) -> Result<(LinePut<Blob>, LineTake<Blob>), Memory>
-    requires plan { IsGetPlanned plan.now }
-{
-    let longest = longest_hull(plan, domain) as usize;
-    let (mut put, take) = line::<Blob>(tools.alloc, 2)?;
-    put.put(tools.rt, Blob::with_capacity(tools.alloc, longest)?);
-    if domain.len > plan.hints.cb_buffer {
-        put.put(tools.rt, Blob::with_capacity(tools.alloc, longest)?);
-    }
-    Ok((put, take))
-}
-
-// How long the longest hull of a domain's windows is.
-fn longest_hull(plan: &GetPlan, domain: Extent) -> u64
-    requires plan { IsGetPlanned plan.now }
-{
-    let mut longest = 0;
-    for window in windows(domain, plan.cover.as_slice(), plan.hints.cb_buffer) {
-        longest = window.hull.len.max(longest);
-    }
-    longest
 }
 
 /// Tells the helpers to stop, and joins them. Their parts come back as they were, in order.

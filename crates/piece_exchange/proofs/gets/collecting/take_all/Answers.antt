@@ -20,6 +20,7 @@ rounds-init g c = record {
   blobs = refl;
   taken = taken_none c.args.plan.now.list.now c.args.seats.now c.args.table.now;
   memory = tt;
+  lenders = c.requires.lenders;
 }
 
 pub take_turn-came-requires-clause-ready : goal.take_turn-came-requires-clause-ready
@@ -56,7 +57,8 @@ rounds-preserved g c =
           (λ r s e o h. c.rounds.invariant.kept r o s h e) a now second old first;
       blobs = c.take_turn-came.ensures.blobs ∙ c.rounds.invariant.blobs;
       taken = subst (λ (r : Result (Unit {0}) DiskErr). OnOk r (HaveTakenTurns list c.args.seats.now (set c.rounds.seats k new) c.args.table.now c.take_turn-came.new.table)) (sym c.and-end.ensures)
-          (taken_on list c.args.seats.now c.rounds.seats k seat new c.args.table.now c.rounds.table c.take_turn-came.new.table c.rounds.end c.take_turn-came.result
+          (taken_on list c.args.seats.now c.rounds.seats k seat new c.args.table.now c.rounds.table c.take_turn-came.new.table c.rounds.end c.take_turn-came.result.0
           c.rounds.invariant.long own c.rounds.invariant.taken c.take_turn-came.ensures.taken);
-      memory = subst (λ (r : Result (Unit {0}) DiskErr). IfErr r (λ e. e ≡ Memory)) (sym c.and-end.ensures) (both_memory c.rounds.end c.take_turn-came.result c.rounds.invariant.memory c.take_turn-came.ensures.memory);
+      lenders = c.hand_on.ensures;
+      memory = subst (λ (r : Result (Unit {0}) DiskErr). IfErr r (λ e. e ≡ Memory)) (sym c.and-end.ensures) (both_memory c.rounds.end c.take_turn-came.result.0 c.rounds.invariant.memory c.take_turn-came.ensures.memory);
     }

@@ -3,6 +3,7 @@ use Rattle.std.proofs.Common.{◌≡◌, ℕ, length, Some}
 use Rattle.std.specs.Prelude.{slice_get, flat_map, IfErr, OnOk}
 use Rattle.nc_outside.specs.declared.disk.DiskErr.TheVariants.{Memory}
 use Rattle.piece_exchange.specs.Blobs.{AreAsLong}
+use Rattle.piece_exchange.specs.Lenders.{AreReady}
 use Rattle.piece_exchange.specs.Logs.{HaveTakenTurns, IsKept, IsShelfIn}
 use Rattle.piece_exchange.specs.Shelves.{turns_due}
 use Rattle.piece_exchange.specs.declared.gets.starting.ReadSeat.{ReadSeat}
@@ -16,6 +17,7 @@ invariant-rounds g l = record {
   blobs : AreAsLong l.initial.table l.table;
   taken : OnOk l.end (HaveTakenTurns l.plan.list.now l.initial.seats l.seats l.initial.table l.table);
   memory : IfErr l.end (λ e. e ≡ Memory);
+  lenders : AreReady l.lenders.each.items;
 }
 
 abbrev pub decreases-rounds : goal.decreases-rounds

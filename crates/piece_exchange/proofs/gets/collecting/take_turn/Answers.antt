@@ -71,7 +71,7 @@ returns-in-Hull-clause-taken g c =
     let up : IsNextUp list room c.in-Some.turn walk = subst (λ (o : Option Turn). IsShelfOf list room o walk) c.in-Some.is c.requires.ready.1 in
     let next = c.next_turn-shelf.ensures in
     let t : Told = told_window c.in-Some.turn.window in
-    taken_turn list c.in-Some.turn.entries.now t c.in-Hull.blob c.args.shelf.now (record { line = _; spare = _; turn = c.next_turn-shelf.result; walk = c.next_turn-shelf.new.self })
+    taken_turn list c.in-Some.turn.entries.now t c.in-Hull.blob c.args.shelf.now (record { line = _; turn = c.next_turn-shelf.result; walk = c.next_turn-shelf.new.self })
     c.args.table.now c.collect_hull-came.new.table c.collect_hull-came.result
     (ap (λ (ts : List Told). t ∷ ts) (due_next c.next_turn-shelf.result walk c.next_turn-shelf.new.self next.none next.some) ∙ sym (ap (λ (o : Option Turn). turns_left_of o walk) c.in-Some.is))
     (first_of (search rules, grind (arith, common_steps))) c.requires.one_place c.requires.fit up.served c.collect_hull-came.ensures.long c.collect_hull-came.ensures.collected

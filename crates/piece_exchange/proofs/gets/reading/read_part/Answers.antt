@@ -1,7 +1,8 @@
 -- Each window is read, and its hull put on the line.
-use Rattle.std.proofs.Common.{◌∙◌, refl, arith}
+use Rattle.std.proofs.Common.{◌∙◌, ◌++◌, ◌∷◌, [], ℕ, List, ap, refl, arith}
 use Rattle.aggregator_rounds.specs.Pieces.{told_window}
 use Rattle.piece_exchange.specs.Gets.{get_turns}
+use Rattle.piece_exchange.specs.declared.gets.reading.Reading.TheVariants.{Hull}
 use Rattle.piece_exchange.proofs.FetchLaws.{fetch_begin, fetch_end, fetch_high, fetch_low, fetch_next, get_on}
 use Rattle.piece_exchange.proofs.gets.reading.read_part.Goals as goal
 
@@ -40,11 +41,11 @@ turns-preserved g c =
     let before = c.turns.invariant.later in
     record {
       of = c.put.ensures.of ∙ c.turns.invariant.of;
-      spare_of = c.in-Ok.ensures.of ∙ c.turns.invariant.spare_of;
+      spare_of = c.take.ensures.of ∙ c.turns.invariant.spare_of;
       fetching = fetch_next (g.D.Disk.from c.args.part.now) (g.D.Disk.from c.turns.part) (g.D.Disk.len c.args.part.now) (get_turns c.args.plan.now c.args.aggregator.domain)
-          c.turns.walk c.next_turn.new.self (told_window c.in-Some.turn.window) c.turns.line.items c.put.new.self.items c.in-Ok.hull (g.D.Disk.held c.args.part.now) (g.D.Disk.held c.turns.part)
+          c.turns.walk c.next_turn.new.self (told_window c.in-Some.turn.window) c.turns.line.items c.put.new.self.items c.read_turn.new.bytes.items (g.D.Disk.held c.args.part.now) (g.D.Disk.held c.turns.part)
           (g.D.Disk.calls c.args.part.now) (g.D.Disk.calls c.turns.part) (g.D.Disk.calls c.read_turn.new.part)
-          c.turns.invariant.fetching c.in-Some.ensures.some c.in-Some.ensures.ready c.put.ensures.items c.turns.invariant.from c.turns.invariant.held c.in-Ok.ensures.read c.in-Ok.ensures.calls;
+          c.turns.invariant.fetching c.in-Some.ensures.some c.in-Some.ensures.ready (c.put.ensures.items ∙ ap (λ (hull : List ℕ). c.turns.line.items ++ Hull hull ∷ []) c.from_vec.ensures) c.turns.invariant.from c.turns.invariant.held c.in-Ok.ensures.read c.in-Ok.ensures.calls;
       held = c.in-Ok.ensures.bytes ∙ c.turns.invariant.held;
       from = c.in-Ok.ensures.from ∙ c.turns.invariant.from;
       len = c.in-Ok.ensures.len ∙ c.turns.invariant.len;

@@ -14,8 +14,8 @@ none = record { at = 0; len = 0 }
 pub start_one-requires-clause-domain : goal.start_one-requires-clause-domain
 start_one-requires-clause-domain g c κs within =
     let middle = ap (λ v. c.loop-part.yielded ++ v) (sym c.in-Some.ensures.steps.0) ∙ c.loop-part.invariant.all in
-    let here = middle_at c.loop-part.yielded _ c.args.parts.items c.in-Some.part middle in
-    let low : length c.loop-part.yielded < length c.args.parts.items = get_long c.args.parts.items (length c.loop-part.yielded) c.in-Some.part here in
+    let here = middle_at c.loop-part.yielded _ c.args.supply.parts.items c.in-Some.part middle in
+    let low : length c.loop-part.yielded < length c.args.supply.parts.items = get_long c.args.supply.parts.items (length c.loop-part.yielded) c.in-Some.part here in
     let few = seats_few (λ seat. part_of seat) c.loop-part.crew.seats.items c.loop-part.crew.rest.items c.loop-part.yielded c.loop-part.invariant.parts in
     let empty : length c.loop-part.crew.rest.items ≡ 0 = first_of (search rules, grind (arith, common_steps)) in
     let number : c.len-number.result ≡ length c.loop-part.crew.seats.items = first_of (search rules, grind (arith, common_steps)) in
@@ -25,8 +25,8 @@ start_one-requires-clause-domain g c κs within =
 pub push_reserved-requires : goal.push_reserved-requires
 push_reserved-requires g c =
     let middle = ap (λ v. c.loop-part.yielded ++ v) (sym c.in-Some.ensures.steps.0) ∙ c.loop-part.invariant.all in
-    let here = middle_at c.loop-part.yielded _ c.args.parts.items c.in-Some.part middle in
-    let low : length c.loop-part.yielded < length c.args.parts.items = get_long c.args.parts.items (length c.loop-part.yielded) c.in-Some.part here in
+    let here = middle_at c.loop-part.yielded _ c.args.supply.parts.items c.in-Some.part middle in
+    let low : length c.loop-part.yielded < length c.args.supply.parts.items = get_long c.args.supply.parts.items (length c.loop-part.yielded) c.in-Some.part here in
     let few = seats_few (λ seat. part_of seat) c.loop-part.crew.seats.items c.loop-part.crew.rest.items c.loop-part.yielded c.loop-part.invariant.parts in
     let room = c.requires.seats_room in
     let same = c.loop-part.invariant.seats_room in
@@ -35,8 +35,8 @@ push_reserved-requires g c =
 pub loop-part-preserved-in-Ok : goal.loop-part-preserved-in-Ok
 loop-part-preserved-in-Ok g c =
     let middle = ap (λ v. c.loop-part.yielded ++ v) (sym c.in-Some.ensures.steps.0) ∙ c.loop-part.invariant.all in
-    let here = middle_at c.loop-part.yielded _ c.args.parts.items c.in-Some.part middle in
-    let low : length c.loop-part.yielded < length c.args.parts.items = get_long c.args.parts.items (length c.loop-part.yielded) c.in-Some.part here in
+    let here = middle_at c.loop-part.yielded _ c.args.supply.parts.items c.in-Some.part middle in
+    let low : length c.loop-part.yielded < length c.args.supply.parts.items = get_long c.args.supply.parts.items (length c.loop-part.yielded) c.in-Some.part here in
     let few = seats_few (λ seat. part_of seat) c.loop-part.crew.seats.items c.loop-part.crew.rest.items c.loop-part.yielded c.loop-part.invariant.parts in
     let empty : length c.loop-part.crew.rest.items ≡ 0 = first_of (search rules, grind (arith, common_steps)) in
     let number : c.len-number.result ≡ length c.loop-part.crew.seats.items = first_of (search rules, grind (arith, common_steps)) in

@@ -7,7 +7,7 @@ use Rattle.piece_exchange.proofs.gets.starting.start_all.Given as goal
 
 abbrev pub invariant-loop-part : goal.invariant-loop-part
 invariant-loop-part g l = record {
-  all : l.yielded ++ l.part-iterator.rest.items ≡ l.fn.parts.items;
+  all : l.yielded ++ l.part-iterator.rest.items ≡ l.fn.supply.parts.items;
   parts : map (λ seat. part_of seat) l.crew.seats.items ++ l.crew.rest.items ≡ l.yielded;
   domains : map (λ seat. domain_of seat) l.crew.seats.items ≡ take (length l.crew.seats.items) l.domains;
   seats : (seat : ReadSeat _) → In l.crew.seats.items seat → IsFresh l.plan seat;

@@ -1,0 +1,14 @@
+-- One more lender.
+use Rattle.std.proofs.Common.{◌≡◌, ℕ, zero, suc, ◌++◌, ◌∷◌, [], List, Some, subst}
+use Rattle.std.specs.Prelude.{slice_get}
+use Rattle.std.proofs.lemmas.Option.{same_Some}
+
+pub each_pushed : {X : Type 0} (P : X → Type 0) (xs now : List X) (y : X) → now ≡ xs ++ y ∷ [] → ((k : ℕ) (x : X) → slice_get xs k ≡ Some x → P x) → P y
+    → (k : ℕ) (x : X) → slice_get now k ≡ Some x → P x
+each_pushed {X} P xs now y e all own k x g = pushed xs all k (subst (λ (zs : List X). slice_get zs k ≡ Some x) e g)
+  where
+    pushed : (ys : List X) → ((r : ℕ) (z : X) → slice_get ys r ≡ Some z → P z) → (r : ℕ) → slice_get (ys ++ y ∷ []) r ≡ Some x → P x
+    pushed [] each zero h = subst P (same_Some y x h) own
+    pushed [] each (suc r) h = absurd cc
+    pushed (z ∷ ys) each zero h = each zero x h
+    pushed (z ∷ ys) each (suc r) h = pushed ys (λ q w i. each (suc q) w i) r h
