@@ -45,6 +45,18 @@ past_twice p q (o ∷ whole) left later l (inr h) k =
     further f (inl g) = inl (g.0, f later g.1)
     further f (inr g) = inr (g.0, g.1, f g.0 g.2)
 
+pub past_later : (p q : ℕ) (whole left : List Owned) → p ≤ q → IsPast p whole left → IsPast q whole left
+past_later p q whole left l h = past_twice p q whole left left l h (past_none q left)
+
+-- what is gone doesn't count where no entry does that has ended
+pub past_same : (test : Owned → Bool) (place : ℕ) (whole left : List Owned) → ((o : Owned) → o.extent.at + o.extent.len ≤ place → test o ≡ false) → IsPast place whole left
+    → filter test whole ≡ filter test left
+past_same test place [] left out h = ap (λ (l : List Owned). filter test l) (sym h)
+past_same test place (o ∷ whole) left out (inl h) =
+    ap (λ (b : Bool). cond b (o ∷ filter test whole) (filter test whole)) (out o h.0) ∙ past_same test place whole left out h.1
+past_same test place (o ∷ whole) left out (inr h) =
+    ap (λ (l : List Owned). cond (test o) (o ∷ l) l) (past_same test place whole h.0 out h.2) ∙ ap (λ (l : List Owned). filter test l) (sym h.1)
+
 -- ---- members
 
 pub past_in : (place : ℕ) (whole left : List Owned) (o : Owned) → IsPast place whole left → In left o → In whole o
@@ -154,3 +166,11 @@ first_ahead stop ahead rest entry e h o g =
 pub none_ahead : (stop : ℕ) (ahead : List Owned) → length ahead ≡ 0 → (o : Owned) → slice_get ahead 0 ≡ Some o → stop < o.extent.at + o.extent.len
 none_ahead stop [] e o g = no_none_some o g
 none_ahead stop (p ∷ ahead) e o g = absurd (omega arith)
+
+pub past_short : (place : ℕ) (whole left : List Owned) → IsPast place whole left → length left ≤ length whole
+past_short place [] left h = let none = ap (λ (l : List Owned). length l) h in omega arith
+past_short place (o ∷ whole) left (inl h) = let short = past_short place whole left h.1 in omega arith
+past_short place (o ∷ whole) left (inr h) =
+    let same = ap (λ (l : List Owned). length l) h.1 in
+    let short = past_short place whole h.0 h.2 in
+    omega arith
