@@ -1,5 +1,5 @@
 -- The bytes that entries have, and those of them from a place on.
-use Rattle.std.proofs.Common.{◌≡◌, ℕ, ◌<◌, ◌≤◌, ◌⊎◌, inl, inr, refl, sym, ◌∙◌, ap, subst, List, [], ◌∷◌, ◌++◌, append_assoc, arith}
+use Rattle.std.proofs.Common.{◌≡◌, ℕ, ◌<◌, ◌≤◌, ◌⊎◌, inl, inr, refl, sym, ap, subst, List, [], ◌∷◌, ◌++◌, arith}
 use Rattle.std.specs.Prelude.{nat_le}
 use Rattle.std.specs.List.{range_with_len}
 use Rattle.std.proofs.lemmas.Bool.{le-leb, leb-true}
@@ -12,6 +12,7 @@ use Rattle.overlay_laws.specs.Lines.{extents, EndBelow}
 use Rattle.overlay_laws.proofs.HullLaws.{filter_in, filter_ascends, in_left, in_right, in_either, in_flat, flat_in, in_range, range_low, range_high, in_in_order, in_order_in, in_order_ascends, first_least}
 use Rattle.overlay_laws.proofs.CoverLaws.{same_ascending}
 use Rattle.data_sieving.specs.Serving.{IsCovered, IsPast, AreBegun, bytes_from}
+use Rattle.data_sieving.proofs.PastSteps.{past_in, past_kept}
 
 -- ---- covered bytes
 
@@ -82,20 +83,11 @@ begins (y ∷ ys) a h k l =
 
 pub past_covered : (place : ℕ) (whole left : List Owned) (x : ℕ) → IsPast place whole left → place ≤ x → IsCovered whole x → IsCovered left x
 past_covered place whole left x h l c =
-    elim (covered_either h.front left x (subst (λ (w : List Owned). IsCovered w x) h.joined c)) [
-      | inl g ↦ (let e = h.ended g.by g.inside in let m = g.high in absurd (omega arith))
-      | inr g ↦ g
-    ]
+    let end = c.high in
+    record { by = c.by; inside = past_kept place whole left c.by h c.inside (omega arith); low = c.low; high = c.high }
 
 pub covered_past : (place : ℕ) (whole left : List Owned) (x : ℕ) → IsPast place whole left → IsCovered left x → IsCovered whole x
-covered_past place whole left x h c = subst (λ (w : List Owned). IsCovered w x) (sym h.joined) (covered_right h.front left x c)
-
-pub past_twice : (p q : ℕ) (whole left later : List Owned) → p ≤ q → IsPast p whole left → IsPast q left later → IsPast q whole later
-past_twice p q whole left later l h k = record {
-  front = h.front ++ k.front;
-  joined = h.joined ∙ ap (λ (r : List Owned). h.front ++ r) k.joined ∙ sym (append_assoc h.front k.front later);
-  ended = λ o m. elim (in_either h.front k.front o m) [ inl g ↦ (let e = h.ended o g in omega arith) | inr g ↦ k.ended o g ];
-}
+covered_past place whole left x h c = record { by = c.by; inside = past_in place whole left c.by h c.inside; low = c.low; high = c.high }
 
 -- ---- what has begun
 

@@ -22,6 +22,7 @@ use Rattle.overlay_laws.proofs.WalkLaws.{filter_joined}
 use Rattle.data_sieving.specs.Sieving.{of_slot, got_cells, blob_at, HasGot, FitBlobs, places_of, HaveOnePlace, AreAsLong, LieOn}
 use Rattle.data_sieving.specs.Serving.{part_at, part_in, IsCovered, IsPast, IsNext, buffer_cell, HasGotPart}
 use Rattle.data_sieving.proofs.CoveredBytes.{past_covered}
+use Rattle.data_sieving.proofs.PastSteps.{past_all, past_kept}
 use Rattle.data_sieving.proofs.ReachSteps.{begun_in}
 
 -- ---- parts of bytes that were read
@@ -193,11 +194,11 @@ parts_within base file lo hi n (o ∷ os) h =
 
 -- ---- one window more
 
-slot_said : (base : ℕ) (file : List ℕ) (k : ℕ) (list left : List Owned) (place size : ℕ) (w : Window) (begun later : List Owned) (stop y : ℕ)
-    → ((o : Owned) → In list o → base ≤ o.extent.at) → IsOneValued (places_of (of_slot k list)) → IsPast place list left → IsNext left place size w begun later stop
+slot_said : (base : ℕ) (file : List ℕ) (k : ℕ) (list left : List Owned) (place size : ℕ) (w : Window) (begun : List Owned) (stop y : ℕ)
+    → ((o : Owned) → In list o → base ≤ o.extent.at) → IsOneValued (places_of (of_slot k list)) → IsPast place list left → IsNext left place size w begun stop
     → said_at (said_by (parts_got base file 0 stop (of_slot k list))) y
     ≡ said_at (said_by (parts_got base file 0 place (of_slot k list) ++ parts_got base file w.hull.at (w.hull.at + w.hull.len) (of_slot k begun))) y
-slot_said base file k list left place size w begun later stop y on once p n =
+slot_said base file k list left place size w begun stop y on once p n =
     said_in_any_order (said_by (parts_got base file 0 stop (of_slot k list)))
     (said_by (parts_got base file 0 place (of_slot k list) ++ parts_got base file w.hull.at (w.hull.at + w.hull.len) (of_slot k begun)))
     (read_once base file 0 stop (of_slot k list) slot_on once) there back y
@@ -214,12 +215,9 @@ slot_said base file k list left place size w begun later stop y on once p n =
 
     has_begun : (r : Owned) (x : ℕ) → In list r → place ≤ x → x < stop → r.extent.at ≤ x → x < r.extent.at + r.extent.len → In begun r
     has_begun r x m l h b e =
-        elim (in_either p.front left r (subst (λ (q : List Owned). In q r) p.joined m)) [
-          | inl g ↦ (let f = p.ended r g in absurd (omega arith))
-          | inr g ↦ elim (in_either begun n.begun.rest r (subst (λ (q : List Owned). In q r) n.begun.joined g)) [
-            | inl i ↦ i
-            | inr i ↦ (let f = n.begun.later r i in absurd (omega arith))
-          ]
+        elim (in_either begun n.begun.rest r (subst (λ (q : List Owned). In q r) n.begun.joined (past_kept place list left r p m (omega arith)))) [
+          | inl i ↦ i
+          | inr i ↦ (let f = n.begun.later r i in absurd (omega arith))
         ]
 
     in_window : (x v : ℕ) (r : IsRead base file 0 stop (of_slot k list) x v) → place ≤ r.place → IsRead base file w.hull.at (w.hull.at + w.hull.len) (of_slot k begun) x v
@@ -316,10 +314,10 @@ fit_slot k blobs list fit o m =
     subst (λ (j : ℕ). o.from + o.extent.len ≤ length (blob_at blobs j)) r.1 (fit o r.0)
 
 -- blobs with what lies below a place
-pub got_step : (base : ℕ) (file : List ℕ) (list left : List Owned) (place size : ℕ) (w : Window) (begun later : List Owned) (stop : ℕ) (old mid now : List (List ℕ))
-    → ((o : Owned) → In list o → base ≤ o.extent.at) → HaveOnePlace list → FitBlobs old list → IsPast place list left → IsNext left place size w begun later stop
+pub got_step : (base : ℕ) (file : List ℕ) (list left : List Owned) (place size : ℕ) (w : Window) (begun : List Owned) (stop : ℕ) (old mid now : List (List ℕ))
+    → ((o : Owned) → In list o → base ≤ o.extent.at) → HaveOnePlace list → FitBlobs old list → IsPast place list left → IsNext left place size w begun stop
     → HasGotPart 0 place base file list old mid → HasGotPart w.hull.at (w.hull.at + w.hull.len) base file begun mid now → HasGotPart 0 stop base file list old now
-got_step base file list left place size w begun later stop old mid now on once fit p n g h k =
+got_step base file list left place size w begun stop old mid now on once fit p n g h k =
     h k
     ∙ ap (λ (b : List ℕ). write_cells b (parts_got base file w.hull.at (w.hull.at + w.hull.len) (of_slot k begun))) (g k)
     ∙ sym (fold-append (λ f cell. written f cell.0 cell.1) (blob_at old k) (parts_got base file 0 place (of_slot k list))
@@ -331,7 +329,7 @@ got_step base file list left place size w begun later stop old mid now on once f
     (parts_within base file w.hull.at (w.hull.at + w.hull.len) (length (blob_at old k)) (of_slot k begun)
     (λ o m. let r = in_slot k begun o m in fit_slot k old list fit o (slot_in k list o (begun_in place stop list left begun o p n.begun r.0) r.1))))
     (parts_within base file 0 stop (length (blob_at old k)) (of_slot k list) (fit_slot k old list fit))
-    (λ y. sym (slot_said base file k list left place size w begun later stop y on (once k) p n))
+    (λ y. sym (slot_said base file k list left place size w begun stop y on (once k) p n))
 
 -- ---- before the first window, and after the last
 
@@ -367,11 +365,7 @@ got_end base file list left place old now none p g k =
     g k ∙ ap (λ (os : List Owned). write_cells (blob_at old k) (got_cells base file os)) (whole_parts place (of_slot k list) ended)
   where
     ended : (o : Owned) → In (of_slot k list) o → o.extent.at + o.extent.len ≤ place
-    ended o m =
-        elim (in_either p.front left o (subst (λ (q : List Owned). In q o) p.joined (in_slot k list o m).0)) [
-          | inl g ↦ p.ended o g
-          | inr g ↦ absurd (subst (λ (l : List Owned). In l o) none g)
-        ]
+    ended o m = past_all place list left o none p (in_slot k list o m).0
 
 -- ---- one entry more
 
@@ -464,6 +458,19 @@ collected_long lo hi buf mid now o room fit is = (
         ap (λ (bs : List (List ℕ)). length (blob_at bs k)) is
         ∙ ap (λ (b : List ℕ). length b) (get_or-set_other mid o.slot k (written (blob_at mid o.slot) (buffer_cell lo hi buf o).0 (buffer_cell lo hi buf o).1) [] other)
 
+-- entries of two lists, one after another
+pub collected_twice : (lo hi : ℕ) (buf : List ℕ) (a b : List Owned) (old mid now : List (List ℕ)) (k : ℕ)
+    → blob_at mid k ≡ write_cells (blob_at old k) (map (λ o. buffer_cell lo hi buf o) (of_slot k a))
+    → blob_at now k ≡ write_cells (blob_at mid k) (map (λ o. buffer_cell lo hi buf o) (of_slot k b))
+    → blob_at now k ≡ write_cells (blob_at old k) (map (λ o. buffer_cell lo hi buf o) (of_slot k (a ++ b)))
+collected_twice lo hi buf a b old mid now k h g =
+    g
+    ∙ ap (λ (m : List ℕ). write_cells m (map (λ o. buffer_cell lo hi buf o) (of_slot k b))) h
+    ∙ sym (fold-append (λ f cell. written f cell.0 cell.1) (blob_at old k) (map (λ o. buffer_cell lo hi buf o) (of_slot k a)) (map (λ o. buffer_cell lo hi buf o) (of_slot k b)))
+    ∙ ap (λ (cells : List Cell). write_cells (blob_at old k) cells)
+    (sym (ap (λ (os : List Owned). map (λ o. buffer_cell lo hi buf o) os) (filter_joined (λ (o : Owned). o.slot == k) a b)
+    ∙ map-append (λ o. buffer_cell lo hi buf o) (of_slot k a) (of_slot k b)))
+
 -- ---- a buffer that has the file's bytes
 
 buffer_is_read : (base : ℕ) (file buf : List ℕ) (lo n : ℕ) (o : Owned) → base ≤ lo → buf ≡ read file (lo - base) n
@@ -502,14 +509,14 @@ told_all None P f = tt
 told_all (Some file) P f = f file
 
 -- blobs that were filled up to a window, and from it
-pub got_more : (held here : Option (List ℕ)) (base there n : ℕ) (list left : List Owned) (place size : ℕ) (w : Window) (begun later : List Owned) (stop : ℕ)
+pub got_more : (held here : Option (List ℕ)) (base there n : ℕ) (list left : List Owned) (place size : ℕ) (w : Window) (begun : List Owned) (stop : ℕ)
     (old mid now : List (List ℕ)) → here ≡ held → there ≡ base → LieOn base n list → HaveOnePlace list → FitBlobs old list → IsPast place list left
-    → IsNext left place size w begun later stop → IfSome held (λ file. HasGotPart 0 place base file list old mid)
+    → IsNext left place size w begun stop → IfSome held (λ file. HasGotPart 0 place base file list old mid)
     → IfSome here (λ file. HasGotPart w.hull.at (w.hull.at + w.hull.len) there file begun mid now) → IfSome held (λ file. HasGotPart 0 stop base file list old now)
-got_more held here base there n list left place size w begun later stop old mid now same begin on once fit p k got read =
+got_more held here base there n list left place size w begun stop old mid now same begin on once fit p k got read =
     told_step held (λ file. HasGotPart 0 place base file list old mid) (λ file. HasGotPart w.hull.at (w.hull.at + w.hull.len) base file begun mid now)
     (λ file. HasGotPart 0 stop base file list old now)
-    (λ file g h. got_step base file list left place size w begun later stop old mid now (λ o m. (on o m).0) once fit p k g h)
+    (λ file g h. got_step base file list left place size w begun stop old mid now (λ o m. (on o m).0) once fit p k g h)
     got
     (subst (λ (b : ℕ). IfSome held (λ file. HasGotPart w.hull.at (w.hull.at + w.hull.len) b file begun mid now)) begin
     (subst (λ (m : Option (List ℕ)). IfSome m (λ file. HasGotPart w.hull.at (w.hull.at + w.hull.len) there file begun mid now)) same read))

@@ -1,5 +1,5 @@
 -- The hull of entries, entry by entry.
-use Rattle.std.proofs.Common.{◌≡◌, ℕ, ◌+◌, ◌-◌, ◌<◌, ◌≤◌, ◌⊎◌, inl, inr, refl, sym, ◌∙◌, ap, subst, List, [], ◌∷◌, ◌++◌, length, take, get_or, Bool, true, false, min, max, Some, slice_get, arith}
+use Rattle.std.proofs.Common.{◌≡◌, ℕ, ◌+◌, ◌-◌, ◌<◌, ◌≤◌, ◌⊎◌, inl, inr, refl, sym, ◌∙◌, ap, subst, List, [], ◌∷◌, ◌++◌, append_assoc, length, take, get_or, Bool, true, false, min, max, Some, slice_get, arith}
 use Rattle.std.proofs.lemmas.List.{take_more, take_all}
 use Rattle.std.specs.Prelude.{nat_lt}
 use Rattle.std.proofs.lemmas.Option.{slice_get-get_or}
@@ -9,9 +9,9 @@ use Rattle.nc_base.specs.declared.plan.Owned.{Owned}
 use Rattle.file_domains.specs.declared.walk.Window.{Window}
 use Rattle.overlay_laws.specs.Entries.{In}
 use Rattle.overlay_laws.specs.Lines.{extents, IsByPlace}
-use Rattle.overlay_laws.proofs.HullLaws.{in_either, in_right}
+use Rattle.overlay_laws.proofs.HullLaws.{in_either, in_left, in_right}
 use Rattle.data_sieving.specs.Sieving.{AreFilled}
-use Rattle.data_sieving.specs.Serving.{IsCovered, IsHull}
+use Rattle.data_sieving.specs.Serving.{IsCovered, IsHull, Reach}
 use Rattle.data_sieving.proofs.CoveredBytes.{covered_left}
 use Rattle.data_sieving.proofs.SplitSteps.{before_or_later}
 
@@ -89,39 +89,86 @@ scan at stop end next count solid more_solid whole seen more o e apart filled be
           | inr m ↦ absurd (omega arith)
         ]
 
--- one entry more, which is the next of the list
-pub scanned_more : (at stop end next i : ℕ) (solid more_solid : Bool) (whole : List Owned) (o d : Owned) → i < length whole → o ≡ get_or whole i d
-    → IsByPlace (extents whole) → AreFilled whole → ((p : Owned) → In whole p → p.extent.at < stop)
-    → ((p : Owned) → slice_get whole 0 ≡ Some p → at < p.extent.at + p.extent.len) → at < stop
+-- one entry more, which is the next behind those that were carried
+pub scanned_more : (at stop end next i : ℕ) (solid more_solid : Bool) (carried fresh : List Owned) (o d : Owned) → i < length fresh → o ≡ get_or fresh i d
+    → IsByPlace (extents fresh) → AreFilled fresh → ((p : Owned) → In fresh p → p.extent.at < stop)
+    → ((p : Owned) → slice_get (carried ++ fresh) 0 ≡ Some p → at < p.extent.at + p.extent.len) → at < stop
     → next ≡ max end (min (o.extent.at + o.extent.len) stop)
     → (more_solid ≡ true → (solid ≡ true) × (o.extent.at ≤ end)) → (more_solid ≡ false → (solid ≡ false) ⊎ (end < o.extent.at))
-    → Scanned at stop end solid whole (take i whole) i → Scanned at stop next more_solid whole (take (i + 1) whole) (i + 1)
-scanned_more at stop end next i solid more_solid whole o d l e sorted filled before first room n keeps breaks h =
-    scan at stop end next i solid more_solid whole (take i whole) (take (i + 1) whole) o
-    (take_more whole i d l ∙ ap (λ (p : Owned). take i whole ++ p ∷ []) (sym e))
-    (λ p m. subst (λ (q : Owned). In (take i whole) p ⊎ (q.extent.at ≤ p.extent.at)) (sym e) (before_or_later whole i d p l sorted m))
-    (filled o inside) (before o inside)
-    (λ z. first o (ap (λ (k : ℕ). slice_get whole k) (sym z) ∙ slice_get-get_or whole i d l ∙ ap Some (sym e)))
-    room n keeps breaks h
+    → Scanned at stop end solid (carried ++ fresh) (carried ++ take i fresh) (length carried + i)
+    → Scanned at stop next more_solid (carried ++ fresh) (carried ++ take (i + 1) fresh) (length carried + (i + 1))
+scanned_more at stop end next i solid more_solid carried fresh o d l e sorted filled before first room n keeps breaks h =
+    subst (λ (k : ℕ). Scanned at stop next more_solid (carried ++ fresh) (carried ++ take (i + 1) fresh) k) count
+    (scan at stop end next (length carried + i) solid more_solid (carried ++ fresh) (carried ++ take i fresh) (carried ++ take (i + 1) fresh) o
+    (ap (λ (r : List Owned). carried ++ r) (take_more fresh i d l ∙ ap (λ (p : Owned). take i fresh ++ p ∷ []) (sym e)) ∙ sym (append_assoc carried (take i fresh) (o ∷ [])))
+    apart (filled o inside) (before o inside) (λ z. first o (begin carried z)) room n keeps breaks h)
   where
-    inside : In whole o
-    inside = subst (λ (p : Owned). In whole p) (sym e) (entry_in whole i d l)
+    count : length carried + i + 1 ≡ length carried + (i + 1)
+    count = omega arith
 
-pub nothing_scanned : (at stop : ℕ) (whole : List Owned) → at < stop → Scanned at stop at true whole (take 0 whole) 0
-nothing_scanned at stop whole room = record {
-  low = omega arith;
-  high = omega arith;
-  some = λ g. absurd (omega arith);
-  reach = λ o m. absurd m;
-  last = λ g. absurd (omega arith);
-  full = λ s x l m. absurd (omega arith);
+    inside : In fresh o
+    inside = subst (λ (p : Owned). In fresh p) (sym e) (entry_in fresh i d l)
+
+    apart : (p : Owned) → In (carried ++ fresh) p → In (carried ++ take i fresh) p ⊎ (o.extent.at ≤ p.extent.at)
+    apart p m =
+        elim (in_either carried fresh p m) [
+          | inl g ↦ inl (in_left carried (take i fresh) p g)
+          | inr g ↦ elim (subst (λ (q : Owned). In (take i fresh) p ⊎ (q.extent.at ≤ p.extent.at)) (sym e) (before_or_later fresh i d p l sorted g)) [
+            | inl f ↦ inl (in_right carried (take i fresh) p f)
+            | inr f ↦ inr f
+          ]
+        ]
+
+    begin : (list : List Owned) → length list + i ≡ 0 → slice_get (list ++ fresh) 0 ≡ Some o
+    begin [] z = let none : 0 ≡ i = omega arith in ap (λ (k : ℕ). slice_get fresh k) none ∙ slice_get-get_or fresh i d l ∙ ap Some (sym e)
+    begin (p ∷ list) z = absurd (omega arith)
+
+-- those that were carried leave no hole
+pub reach_scanned : (at stop end : ℕ) (carried fresh : List Owned) → at < stop → ((o : Owned) → In carried o → (o.extent.at ≤ at) × (at < o.extent.at + o.extent.len))
+    → Reach at stop carried end → Scanned at stop end true (carried ++ fresh) (carried ++ take 0 fresh) (length carried + 0)
+reach_scanned at stop end carried fresh room begun r = record {
+  low = r.low;
+  high = r.high;
+  some = λ g. further carried (λ o m. m) (omega arith);
+  reach = λ o m. elim (in_either carried (take 0 fresh) o m) [ inl g ↦ r.each o g | inr g ↦ absurd g ];
+  last = λ l. (let low = r.low in covered_left carried (take 0 fresh) (end - 1) (r.all (end - 1) (omega arith) (omega arith)));
+  full = λ s x l m. covered_left carried (take 0 fresh) x (r.all x l m);
   hole = λ s. cc;
 }
+  where
+    further : (list : List Owned) → ((o : Owned) → In list o → In carried o) → 0 < length list → at < end
+    further [] h g = absurd (omega arith)
+    further (o ∷ list) h g = let m = r.each o (h o (inl refl)) in let past = (begun o (h o (inl refl))).1 in omega arith
 
-pub all_scanned : (at stop end i : ℕ) (solid : Bool) (list : List Owned) (w : Window) → length list ≤ i → 1 ≤ i → Scanned at stop end solid list (take i list) i
-    → w.hull.at ≡ at → w.hull.len ≡ end - at → w.full ≡ solid → IsHull at stop list w
-all_scanned at stop end i solid list w l one h begin long is =
-    let seen : take i list ≡ list = take_all i list l in
+pub reach_none : (at stop : ℕ) (list : List Owned) → at < stop → Reach at stop (take 0 list) at
+reach_none at stop list room = record { low = omega arith; high = omega arith; each = λ o m. absurd m; all = λ x l m. absurd (omega arith) }
+
+pub reach_more : (at stop end next i : ℕ) (list : List Owned) (d : Owned) → i < length list
+    → ((o : Owned) → In list o → (o.extent.at ≤ at) × (at < o.extent.at + o.extent.len))
+    → next ≡ max end (min ((get_or list i d).extent.at + (get_or list i d).extent.len) stop) → at < stop
+    → Reach at stop (take i list) end → Reach at stop (take (i + 1) list) next
+reach_more at stop end next i list d l begun n room r = record {
+  low = (let h = r.low in omega arith);
+  high = (let h = r.high in omega arith);
+  each = λ o m. elim (more_in (take i list) (take (i + 1) list) (get_or list i d) o (take_more list i d l) m) [
+    | inl g ↦ (let h = r.each o g in omega arith)
+    | inr g ↦ subst (λ (z : Owned). min stop (z.extent.at + z.extent.len) ≤ next) g (omega arith)
+  ];
+  all = λ x h m. by_end x h m (nat_lt x end) refl;
+}
+  where
+    by_end : (x : ℕ) → at ≤ x → x < next → (t : Bool) → nat_lt x end ≡ t → IsCovered (take (i + 1) list) x
+    by_end x h m true f = more_seen (take i list) (take (i + 1) list) (get_or list i d) x (take_more list i d l) (r.all x h (ltb-true _ _ f))
+    by_end x h m false f =
+        let past : end ≤ x = ltb-false _ _ f in
+        let begin = (begun (get_or list i d) (entry_in list i d l)).0 in
+        more_by (take i list) (take (i + 1) list) (get_or list i d) x (take_more list i d l) (omega arith) (omega arith)
+
+pub all_scanned : (at stop end i : ℕ) (solid : Bool) (carried fresh : List Owned) (w : Window) → length fresh ≤ i → 1 ≤ length carried + i
+    → Scanned at stop end solid (carried ++ fresh) (carried ++ take i fresh) (length carried + i)
+    → w.hull.at ≡ at → w.hull.len ≡ end - at → w.full ≡ solid → IsHull at stop (carried ++ fresh) w
+all_scanned at stop end i solid carried fresh w l one h begin long is =
+    let seen : carried ++ take i fresh ≡ carried ++ fresh = ap (λ (r : List Owned). carried ++ r) (take_all i fresh l) in
     let low = h.low in
     let high = h.high in
     let past = h.some one in
@@ -131,7 +178,7 @@ all_scanned at stop end i solid list w l one h begin long is =
       some = omega arith;
       short = omega arith;
       each = λ x c m. (let r = h.reach c.by (subst (λ (s : List Owned). In s c.by) (sym seen) c.inside) in let g = c.high in omega arith);
-      last = subst (λ (s : List Owned). IsCovered s (at + w.hull.len - 1)) seen (subst (λ (k : ℕ). IsCovered (take i list) k) same (h.last past));
+      last = subst (λ (s : List Owned). IsCovered s (at + w.hull.len - 1)) seen (subst (λ (k : ℕ). IsCovered (carried ++ take i fresh) k) same (h.last past));
       full = λ s x m g. subst (λ (r : List Owned). IsCovered r x) seen (h.full (sym is ∙ s) x m (omega arith));
       hole = λ s. (let r = h.hole (sym is ∙ s) in let m = r.2 in (r.0, r.1, omega arith, r.3));
     }

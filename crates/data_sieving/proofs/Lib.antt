@@ -1,3 +1,4 @@
+pub mod PastSteps
 pub mod CoveredBytes
 pub mod SplitSteps
 pub mod HullSteps

@@ -1,7 +1,8 @@
 -- One window of a loop over all windows.
-use Rattle.std.proofs.Common.{◌≡◌, ℕ, ◌+◌, ◌^◌, ◌≤◌, refl, ◌∙◌, ap, subst, List, [], ◌++◌, length, Option, arith}
+use Rattle.std.proofs.Common.{◌≡◌, ℕ, ◌+◌, ◌^◌, ◌≤◌, sym, ◌∙◌, ap, subst, List, [], ◌++◌, length, Option, arith}
 use Rattle.std.specs.Prelude.{IfSome, flat_map}
 use Rattle.overlay_laws.proofs.Members.{at_in}
+use Rattle.overlay_laws.specs.Entries.{In}
 use Rattle.nc_base.specs.declared.plan.Owned.{Owned}
 use Rattle.nc_base.specs.declared.plan.Post.{Post}
 use Rattle.nc_base.specs.declared.step.DiskCall.{DiskCall}
@@ -14,7 +15,8 @@ use Rattle.overlay_laws.specs.Lines.{extents, IsByPlace, EndBelow}
 use Rattle.overlay_laws.specs.Changes.{IsBetween, IsBegun, load_calls, store_calls}
 use Rattle.aggregator_rounds.specs.Pieces.{told_window}
 use Rattle.data_sieving.specs.Sieving.{source_of, put_cells, windows_of, AreFilled, LieOn}
-use Rattle.data_sieving.specs.Serving.{IsPast, AreLeft, IsNext, HasDone, windows_from}
+use Rattle.data_sieving.specs.Serving.{IsPast, AreLeft, HaveBegun, IsNext, HasDone, windows_from}
+use Rattle.data_sieving.proofs.PastSteps.{past_none}
 use Rattle.data_sieving.proofs.WindowSteps.{window_bytes, next_told, windows_next, all_windows, no_window}
 use Rattle.data_sieving.proofs.CallSteps.{none_done, done_more, all_done, done_begun}
 use Rattle.data_sieving.proofs.PutSteps.{AreCells, entries_from, entries_within, file_to, file_step, to_begin, to_end, mixed_to, held_same, held_begin, held_twice, held_refused}
@@ -22,17 +24,19 @@ use Rattle.data_sieving.proofs.ReachSteps.{hull_low, hull_high}
 
 -- ---- the walk
 
-pub walk_begin : (list : List Owned) → IsPast 0 list list
-walk_begin list = record { front = []; joined = refl; ended = λ o m. absurd m }
+pub all_left : (list carried ahead : List Owned) → carried ≡ [] → ahead ≡ list → list ≡ carried ++ ahead
+all_left list carried ahead none all = sym (ap (λ (l : List Owned). l ++ ahead) none ∙ all)
 
-pub walk_ready : (list : List Owned) (size : ℕ) → IsByPlace (extents list) → EndBelow (2 ^ 62) (extents list) → AreFilled list → 1 ≤ size → AreLeft list 0 size
-walk_ready list size sorted ends filled some = record {
-  sorted = sorted;
-  ends = ends;
-  filled = filled;
-  next = λ o g. (let f = filled o (at_in list 0 o g) in omega arith);
-  some = some;
-}
+pub walk_begin : (list left : List Owned) → list ≡ left → IsPast 0 list left
+walk_begin list left all = subst (λ (l : List Owned). IsPast 0 list l) all (past_none 0 list)
+
+pub none_carried : (carried : List Owned) → carried ≡ [] → HaveBegun 0 carried
+none_carried carried none = λ o m. absurd (subst (λ (l : List Owned). In l o) none m)
+
+pub walk_ready : (list left : List Owned) (size : ℕ) → list ≡ left → IsByPlace (extents list) → EndBelow (2 ^ 62) (extents list) → AreFilled list → 1 ≤ size → AreLeft left 0 size
+walk_ready list left size all sorted ends filled some =
+    subst (λ (l : List Owned). AreLeft l 0 size) all
+    (record { sorted = sorted; ends = ends; filled = filled; next = λ o g. (let f = filled o (at_in list 0 o g) in omega arith); some = some })
 
 -- ---- the calls
 
@@ -41,27 +45,27 @@ pub calls_begin : (f : List ℕ → List DiskCall) (size : ℕ) (list : List Own
 calls_begin f size list old =
     none_done (flat_map f (windows_of size list)) (flat_map f (windows_from size 0 list)) old (ap (λ (ws : List (List ℕ)). flat_map f ws) (all_windows size list))
 
-pub stores_more : (list left : List Owned) (place size : ℕ) (w : Window) (begun later : List Owned) (stop : ℕ) (plan : List DiskCall) (old mid now : Option (List DiskCall))
-    → IsPast place list left → AreLeft left place size → IsNext left place size w begun later stop → now ≡ with_end mid (store_calls (told_window w))
+pub stores_more : (list left : List Owned) (place size : ℕ) (w : Window) (begun : List Owned) (stop : ℕ) (plan : List DiskCall) (old mid now : Option (List DiskCall))
+    → IsPast place list left → AreLeft left place size → IsNext left place size w begun stop → now ≡ with_end mid (store_calls (told_window w))
     → HasDone plan (flat_map overlays (windows_from size place list)) old mid → HasDone plan (flat_map overlays (windows_from size stop list)) old now
-stores_more list left place size w begun later stop plan old mid now p l n e h =
+stores_more list left place size w begun stop plan old mid now p l n e h =
     done_more overlays (window_bytes left place size w) (windows_from size place list) (windows_from size stop list) plan (store_calls (told_window w)) old mid now
-    (windows_next list left place size w begun later stop p l n) (ap store_calls (next_told left place size w begun later stop l n)) e h
+    (windows_next list left place size w begun stop p l n) (ap store_calls (next_told left place size w begun stop l n)) e h
 
-pub stores_begun : (list left : List Owned) (place size : ℕ) (w : Window) (begun later : List Owned) (stop : ℕ) (plan : List DiskCall) (old mid now : Option (List DiskCall))
-    → IsPast place list left → AreLeft left place size → IsNext left place size w begun later stop → IsBegun (store_calls (told_window w)) mid now
+pub stores_begun : (list left : List Owned) (place size : ℕ) (w : Window) (begun : List Owned) (stop : ℕ) (plan : List DiskCall) (old mid now : Option (List DiskCall))
+    → IsPast place list left → AreLeft left place size → IsNext left place size w begun stop → IsBegun (store_calls (told_window w)) mid now
     → HasDone plan (flat_map overlays (windows_from size place list)) old mid → IsBegun plan old now
-stores_begun list left place size w begun later stop plan old mid now p l n b h =
+stores_begun list left place size w begun stop plan old mid now p l n b h =
     done_begun plan (store_calls (told_window w)) (flat_map overlays (windows_from size stop list)) old mid now
-    (subst (λ (c : List DiskCall). HasDone plan (c ++ flat_map overlays (windows_from size stop list)) old mid) (ap store_calls (next_told left place size w begun later stop l n))
-    (subst (λ (ws : List (List ℕ)). HasDone plan (flat_map overlays ws) old mid) (windows_next list left place size w begun later stop p l n) h)) b
+    (subst (λ (c : List DiskCall). HasDone plan (c ++ flat_map overlays (windows_from size stop list)) old mid) (ap store_calls (next_told left place size w begun stop l n))
+    (subst (λ (ws : List (List ℕ)). HasDone plan (flat_map overlays ws) old mid) (windows_next list left place size w begun stop p l n) h)) b
 
-pub loads_more : (list left : List Owned) (place size : ℕ) (w : Window) (begun later : List Owned) (stop : ℕ) (plan : List DiskCall) (old mid now : Option (List DiskCall))
-    → IsPast place list left → AreLeft left place size → IsNext left place size w begun later stop → now ≡ with_end mid (load_calls (told_window w))
+pub loads_more : (list left : List Owned) (place size : ℕ) (w : Window) (begun : List Owned) (stop : ℕ) (plan : List DiskCall) (old mid now : Option (List DiskCall))
+    → IsPast place list left → AreLeft left place size → IsNext left place size w begun stop → now ≡ with_end mid (load_calls (told_window w))
     → HasDone plan (flat_map loads (windows_from size place list)) old mid → HasDone plan (flat_map loads (windows_from size stop list)) old now
-loads_more list left place size w begun later stop plan old mid now p l n e h =
+loads_more list left place size w begun stop plan old mid now p l n e h =
     done_more loads (window_bytes left place size w) (windows_from size place list) (windows_from size stop list) plan (load_calls (told_window w)) old mid now
-    (windows_next list left place size w begun later stop p l n) (ap load_calls (next_told left place size w begun later stop l n)) e h
+    (windows_next list left place size w begun stop p l n) (ap load_calls (next_told left place size w begun stop l n)) e h
 
 pub calls_end : (f : List ℕ → List DiskCall) (size place : ℕ) (list left : List Owned) (plan : List DiskCall) (old now : Option (List DiskCall)) → left ≡ []
     → IsPast place list left → HasDone plan (flat_map f (windows_from size place list)) old now → now ≡ with_end old plan
@@ -81,31 +85,31 @@ pub put_begin : (held : Option (List ℕ)) (posts : List Post) (list : List Owne
 put_begin held posts list base n told on =
     held_begin held n (λ file. file_to base 0 (put_cells posts list) file) told (λ file e. to_begin base n (put_cells posts list) file (are_cells posts list base n on) e)
 
-pub put_more : (held mid now : Option (List ℕ)) (posts : List Post) (list left : List Owned) (place size : ℕ) (w : Window) (begun later : List Owned) (stop base here n : ℕ)
-    → IfSome held (λ b. length b ≡ n) → LieOn base n list → here ≡ base → IsPast place list left → IsNext left place size w begun later stop
+pub put_more : (held mid now : Option (List ℕ)) (posts : List Post) (list left : List Owned) (place size : ℕ) (w : Window) (begun : List Owned) (stop base here n : ℕ)
+    → IfSome held (λ b. length b ≡ n) → LieOn base n list → here ≡ base → IsPast place list left → IsNext left place size w begun stop
     → mid ≡ after (λ file. file_to base place (put_cells posts list) file) held
     → now ≡ after (λ file. write_cells file (moved_down here (clips w.hull.at (w.hull.at + w.hull.len) (put_cells posts begun)))) mid
     → now ≡ after (λ file. file_to base stop (put_cells posts list) file) held
-put_more held mid now posts list left place size w begun later stop base here n told on same p k e f =
+put_more held mid now posts list left place size w begun stop base here n told on same p k e f =
     held_twice held mid now n (λ file. file_to base place (put_cells posts list) file)
     (λ file. write_cells file (moved_down base (clips w.hull.at (w.hull.at + w.hull.len) (put_cells posts begun))))
     (λ file. file_to base stop (put_cells posts list) file) told
-    (λ file long. file_step (source_of posts) list left place size w begun later stop base n file p k (are_cells posts list base n on)
-    (hull_low list left place size w begun later stop base n on p k) (hull_high list left place size w begun later stop base n on p k) long)
+    (λ file long. file_step (source_of posts) list left place size w begun stop base n file p k (are_cells posts list base n on)
+    (hull_low list left place size w begun stop base n on p k) (hull_high list left place size w begun stop base n on p k) long)
     e
     (subst (λ (b : ℕ). now ≡ after (λ file. write_cells file (moved_down b (clips w.hull.at (w.hull.at + w.hull.len) (put_cells posts begun)))) mid) same f)
 
-pub put_refused : (held mid now : Option (List ℕ)) (posts : List Post) (list left : List Owned) (place size : ℕ) (w : Window) (begun later : List Owned) (stop base here n : ℕ)
-    → IfSome held (λ b. length b ≡ n) → LieOn base n list → here ≡ base → IsPast place list left → IsNext left place size w begun later stop
+pub put_refused : (held mid now : Option (List ℕ)) (posts : List Post) (list left : List Owned) (place size : ℕ) (w : Window) (begun : List Owned) (stop base here n : ℕ)
+    → IfSome held (λ b. length b ≡ n) → LieOn base n list → here ≡ base → IsPast place list left → IsNext left place size w begun stop
     → mid ≡ after (λ file. file_to base place (put_cells posts list) file) held
     → BothTold (λ old left. IsBetween old (write_cells old (moved_down here (clips w.hull.at (w.hull.at + w.hull.len) (put_cells posts begun)))) left) mid now
     → BothTold (λ old left. IsBetween old (write_cells old (moved_down base (put_cells posts list))) left) held now
-put_refused held mid now posts list left place size w begun later stop base here n told on same p k e f =
+put_refused held mid now posts list left place size w begun stop base here n told on same p k e f =
     held_refused held mid now n (λ file. file_to base place (put_cells posts list) file)
     (λ file. write_cells file (moved_down base (clips w.hull.at (w.hull.at + w.hull.len) (put_cells posts begun))))
     (λ file. file_to base stop (put_cells posts list) file) (λ file. write_cells file (moved_down base (put_cells posts list))) told
-    (λ file long. file_step (source_of posts) list left place size w begun later stop base n file p k (are_cells posts list base n on)
-    (hull_low list left place size w begun later stop base n on p k) (hull_high list left place size w begun later stop base n on p k) long)
+    (λ file long. file_step (source_of posts) list left place size w begun stop base n file p k (are_cells posts list base n on)
+    (hull_low list left place size w begun stop base n on p k) (hull_high list left place size w begun stop base n on p k) long)
     (λ file long. mixed_to base place n (put_cells posts list) file (are_cells posts list base n on) long)
     (λ file long. mixed_to base stop n (put_cells posts list) file (are_cells posts list base n on) long)
     e

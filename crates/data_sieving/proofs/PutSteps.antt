@@ -98,6 +98,21 @@ covered_place source list lo hi x f l h c =
     let r = said_of source list x c.by f c.inside c.low c.high in
     (r.0, clips_in lo hi (entry_cells source list) x l h ∙ r.1)
 
+-- entries of two lists, one after another
+pub laid_twice : (source : Source) (lo hi : ℕ) (a b : List Owned) (old mid now : List ℕ)
+    → mid ≡ write_cells old (moved_down lo (clips lo hi (entry_cells source a))) → now ≡ write_cells mid (moved_down lo (clips lo hi (entry_cells source b)))
+    → now ≡ write_cells old (moved_down lo (clips lo hi (entry_cells source (a ++ b))))
+laid_twice source lo hi a b old mid now h g =
+    g
+    ∙ ap (λ (m : List ℕ). write_cells m (moved_down lo (clips lo hi (entry_cells source b)))) h
+    ∙ sym (fold-append (λ f cell. written f cell.0 cell.1) old (moved_down lo (clips lo hi (entry_cells source a))) (moved_down lo (clips lo hi (entry_cells source b))))
+    ∙ ap (λ (cells : List Cell). write_cells old cells) (joined a)
+  where
+    joined : (os : List Owned)
+        → moved_down lo (clips lo hi (entry_cells source os)) ++ moved_down lo (clips lo hi (entry_cells source b)) ≡ moved_down lo (clips lo hi (entry_cells source (os ++ b)))
+    joined [] = refl
+    joined (o ∷ os) = ap (λ (cells : List Cell). moved_down lo (clips lo hi (entry_cells source (o ∷ []))) ++ cells) (joined os)
+
 -- ---- where cells lie
 
 pub entries_from : (source : Source) (list : List Owned) (lo : ℕ) → ((o : Owned) → In list o → lo ≤ o.extent.at) → IsFrom lo (entry_cells source list)
@@ -129,25 +144,41 @@ moved_at base cells i f =
 
 -- ---- one window more
 
-between : (source : Source) (list left : List Owned) (place size : ℕ) (w : Window) (begun later : List Owned) (stop x : ℕ) → IsPast place list left
-    → IsNext left place size w begun later stop → place ≤ x → x < stop
+-- what is gone says nothing of the bytes that are left
+past_said : (source : Source) (place : ℕ) (whole left : List Owned) (x : ℕ) → place ≤ x → IsPast place whole left
+    → said_at (said_by (entry_cells source whole)) x ≡ said_at (said_by (entry_cells source left)) x
+past_said source place [] left x l h = ap (λ (os : List Owned). said_at (said_by (entry_cells source os)) x) (sym h)
+past_said source place (o ∷ whole) left x l (inl h) =
+    entries_two source (o ∷ []) whole x
+    ∙ ap (λ (s : Option ℕ). option_or (said_at (said_by (entry_cells source whole)) x) s)
+    (unsaid source (o ∷ []) x (λ c. elim c.inside [
+      | inl e ↦ (let end : c.by.extent.at + c.by.extent.len ≤ place = subst (λ (q : Owned). q.extent.at + q.extent.len ≤ place) e h.0 in let k = c.high in absurd (omega arith))
+      | inr m ↦ absurd m
+    ]))
+    ∙ or_none (said_at (said_by (entry_cells source whole)) x)
+    ∙ past_said source place whole left x l h.1
+past_said source place (o ∷ whole) left x l (inr h) =
+    entries_two source (o ∷ []) whole x
+    ∙ ap (λ (s : Option ℕ). option_or s (said_at (said_by (entry_cells source (o ∷ []))) x)) (past_said source place whole h.0 x l h.2)
+    ∙ sym (entries_two source (o ∷ []) h.0 x)
+    ∙ ap (λ (os : List Owned). said_at (said_by (entry_cells source os)) x) (sym h.1)
+
+between : (source : Source) (list left : List Owned) (place size : ℕ) (w : Window) (begun : List Owned) (stop x : ℕ) → IsPast place list left
+    → IsNext left place size w begun stop → place ≤ x → x < stop
     → said_at (said_by (entry_cells source list)) x ≡ said_at (said_by (entry_cells source begun)) x
-between source list left place size w begun later stop x p n l h =
-    ap (λ (es : List Owned). said_at (said_by (entry_cells source es)) x) (p.joined ∙ ap (λ (es : List Owned). p.front ++ es) n.begun.joined)
-    ∙ entries_two source p.front (begun ++ n.begun.rest) x
-    ∙ ap (λ (o : Option ℕ). option_or (said_at (said_by (entry_cells source (begun ++ n.begun.rest))) x) o)
-    (unsaid source p.front x (λ c. let e = p.ended c.by c.inside in let k = c.high in absurd (omega arith)))
-    ∙ or_none (said_at (said_by (entry_cells source (begun ++ n.begun.rest))) x)
+between source list left place size w begun stop x p n l h =
+    past_said source place list left x l p
+    ∙ ap (λ (es : List Owned). said_at (said_by (entry_cells source es)) x) n.begun.joined
     ∙ entries_two source begun n.begun.rest x
     ∙ second_counts (said_at (said_by (entry_cells source n.begun.rest)) x) (said_at (said_by (entry_cells source begun)) x)
     (unsaid source n.begun.rest x (λ c. let e = n.begun.later c.by c.inside in let k = c.low in absurd (omega arith)))
 
 -- the parts of the entries up to a window, and in it, say what their parts up to its end say
-step_said : (source : Source) (list left : List Owned) (place size : ℕ) (w : Window) (begun later : List Owned) (stop base x : ℕ) → IsPast place list left
-    → IsNext left place size w begun later stop → base ≤ w.hull.at → base ≤ x
+step_said : (source : Source) (list left : List Owned) (place size : ℕ) (w : Window) (begun : List Owned) (stop base x : ℕ) → IsPast place list left
+    → IsNext left place size w begun stop → base ≤ w.hull.at → base ≤ x
     → said_at (said_by (clips base (max base place) (entry_cells source list) ++ clips w.hull.at (w.hull.at + w.hull.len) (entry_cells source begun))) x
     ≡ said_at (said_by (clips base (max base stop) (entry_cells source list))) x
-step_said source list left place size w begun later stop base x p n low here =
+step_said source list left place size w begun stop base x p n low here =
     said_joined (clips base (max base place) (entry_cells source list)) (clips w.hull.at (w.hull.at + w.hull.len) (entry_cells source begun)) x
     ∙ by_place (nat_lt x (max base place)) refl
   where
@@ -188,7 +219,7 @@ step_said source list left place size w begun later stop base x p n low here =
     by_hull g h true e =
         let before : x < w.hull.at + w.hull.len = ltb-true _ _ e in
         clips_in w.hull.at (w.hull.at + w.hull.len) (entry_cells source begun) x h before
-        ∙ sym (between source list left place size w begun later stop x p n (omega arith) (omega arith))
+        ∙ sym (between source list left place size w begun stop x p n (omega arith) (omega arith))
         ∙ sym (whole (omega arith))
     by_hull g h false e =
         let past : w.hull.at + w.hull.len ≤ x = ltb-false _ _ e in
@@ -240,12 +271,12 @@ to_long base place n cells file a e =
     cells_long (moved_down base (clips base (max base place) cells)) file
     (subst (λ (k : ℕ). IsWithin (moved_down base (clips base (max base place) cells)) k) (sym e) (to_within base place n cells a))
 
-pub file_step : (source : Source) (list left : List Owned) (place size : ℕ) (w : Window) (begun later : List Owned) (stop base n : ℕ) (file : List ℕ)
-    → IsPast place list left → IsNext left place size w begun later stop → AreCells base n (entry_cells source list)
+pub file_step : (source : Source) (list left : List Owned) (place size : ℕ) (w : Window) (begun : List Owned) (stop base n : ℕ) (file : List ℕ)
+    → IsPast place list left → IsNext left place size w begun stop → AreCells base n (entry_cells source list)
     → base ≤ w.hull.at → w.hull.at + w.hull.len ≤ base + n → length file ≡ n
     → write_cells (file_to base place (entry_cells source list) file) (moved_down base (clips w.hull.at (w.hull.at + w.hull.len) (entry_cells source begun)))
     ≡ file_to base stop (entry_cells source list) file
-file_step source list left place size w begun later stop base n file p k a low high e =
+file_step source list left place size w begun stop base n file p k a low high e =
     sym (fold-append (λ f cell. written f cell.0 cell.1) file (moved_down base (clips base (max base place) (entry_cells source list)))
     (moved_down base (clips w.hull.at (w.hull.at + w.hull.len) (entry_cells source begun))))
     ∙ ap (λ (cells : List Cell). write_cells file cells)
@@ -260,7 +291,7 @@ file_step source list left place size w begun later stop base n file p k a low h
     (clips_within w.hull.at (w.hull.at + w.hull.len) (entry_cells source begun) (omega arith))))))
     (subst (λ (m : ℕ). IsWithin (moved_down base (clips base (max base stop) (entry_cells source list))) m) (sym e) (to_within base stop n (entry_cells source list) a))
     (λ i. moved_at base (clips base (max base place) (entry_cells source list) ++ clips w.hull.at (w.hull.at + w.hull.len) (entry_cells source begun)) i both_from
-    ∙ step_said source list left place size w begun later stop base (i + base) p k low (omega arith)
+    ∙ step_said source list left place size w begun stop base (i + base) p k low (omega arith)
     ∙ sym (moved_at base (clips base (max base stop) (entry_cells source list)) i (clips_from base (max base stop) (entry_cells source list) (omega arith))))
   where
     both_from : IsFrom base (clips base (max base place) (entry_cells source list) ++ clips w.hull.at (w.hull.at + w.hull.len) (entry_cells source begun))

@@ -1,18 +1,20 @@
 -- Sorted entries before and from an index on.
-use Rattle.std.proofs.Common.{◌≡◌, ℕ, zero, suc, ◌+◌, ◌^◌, ◌<◌, ◌≤◌, ◌⊎◌, inl, inr, refl, sym, ap, subst, List, [], ◌∷◌, length, take, drop, get_or, Some, None, slice_get, Bool, true, false, ◌∙◌, arith}
+use Rattle.std.proofs.Common.{◌≡◌, ℕ, zero, suc, ◌+◌, ◌^◌, ◌<◌, ◌≤◌, ◌⊎◌, inl, inr, refl, sym, ap, subst, List, [], ◌∷◌, length, take, drop, get_or, ◌++◌, append_assoc, Some, None, slice_get, Bool, true, false, ◌∙◌, arith}
 use Rattle.std.specs.Prelude.{nat_lt}
 use borrow.Author.Tests.{ltb-true, ltb-false}
-use Rattle.std.proofs.lemmas.List.{take-append-drop, length-take}
+use Rattle.std.proofs.lemmas.List.{take-append-drop}
 use Rattle.std.proofs.lemmas.Option.{same_Some, slice_get-get_or}
 use Rattle.overlay_laws.proofs.Members.{entry_in}
+use Rattle.overlay_laws.proofs.HullLaws.{in_either}
 use Rattle.list_laws.proofs.Optional.{no_none_some}
 use Rattle.nc_base.specs.declared.plan.Extent.{Extent}
 use Rattle.nc_base.specs.declared.plan.Owned.{Owned}
 use Rattle.overlay_laws.specs.Entries.{In}
 use Rattle.overlay_laws.specs.Lines.{extents, IsByPlace, EndBelow}
-use Rattle.file_domains.proofs.CoverParts.{in_dropped, get_is}
-use Rattle.data_sieving.specs.Serving.{IsPast, AreLeft, AreBegun}
+use Rattle.file_domains.proofs.CoverParts.{get_is}
+use Rattle.data_sieving.specs.Serving.{IsPast, AreBegun}
 use Rattle.data_sieving.proofs.CoveredBytes.{in_extents}
+use Rattle.data_sieving.proofs.PastSteps.{past_front}
 
 -- ---- members by index
 
@@ -109,27 +111,45 @@ taken_begun n place list h before after = record {
 
 pub dropped_past : (n place : ℕ) (list : List Owned) → ((i : ℕ) (o : Owned) → i < n → slice_get list i ≡ Some o → o.extent.at + o.extent.len ≤ place)
     → IsPast place list (drop n list)
-dropped_past n place list before = record {
-  front = take n list;
-  joined = sym (take-append-drop n list);
-  ended = λ o m. (let r = taken_at n list o m in before r.0 o r.1 r.2);
-}
+dropped_past n place list before =
+    subst (λ (l : List Owned). IsPast place l (drop n list)) (take-append-drop n list)
+    (past_front place (take n list) (drop n list) (λ o m. let r = taken_at n list o m in before r.0 o r.1 r.2))
 
-pub dropped_left : (n place stop size : ℕ) (list : List Owned) → AreLeft list place size
-    → ((o : Owned) → slice_get list n ≡ Some o → stop < o.extent.at + o.extent.len) → AreLeft (drop n list) stop size
-dropped_left n place stop size list h after = record {
-  sorted = sorted_dropped n list h.sorted;
-  ends = λ e m. h.ends e (extents_dropped n list e m);
-  filled = λ o m. h.filled o (in_dropped n list o m);
-  next = λ o g. after o (got_dropped n list o g);
-  some = h.some;
-}
+-- ---- entries of two lists, one after another
 
--- the first entry has begun, so there is one
-pub some_taken : (n at stop : ℕ) (list : List Owned) (first : Owned) → n ≤ length list → slice_get list 0 ≡ Some first → first.extent.at ≤ at → at < stop
-    → ((o : Owned) → slice_get list n ≡ Some o → stop ≤ o.extent.at) → 1 ≤ length (take n list)
-some_taken zero at stop list first l e begin room after = let past = after first e in absurd (omega arith)
-some_taken (suc n) at stop list first l e begin room after = omega (arith, length-take (suc n) list)
+pub first_joined : (a b : List Owned) (o : Owned) → slice_get a 0 ≡ Some o → slice_get (a ++ b) 0 ≡ Some o
+first_joined [] b o h = no_none_some o h
+first_joined (p ∷ a) b o h = h
+
+pub extents_left : (a b : List Owned) (e : Extent) → In (extents a) e → In (extents (a ++ b)) e
+extents_left [] b e m = absurd m
+extents_left (o ∷ a) b e (inl g) = inl g
+extents_left (o ∷ a) b e (inr m) = inr (extents_left a b e m)
+
+pub extents_right : (a b : List Owned) (e : Extent) → In (extents b) e → In (extents (a ++ b)) e
+extents_right [] b e m = m
+extents_right (o ∷ a) b e m = inr (extents_right a b e m)
+
+sorted_left : (a b : List Owned) → IsByPlace (extents (a ++ b)) → IsByPlace (extents a)
+sorted_left [] b h = tt
+sorted_left (o ∷ a) b h = ((λ e m. h.0 e (extents_left a b e m)), sorted_left a b h.1)
+
+pub sorted_right : (a b : List Owned) → IsByPlace (extents (a ++ b)) → IsByPlace (extents b)
+sorted_right [] b h = h
+sorted_right (o ∷ a) b h = sorted_right a b h.1
+
+pub begun_sorted : (place : ℕ) (left begun : List Owned) → IsByPlace (extents left) → AreBegun place left begun → IsByPlace (extents begun)
+begun_sorted place left begun s b = sorted_left begun b.rest (subst (λ (l : List Owned). IsByPlace (extents l)) b.joined s)
+
+-- those that are carried have begun too
+pub begun_all : (place : ℕ) (carried ahead fresh : List Owned) → ((o : Owned) → In carried o → o.extent.at < place) → AreBegun place ahead fresh
+    → AreBegun place (carried ++ ahead) (carried ++ fresh)
+begun_all place carried ahead fresh before b = record {
+  rest = b.rest;
+  joined = ap (λ (r : List Owned). carried ++ r) b.joined ∙ sym (append_assoc carried fresh b.rest);
+  before = λ o m. elim (in_either carried fresh o m) [ inl g ↦ before o g | inr g ↦ b.before o g ];
+  later = b.later;
+}
 
 -- ---- entries that end at a place or before
 

@@ -3,15 +3,19 @@
 --     bytes_from place list           the covered bytes from a place on, in order
 --     windows_from size place list    the windows that are left when the bytes before the place were served
 --     IsCovered list x                some entry has the byte
---     IsPast place whole left         what is left of entries after those in front that end at the place or before
+--     IsPast place whole left         what is left of entries without some that end at the place or before
+--     entries_left u                  those that are carried, and those ahead
 --     AreLeft left place size         entries of which the first goes past the place
+--     entries_in w                    the entries of a window
 --     IsHull at stop list w           a window's hull is from the byte at to the last covered byte before stop
 --     HasDone plan rest old now       of the planned calls the rest is left
 --     HasGotPart lo hi from file list old new    each blob with the file's bytes of its entries' parts from lo to hi
-use Rattle.std.specs.Prelude.{◌≡◌, ℕ, ◌+◌, ◌-◌, ◌^◌, ◌<◌, ◌≤◌, min, max, List, ◌++◌, map, take, drop, filter, nat_le, Bool, true, false, Option, Some, slice_get}
+use Rattle.std.specs.Prelude.{◌≡◌, ℕ, ◌+◌, ◌-◌, ◌^◌, ◌<◌, ◌≤◌, min, max, List, [], ◌∷◌, ◌++◌, ◌⊎◌, map, take, drop, filter, nat_le, nat_lt, true, false, Option, Some, slice_get}
 use Rattle.nc_base.specs.declared.plan.Owned.{Owned}
 use Rattle.nc_base.specs.declared.step.DiskCall.{DiskCall}
 use Rattle.file_domains.specs.declared.walk.Window.{Window}
+use Rattle.data_sieving.specs.declared.unserved.Unserved.{Unserved}
+use Rattle.data_sieving.specs.declared.walk.SieveWindow.{SieveWindow}
 use Rattle.nc_outside.specs.Told.{with_end}
 use Rattle.serial_spec.specs.DeviceCalls.{in_order, sieving_windows}
 use Rattle.serial_spec.specs.Said.{Cell, write_cells}
@@ -47,10 +51,21 @@ windows_from size place list = sieving_windows size (bytes_from place list)
 
 -- ---- what is left
 
-pub record IsPast (place : ℕ) (whole left : List Owned) : Type 0 where
-  pub front : List Owned
-  pub joined : whole ≡ front ++ left
-  pub ended : (o : Owned) → In front o → o.extent.at + o.extent.len ≤ place
+abbrev pub IsPast : ℕ → List Owned → List Owned → Type 0
+IsPast place [] left = left ≡ []
+IsPast place (o ∷ whole) left =
+    ((o.extent.at + o.extent.len ≤ place) × IsPast place whole left) ⊎ ((rest : List Owned) × (left ≡ o ∷ rest) × IsPast place whole rest)
+
+-- those that end past the place
+abbrev pub filter_past : ℕ → List Owned → List Owned
+filter_past place list = filter (λ o. nat_lt place (o.extent.at + o.extent.len)) list
+
+-- each begins before the place and ends past it
+abbrev pub HaveBegun : ℕ → List Owned → Type 0
+HaveBegun place list = (o : Owned) → In list o → (o.extent.at < place) × (place < o.extent.at + o.extent.len)
+
+abbrev pub entries_left : Unserved → List Owned
+entries_left u = u.carried.items ++ u.ahead.now
 
 pub record AreLeft (left : List Owned) (place size : ℕ) : Type 0 where
   pub sorted : IsByPlace (extents left)
@@ -68,6 +83,16 @@ pub record AreBegun (place : ℕ) (left begun : List Owned) : Type 0 where
 
 -- ---- a window
 
+abbrev pub entries_in : SieveWindow → List Owned
+entries_in w = w.carried.now ++ w.fresh.now
+
+-- entries that have the byte at a place have all up to the end, and no others before the stop
+pub record Reach (at stop : ℕ) (list : List Owned) (end : ℕ) : Type 0 where
+  pub low : at ≤ end
+  pub high : end ≤ stop
+  pub each : (o : Owned) → In list o → min stop (o.extent.at + o.extent.len) ≤ end
+  pub all : (x : ℕ) → at ≤ x → x < end → IsCovered list x
+
 pub record IsHull (at stop : ℕ) (list : List Owned) (w : Window) : Type 0 where
   pub begin : w.hull.at ≡ at
   pub some : 1 ≤ w.hull.len
@@ -77,15 +102,14 @@ pub record IsHull (at stop : ℕ) (list : List Owned) (w : Window) : Type 0 wher
   pub full : w.full ≡ true → (x : ℕ) → at ≤ x → x < at + w.hull.len → IsCovered list x
   pub hole : w.full ≡ false → (x : ℕ) × (at ≤ x) × (x < at + w.hull.len) × (IsCovered list x → ⊥)
 
--- the window that begins at the first byte from the place on, with the entries that may have bytes in it, and what is left after it
-pub record IsNext (left : List Owned) (place size : ℕ) (w : Window) (served later : List Owned) (stop : ℕ) : Type 0 where
+-- the window that begins at the first byte from the place on, with the entries that may have bytes in it
+pub record IsNext (left : List Owned) (place size : ℕ) (w : Window) (served : List Owned) (stop : ℕ) : Type 0 where
   pub from : place ≤ w.hull.at
   pub first : IsCovered left w.hull.at
   pub least : (x : ℕ) → IsCovered left x → place ≤ x → w.hull.at ≤ x
   pub ends : stop ≡ min (w.hull.at + size) (2 ^ 64 - 1)
   pub begun : AreBegun stop left served
   pub hull : IsHull w.hull.at stop served w
-  pub past : IsPast stop left later
 
 -- ---- the calls
 

@@ -7,7 +7,7 @@
 --     got_cells from file list      the file's bytes of entries, each at its place in the blob; the file begins at place from
 --     blob_at blobs k               the blob of a slot
 --     HasGot from file list old new     each blob with the file's bytes of its entries
-use Rattle.std.specs.Prelude.{◌≡◌, ℕ, ◌+◌, ◌-◌, ◌<◌, ◌≤◌, List, [], map, filter, flat_map, length, ◌==◌, Option, Some, None, slice_get, slice_index_or}
+use Rattle.std.specs.Prelude.{◌≡◌, ℕ, ◌+◌, ◌-◌, ◌≤◌, List, [], map, filter, flat_map, length, ◌==◌, Option, Some, None, slice_get, slice_index_or}
 use Rattle.std.specs.List.{range_with_len, enumerate_from}
 use Rattle.nc_base.specs.declared.plan.Post.{Post}
 use Rattle.nc_base.specs.declared.plan.Owned.{Owned}

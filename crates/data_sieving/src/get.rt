@@ -9,9 +9,10 @@ ghost use Rattle.nc_outside.specs.Told.{with_end};
 ghost use Rattle.nc_outside.specs.Cause.{HasDiskCause};
 ghost use Rattle.aggregator_rounds.specs.Pieces.{told_window};
 ghost use Rattle.data_sieving.specs.Sieving.{windows_of, AreFilled, LieOn, of_slot, blob_at, HasGot, FitBlobs, HaveOnePlace, AreAsLong};
-ghost use Rattle.data_sieving.specs.Serving.{buffer_cell, HasGotPart};
+ghost use Rattle.data_sieving.specs.Serving.{buffer_cell, entries_in, HasGotPart};
 
 use crate::entry::{copy_to, cut, part_of};
+use crate::unserved::Unserved;
 use crate::walk::{SieveWalk, SieveWindow};
 use aggregator_rounds::get_window;
 use nc_base::{Blob, BlobList, Extent, Owned};
@@ -24,8 +25,7 @@ use std::alloc::Global;
 /// Refused, it leaves the file as it was, and the blobs as long as they were.
 ///
 /// `buf` holds one window, at most as many bytes as it has. The cost is that of the hulls' bytes and of the entries, each of which
-/// is looked at once for each window that it has bytes in; but one that begins after an entry which reaches past a window is looked
-/// at again with it in the next.
+/// is looked at once for each window that it has bytes in, as long as there is memory for those that reach past a window.
 pub fn sieve_get<D: Disk>(
     alloc: Global,
     disk: &mut D,
@@ -84,12 +84,14 @@ fn get_windows<D: Disk>(
     ensures cause { HasDiskCause (D.faults disk.old) (D.faults disk.new) result }
 {
     let mut walk = SieveWalk {
-        entries: list,
+        entries: Unserved::new(alloc, list),
         from: 0,
         size: buf.len() as u64,
     };
     'windows: while let Some(next) = walk.next_window() {
         read_window(alloc, disk, &next, buf, blobs)?;
+        let stop = next.stop;
+        walk.pass(stop);
     }
     Ok(())
 }
@@ -105,14 +107,14 @@ fn read_window<D: Disk>(
     requires low { D.from disk.old ≤ next.now.window.hull.at }
     requires high { next.now.window.hull.at + next.now.window.hull.len ≤ D.from disk.old + D.len disk.old }
     requires hull { next.now.window.hull.at + next.now.window.hull.len < 2 ^ 62 }
-    requires ends { EndBelow (2 ^ 62) (extents next.now.entries.now) }
-    requires filled { AreFilled next.now.entries.now }
-    requires fit { FitBlobs blobs.old next.now.entries.now }
+    requires ends { EndBelow (2 ^ 62) (extents (entries_in next.now)) }
+    requires filled { AreFilled (entries_in next.now) }
+    requires fit { FitBlobs blobs.old (entries_in next.now) }
     requires room { next.now.window.hull.len ≤ length buf.old }
     ensures from { D.from disk.new ≡ D.from disk.old }
     ensures len { D.len disk.new ≡ D.len disk.old }
     ensures bytes { D.held disk.new ≡ D.held disk.old }
-    ensures read { OnOk result (IfSome (D.held disk.old) (λ file. HasGotPart next.now.window.hull.at (next.now.window.hull.at + next.now.window.hull.len) (D.from disk.old) file next.now.entries.now blobs.old blobs.new)) }
+    ensures read { OnOk result (IfSome (D.held disk.old) (λ file. HasGotPart next.now.window.hull.at (next.now.window.hull.at + next.now.window.hull.len) (D.from disk.old) file (entries_in next.now) blobs.old blobs.new)) }
     ensures blobs { AreAsLong blobs.old blobs.new }
     ensures calls { D.calls disk.new ≡ (if is_ok result then with_end (D.calls disk.old) (load_calls (told_window next.now.window)) else D.calls disk.old) }
     ensures certain { D.sure disk.old → IsOk result }
@@ -121,8 +123,22 @@ fn read_window<D: Disk>(
 {
     let bytes = &mut buf[..next.window.hull.len as usize];
     get_window(alloc, disk, &next.window, bytes)?;
-    collect_all(next.window.hull, next.entries, bytes, blobs);
+    collect_window(next, bytes, blobs);
     Ok(())
+}
+
+// Copies the bytes of a window's entries out of its hull's.
+fn collect_window(next: &SieveWindow, buf: &[u8], blobs: &mut [Blob])
+    requires hull { next.now.window.hull.at + next.now.window.hull.len < 2 ^ 62 }
+    requires room { length buf.now ≡ next.now.window.hull.len }
+    requires ends { EndBelow (2 ^ 62) (extents (entries_in next.now)) }
+    requires filled { AreFilled (entries_in next.now) }
+    requires fit { FitBlobs blobs.old (entries_in next.now) }
+    ensures each { (k : ℕ) → blob_at blobs.new k ≡ write_cells (blob_at blobs.old k) (map (λ o. buffer_cell next.now.window.hull.at (next.now.window.hull.at + next.now.window.hull.len) buf.now o) (of_slot k (entries_in next.now))) }
+    ensures long { AreAsLong blobs.old blobs.new }
+{
+    collect_all(next.window.hull, next.carried, buf, blobs);
+    collect_all(next.window.hull, next.fresh, buf, blobs);
 }
 
 // Copies the entries' bytes out of the hull's, one entry after another.

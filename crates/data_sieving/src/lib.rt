@@ -8,8 +8,9 @@
 mod entry;
 mod get;
 mod put;
+mod unserved;
 mod walk;
 
 pub use get::{collect_entry, sieve_get};
 pub use put::{lay_entry, sieve_put};
-pub use walk::{begun_before, ended_by};
+pub use unserved::{Unserved, begun_before, ended_by};

@@ -11,8 +11,10 @@ ghost use Rattle.nc_outside.specs.Told.{after, with_end, BothTold};
 ghost use Rattle.nc_outside.specs.Cause.{HasDiskCause};
 ghost use Rattle.aggregator_rounds.specs.Pieces.{told_window};
 ghost use Rattle.data_sieving.specs.Sieving.{source_of, put_cells, windows_of, AreFilled, LieOn};
+ghost use Rattle.data_sieving.specs.Serving.{entries_in};
 
 use crate::entry::{copy_to, cut, part_of};
+use crate::unserved::Unserved;
 use crate::walk::{SieveWalk, SieveWindow};
 use aggregator_rounds::{close_window, open_window};
 use nc_base::{Extent, Owned, PostList};
@@ -25,7 +27,7 @@ use std::alloc::Global;
 /// Refused, it leaves each byte old or as it would have been, so that bytes of no entry are as before.
 ///
 /// `buf` holds one window, at most as many bytes as it has. The cost is that of the hulls' bytes and of the entries, each of which
-/// is looked at once for each window that it has bytes in.
+/// is looked at once for each window that it has bytes in, as long as there is memory for those that reach past a window.
 pub fn sieve_put<D: Disk>(
     alloc: Global,
     disk: &mut D,
@@ -51,12 +53,14 @@ pub fn sieve_put<D: Disk>(
 {
     let _size = disk.size();
     let mut walk = SieveWalk {
-        entries: list,
+        entries: Unserved::new(alloc, list),
         from: 0,
         size: buf.len() as u64,
     };
     'windows: while let Some(next) = walk.next_window() {
         put_window(alloc, disk, &next, puts, buf)?;
+        let stop = next.stop;
+        walk.pass(stop);
     }
     Ok(())
 }
@@ -72,15 +76,15 @@ fn put_window<D: Disk>(
     requires low { D.from disk.old ≤ next.now.window.hull.at }
     requires high { next.now.window.hull.at + next.now.window.hull.len ≤ D.from disk.old + D.len disk.old }
     requires hull { next.now.window.hull.at + next.now.window.hull.len < 2 ^ 62 }
-    requires ends { EndBelow (2 ^ 62) (extents next.now.entries.now) }
-    requires filled { AreFilled next.now.entries.now }
-    requires found { AreFound (source_of puts.now) next.now.entries.now }
+    requires ends { EndBelow (2 ^ 62) (extents (entries_in next.now)) }
+    requires filled { AreFilled (entries_in next.now) }
+    requires found { AreFound (source_of puts.now) (entries_in next.now) }
     requires room { next.now.window.hull.len ≤ length buf.old }
-    requires whole { next.now.window.full ≡ true → (x : ℕ) → next.now.window.hull.at ≤ x → x < next.now.window.hull.at + next.now.window.hull.len → HasPlace (clips next.now.window.hull.at (next.now.window.hull.at + next.now.window.hull.len) (put_cells puts.now next.now.entries.now)) x }
+    requires whole { next.now.window.full ≡ true → (x : ℕ) → next.now.window.hull.at ≤ x → x < next.now.window.hull.at + next.now.window.hull.len → HasPlace (clips next.now.window.hull.at (next.now.window.hull.at + next.now.window.hull.len) (put_cells puts.now (entries_in next.now))) x }
     ensures from { D.from disk.new ≡ D.from disk.old }
     ensures len { D.len disk.new ≡ D.len disk.old }
-    ensures bytes { OnOk result (D.held disk.new ≡ after (λ file. write_cells file (moved_down (D.from disk.old) (clips next.now.window.hull.at (next.now.window.hull.at + next.now.window.hull.len) (put_cells puts.now next.now.entries.now)))) (D.held disk.old)) }
-    ensures refused { OnErr result (BothTold (λ old left. IsBetween old (write_cells old (moved_down (D.from disk.old) (clips next.now.window.hull.at (next.now.window.hull.at + next.now.window.hull.len) (put_cells puts.now next.now.entries.now)))) left) (D.held disk.old) (D.held disk.new)) }
+    ensures bytes { OnOk result (D.held disk.new ≡ after (λ file. write_cells file (moved_down (D.from disk.old) (clips next.now.window.hull.at (next.now.window.hull.at + next.now.window.hull.len) (put_cells puts.now (entries_in next.now))))) (D.held disk.old)) }
+    ensures refused { OnErr result (BothTold (λ old left. IsBetween old (write_cells old (moved_down (D.from disk.old) (clips next.now.window.hull.at (next.now.window.hull.at + next.now.window.hull.len) (put_cells puts.now (entries_in next.now))))) left) (D.held disk.old) (D.held disk.new)) }
     ensures calls { OnOk result (D.calls disk.new ≡ with_end (D.calls disk.old) (store_calls (told_window next.now.window))) }
     ensures begun { OnErr result (IsBegun (store_calls (told_window next.now.window)) (D.calls disk.old) (D.calls disk.new)) }
     ensures certain { D.sure disk.old → IsOk result }
@@ -90,9 +94,22 @@ fn put_window<D: Disk>(
     let _size = disk.size();
     let bytes = &mut buf[..next.window.hull.len as usize];
     open_window(alloc, disk, &next.window, bytes)?;
-    lay_all(next.window.hull, next.entries, puts, bytes);
+    lay_window(next, puts, bytes);
     close_window(alloc, disk, &next.window, bytes)?;
     Ok(())
+}
+
+// Lays the bytes of a window's entries over its hull's.
+fn lay_window(next: &SieveWindow, puts: &PostList, buf: &mut [u8])
+    requires hull { next.now.window.hull.at + next.now.window.hull.len < 2 ^ 62 }
+    requires room { length buf.old ≡ next.now.window.hull.len }
+    requires ends { EndBelow (2 ^ 62) (extents (entries_in next.now)) }
+    requires filled { AreFilled (entries_in next.now) }
+    requires found { AreFound (source_of puts.now) (entries_in next.now) }
+    ensures { buf.new ≡ write_cells buf.old (moved_down next.now.window.hull.at (clips next.now.window.hull.at (next.now.window.hull.at + next.now.window.hull.len) (put_cells puts.now (entries_in next.now)))) }
+{
+    lay_all(next.window.hull, next.carried, puts, buf);
+    lay_all(next.window.hull, next.fresh, puts, buf);
 }
 
 // Lays the entries' bytes over the hull's, one entry after another.

@@ -9,6 +9,7 @@ use Rattle.nc_base.specs.declared.plan.Owned.{Owned}
 use Rattle.overlay_laws.specs.Entries.{In}
 use Rattle.aggregator_rounds.specs.Pieces.{told_window}
 use Rattle.data_sieving.specs.Serving.{AreBegun, IsPast}
+use Rattle.data_sieving.proofs.PastSteps.{past_later, past_none, past_short}
 use Rattle.piece_exchange.specs.Feeds.{earlier_of, pieces_left_of, turns_left_of, AreApart, FitsInFor, IsAhead, IsFeedOf}
 use Rattle.piece_exchange.specs.Pieces.{pieces_in, pieces_of}
 use Rattle.piece_exchange.specs.Turns.{Told, turns_ahead, IsTurnWalk}
@@ -21,14 +22,14 @@ use Rattle.piece_exchange.proofs.TurnLaws.{served_ends}
 -- ---- one window more
 
 begun_served : (list begun : List Owned) (lo hi : ℕ) → AreBegun hi list begun → AreServed list begun lo hi
-begun_served list begun lo hi b = record { front = []; rest = b.rest; joined = b.joined; ended = λ o m. absurd m; later = b.later }
+begun_served list begun lo hi b = record { left = list; past = past_none lo list; rest = b.rest; joined = b.joined; later = b.later }
 
 past_served : (list later : List Owned) (p lo hi : ℕ) → IsPast p list later → p ≤ lo → AreServed list later lo hi
 past_served list later p lo hi h l = record {
-  front = h.front;
+  left = later;
+  past = past_later p lo list later l h;
   rest = [];
-  joined = h.joined ∙ ap (λ (os : List Owned). h.front ++ os) (sym (append-nil later));
-  ended = λ o m. (let e = h.ended o m in omega arith);
+  joined = sym (append-nil later);
   later = λ o m. absurd m;
 }
 
@@ -82,9 +83,8 @@ pub fits_next : (room : ℕ) (next : Option Turn) (w v : TurnWalk) → length w.
 fits_next room None w v l begun past = tt
 fits_next room (Some t) w v l begun past =
     let first = ap (λ (os : List Owned). length os) begun.joined in
-    let second = ap (λ (os : List Owned). length os) past.joined in
     let a = length-append t.entries.now begun.rest in
-    let b = length-append past.front v.entries.now in
+    let second = past_short (t.window.hull.at + t.window.hull.len) w.entries.now v.entries.now past in
     (omega arith, omega arith)
 
 pub fits_more : (n m : ℕ) (turn : Option Turn) (walk : TurnWalk) → n ≤ m → FitsInFor n turn walk → FitsInFor m turn walk

@@ -13,6 +13,7 @@ use Rattle.list_laws.proofs.Truth.{equal_true}
 use Rattle.overlay_laws.proofs.Members.{in_filter}
 use Rattle.overlay_laws.proofs.WalkLaws.{filter_none}
 use Rattle.data_sieving.specs.Serving.{IsCovered}
+use Rattle.data_sieving.proofs.PastSteps.{past_same}
 use Rattle.piece_exchange.specs.Pieces.{meets, of_rank, pieces_in, ArePieces}
 use Rattle.piece_exchange.specs.Turns.{Told}
 use Rattle.piece_exchange.proofs.PutLaws.{ArePicked}
@@ -45,9 +46,8 @@ flat_same f g (x ∷ xs) h = (λ i. h x i ++ flat_map f xs) ∙ ap (λ r. g x ++
 
 rank_served : (list begun : List Owned) (lo hi r : ℕ) → AreServed list begun lo hi → of_rank lo hi r begun ≡ of_rank lo hi r list
 rank_served list begun lo hi r s =
-    sym (ap (λ (es : List Owned). of_rank lo hi r es) s.joined
-    ∙ filter-append t s.front (begun ++ s.rest)
-    ∙ ap (λ (es : List Owned). es ++ filter t (begun ++ s.rest)) (filter_none t s.front (λ o m. and_false (o.rank == r) (meets lo hi o) (ended_out lo hi o (s.ended o m))))
+    sym (past_same t lo list s.left (λ o e. and_false (o.rank == r) (meets lo hi o) (ended_out lo hi o e)) s.past
+    ∙ ap (λ (es : List Owned). filter t es) s.joined
     ∙ filter-append t begun s.rest
     ∙ ap (λ (es : List Owned). filter t begun ++ es) (filter_none t s.rest (λ o m. and_false (o.rank == r) (meets lo hi o) (later_out lo hi o (s.later o m))))
     ∙ append-nil (filter t begun))

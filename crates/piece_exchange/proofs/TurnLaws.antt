@@ -7,6 +7,7 @@ use Rattle.overlay_laws.specs.Lines.{extents, EndBelow}
 use Rattle.overlay_laws.proofs.HullLaws.{in_left, in_right, in_either}
 use Rattle.data_sieving.specs.Serving.{IsCovered, AreBegun, IsPast}
 use Rattle.data_sieving.proofs.CoveredBytes.{in_extents}
+use Rattle.data_sieving.proofs.PastSteps.{past_in, past_kept, past_later, past_none, past_twice}
 use Rattle.piece_exchange.specs.Cursor.{AreServed, IsAt}
 use Rattle.piece_exchange.specs.declared.walk.TurnWalk.{TurnWalk}
 use Rattle.piece_exchange.specs.Pieces.{ArePieces}
@@ -30,7 +31,11 @@ turn_in list room (u ∷ ts) t h (inr m) = turn_in list room ts t h.2 m
 -- ---- the entries
 
 pub at_begin : (list : List Owned) (room : ℕ) (w : TurnWalk) → IsTurnWalk w → w.entries.now ≡ list → AreTurns list room (turns_ahead w) → IsAt list room w
-at_begin list room w ready e turns = record { ready = ready; front = []; joined = sym e; ended = λ o t m k. absurd m; turns = turns }
+at_begin list room w ready e turns = record {
+  ready = ready;
+  past = λ t m. subst (λ (l : List Owned). IsPast t.0 list l) (sym e) (past_none t.0 list);
+  turns = turns;
+}
 
 pub at_next : (list : List Owned) (room : ℕ) (w v : TurnWalk) (t : Told) → IsAt list room w → turns_ahead w ≡ t ∷ turns_ahead v → IsTurnWalk v
     → IsPast (t.0 + t.1) w.entries.now v.entries.now → IsAt list room v
@@ -38,22 +43,19 @@ at_next list room w v t a e ready p =
     let turns : AreTurns list room (t ∷ turns_ahead v) = subst (λ (ts : List Told). AreTurns list room ts) e a.turns in
     record {
       ready = ready;
-      front = a.front ++ p.front;
-      joined = a.joined ∙ ap (λ (r : List Owned). a.front ++ r) p.joined ∙ sym (append_assoc a.front p.front v.entries.now);
-      ended = λ o u m k. elim (in_either a.front p.front o m) [
-        | inl g ↦ a.ended o u g (subst (λ (ts : List Told). In ts u) (sym e) (inr k))
-        | inr g ↦ (let end = p.ended o g in let order = turns.1 u k in omega arith)
-      ];
+      past = λ u k. (let order = turns.1 u k in
+          past_later (t.0 + t.1) u.0 list v.entries.now order
+          (past_twice t.0 (t.0 + t.1) list w.entries.now v.entries.now (omega arith) (a.past t (subst (λ (ts : List Told). In ts t) (sym e) (inl refl))) p));
       turns = turns.2;
     }
 
 pub served_now : (list : List Owned) (room : ℕ) (w v : TurnWalk) (t : Told) (begun : List Owned) → IsAt list room w → turns_ahead w ≡ t ∷ turns_ahead v
     → AreBegun (t.0 + t.1) w.entries.now begun → AreServed list begun t.0 (t.0 + t.1)
 served_now list room w v t begun a e b = record {
-  front = a.front;
+  left = w.entries.now;
+  past = a.past t (subst (λ (ts : List Told). In ts t) (sym e) (inl refl));
   rest = b.rest;
-  joined = a.joined ∙ ap (λ (r : List Owned). a.front ++ r) b.joined;
-  ended = λ o m. a.ended o t m (subst (λ (ts : List Told). In ts t) (sym e) (inl refl));
+  joined = b.joined;
   later = b.later;
 }
 
@@ -62,13 +64,13 @@ turn_now list room w v t a e = (subst (λ (ts : List Told). AreTurns list room t
 
 pub served_in : (list begun : List Owned) (lo hi : ℕ) (o : Owned) → AreServed list begun lo hi → In begun o → In list o
 served_in list begun lo hi o s m =
-    subst (λ (l : List Owned). In l o) (sym s.joined) (in_right s.front (begun ++ s.rest) o (in_left begun s.rest o m))
+    past_in lo list s.left o s.past (subst (λ (l : List Owned). In l o) (sym s.joined) (in_left begun s.rest o m))
 
 pub in_served : (list begun : List Owned) (lo hi : ℕ) (o : Owned) → AreServed list begun lo hi → In list o → o.extent.at < hi → lo < o.extent.at + o.extent.len → In begun o
 in_served list begun lo hi o s m b k =
-    elim (in_either s.front (begun ++ s.rest) o (subst (λ (q : List Owned). In q o) s.joined m)) [
-      | inl g ↦ (let e = s.ended o g in absurd (omega arith))
-      | inr g ↦ elim (in_either begun s.rest o g) [ inl i ↦ i | inr i ↦ (let e = s.later o i in absurd (omega arith)) ]
+    elim (in_either begun s.rest o (subst (λ (q : List Owned). In q o) s.joined (past_kept lo list s.left o s.past m k))) [
+      | inl i ↦ i
+      | inr i ↦ (let e = s.later o i in absurd (omega arith))
     ]
 
 pub served_covered : (list begun : List Owned) (lo hi x : ℕ) → AreServed list begun lo hi → lo ≤ x → x < hi → IsCovered list x → IsCovered begun x

@@ -7,19 +7,20 @@ use Rattle.nc_base.specs.declared.step.DiskCall.{DiskCall}
 use Rattle.overlay_laws.specs.Changes.{IsBegun}
 use Rattle.aggregator_rounds.proofs.RoundLaws.{on_err}
 use Rattle.data_sieving.specs.Sieving.{windows_of}
-use Rattle.data_sieving.specs.Serving.{HasDone, windows_from}
-use Rattle.data_sieving.proofs.CoveredBytes.{past_twice}
+use Rattle.data_sieving.specs.Serving.{entries_in, entries_left, HasDone, IsNext, windows_from}
+use Rattle.data_sieving.proofs.PastSteps.{past_twice}
 use Rattle.data_sieving.proofs.WindowSteps.{goes_on}
 use Rattle.data_sieving.proofs.CallSteps.{none_begun}
 use Rattle.data_sieving.proofs.ReachSteps.{begun_in, hull_low, hull_high, hull_end, begun_ends, begun_filled}
 use Rattle.data_sieving.proofs.GetSteps.{as_long_twice, fit_as_long, got_none, got_more, got_all}
-use Rattle.data_sieving.proofs.LoopSteps.{walk_begin, walk_ready, calls_begin, loads_more, calls_end}
+use Rattle.data_sieving.proofs.LoopSteps.{all_left, none_carried, walk_begin, walk_ready, calls_begin, loads_more, calls_end}
 use Rattle.data_sieving.proofs.get.get_windows.Goals as goal
 
 pub windows-init : goal.windows-init
 windows-init g c = record {
-  past = walk_begin c.args.list.now;
-  left = walk_ready c.args.list.now (length c.args.buf.now) c.requires.sorted c.requires.ends c.requires.filled c.requires.buffer;
+  past = walk_begin c.args.list.now (entries_left c.new.result) (all_left c.args.list.now c.new.result.carried.items c.new.result.ahead.now c.new.ensures.carried c.new.ensures.ahead);
+  left = walk_ready c.args.list.now (entries_left c.new.result) (length c.args.buf.now) (all_left c.args.list.now c.new.result.carried.items c.new.result.ahead.now c.new.ensures.carried c.new.ensures.ahead) c.requires.sorted c.requires.ends c.requires.filled c.requires.buffer;
+  begun = none_carried c.new.result.carried.items c.new.ensures.carried;
   size = refl;
   from = refl;
   len = refl;
@@ -33,62 +34,60 @@ windows-init g c = record {
 
 pub read_window-requires-clause-low : goal.read_window-requires-clause-low
 read_window-requires-clause-low g c κs within =
-    let low = hull_low c.args.list.now c.windows.walk.entries.now c.windows.walk.from c.windows.walk.size c.in-Some.next.window c.in-Some.next.entries.now
-    c.next_window.new.self.entries.now c.next_window.new.self.from (g.D.Disk.from c.args.disk.now) (g.D.Disk.len c.args.disk.now) c.requires.on_disk c.windows.invariant.past c.in-Some.ensures.next in
+    let low = hull_low c.args.list.now (entries_left c.windows.walk.entries) c.windows.walk.from c.windows.walk.size c.in-Some.next.window (entries_in c.in-Some.next) c.in-Some.next.stop (g.D.Disk.from c.args.disk.now) (g.D.Disk.len c.args.disk.now) c.requires.on_disk c.windows.invariant.past c.in-Some.ensures.next in
     let same = c.windows.invariant.from in
     omega arith
 
 pub read_window-requires-clause-high : goal.read_window-requires-clause-high
 read_window-requires-clause-high g c κs within =
-    let high = hull_high c.args.list.now c.windows.walk.entries.now c.windows.walk.from c.windows.walk.size c.in-Some.next.window c.in-Some.next.entries.now
-    c.next_window.new.self.entries.now c.next_window.new.self.from (g.D.Disk.from c.args.disk.now) (g.D.Disk.len c.args.disk.now) c.requires.on_disk c.windows.invariant.past c.in-Some.ensures.next in
+    let high = hull_high c.args.list.now (entries_left c.windows.walk.entries) c.windows.walk.from c.windows.walk.size c.in-Some.next.window (entries_in c.in-Some.next) c.in-Some.next.stop (g.D.Disk.from c.args.disk.now) (g.D.Disk.len c.args.disk.now) c.requires.on_disk c.windows.invariant.past c.in-Some.ensures.next in
     let same = c.windows.invariant.from in
     let long = c.windows.invariant.len in
     omega arith
 
 pub read_window-requires-clause-hull : goal.read_window-requires-clause-hull
 read_window-requires-clause-hull g c κs within =
-    hull_end c.windows.walk.entries.now c.windows.walk.from c.windows.walk.size c.in-Some.next.window c.in-Some.next.entries.now
-    c.next_window.new.self.entries.now c.next_window.new.self.from c.windows.invariant.left c.in-Some.ensures.next
+    hull_end (entries_left c.windows.walk.entries) c.windows.walk.from c.windows.walk.size c.in-Some.next.window (entries_in c.in-Some.next) c.in-Some.next.stop c.windows.invariant.left c.in-Some.ensures.next
 
 pub read_window-requires-clause-ends : goal.read_window-requires-clause-ends
 read_window-requires-clause-ends g c κs within =
-    begun_ends c.windows.walk.entries.now c.windows.walk.from c.windows.walk.size c.next_window.new.self.from c.in-Some.next.entries.now c.windows.invariant.left c.in-Some.ensures.next.begun
+    begun_ends (entries_left c.windows.walk.entries) c.windows.walk.from c.windows.walk.size c.in-Some.next.stop (entries_in c.in-Some.next) c.windows.invariant.left c.in-Some.ensures.next.begun
 
 pub read_window-requires-clause-filled : goal.read_window-requires-clause-filled
 read_window-requires-clause-filled g c κs within =
-    begun_filled c.windows.walk.entries.now c.windows.walk.from c.windows.walk.size c.next_window.new.self.from c.in-Some.next.entries.now c.windows.invariant.left c.in-Some.ensures.next.begun
+    begun_filled (entries_left c.windows.walk.entries) c.windows.walk.from c.windows.walk.size c.in-Some.next.stop (entries_in c.in-Some.next) c.windows.invariant.left c.in-Some.ensures.next.begun
 
 pub read_window-requires-clause-fit : goal.read_window-requires-clause-fit
 read_window-requires-clause-fit g c κs within = λ o m.
     fit_as_long c.args.blobs.now c.windows.blobs c.args.list.now c.windows.invariant.long c.requires.fit o
-    (begun_in c.windows.walk.from c.next_window.new.self.from c.args.list.now c.windows.walk.entries.now c.in-Some.next.entries.now o c.windows.invariant.past c.in-Some.ensures.next.begun m)
+    (begun_in c.windows.walk.from c.in-Some.next.stop c.args.list.now (entries_left c.windows.walk.entries) (entries_in c.in-Some.next) o c.windows.invariant.past c.in-Some.ensures.next.begun m)
 
 pub windows-preserved : goal.windows-preserved
 windows-preserved g c =
-    let further = goes_on c.windows.walk.entries.now c.windows.walk.from c.windows.walk.size c.in-Some.next.window c.in-Some.next.entries.now
-    c.next_window.new.self.entries.now c.next_window.new.self.from c.in-Some.ensures.next in
+    let next = subst (λ (n : ℕ). IsNext (entries_left c.windows.walk.entries) c.windows.walk.from c.windows.walk.size c.in-Some.next.window (entries_in c.in-Some.next) n)
+    (sym c.pass.ensures.from) c.in-Some.ensures.next in
+    let further = goes_on (entries_left c.windows.walk.entries) c.windows.walk.from c.windows.walk.size c.in-Some.next.window (entries_in c.in-Some.next) c.pass.new.self.from next in
     let later = c.in_ok-read_window.ensures.cause.later in
     let faults = c.windows.invariant.faults in
     record {
-      past = past_twice c.windows.walk.from c.next_window.new.self.from c.args.list.now c.windows.walk.entries.now c.next_window.new.self.entries.now (omega arith)
-          c.windows.invariant.past c.in-Some.ensures.next.past;
-      left = c.in-Some.ensures.left;
-      size = c.in-Some.ensures.size ∙ c.windows.invariant.size;
+      past = past_twice c.windows.walk.from c.pass.new.self.from c.args.list.now (entries_left c.windows.walk.entries) (entries_left c.pass.new.self.entries) (omega arith)
+          c.windows.invariant.past c.pass.ensures.past;
+      left = c.pass.ensures.left;
+      begun = c.pass.ensures.begun;
+      size = c.pass.ensures.size ∙ c.windows.invariant.size;
       from = c.in_ok-read_window.ensures.from ∙ c.windows.invariant.from;
       len = c.in_ok-read_window.ensures.len ∙ c.windows.invariant.len;
       bytes = c.in_ok-read_window.ensures.bytes ∙ c.windows.invariant.bytes;
       got = got_more (g.D.Disk.held c.args.disk.now) (g.D.Disk.held c.windows.disk) (g.D.Disk.from c.args.disk.now) (g.D.Disk.from c.windows.disk) (g.D.Disk.len c.args.disk.now)
-          c.args.list.now c.windows.walk.entries.now c.windows.walk.from c.windows.walk.size c.in-Some.next.window c.in-Some.next.entries.now c.next_window.new.self.entries.now
-          c.next_window.new.self.from c.args.blobs.now c.windows.blobs c.read_window.new.blobs c.windows.invariant.bytes c.windows.invariant.from c.requires.on_disk
-          c.requires.one_place c.requires.fit c.windows.invariant.past c.in-Some.ensures.next c.windows.invariant.got c.in_ok-read_window.ensures.read;
+          c.args.list.now (entries_left c.windows.walk.entries) c.windows.walk.from c.windows.walk.size c.in-Some.next.window (entries_in c.in-Some.next)
+          c.pass.new.self.from c.args.blobs.now c.windows.blobs c.read_window.new.blobs c.windows.invariant.bytes c.windows.invariant.from c.requires.on_disk
+          c.requires.one_place c.requires.fit c.windows.invariant.past next c.windows.invariant.got c.in_ok-read_window.ensures.read;
       long = as_long_twice c.args.blobs.now c.windows.blobs c.read_window.new.blobs c.windows.invariant.long c.in_ok-read_window.ensures.blobs;
-      calls = subst (λ (n : ℕ). HasDone (flat_map loads (windows_of n c.args.list.now)) (flat_map loads (windows_from n c.next_window.new.self.from c.args.list.now))
-          (g.D.Disk.calls c.args.disk.now) (g.D.Disk.calls c.read_window.new.disk)) (sym c.in-Some.ensures.size)
-          (loads_more c.args.list.now c.windows.walk.entries.now c.windows.walk.from c.windows.walk.size c.in-Some.next.window c.in-Some.next.entries.now
-          c.next_window.new.self.entries.now c.next_window.new.self.from (flat_map loads (windows_of c.windows.walk.size c.args.list.now))
+      calls = subst (λ (n : ℕ). HasDone (flat_map loads (windows_of n c.args.list.now)) (flat_map loads (windows_from n c.pass.new.self.from c.args.list.now))
+          (g.D.Disk.calls c.args.disk.now) (g.D.Disk.calls c.read_window.new.disk)) (sym c.pass.ensures.size)
+          (loads_more c.args.list.now (entries_left c.windows.walk.entries) c.windows.walk.from c.windows.walk.size c.in-Some.next.window (entries_in c.in-Some.next) c.pass.new.self.from (flat_map loads (windows_of c.windows.walk.size c.args.list.now))
           (g.D.Disk.calls c.args.disk.now) (g.D.Disk.calls c.windows.disk) (g.D.Disk.calls c.read_window.new.disk)
-          c.windows.invariant.past c.windows.invariant.left c.in-Some.ensures.next c.in_ok-read_window.ensures.calls c.windows.invariant.calls);
+          c.windows.invariant.past c.windows.invariant.left next c.in_ok-read_window.ensures.calls c.windows.invariant.calls);
       sure = λ s. c.in_ok-read_window.ensures.sure (c.windows.invariant.sure s);
       faults = omega arith;
     }
@@ -107,11 +106,11 @@ returns-in_err-read_window-clause-blobs g c =
 
 pub returns-clause-read : goal.returns-clause-read
 returns-clause-read g c =
-    got_all (g.D.Disk.held c.args.disk.now) (g.D.Disk.from c.args.disk.now) c.args.list.now c.windows.walk.entries.now c.windows.walk.from c.args.blobs.now c.windows.blobs
+    got_all (g.D.Disk.held c.args.disk.now) (g.D.Disk.from c.args.disk.now) c.args.list.now (entries_left c.windows.walk.entries) c.windows.walk.from c.args.blobs.now c.windows.blobs
     c.in_default.ensures.none c.windows.invariant.past c.windows.invariant.got
 
 pub returns-clause-calls : goal.returns-clause-calls
 returns-clause-calls g c =
-    calls_end loads c.windows.walk.size c.windows.walk.from c.args.list.now c.windows.walk.entries.now (flat_map loads (windows_of c.windows.walk.size c.args.list.now))
+    calls_end loads c.windows.walk.size c.windows.walk.from c.args.list.now (entries_left c.windows.walk.entries) (flat_map loads (windows_of c.windows.walk.size c.args.list.now))
     (g.D.Disk.calls c.args.disk.now) (g.D.Disk.calls c.windows.disk) c.in_default.ensures.none c.windows.invariant.past c.windows.invariant.calls
     ∙ ap (λ (n : ℕ). with_end (g.D.Disk.calls c.args.disk.now) (flat_map loads (windows_of n c.args.list.now))) c.windows.invariant.size

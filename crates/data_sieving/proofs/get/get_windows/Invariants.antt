@@ -3,13 +3,14 @@ use Rattle.std.proofs.Common.{◌≡◌, ◌-◌, ◌^◌, ◌≤◌, length}
 use Rattle.std.specs.Prelude.{flat_map, IfSome}
 use Rattle.serial_spec.specs.DeviceCalls.{loads}
 use Rattle.data_sieving.specs.Sieving.{windows_of, AreAsLong}
-use Rattle.data_sieving.specs.Serving.{IsPast, AreLeft, HasDone, HasGotPart, windows_from}
+use Rattle.data_sieving.specs.Serving.{entries_left, IsPast, AreLeft, HasDone, HaveBegun, HasGotPart, windows_from}
 use Rattle.data_sieving.proofs.get.get_windows.Given as goal
 
 abbrev pub invariant-windows : goal.invariant-windows
 invariant-windows g l = record {
-  past : IsPast l.walk.from l.list l.walk.entries.now;
-  left : AreLeft l.walk.entries.now l.walk.from l.walk.size;
+  past : IsPast l.walk.from l.list (entries_left l.walk.entries);
+  left : AreLeft (entries_left l.walk.entries) l.walk.from l.walk.size;
+  begun : HaveBegun l.walk.from l.walk.entries.carried.items;
   size : l.walk.size ≡ length l.initial.buf;
   from : g.D.Disk.from l.disk ≡ g.D.Disk.from l.initial.disk;
   len : g.D.Disk.len l.disk ≡ g.D.Disk.len l.initial.disk;

@@ -5,6 +5,7 @@ use Rattle.overlay_laws.specs.Windows.{clips}
 use Rattle.overlay_laws.proofs.WindowLaws.{clips_from, clips_within}
 use Rattle.aggregator_rounds.proofs.RoundLaws.{window_told_by, window_refused_by, window_begun, on_err}
 use Rattle.data_sieving.specs.Sieving.{put_cells}
+use Rattle.data_sieving.specs.Serving.{entries_in}
 use Rattle.data_sieving.proofs.put.put_window.Goals as goal
 
 pub returns-clause-bytes : goal.returns-clause-bytes
@@ -12,13 +13,13 @@ returns-clause-bytes g c =
     let room : length c.open_window.new.buf ≡ c.args.next.now.window.hull.len = first_of (search rules, grind (arith, common_steps)) in
     window_told_by
     (g.D.Disk.held c.args.disk.now) (g.D.Disk.held c.open_window.new.disk) (g.D.Disk.held c.close_window.new.disk) c.args.next.now.window.full
-    c.open_window.new.buf c.lay_all.new.buf (g.D.Disk.from c.args.disk.now) (g.D.Disk.from c.open_window.new.disk) c.args.next.now.window.hull.at c.args.next.now.window.hull.len
+    c.open_window.new.buf c.lay_window.new.buf (g.D.Disk.from c.args.disk.now) (g.D.Disk.from c.open_window.new.disk) c.args.next.now.window.hull.at c.args.next.now.window.hull.len
     (g.D.Disk.len c.args.disk.now)
-    (clips c.args.next.now.window.hull.at (c.args.next.now.window.hull.at + c.args.next.now.window.hull.len) (put_cells c.args.puts.now c.args.next.now.entries.now))
-    c.in_ok-open_window.ensures.from c.in_ok-open_window.ensures.bytes c.lay_all.ensures
+    (clips c.args.next.now.window.hull.at (c.args.next.now.window.hull.at + c.args.next.now.window.hull.len) (put_cells c.args.puts.now (entries_in c.args.next.now)))
+    c.in_ok-open_window.ensures.from c.in_ok-open_window.ensures.bytes c.lay_window.ensures
     c.size-size.ensures.told room c.requires.low c.requires.high
-    (clips_from c.args.next.now.window.hull.at (c.args.next.now.window.hull.at + c.args.next.now.window.hull.len) (put_cells c.args.puts.now c.args.next.now.entries.now) (omega arith))
-    (clips_within c.args.next.now.window.hull.at (c.args.next.now.window.hull.at + c.args.next.now.window.hull.len) (put_cells c.args.puts.now c.args.next.now.entries.now) (omega arith))
+    (clips_from c.args.next.now.window.hull.at (c.args.next.now.window.hull.at + c.args.next.now.window.hull.len) (put_cells c.args.puts.now (entries_in c.args.next.now)) (omega arith))
+    (clips_within c.args.next.now.window.hull.at (c.args.next.now.window.hull.at + c.args.next.now.window.hull.len) (put_cells c.args.puts.now (entries_in c.args.next.now)) (omega arith))
     c.requires.whole c.in_ok-open_window.ensures.read c.in_ok-close_window.ensures.bytes
 
 pub returns-in_err-close_window-clause-refused : goal.returns-in_err-close_window-clause-refused
@@ -27,13 +28,13 @@ returns-in_err-close_window-clause-refused g c =
     on_err c.from_residual-in_err-close_window.result
     (window_refused_by
     (g.D.Disk.held c.args.disk.now) (g.D.Disk.held c.open_window.new.disk) (g.D.Disk.held c.close_window.new.disk) c.args.next.now.window.full
-    c.open_window.new.buf c.lay_all.new.buf (g.D.Disk.from c.args.disk.now) (g.D.Disk.from c.open_window.new.disk) c.args.next.now.window.hull.at c.args.next.now.window.hull.len
+    c.open_window.new.buf c.lay_window.new.buf (g.D.Disk.from c.args.disk.now) (g.D.Disk.from c.open_window.new.disk) c.args.next.now.window.hull.at c.args.next.now.window.hull.len
     (g.D.Disk.len c.args.disk.now)
-    (clips c.args.next.now.window.hull.at (c.args.next.now.window.hull.at + c.args.next.now.window.hull.len) (put_cells c.args.puts.now c.args.next.now.entries.now))
-    c.in_ok-open_window.ensures.from c.in_ok-open_window.ensures.bytes c.lay_all.ensures
+    (clips c.args.next.now.window.hull.at (c.args.next.now.window.hull.at + c.args.next.now.window.hull.len) (put_cells c.args.puts.now (entries_in c.args.next.now)))
+    c.in_ok-open_window.ensures.from c.in_ok-open_window.ensures.bytes c.lay_window.ensures
     c.size-size.ensures.told room c.requires.low c.requires.high
-    (clips_from c.args.next.now.window.hull.at (c.args.next.now.window.hull.at + c.args.next.now.window.hull.len) (put_cells c.args.puts.now c.args.next.now.entries.now) (omega arith))
-    (clips_within c.args.next.now.window.hull.at (c.args.next.now.window.hull.at + c.args.next.now.window.hull.len) (put_cells c.args.puts.now c.args.next.now.entries.now) (omega arith))
+    (clips_from c.args.next.now.window.hull.at (c.args.next.now.window.hull.at + c.args.next.now.window.hull.len) (put_cells c.args.puts.now (entries_in c.args.next.now)) (omega arith))
+    (clips_within c.args.next.now.window.hull.at (c.args.next.now.window.hull.at + c.args.next.now.window.hull.len) (put_cells c.args.puts.now (entries_in c.args.next.now)) (omega arith))
     c.requires.whole c.in_ok-open_window.ensures.read c.in_err-close_window.ensures.refused)
 
 pub returns-in_err-close_window-clause-begun : goal.returns-in_err-close_window-clause-begun

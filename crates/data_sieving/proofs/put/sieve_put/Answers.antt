@@ -6,18 +6,19 @@ use Rattle.nc_outside.specs.Told.{with_end}
 use Rattle.overlay_laws.specs.Changes.{IsBegun}
 use Rattle.aggregator_rounds.proofs.RoundLaws.{on_err}
 use Rattle.data_sieving.specs.Sieving.{source_of, windows_of}
-use Rattle.data_sieving.specs.Serving.{HasDone, windows_from}
-use Rattle.data_sieving.proofs.CoveredBytes.{past_twice}
+use Rattle.data_sieving.specs.Serving.{entries_in, entries_left, HasDone, IsNext, windows_from}
+use Rattle.data_sieving.proofs.PastSteps.{past_twice}
 use Rattle.data_sieving.proofs.WindowSteps.{goes_on}
 use Rattle.data_sieving.proofs.PutSteps.{covered_place}
 use Rattle.data_sieving.proofs.ReachSteps.{hull_low, hull_high, hull_end, begun_ends, begun_filled, begun_found}
-use Rattle.data_sieving.proofs.LoopSteps.{walk_begin, walk_ready, calls_begin, stores_more, stores_begun, calls_end, put_begin, put_more, put_refused, put_end}
+use Rattle.data_sieving.proofs.LoopSteps.{all_left, none_carried, walk_begin, walk_ready, calls_begin, stores_more, stores_begun, calls_end, put_begin, put_more, put_refused, put_end}
 use Rattle.data_sieving.proofs.put.sieve_put.Goals as goal
 
 pub windows-init : goal.windows-init
 windows-init g c = record {
-  past = walk_begin c.args.list.now;
-  left = walk_ready c.args.list.now (length c.args.buf.now) c.requires.sorted c.requires.ends c.requires.filled c.requires.buffer;
+  past = walk_begin c.args.list.now (entries_left c.new.result) (all_left c.args.list.now c.new.result.carried.items c.new.result.ahead.now c.new.ensures.carried c.new.ensures.ahead);
+  left = walk_ready c.args.list.now (entries_left c.new.result) (length c.args.buf.now) (all_left c.args.list.now c.new.result.carried.items c.new.result.ahead.now c.new.ensures.carried c.new.ensures.ahead) c.requires.sorted c.requires.ends c.requires.filled c.requires.buffer;
+  begun = none_carried c.new.result.carried.items c.new.ensures.carried;
   size = refl;
   from = refl;
   len = refl;
@@ -29,66 +30,64 @@ windows-init g c = record {
 
 pub put_window-requires-clause-low : goal.put_window-requires-clause-low
 put_window-requires-clause-low g c κs within =
-    let low = hull_low c.args.list.now c.windows.walk.entries.now c.windows.walk.from c.windows.walk.size c.in-Some.next.window c.in-Some.next.entries.now
-    c.next_window.new.self.entries.now c.next_window.new.self.from (g.D.Disk.from c.args.disk.now) (g.D.Disk.len c.args.disk.now) c.requires.on_disk c.windows.invariant.past c.in-Some.ensures.next in
+    let low = hull_low c.args.list.now (entries_left c.windows.walk.entries) c.windows.walk.from c.windows.walk.size c.in-Some.next.window (entries_in c.in-Some.next) c.in-Some.next.stop (g.D.Disk.from c.args.disk.now) (g.D.Disk.len c.args.disk.now) c.requires.on_disk c.windows.invariant.past c.in-Some.ensures.next in
     let same = c.windows.invariant.from in
     omega arith
 
 pub put_window-requires-clause-high : goal.put_window-requires-clause-high
 put_window-requires-clause-high g c κs within =
-    let high = hull_high c.args.list.now c.windows.walk.entries.now c.windows.walk.from c.windows.walk.size c.in-Some.next.window c.in-Some.next.entries.now
-    c.next_window.new.self.entries.now c.next_window.new.self.from (g.D.Disk.from c.args.disk.now) (g.D.Disk.len c.args.disk.now) c.requires.on_disk c.windows.invariant.past c.in-Some.ensures.next in
+    let high = hull_high c.args.list.now (entries_left c.windows.walk.entries) c.windows.walk.from c.windows.walk.size c.in-Some.next.window (entries_in c.in-Some.next) c.in-Some.next.stop (g.D.Disk.from c.args.disk.now) (g.D.Disk.len c.args.disk.now) c.requires.on_disk c.windows.invariant.past c.in-Some.ensures.next in
     let same = c.windows.invariant.from in
     let long = c.windows.invariant.len in
     omega arith
 
 pub put_window-requires-clause-hull : goal.put_window-requires-clause-hull
 put_window-requires-clause-hull g c κs within =
-    hull_end c.windows.walk.entries.now c.windows.walk.from c.windows.walk.size c.in-Some.next.window c.in-Some.next.entries.now
-    c.next_window.new.self.entries.now c.next_window.new.self.from c.windows.invariant.left c.in-Some.ensures.next
+    hull_end (entries_left c.windows.walk.entries) c.windows.walk.from c.windows.walk.size c.in-Some.next.window (entries_in c.in-Some.next) c.in-Some.next.stop c.windows.invariant.left c.in-Some.ensures.next
 
 pub put_window-requires-clause-ends : goal.put_window-requires-clause-ends
 put_window-requires-clause-ends g c κs within =
-    begun_ends c.windows.walk.entries.now c.windows.walk.from c.windows.walk.size c.next_window.new.self.from c.in-Some.next.entries.now c.windows.invariant.left c.in-Some.ensures.next.begun
+    begun_ends (entries_left c.windows.walk.entries) c.windows.walk.from c.windows.walk.size c.in-Some.next.stop (entries_in c.in-Some.next) c.windows.invariant.left c.in-Some.ensures.next.begun
 
 pub put_window-requires-clause-filled : goal.put_window-requires-clause-filled
 put_window-requires-clause-filled g c κs within =
-    begun_filled c.windows.walk.entries.now c.windows.walk.from c.windows.walk.size c.next_window.new.self.from c.in-Some.next.entries.now c.windows.invariant.left c.in-Some.ensures.next.begun
+    begun_filled (entries_left c.windows.walk.entries) c.windows.walk.from c.windows.walk.size c.in-Some.next.stop (entries_in c.in-Some.next) c.windows.invariant.left c.in-Some.ensures.next.begun
 
 pub put_window-requires-clause-found : goal.put_window-requires-clause-found
 put_window-requires-clause-found g c κs within =
-    begun_found (source_of c.args.puts.now) c.args.list.now c.windows.walk.entries.now c.windows.walk.from c.next_window.new.self.from c.in-Some.next.entries.now
+    begun_found (source_of c.args.puts.now) c.args.list.now (entries_left c.windows.walk.entries) c.windows.walk.from c.in-Some.next.stop (entries_in c.in-Some.next)
     c.requires.found c.windows.invariant.past c.in-Some.ensures.next.begun
 
 pub put_window-requires-clause-whole : goal.put_window-requires-clause-whole
 put_window-requires-clause-whole g c κs within = λ t x l h.
-    covered_place (source_of c.args.puts.now) c.in-Some.next.entries.now c.in-Some.next.window.hull.at (c.in-Some.next.window.hull.at + c.in-Some.next.window.hull.len) x
-    (begun_found (source_of c.args.puts.now) c.args.list.now c.windows.walk.entries.now c.windows.walk.from c.next_window.new.self.from c.in-Some.next.entries.now
+    covered_place (source_of c.args.puts.now) (entries_in c.in-Some.next) c.in-Some.next.window.hull.at (c.in-Some.next.window.hull.at + c.in-Some.next.window.hull.len) x
+    (begun_found (source_of c.args.puts.now) c.args.list.now (entries_left c.windows.walk.entries) c.windows.walk.from c.in-Some.next.stop (entries_in c.in-Some.next)
     c.requires.found c.windows.invariant.past c.in-Some.ensures.next.begun) l h (c.in-Some.ensures.next.hull.full t x l h)
 
 pub windows-preserved : goal.windows-preserved
 windows-preserved g c =
-    let further = goes_on c.windows.walk.entries.now c.windows.walk.from c.windows.walk.size c.in-Some.next.window c.in-Some.next.entries.now
-    c.next_window.new.self.entries.now c.next_window.new.self.from c.in-Some.ensures.next in
+    let next = subst (λ (n : ℕ). IsNext (entries_left c.windows.walk.entries) c.windows.walk.from c.windows.walk.size c.in-Some.next.window (entries_in c.in-Some.next) n)
+    (sym c.pass.ensures.from) c.in-Some.ensures.next in
+    let further = goes_on (entries_left c.windows.walk.entries) c.windows.walk.from c.windows.walk.size c.in-Some.next.window (entries_in c.in-Some.next) c.pass.new.self.from next in
     let later = c.in_ok-put_window.ensures.cause.later in
     let faults = c.windows.invariant.faults in
     record {
-      past = past_twice c.windows.walk.from c.next_window.new.self.from c.args.list.now c.windows.walk.entries.now c.next_window.new.self.entries.now (omega arith)
-          c.windows.invariant.past c.in-Some.ensures.next.past;
-      left = c.in-Some.ensures.left;
-      size = c.in-Some.ensures.size ∙ c.windows.invariant.size;
+      past = past_twice c.windows.walk.from c.pass.new.self.from c.args.list.now (entries_left c.windows.walk.entries) (entries_left c.pass.new.self.entries) (omega arith)
+          c.windows.invariant.past c.pass.ensures.past;
+      left = c.pass.ensures.left;
+      begun = c.pass.ensures.begun;
+      size = c.pass.ensures.size ∙ c.windows.invariant.size;
       from = c.in_ok-put_window.ensures.from ∙ c.windows.invariant.from;
       len = c.in_ok-put_window.ensures.len ∙ c.windows.invariant.len;
       bytes = put_more (g.D.Disk.held c.args.disk.now) (g.D.Disk.held c.windows.disk) (g.D.Disk.held c.put_window.new.disk) c.args.puts.now c.args.list.now
-          c.windows.walk.entries.now c.windows.walk.from c.windows.walk.size c.in-Some.next.window c.in-Some.next.entries.now c.next_window.new.self.entries.now c.next_window.new.self.from
+          (entries_left c.windows.walk.entries) c.windows.walk.from c.windows.walk.size c.in-Some.next.window (entries_in c.in-Some.next) c.pass.new.self.from
           (g.D.Disk.from c.args.disk.now) (g.D.Disk.from c.windows.disk) (g.D.Disk.len c.args.disk.now) c.size-size.ensures.told c.requires.on_disk c.windows.invariant.from
-          c.windows.invariant.past c.in-Some.ensures.next c.windows.invariant.bytes c.in_ok-put_window.ensures.bytes;
-      calls = subst (λ (n : ℕ). HasDone (flat_map overlays (windows_of n c.args.list.now)) (flat_map overlays (windows_from n c.next_window.new.self.from c.args.list.now))
-          (g.D.Disk.calls c.args.disk.now) (g.D.Disk.calls c.put_window.new.disk)) (sym c.in-Some.ensures.size)
-          (stores_more c.args.list.now c.windows.walk.entries.now c.windows.walk.from c.windows.walk.size c.in-Some.next.window c.in-Some.next.entries.now
-          c.next_window.new.self.entries.now c.next_window.new.self.from (flat_map overlays (windows_of c.windows.walk.size c.args.list.now))
+          c.windows.invariant.past next c.windows.invariant.bytes c.in_ok-put_window.ensures.bytes;
+      calls = subst (λ (n : ℕ). HasDone (flat_map overlays (windows_of n c.args.list.now)) (flat_map overlays (windows_from n c.pass.new.self.from c.args.list.now))
+          (g.D.Disk.calls c.args.disk.now) (g.D.Disk.calls c.put_window.new.disk)) (sym c.pass.ensures.size)
+          (stores_more c.args.list.now (entries_left c.windows.walk.entries) c.windows.walk.from c.windows.walk.size c.in-Some.next.window (entries_in c.in-Some.next) c.pass.new.self.from (flat_map overlays (windows_of c.windows.walk.size c.args.list.now))
           (g.D.Disk.calls c.args.disk.now) (g.D.Disk.calls c.windows.disk) (g.D.Disk.calls c.put_window.new.disk)
-          c.windows.invariant.past c.windows.invariant.left c.in-Some.ensures.next c.in_ok-put_window.ensures.calls c.windows.invariant.calls);
+          c.windows.invariant.past c.windows.invariant.left next c.in_ok-put_window.ensures.calls c.windows.invariant.calls);
       sure = λ s. c.in_ok-put_window.ensures.sure (c.windows.invariant.sure s);
       faults = omega arith;
     }
@@ -97,7 +96,7 @@ pub returns-in_err-put_window-clause-refused : goal.returns-in_err-put_window-cl
 returns-in_err-put_window-clause-refused g c =
     on_err c.from_residual.result
     (put_refused (g.D.Disk.held c.args.disk.now) (g.D.Disk.held c.windows.disk) (g.D.Disk.held c.put_window.new.disk) c.args.puts.now c.args.list.now
-    c.windows.walk.entries.now c.windows.walk.from c.windows.walk.size c.in-Some.next.window c.in-Some.next.entries.now c.next_window.new.self.entries.now c.next_window.new.self.from
+    (entries_left c.windows.walk.entries) c.windows.walk.from c.windows.walk.size c.in-Some.next.window (entries_in c.in-Some.next) c.in-Some.next.stop
     (g.D.Disk.from c.args.disk.now) (g.D.Disk.from c.windows.disk) (g.D.Disk.len c.args.disk.now) c.size-size.ensures.told c.requires.on_disk c.windows.invariant.from
     c.windows.invariant.past c.in-Some.ensures.next c.windows.invariant.bytes c.in_err-put_window.ensures.refused)
 
@@ -105,18 +104,17 @@ pub returns-in_err-put_window-clause-begun : goal.returns-in_err-put_window-clau
 returns-in_err-put_window-clause-begun g c =
     on_err c.from_residual.result
     (subst (λ (n : ℕ). IsBegun (flat_map overlays (windows_of n c.args.list.now)) (g.D.Disk.calls c.args.disk.now) (g.D.Disk.calls c.put_window.new.disk)) c.windows.invariant.size
-    (stores_begun c.args.list.now c.windows.walk.entries.now c.windows.walk.from c.windows.walk.size c.in-Some.next.window c.in-Some.next.entries.now
-    c.next_window.new.self.entries.now c.next_window.new.self.from (flat_map overlays (windows_of c.windows.walk.size c.args.list.now))
+    (stores_begun c.args.list.now (entries_left c.windows.walk.entries) c.windows.walk.from c.windows.walk.size c.in-Some.next.window (entries_in c.in-Some.next) c.in-Some.next.stop (flat_map overlays (windows_of c.windows.walk.size c.args.list.now))
     (g.D.Disk.calls c.args.disk.now) (g.D.Disk.calls c.windows.disk) (g.D.Disk.calls c.put_window.new.disk)
     c.windows.invariant.past c.windows.invariant.left c.in-Some.ensures.next c.in_err-put_window.ensures.begun c.windows.invariant.calls))
 
 pub returns-clause-bytes : goal.returns-clause-bytes
 returns-clause-bytes g c =
-    put_end (g.D.Disk.held c.args.disk.now) (g.D.Disk.held c.windows.disk) c.args.puts.now c.args.list.now c.windows.walk.entries.now c.windows.walk.from
+    put_end (g.D.Disk.held c.args.disk.now) (g.D.Disk.held c.windows.disk) c.args.puts.now c.args.list.now (entries_left c.windows.walk.entries) c.windows.walk.from
     (g.D.Disk.from c.args.disk.now) (g.D.Disk.len c.args.disk.now) c.size-size.ensures.told c.requires.on_disk c.in_default.ensures.none c.windows.invariant.past c.windows.invariant.bytes
 
 pub returns-clause-calls : goal.returns-clause-calls
 returns-clause-calls g c =
-    calls_end overlays c.windows.walk.size c.windows.walk.from c.args.list.now c.windows.walk.entries.now (flat_map overlays (windows_of c.windows.walk.size c.args.list.now))
+    calls_end overlays c.windows.walk.size c.windows.walk.from c.args.list.now (entries_left c.windows.walk.entries) (flat_map overlays (windows_of c.windows.walk.size c.args.list.now))
     (g.D.Disk.calls c.args.disk.now) (g.D.Disk.calls c.windows.disk) c.in_default.ensures.none c.windows.invariant.past c.windows.invariant.calls
     ∙ ap (λ (n : ℕ). with_end (g.D.Disk.calls c.args.disk.now) (flat_map overlays (windows_of n c.args.list.now))) c.windows.invariant.size

@@ -2,7 +2,7 @@
 use Rattle.std.proofs.Common.{arith}
 use Rattle.nc_base.specs.declared.plan.Owned.{Owned}
 use Rattle.data_sieving.proofs.SplitSteps.{entry_ends, ended_more, goes_past, none_after}
-use Rattle.data_sieving.proofs.walk.ended_by.Goals as goal
+use Rattle.data_sieving.proofs.unserved.ended_by.Goals as goal
 
 abbrev none : Owned
 none = record { extent = record { at = 0; len = 0 }; rank = 0; request = 0; slot = 0; from = 0 }
