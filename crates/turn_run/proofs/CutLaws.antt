@@ -76,6 +76,10 @@ stopped_as F G s fault before now held records ranks left count f h = record { m
     by_held None k = tt
     by_held (Some file) (bytes, e, k) = (bytes, e, by_stop (fold (step_to s) (counted file records, ranks) h.more) bytes k)
 
+pub stopped_at : (F : Mark → Type 0) (s : Setting) (fault : StepErr) (before now : List Mark) (held left : Option (List ℕ)) (records n m : ℕ) (ranks : List Arrived)
+    → n ≡ m → HasStopped F s fault before now held records ranks left n → HasStopped F s fault before now held records ranks left m
+stopped_at F s fault before now held left records n m ranks e h = subst (λ (k : ℕ). HasStopped F s fault before now held records ranks left k) e h
+
 -- want of memory where nothing was begun
 pub stopped_between : (F : Mark → Type 0) (s : Setting) (fault : StepErr) (before now : List Mark) (held left : Option (List ℕ)) (records count : ℕ) (ranks : List Arrived)
     → fault ≡ Memory → now ≡ before → left ≡ held → count ≡ records → HasStopped F s fault before now held records ranks left count

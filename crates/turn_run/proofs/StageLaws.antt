@@ -18,7 +18,7 @@ use Rattle.serial_spec.specs.SerialEnd.{Going, setting_of, first_going, first_st
 use Rattle.run_laws.specs.Standing.{calls_so_far, close_by}
 use Rattle.run_laws.proofs.OrderLaws.{calls_close}
 use Rattle.run_laws.specs.Arrivals.{calls_over, solo_to, step_calls, step_to, Arrived, Stand, all_calls_over, ended_from}
-use Rattle.turn_run.specs.Stages.{arrived, arrived_all, stand_of, HasLed, IsLed, Leads, Stage}
+use Rattle.turn_run.specs.Stages.{arrived, arrived_all, stage, stand_of, HasLed, IsLed, Leads, Stage}
 use Rattle.turn_run.specs.Steps.{first_seat}
 use Rattle.turn_run.proofs.ListLaws.{get_map, get_map_none, map_map, map_set}
 
@@ -156,6 +156,10 @@ led_then hints s marks more a b c first second = by_held a.held first
 
 pub has_led_none : (hints : Hints) (s : Setting) (order : List Mark) (a : Stage) → HasLed hints s order order a a
 has_led_none hints s order a = record { more = []; grown = sym (append-nil order); led = led_none hints s a }
+
+pub has_led_at : (hints : Hints) (s : Setting) (before now : List Mark) (a : Stage) (held : Option (List ℕ)) (calls : Option (List DiskCall)) (n m : ℕ) (ranks : List Arrived)
+    → n ≡ m → HasLed hints s before now a (stage held calls n ranks) → HasLed hints s before now a (stage held calls m ranks)
+has_led_at hints s before now a held calls n m ranks e h = subst (λ (k : ℕ). HasLed hints s before now a (stage held calls k ranks)) e h
 
 pub has_led_then : (hints : Hints) (s : Setting) (before now later : List Mark) (a b c : Stage) → HasLed hints s before now a b → HasLed hints s now later b c → HasLed hints s before later a c
 has_led_then hints s before now later a b c first second = record {

@@ -34,6 +34,10 @@ use Rattle.turn_run.proofs.TurnRuns.{first_stage}
 
 -- ---- nothing, and one step
 
+pub told_at : (s : Setting) (held : Option (List ℕ)) (n m : ℕ) (ranks : List Arrived) (before now : List Mark) (told heard : Option (List (Mark × ℕ)))
+    → n ≡ m → HasToldMore s held n ranks before now told heard → HasToldMore s held m ranks before now told heard
+told_at s held n m ranks before now told heard e h = subst (λ (k : ℕ). HasToldMore s held k ranks before now told heard) e h
+
 pub told_none : (s : Setting) (held : Option (List ℕ)) (records : ℕ) (ranks : List Arrived) (before now : List Mark) (told heard : Option (List (Mark × ℕ)))
     → now ≡ before → heard ≡ told → HasToldMore s held records ranks before now told heard
 told_none s held records ranks before now told heard e f = record {

@@ -7,3 +7,4 @@ pub mod Steps
 pub mod Cuts
 pub mod Said
 pub mod Telling
+pub mod Setups

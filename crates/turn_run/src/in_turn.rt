@@ -1,5 +1,5 @@
 // A run of the ranks in turn.
-ghost use Rattle.std.specs.Prelude.{◌≡◌, ◌≤◌, ◌<◌, ◌++◌, ◌∷◌, [], ℕ, List, map, replicate, drop, fold, length, nat_lt, None, Some, true, slice_get, IfOk, IfSome, OnOk, IsTrue, ◌↔◌, ◌⊎◌, Err};
+ghost use Rattle.std.specs.Prelude.{◌≡◌, ◌≤◌, ◌<◌, ◌++◌, ◌∷◌, [], map, replicate, None, Some, true, IfOk, IfSome, OnOk, IsTrue, ◌↔◌, ◌⊎◌, Err};
 ghost use Rattle.nc_base.specs.declared.step.StepErr.{StepErr as Fault};
 ghost use Rattle.nc_base.specs.declared.step.StepErr.TheVariants as fault;
 ghost use Rattle.nc_outside.specs.Told.{with_end};
@@ -8,23 +8,20 @@ ghost use Rattle.serial_spec.specs.History.{IsLegal};
 ghost use Rattle.serial_spec.specs.Lawful.{is_lawful};
 ghost use Rattle.serial_spec.specs.Layout.{end_of};
 ghost use Rattle.serial_spec.specs.RankMachine as machine;
-ghost use Rattle.serial_spec.specs.SerialEnd.{setting_of};
-ghost use Rattle.collective_round.specs.Rounds.{counted, HasStepCause};
+ghost use Rattle.collective_round.specs.Rounds.{HasStepCause};
 ghost use Rattle.rank_core.specs.Indexed.{IsIndexOf};
 ghost use Rattle.run_laws.specs.Ways.{meetings};
 ghost use Rattle.turn_run.specs.Begun.{HasBegun};
 ghost use Rattle.turn_run.specs.Counts.{IsCount};
-ghost use Rattle.turn_run.specs.Cuts.{EndsAt, HasStopped, IsNext};
 ghost use Rattle.turn_run.specs.Run.{IsRun};
-ghost use Rattle.turn_run.specs.Said.{all_between, HaveAnswers};
-ghost use Rattle.turn_run.specs.Seated.{calls_of, AreFree, AreSeats, HaveArrived, HaveMet};
-ghost use Rattle.run_laws.specs.Arrivals.{calls_over, step_to, all_calls_over, ended_from};
-ghost use Rattle.turn_run.specs.Stages.{arrived_all, stage, HasLed};
-ghost use Rattle.turn_run.specs.Telling.{HasTold, HasToldMore};
+ghost use Rattle.turn_run.specs.Seated.{AreFree, AreSeats, HaveArrived, HaveMet};
+ghost use Rattle.turn_run.specs.Telling.{HasTold};
 ghost use Rattle.turn_run.specs.Steps.{first_seat};
+ghost use Rattle.turn_run.specs.Setups.{all_calls_on, ended_on, stage_at, EndsOn, HasLedOn, HasToldOn, HaveSaidUpTo, IsCutOff};
 ghost use Rattle.var_layout.specs.Measures.{AreMeasures};
 
 use crate::closing::{answers_of, close, pending_of};
+use crate::lent::{Lent, Progress, Setup, Tools};
 use crate::meeting::meet;
 use crate::seats::Seat;
 use nc_base::{AnswerTable, Header, MarkList, Memory, RunEnd, Script, SizeList, StepErr};
@@ -33,7 +30,6 @@ use rank_core::Names;
 use std::alloc::Global;
 use std::sync::Wait;
 use std::thread::Threads;
-use var_layout::Measures;
 
 /// Runs the ranks of a script on one thread. Each goes on until it meets the others; a meeting is done when all have come to it, and
 /// then rank 0 goes on first. The last thing done is the close, which raises the record count to the greatest that a rank knows.
@@ -80,7 +76,7 @@ pub fn run_in_turn_told<R: Threads + Wait + Sync, D: Disk, G: Gate, T: Told>(
     ensures run { IsRun script.now header.now (D.held disk.old) (D.calls disk.old) (D.faults disk.old) (D.held disk.new) (D.calls disk.new) (D.faults disk.new) records.new result }
     ensures told { HasTold script.now header.now (D.held disk.old) (T.heard told.old) (T.heard told.new) result.order }
 {
-    let mut order = MarkList::new(alloc);
+    let order = MarkList::new(alloc);
     let names = match Names::new(alloc, header) {
         Ok(names) => names,
         Err(_) => return stopped(alloc, order, StepErr::Memory),
@@ -89,21 +85,23 @@ pub fn run_in_turn_told<R: Threads + Wait + Sync, D: Disk, G: Gate, T: Told>(
         Ok(seats) => seats,
         Err(_) => return stopped(alloc, order, StepErr::Memory),
     };
-    match make_calls(
-        rt,
-        alloc,
-        disk,
-        header,
-        names.measures(header),
-        records,
-        script,
-        gate,
-        &mut seats,
-        &mut order,
-        told,
-    ) {
-        Ok(()) => ended(alloc, order, seats),
-        Err(cause) => cut_off(alloc, order, seats, cause),
+    let lent = Lent {
+        tools: Tools { rt, alloc, gate },
+        setup: Setup {
+            header,
+            measures: names.measures(header),
+            script,
+        },
+    };
+    let mut progress = Progress {
+        records: *records,
+        order,
+    };
+    let done = make_calls(&lent, disk, told, &mut progress, &mut seats);
+    *records = progress.records;
+    match done {
+        Ok(()) => ended(alloc, progress.order, seats),
+        Err(cause) => cut_off(alloc, progress.order, seats, cause),
     }
 }
 
@@ -128,155 +126,116 @@ fn seats_of<'a>(
 
 /// Makes the calls of all ranks, and closes the file.
 fn make_calls<R: Threads + Wait + Sync, D: Disk, G: Gate, T: Told>(
-    rt: &R,
-    alloc: Global,
+    lent: &Lent<R, G>,
     disk: &mut D,
-    header: &Header,
-    measures: &Measures,
-    records: &mut u64,
-    script: &Script,
-    gate: &G,
-    seats: &mut [Seat],
-    order: &mut MarkList,
     told: &mut T,
+    progress: &mut Progress,
+    seats: &mut [Seat],
 ) -> Result<(), StepErr>
-    requires sound { is_sound header.now ≡ true }
-    requires measured { AreMeasures header.now measures.now }
-    requires lawful { is_lawful script.now ≡ true }
-    requires none { order.old ≡ [] }
-    requires seats { AreSeats script.now header.now (D.len disk.old) order.old seats.old }
+    requires sound { is_sound lent.now.setup.header.now ≡ true }
+    requires measured { AreMeasures lent.now.setup.header.now lent.now.setup.measures.now }
+    requires lawful { is_lawful lent.now.setup.script.now ≡ true }
+    requires none { progress.old.order ≡ [] }
+    requires seats { AreSeats lent.now.setup.script.now lent.now.setup.header.now (D.len disk.old) progress.old.order seats.old }
     requires free { AreFree seats.old }
-    requires records { IsCount header.now (D.len disk.old) records.old }
+    requires records { IsCount lent.now.setup.header.now (D.len disk.old) progress.old.records }
     requires from { D.from disk.old ≡ 0 }
-    ensures legal { OnOk result (IsLegal script.now order.new) }
-    ensures bytes { OnOk result (IfSome (D.held disk.old) (λ file. D.held disk.new ≡ Some (ended_from (setting_of script.now header.now) (counted file records.old, arrived_all header.now script.now.calls seats.old) order.new).bytes)) }
-    ensures records { OnOk result (IfSome (D.held disk.old) (λ file. records.new ≡ (ended_from (setting_of script.now header.now) (counted file records.old, arrived_all header.now script.now.calls seats.old) order.new).records)) }
-    ensures answers { OnOk result (IfSome (D.held disk.old) (λ file. map (λ seat. seat.answers) seats.new ≡ (ended_from (setting_of script.now header.now) (counted file records.old, arrived_all header.now script.now.calls seats.old) order.new).answers)) }
-    ensures pending { OnOk result (IfSome (D.held disk.old) (λ file. map (λ seat. machine.pending seat.rank.state) seats.new ≡ (ended_from (setting_of script.now header.now) (counted file records.old, arrived_all header.now script.now.calls seats.old) order.new).pending)) }
-    ensures calls { OnOk result (IfSome (D.held disk.old) (λ file. D.calls disk.new ≡ with_end (D.calls disk.old) (all_calls_over script.now.hints (setting_of script.now header.now) (counted file records.old, arrived_all header.now script.now.calls seats.old) order.new))) }
-    ensures count { OnOk result (IsCount header.now (D.len disk.new) records.new) }
-    ensures raised { OnOk result ((e : Fault) → IfSome (D.held disk.old) (λ file. (left : List ℕ) × (D.held disk.new ≡ Some left) × EndsAt script.now (setting_of script.now header.now) e
-        (fold (step_to (setting_of script.now header.now)) (counted file records.old, arrived_all header.now script.now.calls seats.old) order.new) order.new left records.new)) }
-    ensures cut { (e : Fault) → result ≡ Err e → IfSome (D.held disk.old) (λ file. (left : List ℕ) × (D.held disk.new ≡ Some left) × EndsAt script.now (setting_of script.now header.now) e
-        (fold (step_to (setting_of script.now header.now)) (counted file records.old, arrived_all header.now script.now.calls seats.old) order.new) order.new left records.new) }
-    ensures answered { (e : Fault) → result ≡ Err e → HaveAnswers (setting_of script.now header.now) e order.old order.new
-        (D.held disk.old) records.old (all_between script.now.calls seats.old) seats.new }
-    ensures told { HasToldMore (setting_of script.now header.now) (D.held disk.old) records.old (arrived_all header.now script.now.calls seats.old) order.old order.new (T.heard told.old) (T.heard told.new) }
-    ensures begun { HasBegun script.now order.new }
+    ensures legal { OnOk result (IsLegal lent.now.setup.script.now progress.new.order) }
+    ensures bytes { OnOk result (IfSome (D.held disk.old) (λ file. D.held disk.new ≡ Some (ended_on lent.now.setup file progress.old seats.old progress.new).bytes)) }
+    ensures records { OnOk result (IfSome (D.held disk.old) (λ file. progress.new.records ≡ (ended_on lent.now.setup file progress.old seats.old progress.new).records)) }
+    ensures answers { OnOk result (IfSome (D.held disk.old) (λ file. map (λ seat. seat.answers) seats.new ≡ (ended_on lent.now.setup file progress.old seats.old progress.new).answers)) }
+    ensures pending { OnOk result (IfSome (D.held disk.old) (λ file. map (λ seat. machine.pending seat.rank.state) seats.new ≡ (ended_on lent.now.setup file progress.old seats.old progress.new).pending)) }
+    ensures calls { OnOk result (IfSome (D.held disk.old) (λ file. D.calls disk.new ≡ with_end (D.calls disk.old) (all_calls_on lent.now.setup file progress.old seats.old progress.new))) }
+    ensures count { OnOk result (IsCount lent.now.setup.header.now (D.len disk.new) progress.new.records) }
+    ensures raised { OnOk result ((e : Fault) → EndsOn lent.now.setup e progress.old progress.new (D.held disk.old) seats.old (D.held disk.new)) }
+    ensures cut { (e : Fault) → result ≡ Err e → EndsOn lent.now.setup e progress.old progress.new (D.held disk.old) seats.old (D.held disk.new) }
+    ensures answered { (e : Fault) → result ≡ Err e → HaveSaidUpTo lent.now.setup e progress.old progress.new (D.held disk.old) seats.old seats.new }
+    ensures told { HasToldOn lent.now.setup progress.old progress.new (D.held disk.old) seats.old (T.heard told.old) (T.heard told.new) }
+    ensures begun { HasBegun lent.now.setup.script.now progress.new.order }
     ensures cause { HasStepCause (D.faults disk.old) (D.faults disk.new) result }
 {
-    hold_meetings(
-        rt, alloc, disk, header, measures, records, script, gate, seats, order, told,
+    hold_meetings(lent, disk, told, progress, seats)?;
+    close(
+        lent.tools.alloc,
+        disk,
+        lent.setup.header,
+        &mut progress.records,
+        seats,
     )?;
-    close(alloc, disk, header, records, seats)?;
     Ok(())
 }
 
 /// Holds the meetings of all ranks, one after another, until all calls are made.
 fn hold_meetings<R: Threads + Wait + Sync, D: Disk, G: Gate, T: Told>(
-    rt: &R,
-    alloc: Global,
+    lent: &Lent<R, G>,
     disk: &mut D,
-    header: &Header,
-    measures: &Measures,
-    records: &mut u64,
-    script: &Script,
-    gate: &G,
-    seats: &mut [Seat],
-    order: &mut MarkList,
     told: &mut T,
+    progress: &mut Progress,
+    seats: &mut [Seat],
 ) -> Result<(), StepErr>
-    requires sound { is_sound header.now ≡ true }
-    requires measured { AreMeasures header.now measures.now }
-    requires lawful { is_lawful script.now ≡ true }
-    requires none { order.old ≡ [] }
-    requires seats { AreSeats script.now header.now (D.len disk.old) order.old seats.old }
+    requires sound { is_sound lent.now.setup.header.now ≡ true }
+    requires measured { AreMeasures lent.now.setup.header.now lent.now.setup.measures.now }
+    requires lawful { is_lawful lent.now.setup.script.now ≡ true }
+    requires none { progress.old.order ≡ [] }
+    requires seats { AreSeats lent.now.setup.script.now lent.now.setup.header.now (D.len disk.old) progress.old.order seats.old }
     requires free { AreFree seats.old }
-    requires records { IsCount header.now (D.len disk.old) records.old }
+    requires records { IsCount lent.now.setup.header.now (D.len disk.old) progress.old.records }
     requires from { D.from disk.old ≡ 0 }
-    ensures seats { OnOk result (AreSeats script.now header.now (D.len disk.new) order.new seats.new) }
+    ensures seats { OnOk result (AreSeats lent.now.setup.script.now lent.now.setup.header.now (D.len disk.new) progress.new.order seats.new) }
     ensures free { OnOk result (AreFree seats.new) }
-    ensures arrived { OnOk result (HaveArrived script.now seats.new) }
-    ensures led { OnOk result (HasLed script.now.hints (setting_of script.now header.now) order.old order.new
-        (stage (D.held disk.old) (D.calls disk.old) records.old (arrived_all header.now script.now.calls seats.old))
-        (stage (D.held disk.new) (D.calls disk.new) records.new (arrived_all header.now script.now.calls seats.new))) }
-    ensures cut { (e : Fault) → result ≡ Err e → HasStopped (IsNext script.now order.new) (setting_of script.now header.now) e order.old order.new
-        (D.held disk.old) records.old (arrived_all header.now script.now.calls seats.old) (D.held disk.new) records.new }
-    ensures answered { (e : Fault) → result ≡ Err e → HaveAnswers (setting_of script.now header.now) e order.old order.new
-        (D.held disk.old) records.old (all_between script.now.calls seats.old) seats.new }
-    ensures told { HasToldMore (setting_of script.now header.now) (D.held disk.old) records.old (arrived_all header.now script.now.calls seats.old) order.old order.new (T.heard told.old) (T.heard told.new) }
-    ensures records { OnOk result (IsCount header.now (D.len disk.new) records.new) }
-    ensures begun { HasBegun script.now order.new }
+    ensures arrived { OnOk result (HaveArrived lent.now.setup.script.now seats.new) }
+    ensures led { OnOk result (HasLedOn lent.now.setup progress.old progress.new (stage_at lent.now.setup (D.held disk.old) (D.calls disk.old) progress.old seats.old)
+        (stage_at lent.now.setup (D.held disk.new) (D.calls disk.new) progress.new seats.new)) }
+    ensures cut { (e : Fault) → result ≡ Err e → IsCutOff lent.now.setup e progress.old progress.new (D.held disk.old) seats.old (D.held disk.new) }
+    ensures answered { (e : Fault) → result ≡ Err e → HaveSaidUpTo lent.now.setup e progress.old progress.new (D.held disk.old) seats.old seats.new }
+    ensures told { HasToldOn lent.now.setup progress.old progress.new (D.held disk.old) seats.old (T.heard told.old) (T.heard told.new) }
+    ensures records { OnOk result (IsCount lent.now.setup.header.now (D.len disk.new) progress.new.records) }
+    ensures begun { HasBegun lent.now.setup.script.now progress.new.order }
     ensures from { D.from disk.new ≡ 0 }
     ensures longer { D.len disk.old ≤ D.len disk.new }
     ensures cause { HasStepCause (D.faults disk.old) (D.faults disk.new) result }
 {
     let mut meetings = 0;
-    arrive_all(
-        rt, alloc, disk, header, measures, *records, script, gate, seats, order, told,
-    )?;
+    arrive_all(lent, disk, told, progress, seats)?;
     'meetings: while all_hold(seats) {
-        meet(
-            rt, alloc, disk, header, measures, records, script, gate, seats, meetings, order, told,
-        )?;
+        meet(lent, disk, told, progress, seats, meetings)?;
         meetings += 1;
-        arrive_all(
-            rt, alloc, disk, header, measures, *records, script, gate, seats, order, told,
-        )?;
+        arrive_all(lent, disk, told, progress, seats)?;
     }
     Ok(())
 }
 
 /// Each rank goes on until it meets the others, or has made its calls.
 fn arrive_all<R: Threads + Wait + Sync, D: Disk, G: Gate, T: Told>(
-    rt: &R,
-    alloc: Global,
+    lent: &Lent<R, G>,
     disk: &mut D,
-    header: &Header,
-    measures: &Measures,
-    records: u64,
-    script: &Script,
-    gate: &G,
-    seats: &mut [Seat],
-    order: &mut MarkList,
     told: &mut T,
+    progress: &mut Progress,
+    seats: &mut [Seat],
 ) -> Result<(), StepErr>
-    requires sound { is_sound header.now ≡ true }
-    requires measured { AreMeasures header.now measures.now }
-    requires lawful { is_lawful script.now ≡ true }
-    requires seats { AreSeats script.now header.now (D.len disk.old) order.old seats.old }
+    requires sound { is_sound lent.now.setup.header.now ≡ true }
+    requires measured { AreMeasures lent.now.setup.header.now lent.now.setup.measures.now }
+    requires lawful { is_lawful lent.now.setup.script.now ≡ true }
+    requires seats { AreSeats lent.now.setup.script.now lent.now.setup.header.now (D.len disk.old) progress.old.order seats.old }
     requires free { AreFree seats.old }
+    requires records { IsCount lent.now.setup.header.now (D.len disk.old) progress.old.records }
     requires from { D.from disk.old ≡ 0 }
-    ensures seats { OnOk result (AreSeats script.now header.now (D.len disk.new) order.new seats.new) }
-    ensures arrived { OnOk result (HaveArrived script.now seats.new) }
-    ensures meetings { meetings order.new ≡ meetings order.old }
-    ensures led { OnOk result ((records : ℕ) → HasLed script.now.hints (setting_of script.now header.now) order.old order.new
-        (stage (D.held disk.old) (D.calls disk.old) records (arrived_all header.now script.now.calls seats.old))
-        (stage (D.held disk.new) (D.calls disk.new) records (arrived_all header.now script.now.calls seats.new))) }
-    ensures cut { (e : Fault) → result ≡ Err e → (records : ℕ) → HasStopped (IsNext script.now order.new) (setting_of script.now header.now) e order.old order.new
-        (D.held disk.old) records (arrived_all header.now script.now.calls seats.old) (D.held disk.new) records }
-    ensures answered { (e : Fault) → result ≡ Err e → (records : ℕ) → HaveAnswers (setting_of script.now header.now) e order.old order.new
-        (D.held disk.old) records (all_between script.now.calls seats.old) seats.new }
-    ensures told { HasToldMore (setting_of script.now header.now) (D.held disk.old) records (arrived_all header.now script.now.calls seats.old) order.old order.new (T.heard told.old) (T.heard told.new) }
-    ensures begun { HasBegun script.now order.new }
+    ensures seats { OnOk result (AreSeats lent.now.setup.script.now lent.now.setup.header.now (D.len disk.new) progress.new.order seats.new) }
+    ensures arrived { OnOk result (HaveArrived lent.now.setup.script.now seats.new) }
+    ensures meetings { meetings progress.new.order ≡ meetings progress.old.order }
+    ensures led { OnOk result (HasLedOn lent.now.setup progress.old progress.new (stage_at lent.now.setup (D.held disk.old) (D.calls disk.old) progress.old seats.old)
+        (stage_at lent.now.setup (D.held disk.new) (D.calls disk.new) progress.new seats.new)) }
+    ensures cut { (e : Fault) → result ≡ Err e → IsCutOff lent.now.setup e progress.old progress.new (D.held disk.old) seats.old (D.held disk.new) }
+    ensures answered { (e : Fault) → result ≡ Err e → HaveSaidUpTo lent.now.setup e progress.old progress.new (D.held disk.old) seats.old seats.new }
+    ensures told { HasToldOn lent.now.setup progress.old progress.new (D.held disk.old) seats.old (T.heard told.old) (T.heard told.new) }
+    ensures records { OnOk result (IsCount lent.now.setup.header.now (D.len disk.new) progress.new.records) }
+    ensures begun { HasBegun lent.now.setup.script.now progress.new.order }
     ensures from { D.from disk.new ≡ 0 }
     ensures longer { D.len disk.old ≤ D.len disk.new }
     ensures cause { HasStepCause (D.faults disk.old) (D.faults disk.new) result }
 {
     for (number, seat) in seats.iter_mut().enumerate() {
-        seat.arrive(
-            rt,
-            alloc,
-            disk,
-            header,
-            measures,
-            records,
-            script,
-            gate,
-            number as u32,
-            order,
-            told,
-        )?;
+        seat.arrive(lent, disk, told, progress, number as u32)?;
     }
     Ok(())
 }

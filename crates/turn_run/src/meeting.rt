@@ -1,5 +1,5 @@
 // A meeting of all ranks.
-ghost use Rattle.std.specs.Prelude.{◌≡◌, ◌≤◌, ◌<◌, ◌++◌, ◌∷◌, [], ℕ, List, map, max, length, nat_lt, true, None, Some, is_some, slice_get, IfOk, IfSome, OnOk, OnErr, ◌⊎◌, Err};
+ghost use Rattle.std.specs.Prelude.{◌≡◌, ◌≤◌, ◌<◌, ◌++◌, ◌∷◌, [], List, map, max, length, true, None, Some, IfOk, IfSome, OnOk, OnErr, ◌⊎◌, Err};
 ghost use Rattle.std.specs.Int.{byte_len};
 ghost use Rattle.std.specs.Option.{option_to_list};
 ghost use Rattle.nc_base.specs.declared.step.Mark.TheVariants as mark;
@@ -10,93 +10,91 @@ ghost use Rattle.serial_spec.specs.FileStep.{get_post, known_by, told};
 ghost use Rattle.serial_spec.specs.HeaderGrammar.{count_width, is_sound};
 ghost use Rattle.serial_spec.specs.Lawful.{are_lawful_hints, is_lawful};
 ghost use Rattle.serial_spec.specs.RankSide.{wanted};
-ghost use Rattle.serial_spec.specs.SerialEnd.{advance, after_mark, setting_of, Going};
-ghost use Rattle.serial_spec.specs.SharedByte.{covered, holdings, IsOwnOnce};
+ghost use Rattle.serial_spec.specs.SerialEnd.{advance, after_mark, Going};
+ghost use Rattle.serial_spec.specs.SharedByte.{covered};
 ghost use Rattle.serial_spec.specs.Torn.{IsTorn};
-ghost use Rattle.collective_round.specs.Rounds.{counted, gets_in, puts_in, setting, AreFew, AreGets, ArePuts, HasStepCause};
+ghost use Rattle.collective_round.specs.Rounds.{counted, puts_in, setting, HasStepCause};
 ghost use Rattle.run_laws.specs.Ways.{meetings};
 ghost use Rattle.turn_run.specs.Begun.{HasBegun};
 ghost use Rattle.turn_run.specs.Counts.{IsCount, IsRise};
-ghost use Rattle.turn_run.specs.Cuts.{HasStopped, IsNext};
-ghost use Rattle.turn_run.specs.Said.{all_between, AllSay, HasReached, HaveHeardInPart, KeepAnswers};
+ghost use Rattle.turn_run.specs.Said.{all_between, HaveHeardInPart, KeepAnswers};
 ghost use Rattle.turn_run.specs.Seated.{AreFree, AreFreed, IsFreed, AreHeard, AreSeats, AreToHear, HaveArrived, HaveMet};
-ghost use Rattle.turn_run.specs.Stages.{arrived_all, stage, HasLed};
-ghost use Rattle.turn_run.specs.Telling.{HasToldMore};
 ghost use Rattle.turn_run.specs.Steps.{batches_of, held_offers, known_of, met, met_calls, IsJob, IsOneRise};
+ghost use Rattle.turn_run.specs.Setups.{all_at_next, setting_in, stage_at, AllSayUpTo, HasLedOn, HasToldOn, IsCutOff};
 ghost use Rattle.var_layout.specs.Measures.{AreMeasures};
 
+use crate::lent::{Dataset, Lent, Progress, Tools};
 use crate::noting::note_step;
 use crate::seats::Seat;
 use crate::solo::told_pair;
 use collective_round::{get_all, put_all, raise_records};
 use nc_base::{
-    Batch, BatchList, GotTable, Header, Hints, Job, Mark, MarkList, MeetKind, Memory, Offer,
-    OfferKind, Pair, Reply, Script, StepErr,
+    Batch, BatchList, GotTable, Job, Mark, MeetKind, Memory, Offer, OfferKind, Pair, Reply, StepErr,
 };
 use nc_outside::{Disk, Gate, Told};
 use std::alloc::Global;
 use std::sync::Wait;
 use std::thread::Threads;
-use var_layout::Measures;
 
 /// Does the meeting whose offers the ranks hold, and lets each hear its reply.
 pub(crate) fn meet<R: Threads + Wait + Sync, D: Disk, G: Gate, T: Told>(
-    rt: &R,
-    alloc: Global,
+    lent: &Lent<R, G>,
     disk: &mut D,
-    header: &Header,
-    measures: &Measures,
-    records: &mut u64,
-    script: &Script,
-    gate: &G,
+    told: &mut T,
+    progress: &mut Progress,
     seats: &mut [Seat],
     number: u32,
-    order: &mut MarkList,
-    told: &mut T,
 ) -> Result<(), StepErr>
-    requires sound { is_sound header.now ≡ true }
-    requires measured { AreMeasures header.now measures.now }
-    requires lawful { is_lawful script.now ≡ true }
-    requires number { number ≡ meetings order.old }
-    requires seats { AreSeats script.now header.now (D.len disk.old) order.old seats.old }
+    requires sound { is_sound lent.now.setup.header.now ≡ true }
+    requires measured { AreMeasures lent.now.setup.header.now lent.now.setup.measures.now }
+    requires lawful { is_lawful lent.now.setup.script.now ≡ true }
+    requires number { number ≡ meetings progress.old.order }
+    requires seats { AreSeats lent.now.setup.script.now lent.now.setup.header.now (D.len disk.old) progress.old.order seats.old }
     requires met { HaveMet seats.old }
-    requires arrived { HaveArrived script.now seats.old }
-    requires records { IsCount header.now (D.len disk.old) records.old }
+    requires arrived { HaveArrived lent.now.setup.script.now seats.old }
+    requires records { IsCount lent.now.setup.header.now (D.len disk.old) progress.old.records }
     requires from { D.from disk.old ≡ 0 }
-    ensures seats { OnOk result (AreSeats script.now header.now (D.len disk.new) order.new seats.new) }
+    ensures seats { OnOk result (AreSeats lent.now.setup.script.now lent.now.setup.header.now (D.len disk.new) progress.new.order seats.new) }
     ensures free { OnOk result (AreFree seats.new) }
-    ensures order { OnOk result (order.new ≡ order.old ++ mark.Meet (meetings order.old) ∷ []) }
-    ensures led { OnOk result (HasLed script.now.hints (setting_of script.now header.now) order.old order.new
-        (stage (D.held disk.old) (D.calls disk.old) records.old (arrived_all header.now script.now.calls seats.old))
-        (stage (D.held disk.new) (D.calls disk.new) records.new (arrived_all header.now script.now.calls seats.new))) }
-    ensures cut { (e : Fault) → result ≡ Err e → HasStopped (IsNext script.now order.new) (setting_of script.now header.now) e order.old order.new
-        (D.held disk.old) records.old (arrived_all header.now script.now.calls seats.old) (D.held disk.new) records.new }
-    ensures answered { (e : Fault) → result ≡ Err e → HasReached (AllSay e seats.new) (setting_of script.now header.now) order.old order.new
-        (D.held disk.old) records.old (arrived_all header.now script.now.calls seats.old) }
-    ensures between { OnOk result ((goings : List Going) → map (advance header.now) goings ≡ arrived_all header.now script.now.calls seats.old
-        → IfSome (D.held disk.old) (λ file. (after_mark (setting_of script.now header.now) (counted file records.old, goings) (mark.Meet (meetings order.old))).1 ≡ all_between script.now.calls seats.new)) }
-    ensures told { HasToldMore (setting_of script.now header.now) (D.held disk.old) records.old (arrived_all header.now script.now.calls seats.old) order.old order.new (T.heard told.old) (T.heard told.new) }
-    ensures records { OnOk result (IsCount header.now (D.len disk.new) records.new) }
-    ensures begun { HasBegun script.now order.new }
+    ensures order { OnOk result (progress.new.order ≡ progress.old.order ++ mark.Meet (meetings progress.old.order) ∷ []) }
+    ensures led { OnOk result (HasLedOn lent.now.setup progress.old progress.new (stage_at lent.now.setup (D.held disk.old) (D.calls disk.old) progress.old seats.old)
+        (stage_at lent.now.setup (D.held disk.new) (D.calls disk.new) progress.new seats.new)) }
+    ensures cut { (e : Fault) → result ≡ Err e → IsCutOff lent.now.setup e progress.old progress.new (D.held disk.old) seats.old (D.held disk.new) }
+    ensures answered { (e : Fault) → result ≡ Err e → AllSayUpTo lent.now.setup e progress.old progress.new (D.held disk.old) seats.old seats.new }
+    ensures between { OnOk result ((goings : List Going) → map (advance lent.now.setup.header.now) goings ≡ all_at_next lent.now.setup seats.old
+        → IfSome (D.held disk.old) (λ file. (after_mark (setting_in lent.now.setup) (counted file progress.old.records, goings) (mark.Meet (meetings progress.old.order))).1
+        ≡ all_between lent.now.setup.script.now.calls seats.new)) }
+    ensures told { HasToldOn lent.now.setup progress.old progress.new (D.held disk.old) seats.old (T.heard told.old) (T.heard told.new) }
+    ensures records { OnOk result (IsCount lent.now.setup.header.now (D.len disk.new) progress.new.records) }
+    ensures begun { HasBegun lent.now.setup.script.now progress.new.order }
     ensures from { D.from disk.new ≡ 0 }
     ensures longer { D.len disk.old ≤ D.len disk.new }
     ensures cause { HasStepCause (D.faults disk.old) (D.faults disk.new) result }
 {
-    let (job, known) = take_job(alloc, seats)?;
+    let (job, known) = take_job(lent.tools.alloc, seats)?;
+    let dataset = Dataset {
+        header: lent.setup.header,
+        measures: lent.setup.measures,
+        hints: &lent.setup.script.hints,
+    };
     let (pair, table) = meet_on_file(
-        rt,
-        alloc,
+        &lent.tools,
         disk,
-        header,
-        measures,
-        records,
-        &script.hints,
-        gate,
+        &dataset,
+        &mut progress.records,
         &job,
         known,
     )?;
-    note_step(rt, alloc, order, told, Mark::Meet(number), *records)?;
-    hear_all(seats, pair, *records, table)?;
+    let records = progress.records;
+    note_step(
+        lent.tools.rt,
+        lent.tools.alloc,
+        &mut progress.order,
+        told,
+        Mark::Meet(number),
+        records,
+    )?;
+    hear_all(seats, pair, records, table)?;
     Ok(())
 }
 
@@ -158,42 +156,57 @@ fn known_by(offer: &Offer) -> u64
 
 /// The puts of a meeting, its record count, and its gets: the pair that all ranks are told, and the bytes for each rank.
 pub fn meet_on_file<R: Threads + Wait + Sync, D: Disk, G: Gate>(
-    rt: &R,
-    alloc: Global,
+    tools: &Tools<R, G>,
     disk: &mut D,
-    header: &Header,
-    measures: &Measures,
+    dataset: &Dataset,
     records: &mut u64,
-    hints: &Hints,
-    gate: &G,
     job: &Job,
     known: u64,
 ) -> Result<(Option<Pair>, GotTable), StepErr>
-    requires sound { is_sound header.now ≡ true }
-    requires measured { AreMeasures header.now measures.now }
-    requires hints { are_lawful_hints hints.now ≡ true }
-    requires job { IsJob header.now (D.len disk.old) job.now.batches }
-    requires known { IsRise header.now (D.len disk.old) known }
-    requires records { IsCount header.now (D.len disk.old) records.old }
+    requires sound { is_sound dataset.now.header.now ≡ true }
+    requires measured { AreMeasures dataset.now.header.now dataset.now.measures.now }
+    requires hints { are_lawful_hints dataset.now.hints.now ≡ true }
+    requires job { IsJob dataset.now.header.now (D.len disk.old) job.now.batches }
+    requires known { IsRise dataset.now.header.now (D.len disk.old) known }
+    requires records { IsCount dataset.now.header.now (D.len disk.old) records.old }
     requires from { D.from disk.old ≡ 0 }
-    ensures told { IfOk result (λ end. end.0 ≡ told (setting header.now hints.now) (puts_in job.now.batches)) }
-    ensures bytes { OnOk result (D.held disk.new ≡ after (λ file. (met (setting header.now hints.now) job.now.batches known (counted file records.old)).file) (D.held disk.old)) }
-    ensures records { OnOk result (records.new ≡ max records.old (max (needed_now (setting header.now hints.now) (puts_in job.now.batches)) known)) }
-    ensures got { IfOk result (λ end. IfSome (D.held disk.new) (λ file. end.1 ≡ map (λ b. map (get_post (setting header.now hints.now) file) b.gets) job.now.batches)) }
-    ensures fits { IfOk result (λ end. map (λ blobs. map (λ blob. length blob) blobs) end.1 ≡ map (λ b. map (wanted header.now) b.gets) job.now.batches) }
-    ensures calls { OnOk result (IsOneRise known job.now.batches → IfSome (D.held disk.old) (λ file. D.calls disk.new ≡ with_end (D.calls disk.old) (met_calls hints.now (setting header.now hints.now) job.now.batches known (counted file records.old)))) }
-    ensures refused { OnErr result (IsOneRise known job.now.batches → BothTold (λ old left. IsTorn (covered header.now (puts_in job.now.batches)) (byte_len (count_width header.now.version)) old
-        (met (setting header.now hints.now) job.now.batches known (counted old records.old)).file left) (D.held disk.old) (D.held disk.new)) }
-    ensures kept { OnErr result (IsOneRise known job.now.batches → (records.new ≡ records.old) ⊎ (records.new ≡ max records.old (max (needed_now (setting header.now hints.now) (puts_in job.now.batches)) known))) }
-    ensures count { IsCount header.now (D.len disk.new) records.new }
+    ensures told { IfOk result (λ end. end.0 ≡ told (setting dataset.now.header.now dataset.now.hints.now) (puts_in job.now.batches)) }
+    ensures bytes { OnOk result (D.held disk.new ≡ after (λ file. (met (setting dataset.now.header.now dataset.now.hints.now) job.now.batches known (counted file records.old)).file) (D.held disk.old)) }
+    ensures records { OnOk result (records.new ≡ max records.old (max (needed_now (setting dataset.now.header.now dataset.now.hints.now) (puts_in job.now.batches)) known)) }
+    ensures got { IfOk result (λ end. IfSome (D.held disk.new) (λ file. end.1 ≡ map (λ b. map (get_post (setting dataset.now.header.now dataset.now.hints.now) file) b.gets) job.now.batches)) }
+    ensures fits { IfOk result (λ end. map (λ blobs. map (λ blob. length blob) blobs) end.1 ≡ map (λ b. map (wanted dataset.now.header.now) b.gets) job.now.batches) }
+    ensures calls { OnOk result (IsOneRise known job.now.batches → IfSome (D.held disk.old) (λ file. D.calls disk.new ≡ with_end (D.calls disk.old) (met_calls dataset.now.hints.now (setting dataset.now.header.now dataset.now.hints.now) job.now.batches known (counted file records.old)))) }
+    ensures refused { OnErr result (IsOneRise known job.now.batches → BothTold (λ old left. IsTorn (covered dataset.now.header.now (puts_in job.now.batches)) (byte_len (count_width dataset.now.header.now.version)) old
+        (met (setting dataset.now.header.now dataset.now.hints.now) job.now.batches known (counted old records.old)).file left) (D.held disk.old) (D.held disk.new)) }
+    ensures kept { OnErr result (IsOneRise known job.now.batches → (records.new ≡ records.old) ⊎ (records.new ≡ max records.old (max (needed_now (setting dataset.now.header.now dataset.now.hints.now) (puts_in job.now.batches)) known))) }
+    ensures count { IsCount dataset.now.header.now (D.len disk.new) records.new }
     ensures from { D.from disk.new ≡ 0 }
     ensures longer { D.len disk.old ≤ D.len disk.new }
     ensures cause { HasStepCause (D.faults disk.old) (D.faults disk.new) result }
 {
     let _size = disk.size();
-    let end = put_all(rt, alloc, disk, header, measures, records, job, hints, gate)?;
-    raise_records(alloc, disk, header, records, known)?;
-    let table = get_all(rt, alloc, disk, header, measures, job, hints, gate)?;
+    let end = put_all(
+        tools.rt,
+        tools.alloc,
+        disk,
+        dataset.header,
+        dataset.measures,
+        records,
+        job,
+        dataset.hints,
+        tools.gate,
+    )?;
+    raise_records(tools.alloc, disk, dataset.header, records, known)?;
+    let table = get_all(
+        tools.rt,
+        tools.alloc,
+        disk,
+        dataset.header,
+        dataset.measures,
+        job,
+        dataset.hints,
+        tools.gate,
+    )?;
     Ok((told_pair(end), table))
 }
 

@@ -1,41 +1,43 @@
 // A rank that goes through its calls.
-ghost use Rattle.std.specs.Prelude.{◌≡◌, ◌+◌, ◌<◌, ◌≤◌, ◌∷◌, ◌++◌, [], ℕ, List, length, map, max, drop, filter, None, Some, true, is_some, slice_get, IfNone, IfSome, IfOk, OnOk, OnErr, MatchOption, Err};
+ghost use Rattle.std.specs.Prelude.{◌≡◌, ◌+◌, ◌<◌, ◌≤◌, ◌∷◌, ◌++◌, [], List, length, map, drop, filter, None, Some, true, is_some, IfNone, IfSome, OnOk, OnErr, Err};
 ghost use Rattle.nc_base.specs.declared.answer.Answer.{Answer};
 ghost use Rattle.nc_base.specs.declared.step.Mark.{Mark};
 ghost use Rattle.nc_base.specs.declared.step.StepErr.{StepErr as Fault};
 ghost use Rattle.nc_base.specs.declared.step.OfferKind.TheVariants as kind;
-ghost use Rattle.nc_outside.specs.Cause.{Rose};
-ghost use Rattle.serial_spec.specs.HeaderGrammar.{header_len, is_sound};
+ghost use Rattle.serial_spec.specs.HeaderGrammar.{is_sound};
 ghost use Rattle.serial_spec.specs.History.{concerns, marks};
 ghost use Rattle.serial_spec.specs.Lawful.{is_lawful};
 ghost use Rattle.serial_spec.specs.RankMachine as machine;
 ghost use Rattle.serial_spec.specs.RankMachine.{new_rank};
 ghost use Rattle.serial_spec.specs.RankSide.{wanted};
-ghost use Rattle.serial_spec.specs.SerialEnd.{advance, hears, setting_of};
+ghost use Rattle.serial_spec.specs.SerialEnd.{advance};
 ghost use Rattle.collective_round.specs.Rounds.{HasStepCause};
 ghost use Rattle.var_layout.specs.Measures.{AreMeasures};
 ghost use Rattle.rank_core.specs.Indexed.{IsIndexOf};
 ghost use Rattle.run_laws.specs.Ways.{IsOnWay};
 ghost use Rattle.turn_run.specs.Counts.{IsAsked, IsCount};
 ghost use Rattle.turn_run.specs.Seated.{asking, between, calls_of, going_of, AsksAlone, HasArrived, HasHeard, IsMet, IsPlaced, IsSeat};
-ghost use Rattle.run_laws.specs.Arrivals.{Arrived};
-ghost use Rattle.turn_run.specs.Stages.{arrived, HasGone, IsGrownBy};
-ghost use Rattle.turn_run.specs.Cuts.{HasStopped, MayFollow};
-ghost use Rattle.turn_run.specs.Said.{HasReached, SaysAt};
-ghost use Rattle.turn_run.specs.Telling.{HasToldMore};
+ghost use Rattle.turn_run.specs.Stages.{IsGrownBy};
+ghost use Rattle.turn_run.specs.Setups.{at_next, HasGoneOn, HasSaidUpTo, IsCutAt, TellsOf};
 
+use crate::lent::{Dataset, Lent, Progress, Setup, Tools};
 use crate::noting::note_step;
 use crate::solo::solo_reply;
 use nc_base::{
-    AnswerList, Call, Header, Mark, MarkList, Memory, Offer, OfferKind, Reply, Script, StepErr,
-    Want,
+    AnswerList, Call, Header, Mark, Memory, Offer, OfferKind, Reply, Script, StepErr, Want,
 };
 use nc_outside::{Disk, Gate, Point, Told};
 use rank_core::{Names, Rank};
 use std::alloc::Global;
 use std::sync::Wait;
 use std::thread::Threads;
-use var_layout::Measures;
+
+/// An offer that a rank makes alone, and the rank's number.
+#[derive(Drop)]
+pub(crate) struct Ask {
+    pub number: u32,
+    pub offer: Offer,
+}
 
 /// A rank of a run with its answers so far. Its next call is the one after those that it has answered.
 #[derive(Drop)]
@@ -61,53 +63,44 @@ impl<'a> Seat<'a> {
     }
 
     /// Goes on until the rank meets the others, or has made its calls. Its solo offers are done at once, and leave the file's count of
-    /// `records` as it is.
+    /// records as it is.
     pub(crate) fn arrive<R: Threads + Wait + Sync, D: Disk, G: Gate, T: Told>(
         &mut self,
-        rt: &R,
-        alloc: Global,
+        lent: &Lent<R, G>,
         disk: &mut D,
-        header: &Header,
-        measures: &Measures,
-        records: u64,
-        script: &Script,
-        gate: &G,
-        number: u32,
-        order: &mut MarkList,
         told: &mut T,
+        progress: &mut Progress,
+        number: u32,
     ) -> Result<(), StepErr>
-        requires sound { is_sound header.now ≡ true }
-        requires measured { AreMeasures header.now measures.now }
-        requires lawful { is_lawful script.now ≡ true }
-        requires number { number < script.now.ranks }
+        requires sound { is_sound lent.now.setup.header.now ≡ true }
+        requires measured { AreMeasures lent.now.setup.header.now lent.now.setup.measures.now }
+        requires lawful { is_lawful lent.now.setup.script.now ≡ true }
+        requires number { number < lent.now.setup.script.now.ranks }
         requires free { self.old.held ≡ None }
-        requires seat { IsSeat script.now header.now order.old number self.old }
-        requires known { IsCount header.now (D.len disk.old) self.old.rank.state.known }
+        requires seat { IsSeat lent.now.setup.script.now lent.now.setup.header.now progress.old.order number self.old }
+        requires known { IsCount lent.now.setup.header.now (D.len disk.old) self.old.rank.state.known }
         requires from { D.from disk.old ≡ 0 }
-        ensures seat { OnOk result (IsSeat script.now header.now order.new number self.new) }
-        ensures arrived { OnOk result (HasArrived (calls_of script.now number) self.new) }
-        ensures known { OnOk result (IsCount header.now (D.len disk.new) self.new.rank.state.known) }
-        ensures gone { OnOk result (HasGone script.now.hints (setting_of script.now header.now) number order.old order.new (D.held disk.old) (D.calls disk.old) (D.held disk.new) (D.calls disk.new)
-            (arrived header.now (calls_of script.now number) self.old) (arrived header.now (calls_of script.now number) self.new)) }
-        ensures cut { (e : Fault) → result ≡ Err e → (records : ℕ) (ranks : List Arrived) → slice_get ranks number ≡ Some (arrived header.now (calls_of script.now number) self.old)
-            → HasStopped (MayFollow script.now number order.new) (setting_of script.now header.now) e order.old order.new (D.held disk.old) records ranks (D.held disk.new) records }
-        ensures answered { (e : Fault) → result ≡ Err e → (records : ℕ) (ranks : List Arrived) → slice_get ranks number ≡ Some (arrived header.now (calls_of script.now number) self.old)
-            → HasReached (SaysAt number e self.new.answers) (setting_of script.now header.now) order.old order.new (D.held disk.old) records ranks }
-        ensures told { (ranks : List Arrived) → slice_get ranks number ≡ Some (arrived header.now (calls_of script.now number) self.old)
-            → HasToldMore (setting_of script.now header.now) (D.held disk.old) records ranks order.old order.new (T.heard told.old) (T.heard told.new) }
-        ensures grown { IsGrownBy number order.old order.new }
-        ensures begun { OnErr result ((rest : List Mark) × (filter (concerns number) order.new ++ rest ≡ marks script.now.calls number)) }
+        ensures records { progress.new.records ≡ progress.old.records }
+        ensures seat { OnOk result (IsSeat lent.now.setup.script.now lent.now.setup.header.now progress.new.order number self.new) }
+        ensures arrived { OnOk result (HasArrived (calls_of lent.now.setup.script.now number) self.new) }
+        ensures known { OnOk result (IsCount lent.now.setup.header.now (D.len disk.new) self.new.rank.state.known) }
+        ensures gone { OnOk result (HasGoneOn lent.now.setup number progress.old progress.new (D.held disk.old) (D.calls disk.old) (D.held disk.new) (D.calls disk.new)
+            (at_next lent.now.setup number self.old) (at_next lent.now.setup number self.new)) }
+        ensures cut { (e : Fault) → result ≡ Err e → IsCutAt lent.now.setup number e progress.old progress.new (D.held disk.old) (D.held disk.new) (at_next lent.now.setup number self.old) }
+        ensures answered { (e : Fault) → result ≡ Err e → HasSaidUpTo lent.now.setup number e progress.old progress.new (D.held disk.old) (at_next lent.now.setup number self.old) self.new.answers }
+        ensures told { TellsOf lent.now.setup number progress.old progress.new (D.held disk.old) (at_next lent.now.setup number self.old) (T.heard told.old) (T.heard told.new) }
+        ensures grown { IsGrownBy number progress.old.order progress.new.order }
+        ensures begun { OnErr result ((rest : List Mark) × (filter (concerns number) progress.new.order ++ rest ≡ marks lent.now.setup.script.now.calls number)) }
         ensures from { D.from disk.new ≡ 0 }
         ensures longer { D.len disk.old ≤ D.len disk.new }
         ensures cause { HasStepCause (D.faults disk.old) (D.faults disk.new) result }
     {
+        let Setup { header, script, .. } = lent.setup;
         let calls = own_calls(script, number);
-        self.go_on(rt, gate, header, script, number, calls)?;
+        self.go_on(&lent.tools, header, script, number, calls)?;
         'alone: while let Some(offer) = self.take_alone() {
-            self.do_alone(
-                rt, alloc, disk, header, measures, records, script, number, order, told, offer,
-            )?;
-            self.go_on(rt, gate, header, script, number, calls)?;
+            self.do_alone(lent, disk, told, progress, Ask { number, offer })?;
+            self.go_on(&lent.tools, header, script, number, calls)?;
         }
         Ok(())
     }
@@ -115,8 +108,7 @@ impl<'a> Seat<'a> {
     /// Goes through its calls up to its next offer, which it then holds, or to its end.
     pub fn go_on<R: Wait, G: Gate>(
         &mut self,
-        rt: &R,
-        gate: &G,
+        tools: &Tools<R, G>,
         header: &Header,
         script: &Script,
         number: u32,
@@ -140,7 +132,9 @@ impl<'a> Seat<'a> {
     {
         'calls: while self.answers.len() < calls.len() {
             let next = self.answers.len();
-            gate.pass(rt, Point::RankStep(number, next as u32));
+            tools
+                .gate
+                .pass(tools.rt, Point::RankStep(number, next as u32));
             match self.rank.step(&calls[next])? {
                 Want::Answered(answer) => self.answers.push(answer)?,
                 Want::Meet(offer) | Want::Solo(offer) => {
@@ -166,56 +160,55 @@ impl<'a> Seat<'a> {
     }
 
     /// Does an offer of its rank alone, and lets the rank hear the reply.
-    fn do_alone<R: Wait, D: Disk, T: Told>(
+    fn do_alone<R: Wait, D: Disk, G: Gate, T: Told>(
         &mut self,
-        rt: &R,
-        alloc: Global,
+        lent: &Lent<R, G>,
         disk: &mut D,
-        header: &Header,
-        measures: &Measures,
-        records: u64,
-        script: &Script,
-        number: u32,
-        order: &mut MarkList,
         told: &mut T,
-        offer: Offer,
+        progress: &mut Progress,
+        ask: Ask,
     ) -> Result<(), StepErr>
-        requires sound { is_sound header.now ≡ true }
-        requires measured { AreMeasures header.now measures.now }
-        requires lawful { is_lawful script.now ≡ true }
-        requires header { self.old.rank.header ≡ header.now }
+        requires sound { is_sound lent.now.setup.header.now ≡ true }
+        requires measured { AreMeasures lent.now.setup.header.now lent.now.setup.measures.now }
+        requires lawful { is_lawful lent.now.setup.script.now ≡ true }
+        requires header { self.old.rank.header ≡ lent.now.setup.header.now }
         requires free { self.old.held ≡ None }
-        requires asks { AsksAlone script.now header.now order.old number (asking (calls_of script.now number) self.old) offer }
-        requires asked { IsAsked header.now self.old.rank.state.known offer }
-        requires known { IsCount header.now (D.len disk.old) self.old.rank.state.known }
+        requires asks { AsksAlone lent.now.setup.script.now lent.now.setup.header.now progress.old.order ask.number (asking (calls_of lent.now.setup.script.now ask.number) self.old) ask.offer }
+        requires asked { IsAsked lent.now.setup.header.now self.old.rank.state.known ask.offer }
+        requires known { IsCount lent.now.setup.header.now (D.len disk.old) self.old.rank.state.known }
         requires from { D.from disk.old ≡ 0 }
-        ensures header { self.new.rank.header ≡ header.now }
+        ensures records { progress.new.records ≡ progress.old.records }
+        ensures header { self.new.rank.header ≡ lent.now.setup.header.now }
         ensures free { self.new.held ≡ None }
         ensures answers { OnOk result (length self.new.answers ≡ length self.old.answers + 1) }
-        ensures way { OnOk result (IsOnWay script.now order.new number (between (calls_of script.now number) self.new) None) }
-        ensures known { OnOk result (IsCount header.now (D.len disk.new) self.new.rank.state.known) }
-        ensures gone { OnOk result (HasGone script.now.hints (setting_of script.now header.now) number order.old order.new (D.held disk.old) (D.calls disk.old) (D.held disk.new) (D.calls disk.new)
-            (asking (calls_of script.now number) self.old, Some offer) (arrived header.now (calls_of script.now number) self.new)) }
-        ensures cut { (e : Fault) → result ≡ Err e → (records : ℕ) (ranks : List Arrived) → slice_get ranks number ≡ Some (asking (calls_of script.now number) self.old, Some offer)
-            → HasStopped (MayFollow script.now number order.new) (setting_of script.now header.now) e order.old order.new (D.held disk.old) records ranks (D.held disk.new) records }
-        ensures answered { (e : Fault) → result ≡ Err e → (records : ℕ) (ranks : List Arrived) → slice_get ranks number ≡ Some (asking (calls_of script.now number) self.old, Some offer)
-            → HasReached (SaysAt number e self.new.answers) (setting_of script.now header.now) order.old order.new (D.held disk.old) records ranks }
-        ensures told { (ranks : List Arrived) → slice_get ranks number ≡ Some (asking (calls_of script.now number) self.old, Some offer)
-            → HasToldMore (setting_of script.now header.now) (D.held disk.old) records ranks order.old order.new (T.heard told.old) (T.heard told.new) }
-        ensures grown { IsGrownBy number order.old order.new }
-        ensures begun { OnErr result ((rest : List Mark) × (filter (concerns number) order.new ++ rest ≡ marks script.now.calls number)) }
+        ensures way { OnOk result (IsOnWay lent.now.setup.script.now progress.new.order ask.number (between (calls_of lent.now.setup.script.now ask.number) self.new) None) }
+        ensures known { OnOk result (IsCount lent.now.setup.header.now (D.len disk.new) self.new.rank.state.known) }
+        ensures gone { OnOk result (HasGoneOn lent.now.setup ask.number progress.old progress.new (D.held disk.old) (D.calls disk.old) (D.held disk.new) (D.calls disk.new)
+            (asking (calls_of lent.now.setup.script.now ask.number) self.old, Some ask.offer) (at_next lent.now.setup ask.number self.new)) }
+        ensures cut { (e : Fault) → result ≡ Err e → IsCutAt lent.now.setup ask.number e progress.old progress.new (D.held disk.old) (D.held disk.new)
+            (asking (calls_of lent.now.setup.script.now ask.number) self.old, Some ask.offer) }
+        ensures answered { (e : Fault) → result ≡ Err e → HasSaidUpTo lent.now.setup ask.number e progress.old progress.new (D.held disk.old)
+            (asking (calls_of lent.now.setup.script.now ask.number) self.old, Some ask.offer) self.new.answers }
+        ensures told { TellsOf lent.now.setup ask.number progress.old progress.new (D.held disk.old) (asking (calls_of lent.now.setup.script.now ask.number) self.old, Some ask.offer) (T.heard told.old) (T.heard told.new) }
+        ensures grown { IsGrownBy ask.number progress.old.order progress.new.order }
+        ensures begun { OnErr result ((rest : List Mark) × (filter (concerns ask.number) progress.new.order ++ rest ≡ marks lent.now.setup.script.now.calls ask.number)) }
         ensures from { D.from disk.new ≡ 0 }
         ensures longer { D.len disk.old ≤ D.len disk.new }
         ensures cause { HasStepCause (D.faults disk.old) (D.faults disk.new) result }
     {
-        let reply = solo_reply(alloc, disk, header, measures, &script.hints, number, &offer)?;
+        let dataset = Dataset {
+            header: lent.setup.header,
+            measures: lent.setup.measures,
+            hints: &lent.setup.script.hints,
+        };
+        let reply = solo_reply(lent.tools.alloc, disk, &dataset, ask.number, &ask.offer)?;
         note_step(
-            rt,
-            alloc,
-            order,
+            lent.tools.rt,
+            lent.tools.alloc,
+            &mut progress.order,
             told,
-            Mark::Solo(number, self.answers.len() as u32),
-            records,
+            Mark::Solo(ask.number, self.answers.len() as u32),
+            progress.records,
         )?;
         self.hear(reply)?;
         Ok(())

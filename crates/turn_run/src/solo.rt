@@ -16,42 +16,45 @@ ghost use Rattle.turn_run.specs.Counts.{IsCount, IsFit};
 ghost use Rattle.turn_run.specs.Steps.{needed_after};
 ghost use Rattle.var_layout.specs.Measures.{AreMeasures};
 
+use crate::lent::Dataset;
 use collective_round::{PutEnd, get_solo, put_solo, records_needed_by};
-use nc_base::{Header, Hints, Offer, Pair, Reply, StepErr};
+use nc_base::{Header, Offer, Pair, Reply, StepErr};
 use nc_outside::Disk;
 use std::alloc::Global;
-use var_layout::Measures;
 
 /// Does the puts and then the gets of a rank's offer, and makes the reply. The record count of the file stays: the rank alone knows
 /// what its puts need.
 pub fn solo_reply<D: Disk>(
     alloc: Global,
     disk: &mut D,
-    header: &Header,
-    measures: &Measures,
-    hints: &Hints,
+    dataset: &Dataset,
     number: u32,
     offer: &Offer,
 ) -> Result<Reply, StepErr>
-    requires sound { is_sound header.now ≡ true }
-    requires measured { AreMeasures header.now measures.now }
-    requires hints { are_lawful_hints hints.now ≡ true }
-    requires fit { IsFit header.now (D.len disk.old) offer.now }
+    requires sound { is_sound dataset.now.header.now ≡ true }
+    requires measured { AreMeasures dataset.now.header.now dataset.now.measures.now }
+    requires hints { are_lawful_hints dataset.now.hints.now ≡ true }
+    requires fit { IsFit dataset.now.header.now (D.len disk.old) offer.now }
     requires from { D.from disk.old ≡ 0 }
-    ensures reply { IfOk result (λ reply. IfSome (D.held disk.old) (λ file. reply ≡ (solo (setting header.now hints.now) number offer.now (counted file 0)).1)) }
-    ensures told { IfOk result (λ reply. reply.pair ≡ told (setting header.now hints.now) (puts_of (number, offer.now))) }
-    ensures records { IfOk result (λ reply. reply.records ≡ max offer.now.known (needed_now (setting header.now hints.now) (puts_of (number, offer.now)))) }
-    ensures bytes { OnOk result (D.held disk.new ≡ after (λ file. (solo (setting header.now hints.now) number offer.now (counted file 0)).0.file) (D.held disk.old)) }
-    ensures refused { OnErr result (BothTold (λ old left. IsTorn (covered header.now (puts_of (number, offer.now))) 0 old
-        (solo (setting header.now hints.now) number offer.now (counted old 0)).0.file left) (D.held disk.old) (D.held disk.new)) }
-    ensures calls { OnOk result (IfSome (D.held disk.old) (λ file. D.calls disk.new ≡ with_end (D.calls disk.old) (solo_calls hints.now (setting header.now hints.now) number offer.now (counted file 0)))) }
-    ensures fits { IfOk result (λ reply. map (λ blob. length blob) reply.got ≡ map (wanted header.now) offer.now.batch.gets) }
-    ensures count { IfOk result (λ reply. IsCount header.now (D.len disk.new) reply.records) }
+    ensures reply { IfOk result (λ reply. IfSome (D.held disk.old) (λ file. reply ≡ (solo (setting dataset.now.header.now dataset.now.hints.now) number offer.now (counted file 0)).1)) }
+    ensures told { IfOk result (λ reply. reply.pair ≡ told (setting dataset.now.header.now dataset.now.hints.now) (puts_of (number, offer.now))) }
+    ensures records { IfOk result (λ reply. reply.records ≡ max offer.now.known (needed_now (setting dataset.now.header.now dataset.now.hints.now) (puts_of (number, offer.now)))) }
+    ensures bytes { OnOk result (D.held disk.new ≡ after (λ file. (solo (setting dataset.now.header.now dataset.now.hints.now) number offer.now (counted file 0)).0.file) (D.held disk.old)) }
+    ensures refused { OnErr result (BothTold (λ old left. IsTorn (covered dataset.now.header.now (puts_of (number, offer.now))) 0 old
+        (solo (setting dataset.now.header.now dataset.now.hints.now) number offer.now (counted old 0)).0.file left) (D.held disk.old) (D.held disk.new)) }
+    ensures calls { OnOk result (IfSome (D.held disk.old) (λ file. D.calls disk.new ≡ with_end (D.calls disk.old) (solo_calls dataset.now.hints.now (setting dataset.now.header.now dataset.now.hints.now) number offer.now (counted file 0)))) }
+    ensures fits { IfOk result (λ reply. map (λ blob. length blob) reply.got ≡ map (wanted dataset.now.header.now) offer.now.batch.gets) }
+    ensures count { IfOk result (λ reply. IsCount dataset.now.header.now (D.len disk.new) reply.records) }
     ensures from { D.from disk.new ≡ 0 }
     ensures longer { D.len disk.old ≤ D.len disk.new }
     ensures cause { HasStepCause (D.faults disk.old) (D.faults disk.new) result }
 {
     let _size = disk.size();
+    let Dataset {
+        header,
+        measures,
+        hints,
+    } = *dataset;
     let end = put_solo(alloc, disk, header, measures, number, &offer.batch, hints)?;
     let got = get_solo(alloc, disk, header, measures, &offer.batch, hints)?;
     Ok(Reply {

@@ -1,21 +1,23 @@
 -- One rank more has arrived.
-use Rattle.std.proofs.Common.{◌≡◌, ◌<◌, ◌≤◌, ◌+◌, ℕ, refl, sym, ◌∙◌, Some, None, arith}
+use Rattle.std.proofs.Common.{◌≡◌, ◌<◌, ◌≤◌, ◌+◌, ℕ, refl, sym, ◌∙◌, subst, Some, None, arith}
 use Rattle.std.specs.Prelude.{slice_get, slice_index_or}
 use Rattle.turn_run.specs.declared.seats.Seat.{Seat}
 use Rattle.turn_run.specs.Seated.{calls_of, HasArrived}
+use Rattle.turn_run.proofs.CountLaws.{count_longer}
 use Rattle.turn_run.proofs.ListLaws.{get_long}
-use Rattle.turn_run.proofs.StageLaws.{has_led_none, has_led_then}
+use Rattle.turn_run.proofs.StageLaws.{has_led_at, has_led_none, has_led_then}
 use Rattle.turn_run.proofs.TurnSteps.{below_other, get_at, gone_led, grown_meetings, seats_begun, seats_step, set_each, step_begun}
 use Rattle.std.proofs.lemmas.Result.{err_from_is_err_and}
 use Rattle.serial_spec.specs.SerialEnd.{setting_of}
 use Rattle.run_laws.proofs.LawfulLaws.{ranks_lawful}
+use Rattle.turn_run.specs.Counts.{IsCount}
 use Rattle.turn_run.specs.Cuts.{IsNext, MayFollow}
 use Rattle.turn_run.specs.Stages.{arrived_all, stage}
-use Rattle.turn_run.proofs.CutLaws.{stopped_then, stopped_as, follows_next, same_err}
+use Rattle.turn_run.proofs.CutLaws.{stopped_at, stopped_then, stopped_as, follows_next, same_err}
 use Rattle.turn_run.proofs.TurnSteps.{calls_there, get_arrived}
 use Rattle.turn_run.proofs.MeetLists.{left_more}
 use Rattle.turn_run.proofs.SaidLaws.{answers_cut, grown_beside}
-use Rattle.turn_run.proofs.TellLaws.{told_none, told_then}
+use Rattle.turn_run.proofs.TellLaws.{told_at, told_none, told_then}
 use Rattle.turn_run.proofs.in_turn.arrive_all.Goals as goal
 
 pub loop-number-init : goal.loop-number-init
@@ -30,6 +32,7 @@ loop-number-init g c = record {
   same = λ r l. refl;
   others = λ r l. refl;
   led = λ records. has_led_none _ _ _ _;
+  count = refl;
   told = told_none _ _ _ _ _ _ _ _ refl refl;
 }
 
@@ -47,11 +50,11 @@ arrive-requires-clause-known g c κs within =
 
 pub returns-in_err-arrive-clause-meetings : goal.returns-in_err-arrive-clause-meetings
 returns-in_err-arrive-clause-meetings g c =
-    grown_meetings c.loop-number.number c.loop-number.order c.arrive.new.order c.arrive.ensures.grown ∙ c.loop-number.invariant.met
+    grown_meetings c.loop-number.number c.loop-number.progress.order c.arrive.new.progress.order c.arrive.ensures.grown ∙ c.loop-number.invariant.met
 
 pub returns-in_err-arrive-clause-begun : goal.returns-in_err-arrive-clause-begun
 returns-in_err-arrive-clause-begun g c =
-    step_begun c.args.script.now c.args.header.now _ c.loop-number.order c.arrive.new.order c.loop-number.seats c.loop-number.number c.loop-number.invariant.seats
+    step_begun c.args.lent.now.setup.script.now c.args.lent.now.setup.header.now _ c.loop-number.progress.order c.arrive.new.progress.order c.loop-number.seats c.loop-number.number c.loop-number.invariant.seats
     (omega arith) c.arrive.ensures.grown c.in_err-arrive.ensures.begun
 
 pub loop-number-preserved : goal.loop-number-preserved
@@ -63,36 +66,47 @@ loop-number-preserved g c =
     let before = c.loop-number.invariant in
     let done = c.in_ok-arrive.ensures in
     let there : slice_get seats n ≡ Some was = get_at seats n c.index-seats-number.result (omega arith) in
-    let long = (ranks_lawful c.args.script.now c.requires.lawful).one_each in
+    let long = (ranks_lawful c.args.lent.now.setup.script.now c.requires.lawful).one_each in
     record {
       from = done.from;
       longer = omega arith;
       faults = omega arith;
-      seats = seats_step c.args.script.now c.args.header.now _ _ c.loop-number.order c.arrive.new.order seats n was seat before.seats there done.grown done.longer done.seat done.known;
-      met = grown_meetings n c.loop-number.order c.arrive.new.order done.grown ∙ before.met;
-      arrived = λ r s l e. set_each (λ (q : ℕ) (x : Seat). q < n + 1 → HasArrived (calls_of c.args.script.now q) x) seats n was seat there (λ k. done.arrived)
+      seats = seats_step c.args.lent.now.setup.script.now c.args.lent.now.setup.header.now _ _ c.loop-number.progress.order c.arrive.new.progress.order seats n was seat before.seats there done.grown done.longer done.seat done.known;
+      met = grown_meetings n c.loop-number.progress.order c.arrive.new.progress.order done.grown ∙ before.met;
+      arrived = λ r s l e. set_each (λ (q : ℕ) (x : Seat). q < n + 1 → HasArrived (calls_of c.args.lent.now.setup.script.now q) x) seats n was seat there (λ k. done.arrived)
           (λ q x other f k. before.arrived q x (below_other q n other k) f) r s e l;
       free = λ r s l e. set_each (λ (q : ℕ) (x : Seat). n + 1 ≤ q → x.held ≡ None) seats n was seat there (λ k. absurd (omega arith))
           (λ q x other f k. before.free q x (omega arith) f) r s e l;
       same = left_more c.args.seats.now seats n seat before.same;
-      others = λ r l. grown_beside n r c.loop-number.order c.arrive.new.order (λ e. absurd (omega arith)) done.grown ∙ before.others r (omega arith);
-      led = λ records. has_led_then _ _ _ c.loop-number.order _ _ _ _ (before.led records)
-          (gone_led c.args.script.now c.args.header.now seats n was seat c.loop-number.order c.arrive.new.order _ _ _ _ c.requires.lawful (omega arith) there done.gone records);
-      told = told_then _ _ _ _ _ _ _ _ _ _ before.told (before.led c.args.records)
-          (c.arrive.ensures.told (arrived_all c.args.header.now c.args.script.now.calls seats)
-          (get_arrived c.args.header.now c.args.script.now.calls seats n (calls_of c.args.script.now n) was (calls_there c.args.script.now n (omega arith)) there));
+      others = λ r l. grown_beside n r c.loop-number.progress.order c.arrive.new.progress.order (λ e. absurd (omega arith)) done.grown ∙ before.others r (omega arith);
+      led = λ records. has_led_then _ _ _ c.loop-number.progress.order _ _ _ _ (before.led records)
+          (gone_led c.args.lent.now.setup.script.now c.args.lent.now.setup.header.now seats n was seat c.loop-number.progress.order c.arrive.new.progress.order _ _ _ _ c.requires.lawful (omega arith) there done.gone records);
+      count = c.arrive.ensures.records ∙ before.count;
+      told = told_then _ _ _ _ _ _ _ _ _ _ before.told (before.led c.args.progress.now.records)
+          (told_at _ _ _ _ _ _ _ _ _ before.count (c.arrive.ensures.told (arrived_all c.args.lent.now.setup.header.now c.args.lent.now.setup.script.now.calls seats)
+          (get_arrived c.args.lent.now.setup.header.now c.args.lent.now.setup.script.now.calls seats n (calls_of c.args.lent.now.setup.script.now n) was (calls_there c.args.lent.now.setup.script.now n (omega arith)) there)));
     }
 
 pub returns-clause-arrived : goal.returns-clause-arrived
 returns-clause-arrived g c r seat e = let l = get_long c.loop-number.seats r seat e in c.loop-number.invariant.arrived r seat (omega arith) e
 
+pub returns-clause-records : goal.returns-clause-records
+returns-clause-records g c =
+    subst (λ (n : ℕ). IsCount c.args.lent.now.setup.header.now (g.D.Disk.len c.loop-number.disk) n) (sym c.loop-number.invariant.count)
+    (count_longer c.args.lent.now.setup.header.now _ _ c.args.progress.now.records c.loop-number.invariant.longer c.requires.records)
+
+pub returns-clause-led : goal.returns-clause-led
+returns-clause-led g c =
+    has_led_at _ _ _ _ _ _ _ _ _ _ (sym c.loop-number.invariant.count) (c.loop-number.invariant.led c.args.progress.now.records)
+
 pub returns-clause-begun : goal.returns-clause-begun
-returns-clause-begun g c = seats_begun c.args.script.now c.args.header.now _ c.loop-number.order c.loop-number.seats c.loop-number.invariant.seats
+returns-clause-begun g c = seats_begun c.args.lent.now.setup.script.now c.args.lent.now.setup.header.now _ c.loop-number.progress.order c.loop-number.seats c.loop-number.invariant.seats
 
 pub returns-in_err-arrive-clause-cut : goal.returns-in_err-arrive-clause-cut
-returns-in_err-arrive-clause-cut g c e is records =
-    let script = c.args.script.now in
-    let header = c.args.header.now in
+returns-in_err-arrive-clause-cut g c e is =
+    let records = c.args.progress.now.records in
+    let script = c.args.lent.now.setup.script.now in
+    let header = c.args.lent.now.setup.header.now in
     let s = setting_of script header in
     let n = c.loop-number.number in
     let seats = c.loop-number.seats in
@@ -101,20 +115,22 @@ returns-in_err-arrive-clause-cut g c e is records =
     let led = c.loop-number.invariant.led records in
     let long = (ranks_lawful script c.requires.lawful).one_each in
     let p = err_from_is_err_and c.from_residual.result c.from_residual.ensures.1 in
-    stopped_then (IsNext script c.arrive.new.order) script.hints s e c.args.order.now c.loop-number.order c.arrive.new.order led.more
+    stopped_at _ _ _ _ _ _ _ _ _ _ _ (sym (c.arrive.ensures.records ∙ c.loop-number.invariant.count))
+    (stopped_then (IsNext script c.arrive.new.progress.order) script.hints s e c.args.progress.now.order c.loop-number.progress.order c.arrive.new.progress.order led.more
     (stage (g.D.Disk.held c.args.disk.now) (g.D.Disk.calls c.args.disk.now) records (arrived_all header script.calls c.args.seats.now))
     (stage (g.D.Disk.held c.loop-number.disk) (g.D.Disk.calls c.loop-number.disk) records (arrived_all header script.calls seats)) (g.D.Disk.held c.arrive.new.disk) records
     led.led led.grown
-    (stopped_as (MayFollow script n c.arrive.new.order) (IsNext script c.arrive.new.order) s e c.loop-number.order c.arrive.new.order (g.D.Disk.held c.loop-number.disk) records
+    (stopped_as (MayFollow script n c.arrive.new.progress.order) (IsNext script c.arrive.new.progress.order) s e c.loop-number.progress.order c.arrive.new.progress.order (g.D.Disk.held c.loop-number.disk) records
     (arrived_all header script.calls seats) (g.D.Disk.held c.arrive.new.disk) records
-    (follows_next script header _ c.loop-number.order c.arrive.new.order seats n c.requires.lawful c.loop-number.invariant.seats (omega arith) c.arrive.ensures.grown)
+    (follows_next script header _ c.loop-number.progress.order c.arrive.new.progress.order seats n c.requires.lawful c.loop-number.invariant.seats (omega arith) c.arrive.ensures.grown)
     (c.in_err-arrive.ensures.cut e (same_err c.from_residual.result e _ p.0 is p.1 p.2) records (arrived_all header script.calls seats)
-    (get_arrived header script.calls seats n (calls_of script n) was (calls_there script n (omega arith)) there)))
+    (get_arrived header script.calls seats n (calls_of script n) was (calls_there script n (omega arith)) there))))
 
 pub returns-in_err-arrive-clause-answered : goal.returns-in_err-arrive-clause-answered
-returns-in_err-arrive-clause-answered g c e is records =
-    let script = c.args.script.now in
-    let header = c.args.header.now in
+returns-in_err-arrive-clause-answered g c e is =
+    let records = c.args.progress.now.records in
+    let script = c.args.lent.now.setup.script.now in
+    let header = c.args.lent.now.setup.header.now in
     let s = setting_of script header in
     let n = c.loop-number.number in
     let seats = c.loop-number.seats in
@@ -123,7 +139,7 @@ returns-in_err-arrive-clause-answered g c e is records =
     let there : slice_get seats n ≡ Some was = get_at seats n c.index-seats-number.result (omega arith) in
     let long = (ranks_lawful script c.requires.lawful).one_each in
     let p = err_from_is_err_and c.from_residual.result c.from_residual.ensures.1 in
-    answers_cut script e n c.args.order.now c.loop-number.order c.arrive.new.order c.args.seats.now seats was c.arrive.new.self s (g.D.Disk.held c.args.disk.now) (g.D.Disk.held c.loop-number.disk)
+    answers_cut script e n c.args.progress.now.order c.loop-number.progress.order c.arrive.new.progress.order c.args.seats.now seats was c.arrive.new.self s (g.D.Disk.held c.args.disk.now) (g.D.Disk.held c.loop-number.disk)
     (g.D.Disk.calls c.args.disk.now) (g.D.Disk.calls c.loop-number.disk) records (long ∙ sym before.seats.all) c.requires.free there (before.led records) c.arrive.ensures.grown before.others before.arrived
     before.same
     (c.in_err-arrive.ensures.answered e (same_err c.from_residual.result e _ p.0 is p.1 p.2) records (arrived_all header script.calls seats)
@@ -131,14 +147,14 @@ returns-in_err-arrive-clause-answered g c e is records =
 
 pub returns-in_err-arrive-clause-told : goal.returns-in_err-arrive-clause-told
 returns-in_err-arrive-clause-told g c =
-    let script = c.args.script.now in
-    let header = c.args.header.now in
+    let script = c.args.lent.now.setup.script.now in
+    let header = c.args.lent.now.setup.header.now in
     let n = c.loop-number.number in
     let seats = c.loop-number.seats in
     let before = c.loop-number.invariant in
     let was = slice_index_or seats n c.index-seats-number.result in
     let there : slice_get seats n ≡ Some was = get_at seats n c.index-seats-number.result (omega arith) in
     let long = (ranks_lawful script c.requires.lawful).one_each in
-    told_then _ _ _ _ _ _ _ _ _ _ before.told (before.led c.args.records)
-    (c.arrive.ensures.told (arrived_all header script.calls seats)
-    (get_arrived header script.calls seats n (calls_of script n) was (calls_there script n (omega arith)) there))
+    told_then _ _ _ _ _ _ _ _ _ _ before.told (before.led c.args.progress.now.records)
+    (told_at _ _ _ _ _ _ _ _ _ before.count (c.arrive.ensures.told (arrived_all header script.calls seats)
+    (get_arrived header script.calls seats n (calls_of script n) was (calls_there script n (omega arith)) there)))

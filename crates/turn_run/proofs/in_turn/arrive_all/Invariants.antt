@@ -15,15 +15,16 @@ invariant-loop-number g l = record {
   from : g.D.Disk.from l.disk ≡ 0;
   longer : g.D.Disk.len l.fn.disk ≤ g.D.Disk.len l.disk;
   faults : g.D.Disk.faults l.fn.disk ≤ g.D.Disk.faults l.disk;
-  seats : AreSeats l.script l.header (g.D.Disk.len l.disk) l.order l.seats;
-  met : meetings l.order ≡ meetings l.fn.order;
-  arrived : (r : ℕ) (seat : Seat) → r < l.number → slice_get l.seats r ≡ Some seat → HasArrived (calls_of l.script r) seat;
+  seats : AreSeats l.lent.setup.script.now l.lent.setup.header.now (g.D.Disk.len l.disk) l.progress.order l.seats;
+  met : meetings l.progress.order ≡ meetings l.fn.progress.order;
+  arrived : (r : ℕ) (seat : Seat) → r < l.number → slice_get l.seats r ≡ Some seat → HasArrived (calls_of l.lent.setup.script.now r) seat;
   free : (r : ℕ) (seat : Seat) → l.number ≤ r → slice_get l.seats r ≡ Some seat → seat.held ≡ None;
   same : (r : ℕ) → l.number ≤ r → slice_get l.seats r ≡ slice_get l.fn.seats r;
-  others : (r : ℕ) → l.number ≤ r → filter (concerns r) l.order ≡ filter (concerns r) l.fn.order;
-  led : (records : ℕ) → HasLed l.script.hints (setting_of l.script l.header) l.fn.order l.order
-      (stage (g.D.Disk.held l.fn.disk) (g.D.Disk.calls l.fn.disk) records (arrived_all l.header l.script.calls l.fn.seats))
-      (stage (g.D.Disk.held l.disk) (g.D.Disk.calls l.disk) records (arrived_all l.header l.script.calls l.seats));
-  told : HasToldMore (setting_of l.script l.header) (g.D.Disk.held l.fn.disk) l.records (arrived_all l.header l.script.calls l.fn.seats) l.fn.order l.order
+  others : (r : ℕ) → l.number ≤ r → filter (concerns r) l.progress.order ≡ filter (concerns r) l.fn.progress.order;
+  led : (records : ℕ) → HasLed l.lent.setup.script.now.hints (setting_of l.lent.setup.script.now l.lent.setup.header.now) l.fn.progress.order l.progress.order
+      (stage (g.D.Disk.held l.fn.disk) (g.D.Disk.calls l.fn.disk) records (arrived_all l.lent.setup.header.now l.lent.setup.script.now.calls l.fn.seats))
+      (stage (g.D.Disk.held l.disk) (g.D.Disk.calls l.disk) records (arrived_all l.lent.setup.header.now l.lent.setup.script.now.calls l.seats));
+  count : l.progress.records ≡ l.fn.progress.records;
+  told : HasToldMore (setting_of l.lent.setup.script.now l.lent.setup.header.now) (g.D.Disk.held l.fn.disk) l.fn.progress.records (arrived_all l.lent.setup.header.now l.lent.setup.script.now.calls l.fn.seats) l.fn.progress.order l.progress.order
       (g.T.Told.heard l.fn.told) (g.T.Told.heard l.told);
 }

@@ -3,7 +3,6 @@ use Rattle.std.proofs.Common.{◌<◌, sym, ◌∙◌, true≢false, arith}
 use Rattle.std.proofs.lemmas.Result.{err_from_is_err_and}
 use Rattle.serial_spec.specs.Lawful.{most_calls}
 use Rattle.run_laws.specs.Ways.{meetings}
-use Rattle.turn_run.proofs.CountLaws.{count_longer}
 use Rattle.turn_run.proofs.StageLaws.{has_led_then}
 use Rattle.turn_run.proofs.TurnCauses.{cause_after, cause_done}
 use Rattle.turn_run.proofs.TurnEnds.{all_ended, met_number, next_meeting}
@@ -21,16 +20,16 @@ use Rattle.turn_run.proofs.in_turn.hold_meetings.Goals as goal
 pub overflow_add-meetings : goal.overflow_add-meetings
 overflow_add-meetings g c =
     let k = c.meetings.invariant in
-    let few : meetings c.meetings.order < most_calls =
-    next_meeting c.args.script.now c.args.header.now _ c.meetings.order c.meetings.seats c.requires.lawful k.seats k.arrived (c.all_hold.ensures.0 c.meetings-test.true) in
+    let few : meetings c.meetings.progress.order < most_calls =
+    next_meeting c.args.lent.now.setup.script.now c.args.lent.now.setup.header.now _ c.meetings.progress.order c.meetings.seats c.requires.lawful k.seats k.arrived (c.all_hold.ensures.0 c.meetings-test.true) in
     let number = k.number in
     omega arith
 
 pub meetings-smaller : goal.meetings-smaller
 meetings-smaller g c =
     let k = c.meetings.invariant in
-    let few : meetings c.meetings.order < most_calls =
-    next_meeting c.args.script.now c.args.header.now _ c.meetings.order c.meetings.seats c.requires.lawful k.seats k.arrived (c.all_hold.ensures.0 c.meetings-test.true) in
+    let few : meetings c.meetings.progress.order < most_calls =
+    next_meeting c.args.lent.now.setup.script.now c.args.lent.now.setup.header.now _ c.meetings.progress.order c.meetings.seats c.requires.lawful k.seats k.arrived (c.all_hold.ensures.0 c.meetings-test.true) in
     let number = k.number in
     omega arith
 
@@ -43,13 +42,13 @@ meetings-preserved g c =
       from = arrived.from;
       longer = omega arith;
       faults = let a = met.cause.later in let b = arrived.cause.later in omega arith;
-      number = met_number c.meetings.order c.meet.new.order c.arrive_all-in-meetings.new.order c.meetings.meetings _ k.number met.order arrived.meetings;
+      number = met_number c.meetings.progress.order c.meet.new.progress.order c.arrive_all-in-meetings.new.progress.order c.meetings.meetings _ k.number met.order arrived.meetings;
       seats = arrived.seats;
       arrived = arrived.arrived;
-      records = count_longer c.args.header.now _ _ c.meet.new.records arrived.longer met.records;
-      led = has_led_then _ _ _ c.meet.new.order _ _ _ _ (has_led_then _ _ _ c.meetings.order _ _ _ _ k.led met.led) (arrived.led c.meet.new.records);
-      told = told_then _ _ _ c.meet.new.order _ _ _ _ _ _ (told_then _ _ _ c.meetings.order _ _ _ _ _ _ c.meetings.invariant.told c.meetings.invariant.led c.meet.ensures.told)
-          (has_led_then _ _ _ c.meetings.order _ _ _ _ c.meetings.invariant.led c.in_ok-meet.ensures.led) c.arrive_all-in-meetings.ensures.told;
+      records = arrived.records;
+      led = has_led_then _ _ _ c.meet.new.progress.order _ _ _ _ (has_led_then _ _ _ c.meetings.progress.order _ _ _ _ k.led met.led) arrived.led;
+      told = told_then _ _ _ c.meet.new.progress.order _ _ _ _ _ _ (told_then _ _ _ c.meetings.progress.order _ _ _ _ _ _ c.meetings.invariant.told c.meetings.invariant.led c.meet.ensures.told)
+          (has_led_then _ _ _ c.meetings.progress.order _ _ _ _ c.meetings.invariant.led c.in_ok-meet.ensures.led) c.arrive_all-in-meetings.ensures.told;
     }
 
 pub returns-in_err-arrive_all-2-clause-cause : goal.returns-in_err-arrive_all-2-clause-cause
@@ -63,11 +62,11 @@ returns-in_err-arrive_all-2-clause-cause g c =
 pub returns-clause-free : goal.returns-clause-free
 returns-clause-free g c =
     let k = c.meetings.invariant in
-    all_ended c.args.script.now c.args.header.now _ c.meetings.order c.meetings.seats c.requires.lawful k.seats k.arrived
+    all_ended c.args.lent.now.setup.script.now c.args.lent.now.setup.header.now _ c.meetings.progress.order c.meetings.seats c.requires.lawful k.seats k.arrived
     (λ met. true≢false (sym (c.all_hold.ensures.1 met) ∙ c.meetings-test.false))
 
 pub returns-clause-begun : goal.returns-clause-begun
-returns-clause-begun g c = seats_begun c.args.script.now c.args.header.now _ c.meetings.order c.meetings.seats c.meetings.invariant.seats
+returns-clause-begun g c = seats_begun c.args.lent.now.setup.script.now c.args.lent.now.setup.header.now _ c.meetings.progress.order c.meetings.seats c.meetings.invariant.seats
 
 pub returns-clause-cause : goal.returns-clause-cause
 returns-clause-cause g c = cause_done _ _ _ c.meetings.invariant.faults
@@ -75,68 +74,68 @@ returns-clause-cause g c = cause_done _ _ _ c.meetings.invariant.faults
 pub returns-in_err-arrive_all-clause-cut : goal.returns-in_err-arrive_all-clause-cut
 returns-in_err-arrive_all-clause-cut g c e is =
     let p = err_from_is_err_and c.from_residual.result c.from_residual.ensures.1 in
-    c.in_err-arrive_all.ensures.cut e (same_err c.from_residual.result e _ p.0 is p.1 p.2) c.args.records.now
+    c.in_err-arrive_all.ensures.cut e (same_err c.from_residual.result e _ p.0 is p.1 p.2)
 
 pub returns-in_err-meet-clause-cut : goal.returns-in_err-meet-clause-cut
 returns-in_err-meet-clause-cut g c e is =
-    let script = c.args.script.now in
-    let header = c.args.header.now in
+    let script = c.args.lent.now.setup.script.now in
+    let header = c.args.lent.now.setup.header.now in
     let led = c.meetings.invariant.led in
     let p = err_from_is_err_and c.from_residual-in_err-meet.result c.from_residual-in_err-meet.ensures.1 in
-    stopped_then (IsNext script c.meet.new.order) script.hints (setting_of script header) e c.args.order.now c.meetings.order c.meet.new.order led.more
-    (stage (g.D.Disk.held c.args.disk.now) (g.D.Disk.calls c.args.disk.now) c.args.records.now (arrived_all header script.calls c.args.seats.now))
-    (stage (g.D.Disk.held c.meetings.disk) (g.D.Disk.calls c.meetings.disk) c.meetings.records (arrived_all header script.calls c.meetings.seats)) (g.D.Disk.held c.meet.new.disk) c.meet.new.records
+    stopped_then (IsNext script c.meet.new.progress.order) script.hints (setting_of script header) e c.args.progress.now.order c.meetings.progress.order c.meet.new.progress.order led.more
+    (stage (g.D.Disk.held c.args.disk.now) (g.D.Disk.calls c.args.disk.now) c.args.progress.now.records (arrived_all header script.calls c.args.seats.now))
+    (stage (g.D.Disk.held c.meetings.disk) (g.D.Disk.calls c.meetings.disk) c.meetings.progress.records (arrived_all header script.calls c.meetings.seats)) (g.D.Disk.held c.meet.new.disk) c.meet.new.progress.records
     led.led led.grown (c.in_err-meet.ensures.cut e (same_err c.from_residual-in_err-meet.result e _ p.0 is p.1 p.2))
 
 pub returns-in_err-arrive_all-2-clause-cut : goal.returns-in_err-arrive_all-2-clause-cut
 returns-in_err-arrive_all-2-clause-cut g c e is =
-    let script = c.args.script.now in
-    let header = c.args.header.now in
-    let led = has_led_then _ _ _ c.meetings.order _ _ _ _ c.meetings.invariant.led c.in_ok-meet.ensures.led in
+    let script = c.args.lent.now.setup.script.now in
+    let header = c.args.lent.now.setup.header.now in
+    let led = has_led_then _ _ _ c.meetings.progress.order _ _ _ _ c.meetings.invariant.led c.in_ok-meet.ensures.led in
     let p = err_from_is_err_and c.from_residual-in_err-arrive_all-2.result c.from_residual-in_err-arrive_all-2.ensures.1 in
-    stopped_then (IsNext script c.arrive_all-in-meetings.new.order) script.hints (setting_of script header) e c.args.order.now c.meet.new.order c.arrive_all-in-meetings.new.order led.more
-    (stage (g.D.Disk.held c.args.disk.now) (g.D.Disk.calls c.args.disk.now) c.args.records.now (arrived_all header script.calls c.args.seats.now))
-    (stage (g.D.Disk.held c.meet.new.disk) (g.D.Disk.calls c.meet.new.disk) c.meet.new.records (arrived_all header script.calls c.meet.new.seats)) (g.D.Disk.held c.arrive_all-in-meetings.new.disk) c.meet.new.records
-    led.led led.grown (c.in_err-arrive_all-2.ensures.cut e (same_err c.from_residual-in_err-arrive_all-2.result e _ p.0 is p.1 p.2) c.meet.new.records)
+    stopped_then (IsNext script c.arrive_all-in-meetings.new.progress.order) script.hints (setting_of script header) e c.args.progress.now.order c.meet.new.progress.order c.arrive_all-in-meetings.new.progress.order led.more
+    (stage (g.D.Disk.held c.args.disk.now) (g.D.Disk.calls c.args.disk.now) c.args.progress.now.records (arrived_all header script.calls c.args.seats.now))
+    (stage (g.D.Disk.held c.meet.new.disk) (g.D.Disk.calls c.meet.new.disk) c.meet.new.progress.records (arrived_all header script.calls c.meet.new.seats)) (g.D.Disk.held c.arrive_all-in-meetings.new.disk) c.arrive_all-in-meetings.new.progress.records
+    led.led led.grown (c.in_err-arrive_all-2.ensures.cut e (same_err c.from_residual-in_err-arrive_all-2.result e _ p.0 is p.1 p.2))
 
 pub returns-in_err-arrive_all-clause-answered : goal.returns-in_err-arrive_all-clause-answered
 returns-in_err-arrive_all-clause-answered g c e is =
     let p = err_from_is_err_and c.from_residual.result c.from_residual.ensures.1 in
-    c.in_err-arrive_all.ensures.answered e (same_err c.from_residual.result e _ p.0 is p.1 p.2) c.args.records.now
+    c.in_err-arrive_all.ensures.answered e (same_err c.from_residual.result e _ p.0 is p.1 p.2)
 
 pub returns-in_err-meet-clause-answered : goal.returns-in_err-meet-clause-answered
 returns-in_err-meet-clause-answered g c e is =
-    let script = c.args.script.now in
-    let header = c.args.header.now in
+    let script = c.args.lent.now.setup.script.now in
+    let header = c.args.lent.now.setup.header.now in
     let s = setting_of script header in
     let led = c.meetings.invariant.led in
     let first = c.args.seats.now in
     let p = err_from_is_err_and c.from_residual-in_err-meet.result c.from_residual-in_err-meet.ensures.1 in
-    have_reached s e c.args.order.now c.meet.new.order (g.D.Disk.held c.args.disk.now) c.args.records.now (all_between script.calls first) (arrived_all header script.calls first) c.meet.new.seats
+    have_reached s e c.args.progress.now.order c.meet.new.progress.order (g.D.Disk.held c.args.disk.now) c.args.progress.now.records (all_between script.calls first) (arrived_all header script.calls first) c.meet.new.seats
     (between_up header script.calls first c.requires.free)
-    (reached_then (AllSay e c.meet.new.seats) script.hints s c.args.order.now c.meetings.order c.meet.new.order led.more
-    (stage (g.D.Disk.held c.args.disk.now) (g.D.Disk.calls c.args.disk.now) c.args.records.now (arrived_all header script.calls first))
-    (stage (g.D.Disk.held c.meetings.disk) (g.D.Disk.calls c.meetings.disk) c.meetings.records (arrived_all header script.calls c.meetings.seats))
+    (reached_then (AllSay e c.meet.new.seats) script.hints s c.args.progress.now.order c.meetings.progress.order c.meet.new.progress.order led.more
+    (stage (g.D.Disk.held c.args.disk.now) (g.D.Disk.calls c.args.disk.now) c.args.progress.now.records (arrived_all header script.calls first))
+    (stage (g.D.Disk.held c.meetings.disk) (g.D.Disk.calls c.meetings.disk) c.meetings.progress.records (arrived_all header script.calls c.meetings.seats))
     led.led led.grown (c.in_err-meet.ensures.answered e (same_err c.from_residual-in_err-meet.result e _ p.0 is p.1 p.2)))
 
 pub returns-in_err-arrive_all-2-clause-answered : goal.returns-in_err-arrive_all-2-clause-answered
 returns-in_err-arrive_all-2-clause-answered g c e is =
-    let script = c.args.script.now in
-    let header = c.args.header.now in
+    let script = c.args.lent.now.setup.script.now in
+    let header = c.args.lent.now.setup.header.now in
     let s = setting_of script header in
     let first = c.args.seats.now in
     let p = err_from_is_err_and c.from_residual-in_err-arrive_all-2.result c.from_residual-in_err-arrive_all-2.ensures.1 in
-    let a = stage (g.D.Disk.held c.args.disk.now) (g.D.Disk.calls c.args.disk.now) c.args.records.now (arrived_all header script.calls first) in
-    let b = stage (g.D.Disk.held c.meetings.disk) (g.D.Disk.calls c.meetings.disk) c.meetings.records (arrived_all header script.calls c.meetings.seats) in
-    let d = stage (g.D.Disk.held c.meet.new.disk) (g.D.Disk.calls c.meet.new.disk) c.meet.new.records (arrived_all header script.calls c.meet.new.seats) in
-    answers_after script.hints s e c.args.order.now c.meetings.order c.meet.new.order c.arrive_all-in-meetings.new.order (meetings c.meetings.order) a b d (all_between script.calls first)
+    let a = stage (g.D.Disk.held c.args.disk.now) (g.D.Disk.calls c.args.disk.now) c.args.progress.now.records (arrived_all header script.calls first) in
+    let b = stage (g.D.Disk.held c.meetings.disk) (g.D.Disk.calls c.meetings.disk) c.meetings.progress.records (arrived_all header script.calls c.meetings.seats) in
+    let d = stage (g.D.Disk.held c.meet.new.disk) (g.D.Disk.calls c.meet.new.disk) c.meet.new.progress.records (arrived_all header script.calls c.meet.new.seats) in
+    answers_after script.hints s e c.args.progress.now.order c.meetings.progress.order c.meet.new.progress.order c.arrive_all-in-meetings.new.progress.order (meetings c.meetings.progress.order) a b d (all_between script.calls first)
     (all_between script.calls c.meet.new.seats) c.arrive_all-in-meetings.new.seats c.meetings.invariant.led c.in_ok-meet.ensures.led c.in_ok-meet.ensures.order (between_up header script.calls first c.requires.free)
-    c.in_ok-meet.ensures.between (c.in_err-arrive_all-2.ensures.answered e (same_err c.from_residual-in_err-arrive_all-2.result e _ p.0 is p.1 p.2) c.meet.new.records)
+    c.in_ok-meet.ensures.between (c.in_err-arrive_all-2.ensures.answered e (same_err c.from_residual-in_err-arrive_all-2.result e _ p.0 is p.1 p.2))
 
 pub returns-in_err-meet-clause-told : goal.returns-in_err-meet-clause-told
-returns-in_err-meet-clause-told g c = told_then _ _ _ c.meetings.order _ _ _ _ _ _ c.meetings.invariant.told c.meetings.invariant.led c.meet.ensures.told
+returns-in_err-meet-clause-told g c = told_then _ _ _ c.meetings.progress.order _ _ _ _ _ _ c.meetings.invariant.told c.meetings.invariant.led c.meet.ensures.told
 
 pub returns-in_err-arrive_all-2-clause-told : goal.returns-in_err-arrive_all-2-clause-told
 returns-in_err-arrive_all-2-clause-told g c =
-    told_then _ _ _ c.meet.new.order _ _ _ _ _ _ (told_then _ _ _ c.meetings.order _ _ _ _ _ _ c.meetings.invariant.told c.meetings.invariant.led c.meet.ensures.told)
-    (has_led_then _ _ _ c.meetings.order _ _ _ _ c.meetings.invariant.led c.in_ok-meet.ensures.led) c.arrive_all-in-meetings.ensures.told
+    told_then _ _ _ c.meet.new.progress.order _ _ _ _ _ _ (told_then _ _ _ c.meetings.progress.order _ _ _ _ _ _ c.meetings.invariant.told c.meetings.invariant.led c.meet.ensures.told)
+    (has_led_then _ _ _ c.meetings.progress.order _ _ _ _ c.meetings.invariant.led c.in_ok-meet.ensures.led) c.arrive_all-in-meetings.ensures.told

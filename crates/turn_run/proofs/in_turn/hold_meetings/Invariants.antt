@@ -14,14 +14,14 @@ invariant-meetings g l = record {
   from : g.D.Disk.from l.disk ≡ 0;
   longer : g.D.Disk.len l.fn.disk ≤ g.D.Disk.len l.disk;
   faults : g.D.Disk.faults l.fn.disk ≤ g.D.Disk.faults l.disk;
-  number : l.meetings ≡ meetings l.order;
-  seats : AreSeats l.script l.header (g.D.Disk.len l.disk) l.order l.seats;
-  arrived : HaveArrived l.script l.seats;
-  records : IsCount l.header (g.D.Disk.len l.disk) l.records;
-  led : HasLed l.script.hints (setting_of l.script l.header) l.fn.order l.order
-      (stage (g.D.Disk.held l.fn.disk) (g.D.Disk.calls l.fn.disk) l.fn.records (arrived_all l.header l.script.calls l.fn.seats))
-      (stage (g.D.Disk.held l.disk) (g.D.Disk.calls l.disk) l.records (arrived_all l.header l.script.calls l.seats));
-  told : HasToldMore (setting_of l.script l.header) (g.D.Disk.held l.fn.disk) l.fn.records (arrived_all l.header l.script.calls l.fn.seats) l.fn.order l.order
+  number : l.meetings ≡ meetings l.progress.order;
+  seats : AreSeats l.lent.setup.script.now l.lent.setup.header.now (g.D.Disk.len l.disk) l.progress.order l.seats;
+  arrived : HaveArrived l.lent.setup.script.now l.seats;
+  records : IsCount l.lent.setup.header.now (g.D.Disk.len l.disk) l.progress.records;
+  led : HasLed l.lent.setup.script.now.hints (setting_of l.lent.setup.script.now l.lent.setup.header.now) l.fn.progress.order l.progress.order
+      (stage (g.D.Disk.held l.fn.disk) (g.D.Disk.calls l.fn.disk) l.fn.progress.records (arrived_all l.lent.setup.header.now l.lent.setup.script.now.calls l.fn.seats))
+      (stage (g.D.Disk.held l.disk) (g.D.Disk.calls l.disk) l.progress.records (arrived_all l.lent.setup.header.now l.lent.setup.script.now.calls l.seats));
+  told : HasToldMore (setting_of l.lent.setup.script.now l.lent.setup.header.now) (g.D.Disk.held l.fn.disk) l.fn.progress.records (arrived_all l.lent.setup.header.now l.lent.setup.script.now.calls l.fn.seats) l.fn.progress.order l.progress.order
       (g.T.Told.heard l.fn.told) (g.T.Told.heard l.told);
 }
 

@@ -22,88 +22,88 @@ use Rattle.turn_run.proofs.in_turn.make_calls.Goals as goal
 pub returns-clause-legal : goal.returns-clause-legal
 returns-clause-legal g c =
     let h = c.in_ok-hold_meetings.ensures in
-    ended_legal c.args.script.now c.args.header.now _ c.hold_meetings.new.order c.hold_meetings.new.seats c.requires.lawful h.seats h.free h.arrived
+    ended_legal c.args.lent.now.setup.script.now c.args.lent.now.setup.header.now _ c.hold_meetings.new.progress.order c.hold_meetings.new.seats c.requires.lawful h.seats h.free h.arrived
 
 pub returns-clause-bytes : goal.returns-clause-bytes
 returns-clause-bytes g c =
     let h = c.in_ok-hold_meetings.ensures in
     let k = c.in_ok-close.ensures in
-    if_told (g.D.Disk.held c.args.disk.now) (run_ended c.args.script.now c.args.header.now _ c.args.order.now c.hold_meetings.new.order (g.D.Disk.calls c.args.disk.now)
+    if_told (g.D.Disk.held c.args.disk.now) (run_ended c.args.lent.now.setup.script.now c.args.lent.now.setup.header.now _ c.args.progress.now.order c.hold_meetings.new.progress.order (g.D.Disk.calls c.args.disk.now)
     (g.D.Disk.calls c.hold_meetings.new.disk) (g.D.Disk.calls c.close.new.disk) (g.D.Disk.held c.args.disk.now) (g.D.Disk.held c.hold_meetings.new.disk)
-    (g.D.Disk.held c.close.new.disk) c.hold_meetings.new.records c.close.new.records c.args.records.now c.hold_meetings.new.seats
-    (arrived_all c.args.header.now c.args.script.now.calls c.args.seats.now) c.requires.lawful c.requires.none h.seats h.free h.arrived h.led
+    (g.D.Disk.held c.close.new.disk) c.hold_meetings.new.progress.records c.close.new.records c.args.progress.now.records c.hold_meetings.new.seats
+    (arrived_all c.args.lent.now.setup.header.now c.args.lent.now.setup.script.now.calls c.args.seats.now) c.requires.lawful c.requires.none h.seats h.free h.arrived h.led
     (record { bytes = k.bytes; records = k.records; calls = k.calls })) (λ file e. e.bytes)
 
 pub returns-clause-records : goal.returns-clause-records
 returns-clause-records g c =
     let h = c.in_ok-hold_meetings.ensures in
     let k = c.in_ok-close.ensures in
-    if_told (g.D.Disk.held c.args.disk.now) (run_ended c.args.script.now c.args.header.now _ c.args.order.now c.hold_meetings.new.order (g.D.Disk.calls c.args.disk.now)
+    if_told (g.D.Disk.held c.args.disk.now) (run_ended c.args.lent.now.setup.script.now c.args.lent.now.setup.header.now _ c.args.progress.now.order c.hold_meetings.new.progress.order (g.D.Disk.calls c.args.disk.now)
     (g.D.Disk.calls c.hold_meetings.new.disk) (g.D.Disk.calls c.close.new.disk) (g.D.Disk.held c.args.disk.now) (g.D.Disk.held c.hold_meetings.new.disk)
-    (g.D.Disk.held c.close.new.disk) c.hold_meetings.new.records c.close.new.records c.args.records.now c.hold_meetings.new.seats
-    (arrived_all c.args.header.now c.args.script.now.calls c.args.seats.now) c.requires.lawful c.requires.none h.seats h.free h.arrived h.led
+    (g.D.Disk.held c.close.new.disk) c.hold_meetings.new.progress.records c.close.new.records c.args.progress.now.records c.hold_meetings.new.seats
+    (arrived_all c.args.lent.now.setup.header.now c.args.lent.now.setup.script.now.calls c.args.seats.now) c.requires.lawful c.requires.none h.seats h.free h.arrived h.led
     (record { bytes = k.bytes; records = k.records; calls = k.calls })) (λ file e. e.records)
 
 pub returns-clause-answers : goal.returns-clause-answers
 returns-clause-answers g c =
     let h = c.in_ok-hold_meetings.ensures in
     let k = c.in_ok-close.ensures in
-    if_told (g.D.Disk.held c.args.disk.now) (run_ended c.args.script.now c.args.header.now _ c.args.order.now c.hold_meetings.new.order (g.D.Disk.calls c.args.disk.now)
+    if_told (g.D.Disk.held c.args.disk.now) (run_ended c.args.lent.now.setup.script.now c.args.lent.now.setup.header.now _ c.args.progress.now.order c.hold_meetings.new.progress.order (g.D.Disk.calls c.args.disk.now)
     (g.D.Disk.calls c.hold_meetings.new.disk) (g.D.Disk.calls c.close.new.disk) (g.D.Disk.held c.args.disk.now) (g.D.Disk.held c.hold_meetings.new.disk)
-    (g.D.Disk.held c.close.new.disk) c.hold_meetings.new.records c.close.new.records c.args.records.now c.hold_meetings.new.seats
-    (arrived_all c.args.header.now c.args.script.now.calls c.args.seats.now) c.requires.lawful c.requires.none h.seats h.free h.arrived h.led
+    (g.D.Disk.held c.close.new.disk) c.hold_meetings.new.progress.records c.close.new.records c.args.progress.now.records c.hold_meetings.new.seats
+    (arrived_all c.args.lent.now.setup.header.now c.args.lent.now.setup.script.now.calls c.args.seats.now) c.requires.lawful c.requires.none h.seats h.free h.arrived h.led
     (record { bytes = k.bytes; records = k.records; calls = k.calls })) (λ file e. e.answers)
 
 pub returns-clause-pending : goal.returns-clause-pending
 returns-clause-pending g c =
     let h = c.in_ok-hold_meetings.ensures in
     let k = c.in_ok-close.ensures in
-    if_told (g.D.Disk.held c.args.disk.now) (run_ended c.args.script.now c.args.header.now _ c.args.order.now c.hold_meetings.new.order (g.D.Disk.calls c.args.disk.now)
+    if_told (g.D.Disk.held c.args.disk.now) (run_ended c.args.lent.now.setup.script.now c.args.lent.now.setup.header.now _ c.args.progress.now.order c.hold_meetings.new.progress.order (g.D.Disk.calls c.args.disk.now)
     (g.D.Disk.calls c.hold_meetings.new.disk) (g.D.Disk.calls c.close.new.disk) (g.D.Disk.held c.args.disk.now) (g.D.Disk.held c.hold_meetings.new.disk)
-    (g.D.Disk.held c.close.new.disk) c.hold_meetings.new.records c.close.new.records c.args.records.now c.hold_meetings.new.seats
-    (arrived_all c.args.header.now c.args.script.now.calls c.args.seats.now) c.requires.lawful c.requires.none h.seats h.free h.arrived h.led
+    (g.D.Disk.held c.close.new.disk) c.hold_meetings.new.progress.records c.close.new.records c.args.progress.now.records c.hold_meetings.new.seats
+    (arrived_all c.args.lent.now.setup.header.now c.args.lent.now.setup.script.now.calls c.args.seats.now) c.requires.lawful c.requires.none h.seats h.free h.arrived h.led
     (record { bytes = k.bytes; records = k.records; calls = k.calls })) (λ file e. e.pending)
 
 pub returns-clause-calls : goal.returns-clause-calls
 returns-clause-calls g c =
     let h = c.in_ok-hold_meetings.ensures in
     let k = c.in_ok-close.ensures in
-    if_told (g.D.Disk.held c.args.disk.now) (run_ended c.args.script.now c.args.header.now _ c.args.order.now c.hold_meetings.new.order (g.D.Disk.calls c.args.disk.now)
+    if_told (g.D.Disk.held c.args.disk.now) (run_ended c.args.lent.now.setup.script.now c.args.lent.now.setup.header.now _ c.args.progress.now.order c.hold_meetings.new.progress.order (g.D.Disk.calls c.args.disk.now)
     (g.D.Disk.calls c.hold_meetings.new.disk) (g.D.Disk.calls c.close.new.disk) (g.D.Disk.held c.args.disk.now) (g.D.Disk.held c.hold_meetings.new.disk)
-    (g.D.Disk.held c.close.new.disk) c.hold_meetings.new.records c.close.new.records c.args.records.now c.hold_meetings.new.seats
-    (arrived_all c.args.header.now c.args.script.now.calls c.args.seats.now) c.requires.lawful c.requires.none h.seats h.free h.arrived h.led
+    (g.D.Disk.held c.close.new.disk) c.hold_meetings.new.progress.records c.close.new.records c.args.progress.now.records c.hold_meetings.new.seats
+    (arrived_all c.args.lent.now.setup.header.now c.args.lent.now.setup.script.now.calls c.args.seats.now) c.requires.lawful c.requires.none h.seats h.free h.arrived h.led
     (record { bytes = k.bytes; records = k.records; calls = k.calls })) (λ file e. e.calls)
 
 pub returns-in_err-hold_meetings-clause-cut : goal.returns-in_err-hold_meetings-clause-cut
 returns-in_err-hold_meetings-clause-cut g c e is =
-    let script = c.args.script.now in
-    let header = c.args.header.now in
+    let script = c.args.lent.now.setup.script.now in
+    let header = c.args.lent.now.setup.header.now in
     let p = err_from_is_err_and c.from_residual.result c.from_residual.ensures.1 in
-    ends_before script (setting_of script header) e c.args.order.now c.hold_meetings.new.order (g.D.Disk.held c.args.disk.now) c.args.records.now (arrived_all header script.calls c.args.seats.now)
-    (g.D.Disk.held c.hold_meetings.new.disk) c.hold_meetings.new.records c.requires.none (c.in_err-hold_meetings.ensures.cut e (same_err c.from_residual.result e _ p.0 is p.1 p.2))
+    ends_before script (setting_of script header) e c.args.progress.now.order c.hold_meetings.new.progress.order (g.D.Disk.held c.args.disk.now) c.args.progress.now.records (arrived_all header script.calls c.args.seats.now)
+    (g.D.Disk.held c.hold_meetings.new.disk) c.hold_meetings.new.progress.records c.requires.none (c.in_err-hold_meetings.ensures.cut e (same_err c.from_residual.result e _ p.0 is p.1 p.2))
 
 pub returns-in_err-close-clause-cut : goal.returns-in_err-close-clause-cut
 returns-in_err-close-clause-cut g c e is =
-    let script = c.args.script.now in
-    let header = c.args.header.now in
+    let script = c.args.lent.now.setup.script.now in
+    let header = c.args.lent.now.setup.header.now in
     let h = c.in_ok-hold_meetings.ensures in
-    ends_closing script header e c.args.order.now c.hold_meetings.new.order (g.D.Disk.calls c.args.disk.now) (g.D.Disk.calls c.hold_meetings.new.disk) (g.D.Disk.held c.args.disk.now)
-    (g.D.Disk.held c.hold_meetings.new.disk) (g.D.Disk.held c.close.new.disk) c.hold_meetings.new.records c.args.records.now c.close.new.records c.hold_meetings.new.seats
+    ends_closing script header e c.args.progress.now.order c.hold_meetings.new.progress.order (g.D.Disk.calls c.args.disk.now) (g.D.Disk.calls c.hold_meetings.new.disk) (g.D.Disk.held c.args.disk.now)
+    (g.D.Disk.held c.hold_meetings.new.disk) (g.D.Disk.held c.close.new.disk) c.hold_meetings.new.progress.records c.args.progress.now.records c.close.new.records c.hold_meetings.new.seats
     (arrived_all header script.calls c.args.seats.now) c.requires.none ((ranks_lawful script c.requires.lawful).one_each ∙ sym h.seats.all) (are_over script c.hold_meetings.new.seats h.free h.arrived)
-    (ended_legal script header _ c.hold_meetings.new.order c.hold_meetings.new.seats c.requires.lawful h.seats h.free h.arrived) h.led c.in_err-close.ensures.refused (inl c.in_err-close.ensures.kept)
+    (ended_legal script header _ c.hold_meetings.new.progress.order c.hold_meetings.new.seats c.requires.lawful h.seats h.free h.arrived) h.led c.in_err-close.ensures.refused (inl c.in_err-close.ensures.kept)
 
 pub returns-clause-raised : goal.returns-clause-raised
 returns-clause-raised g c = λ e.
-    let script = c.args.script.now in
-    let header = c.args.header.now in
+    let script = c.args.lent.now.setup.script.now in
+    let header = c.args.lent.now.setup.header.now in
     let h = c.in_ok-hold_meetings.ensures in
     let k = c.in_ok-close.ensures in
-    ends_closing script header e c.args.order.now c.hold_meetings.new.order (g.D.Disk.calls c.args.disk.now) (g.D.Disk.calls c.hold_meetings.new.disk) (g.D.Disk.held c.args.disk.now)
-    (g.D.Disk.held c.hold_meetings.new.disk) (g.D.Disk.held c.close.new.disk) c.hold_meetings.new.records c.args.records.now c.close.new.records c.hold_meetings.new.seats
+    ends_closing script header e c.args.progress.now.order c.hold_meetings.new.progress.order (g.D.Disk.calls c.args.disk.now) (g.D.Disk.calls c.hold_meetings.new.disk) (g.D.Disk.held c.args.disk.now)
+    (g.D.Disk.held c.hold_meetings.new.disk) (g.D.Disk.held c.close.new.disk) c.hold_meetings.new.progress.records c.args.progress.now.records c.close.new.records c.hold_meetings.new.seats
     (arrived_all header script.calls c.args.seats.now) c.requires.none ((ranks_lawful script c.requires.lawful).one_each ∙ sym h.seats.all) (are_over script c.hold_meetings.new.seats h.free h.arrived)
-    (ended_legal script header _ c.hold_meetings.new.order c.hold_meetings.new.seats c.requires.lawful h.seats h.free h.arrived) h.led
-    (raised_torn header (g.D.Disk.held c.hold_meetings.new.disk) (g.D.Disk.held c.close.new.disk) c.hold_meetings.new.records (most_known c.hold_meetings.new.seats) k.bytes)
-    (inr (k.records ∙ sym (raised_records (as_setting header) (counted [] c.hold_meetings.new.records) (most_known c.hold_meetings.new.seats))))
+    (ended_legal script header _ c.hold_meetings.new.progress.order c.hold_meetings.new.seats c.requires.lawful h.seats h.free h.arrived) h.led
+    (raised_torn header (g.D.Disk.held c.hold_meetings.new.disk) (g.D.Disk.held c.close.new.disk) c.hold_meetings.new.progress.records (most_known c.hold_meetings.new.seats) k.bytes)
+    (inr (k.records ∙ sym (raised_records (as_setting header) (counted [] c.hold_meetings.new.progress.records) (most_known c.hold_meetings.new.seats))))
 
 pub returns-in_err-hold_meetings-clause-answered : goal.returns-in_err-hold_meetings-clause-answered
 returns-in_err-hold_meetings-clause-answered g c e is =
@@ -112,18 +112,18 @@ returns-in_err-hold_meetings-clause-answered g c e is =
 
 pub returns-in_err-close-clause-answered : goal.returns-in_err-close-clause-answered
 returns-in_err-close-clause-answered g c e is =
-    let script = c.args.script.now in
-    let header = c.args.header.now in
+    let script = c.args.lent.now.setup.script.now in
+    let header = c.args.lent.now.setup.header.now in
     let s = setting_of script header in
     let first = c.args.seats.now in
     let last = c.hold_meetings.new.seats in
-    let order = c.hold_meetings.new.order in
+    let order = c.hold_meetings.new.progress.order in
     let h = c.in_ok-hold_meetings.ensures in
-    have_reached s e c.args.order.now order (g.D.Disk.held c.args.disk.now) c.args.records.now (all_between script.calls first) (arrived_all header script.calls first) last
+    have_reached s e c.args.progress.now.order order (g.D.Disk.held c.args.disk.now) c.args.progress.now.records (all_between script.calls first) (arrived_all header script.calls first) last
     (between_up header script.calls first c.requires.free)
-    (reached_then (AllSay e last) script.hints s c.args.order.now order order h.led.more
-    (stage (g.D.Disk.held c.args.disk.now) (g.D.Disk.calls c.args.disk.now) c.args.records.now (arrived_all header script.calls first))
-    (stage (g.D.Disk.held c.hold_meetings.new.disk) (g.D.Disk.calls c.hold_meetings.new.disk) c.hold_meetings.new.records (arrived_all header script.calls last))
+    (reached_then (AllSay e last) script.hints s c.args.progress.now.order order order h.led.more
+    (stage (g.D.Disk.held c.args.disk.now) (g.D.Disk.calls c.args.disk.now) c.args.progress.now.records (arrived_all header script.calls first))
+    (stage (g.D.Disk.held c.hold_meetings.new.disk) (g.D.Disk.calls c.hold_meetings.new.disk) c.hold_meetings.new.progress.records (arrived_all header script.calls last))
     h.led.led h.led.grown
-    (reached_here (AllSay e last) s order order (g.D.Disk.held c.hold_meetings.new.disk) c.hold_meetings.new.records (arrived_all header script.calls last) refl
+    (reached_here (AllSay e last) s order order (g.D.Disk.held c.hold_meetings.new.disk) c.hold_meetings.new.progress.records (arrived_all header script.calls last) refl
     (λ n. all_say_here script header e last last n ((ranks_lawful script c.requires.lawful).one_each ∙ sym h.seats.all) refl h.arrived (keep_own last))))

@@ -15,13 +15,14 @@ invariant-alone g l = record {
   from : g.D.Disk.from l.disk ≡ 0;
   longer : g.D.Disk.len l.fn.disk ≤ g.D.Disk.len l.disk;
   faults : g.D.Disk.faults l.fn.disk ≤ g.D.Disk.faults l.disk;
-  seat : IsSeat l.script l.header l.order l.number l.self;
-  ended : l.self.held ≡ None → drop (length l.self.answers) (calls_of l.script l.number) ≡ [];
-  known : IsCount l.header (g.D.Disk.len l.disk) l.self.rank.state.known;
-  gone : HasGone l.script.hints (setting_of l.script l.header) l.number l.fn.order l.order (g.D.Disk.held l.fn.disk) (g.D.Disk.calls l.fn.disk)
-      (g.D.Disk.held l.disk) (g.D.Disk.calls l.disk) (arrived l.header (calls_of l.script l.number) l.fn.self) (arrived l.header (calls_of l.script l.number) l.self);
-  told : (ranks : List Arrived) → slice_get ranks l.number ≡ Some (arrived l.header (calls_of l.script l.number) l.fn.self)
-      → HasToldMore (setting_of l.script l.header) (g.D.Disk.held l.fn.disk) l.records ranks l.fn.order l.order (g.T.Told.heard l.fn.told) (g.T.Told.heard l.told);
+  seat : IsSeat l.lent.setup.script.now l.lent.setup.header.now l.progress.order l.number l.self;
+  ended : l.self.held ≡ None → drop (length l.self.answers) (calls_of l.lent.setup.script.now l.number) ≡ [];
+  known : IsCount l.lent.setup.header.now (g.D.Disk.len l.disk) l.self.rank.state.known;
+  gone : HasGone l.lent.setup.script.now.hints (setting_of l.lent.setup.script.now l.lent.setup.header.now) l.number l.fn.progress.order l.progress.order (g.D.Disk.held l.fn.disk) (g.D.Disk.calls l.fn.disk)
+      (g.D.Disk.held l.disk) (g.D.Disk.calls l.disk) (arrived l.lent.setup.header.now (calls_of l.lent.setup.script.now l.number) l.fn.self) (arrived l.lent.setup.header.now (calls_of l.lent.setup.script.now l.number) l.self);
+  count : l.progress.records ≡ l.fn.progress.records;
+  told : (ranks : List Arrived) → slice_get ranks l.number ≡ Some (arrived l.lent.setup.header.now (calls_of l.lent.setup.script.now l.number) l.fn.self)
+      → HasToldMore (setting_of l.lent.setup.script.now l.lent.setup.header.now) (g.D.Disk.held l.fn.disk) l.fn.progress.records ranks l.fn.progress.order l.progress.order (g.T.Told.heard l.fn.told) (g.T.Told.heard l.told);
 }
 
 abbrev pub decreases-alone : goal.decreases-alone

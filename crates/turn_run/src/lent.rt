@@ -1,0 +1,42 @@
+// What the steps of a run are lent.
+use nc_base::{Header, Hints, MarkList, Script};
+use std::alloc::Global;
+use var_layout::Measures;
+
+/// What a step is done with: the runtime, the allocator and the gate of the threads.
+#[derive(Drop)]
+pub struct Tools<'a, R, G> {
+    pub rt: &'a R,
+    pub alloc: Global,
+    pub gate: &'a G,
+}
+
+/// A dataset as its steps are lent it: the header, what the header implies, and the hints.
+#[derive(Clone, Copy, Drop)]
+pub struct Dataset<'a> {
+    pub header: &'a Header,
+    pub measures: &'a Measures,
+    pub hints: &'a Hints,
+}
+
+/// A script, and the dataset that it runs on: the header, and what the header implies.
+#[derive(Clone, Copy, Drop)]
+pub(crate) struct Setup<'a> {
+    pub header: &'a Header,
+    pub measures: &'a Measures,
+    pub script: &'a Script,
+}
+
+/// What a run lends to each of its steps.
+#[derive(Drop)]
+pub(crate) struct Lent<'a, R, G> {
+    pub tools: Tools<'a, R, G>,
+    pub setup: Setup<'a>,
+}
+
+/// How far a run has come: the file's count of records, and the finished steps in order.
+#[derive(Drop)]
+pub(crate) struct Progress {
+    pub records: u64,
+    pub order: MarkList,
+}
