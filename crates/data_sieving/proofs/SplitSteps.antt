@@ -24,16 +24,6 @@ taken_at (suc n) [] x h = absurd h
 taken_at (suc n) (y ∷ xs) x (inl e) = (zero, omega arith, ap Some e)
 taken_at (suc n) (y ∷ xs) x (inr h) = let r = taken_at n xs x h in let l = r.1 in (suc r.0, omega arith, r.2)
 
-pub got_dropped : {X : Type 0} (n : ℕ) (xs : List X) (x : X) → slice_get (drop n xs) 0 ≡ Some x → slice_get xs n ≡ Some x
-got_dropped zero xs x h = h
-got_dropped (suc n) [] x h = no_none_some x h
-got_dropped (suc n) (y ∷ xs) x h = got_dropped n xs x h
-
-pub got_taken : {X : Type 0} (n : ℕ) (xs : List X) (x : X) → slice_get (take n xs) 0 ≡ Some x → slice_get xs 0 ≡ Some x
-got_taken zero xs x h = no_none_some x h
-got_taken (suc n) [] x h = no_none_some x h
-got_taken (suc n) (y ∷ xs) x h = h
-
 pub none_got : {X : Type 0} (xs : List X) → slice_get xs 0 ≡ None → xs ≡ []
 none_got [] h = refl
 none_got (x ∷ xs) h = no_none_some x (sym h)
@@ -49,17 +39,6 @@ pub extents_dropped : (n : ℕ) (list : List Owned) (e : Extent) → In (extents
 extents_dropped zero list e h = h
 extents_dropped (suc n) [] e h = h
 extents_dropped (suc n) (o ∷ list) e h = inr (extents_dropped n list e h)
-
-pub extents_taken : (n : ℕ) (list : List Owned) (e : Extent) → In (extents (take n list)) e → In (extents list) e
-extents_taken zero list e h = absurd h
-extents_taken (suc n) [] e h = h
-extents_taken (suc n) (o ∷ list) e (inl g) = inl g
-extents_taken (suc n) (o ∷ list) e (inr h) = inr (extents_taken n list e h)
-
-pub sorted_taken : (n : ℕ) (list : List Owned) → IsByPlace (extents list) → IsByPlace (extents (take n list))
-sorted_taken zero list h = tt
-sorted_taken (suc n) [] h = tt
-sorted_taken (suc n) (o ∷ list) h = ((λ d m. h.0 d (extents_taken n list d m)), sorted_taken n list h.1)
 
 -- those from the one on that begins at the place or later
 later_all : (n place : ℕ) (list : List Owned) → IsByPlace (extents list) → ((o : Owned) → slice_get list n ≡ Some o → place ≤ o.extent.at)
