@@ -1,7 +1,7 @@
 use Rattle.std.proofs.Common.{◌∙◌, ap, length}
 use Rattle.std.specs.Prelude.{ℤ, List}
 use Rattle.std.proofs.lemmas.List.FromFn.{length-map-range_with_len}
-use Rattle.script_values.proofs.values.run_of_numbers.Goals as goal
+use Rattle.script_values.proofs.sequences.run_of_numbers.Goals as goal
 
 pub returns-clause-count : goal.returns-clause-count
 returns-clause-count c =

@@ -3,7 +3,7 @@ use Rattle.std.specs.Prelude.{ℕ, List, Ok, Result}
 use Rattle.nc_base.proofs.BitLaws.{length_bit_steps, no_wrap}
 use Rattle.nc_base.specs.BitForms.{bit_steps}
 use Rattle.nc_base.specs.declared.errors.ScriptKind.{ScriptKind}
-use Rattle.script_values.proofs.values.pattern_sequence.Goals as goal
+use Rattle.script_values.proofs.sequences.pattern_sequence.Goals as goal
 
 pub returns-clause-read : goal.returns-clause-read
 returns-clause-read c =
