@@ -10,6 +10,7 @@ use std::alloc::Global;
 // Cuts a range of elements into boxes, row by row.
 #[derive(Drop)]
 pub struct Cutter {
+    alloc: Global,
     // The indices of the row that is being cut, the slowest first.
     row: Vec<u64>,
     // The boxes so far, with the indices of their rows.
@@ -22,6 +23,7 @@ impl Cutter {
         ensures found { result.found ≡ [] }
     {
         Cutter {
+            alloc,
             row: Vec::new(alloc),
             found: PartList::new(alloc),
         }
@@ -35,14 +37,7 @@ impl Cutter {
 
     // Adds the boxes of the elements `from` to below `to` of a row, which has `size` elements.
     #[cycle(cutting)]
-    pub fn cut(
-        &mut self,
-        alloc: Global,
-        counts: &[u64],
-        size: u64,
-        from: u64,
-        to: u64,
-    ) -> Result<(), Memory>
+    pub fn cut(&mut self, counts: &[u64], size: u64, from: u64, to: u64) -> Result<(), Memory>
         requires size { size ≡ product counts.now }
         requires order { from ≤ to }
         requires end { to ≤ size }
@@ -53,21 +48,14 @@ impl Cutter {
             return Ok(());
         }
         match counts {
-            [] => self.add_element(alloc),
-            [count, inner @ ..] => self.cut_rows(alloc, inner, size / *count, from, to),
+            [] => self.add_element(),
+            [count, inner @ ..] => self.cut_rows(inner, size / *count, from, to),
         }
     }
 
     // The same for rows of these counts and this size: the part of the first row, whole rows, and the part of the last row.
     #[cycle(cutting)]
-    fn cut_rows(
-        &mut self,
-        alloc: Global,
-        counts: &[u64],
-        size: u64,
-        from: u64,
-        to: u64,
-    ) -> Result<(), Memory>
+    fn cut_rows(&mut self, counts: &[u64], size: u64, from: u64, to: u64) -> Result<(), Memory>
         requires size { size ≡ product counts.now }
         requires some { 1 ≤ size }
         requires order { from < to }
@@ -76,22 +64,15 @@ impl Cutter {
     {
         let (first, last) = (from / size, to / size);
         if first == last {
-            return self.cut_row(alloc, first, counts, size, from % size, to % size);
+            return self.cut_row(first, counts, size, from % size, to % size);
         }
-        self.cut_before(alloc, counts, size, from, last)?;
-        self.cut_row(alloc, last, counts, size, 0, to % size)
+        self.cut_before(counts, size, from, last)?;
+        self.cut_row(last, counts, size, 0, to % size)
     }
 
     // Adds the boxes before the last row.
     #[cycle(cutting)]
-    fn cut_before(
-        &mut self,
-        alloc: Global,
-        counts: &[u64],
-        size: u64,
-        from: u64,
-        last: u64,
-    ) -> Result<(), Memory>
+    fn cut_before(&mut self, counts: &[u64], size: u64, from: u64, last: u64) -> Result<(), Memory>
         requires size { size ≡ product counts.now }
         requires some { 1 ≤ size }
         ensures row { OnOk result (self.new.row.items ≡ self.old.row.items) }
@@ -99,17 +80,16 @@ impl Cutter {
     {
         let first = from / size;
         if from % size == 0 {
-            return self.add_rows(alloc, counts, first, last);
+            return self.add_rows(counts, first, last);
         }
-        self.cut_row(alloc, first, counts, size, from % size, size)?;
-        self.add_rows(alloc, counts, first + 1, last)
+        self.cut_row(first, counts, size, from % size, size)?;
+        self.add_rows(counts, first + 1, last)
     }
 
     // Adds the boxes of a range in the row with this index.
     #[cycle(cutting)]
     fn cut_row(
         &mut self,
-        alloc: Global,
         index: u64,
         counts: &[u64],
         size: u64,
@@ -123,37 +103,31 @@ impl Cutter {
         ensures found { OnOk result (self.new.found ≡ self.old.found ++ map (λ p. at_row self.old.row.items p) (fill.in_row index (fill.boxes counts.now from to))) }
     {
         self.row.push(index)?;
-        self.cut(alloc, counts, size, from, to)?;
+        self.cut(counts, size, from, to)?;
         self.row.pop();
         Ok(())
     }
 
     // Adds the one element that the indices of the row name.
-    fn add_element(&mut self, alloc: Global) -> Result<(), Memory>
+    fn add_element(&mut self) -> Result<(), Memory>
         ensures row { OnOk result (self.new.row.items ≡ self.old.row.items) }
         ensures found { OnOk result (self.new.found ≡ self.old.found ++ at_row self.old.row.items (record { start = []; count = [] }) ∷ []) }
     {
-        let start = SizeList::from_vec(Vec::from_slice(alloc, &self.row)?);
-        let count = SizeList::from_vec(vec![in alloc; 1; self.row.len()]?);
+        let start = SizeList::from_vec(Vec::from_slice(self.alloc, &self.row)?);
+        let count = SizeList::from_vec(vec![in self.alloc; 1; self.row.len()]?);
         self.found.push(Part { start, count })
     }
 
     // Adds the rows from `first` to below `last`, whole.
-    fn add_rows(
-        &mut self,
-        alloc: Global,
-        counts: &[u64],
-        first: u64,
-        last: u64,
-    ) -> Result<(), Memory>
+    fn add_rows(&mut self, counts: &[u64], first: u64, last: u64) -> Result<(), Memory>
         ensures row { OnOk result (self.new.row.items ≡ self.old.row.items) }
         ensures found { OnOk result (self.new.found ≡ self.old.found ++ map (λ p. at_row self.old.row.items p) (fill.whole_rows counts.now first last)) }
     {
         if last <= first {
             return Ok(());
         }
-        let start = start_at(alloc, &self.row, first, counts.len())?;
-        let count = counts_of(alloc, self.row.len(), last - first, counts)?;
+        let start = start_at(self.alloc, &self.row, first, counts.len())?;
+        let count = counts_of(self.alloc, self.row.len(), last - first, counts)?;
         self.found.push(Part { start, count })
     }
 }

@@ -43,7 +43,7 @@ pub fn boxes(alloc: Global, counts: &SizeList, from: u64, to: u64) -> Result<Par
         return Ok(cutter.into_boxes());
     }
     let counts = counts.as_slice();
-    cutter.cut(alloc, counts, size_of(counts), from, to)?;
+    cutter.cut(counts, size_of(counts), from, to)?;
     Ok(cutter.into_boxes())
 }
 

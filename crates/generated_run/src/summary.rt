@@ -9,7 +9,9 @@ ghost use Rattle.script_spec.specs.Texts.{line};
 use crate::elements::{added, elements_done};
 use crate::refusals::all_refusals;
 use crate::sums::sum_answers;
-use nc_base::{AnswerTable, Blob, CallList, Direction, Header, Mark, MarkList, Memory, Script};
+use nc_base::{
+    AnswerTable, Blob, CallList, Direction, Header, Mark, MarkList, Memory, RunEnd, Script,
+};
 use printed_text::words::{push_bytes, push_number_line, push_numbered, push_signed};
 use std::alloc::Global;
 use var_layout::end_of;
@@ -24,16 +26,15 @@ pub fn summary_text(
     size: u32,
     script: &Script,
     header: &Header,
-    order: &MarkList,
-    answers: &AnswerTable,
+    end: &RunEnd,
 ) -> Result<Blob, Memory>
     requires counted { has_counts script.now ≡ true }
     requires sound { is_sound header.now ≡ true }
-    ensures { IfOk result (λ text. text ≡ summary_text seed size script.now header.now order.now answers.now) }
+    ensures { IfOk result (λ text. text ≡ summary_text seed size script.now header.now end.now.order end.now.answers) }
 {
     let mut out = Vec::new(alloc);
-    push_run(&mut out, seed, size, script, order)?;
-    push_answers(alloc, &mut out, script, answers)?;
+    push_run(&mut out, seed, size, script, &end.order)?;
+    push_answers(alloc, &mut out, script, &end.answers)?;
     push_file(&mut out, header)?;
     Ok(Blob::from_vec(out))
 }

@@ -14,10 +14,11 @@ ghost use Rattle.dataset_start.specs.Opening.{IsNotReady, IsReady};
 ghost use Rattle.dataset_start.specs.Stops.{IsOfDataset, line_of_status, status_of};
 
 use crate::ending::{give, tell};
+use crate::tools::Tools;
 use crate::top::Outcome;
 use dataset_start::{Begun, Stop, make_ready};
 use generated_run::{make_script, summary_text};
-use nc_base::{Header, MarkList, ReadingTable, RunEnd, Script, StepErr};
+use nc_base::{MarkList, ReadingTable, RunEnd, StepErr};
 use nc_outside::{Disk, Gate, Sink};
 use rank_meeting::run_ranks;
 use std::alloc::Global;
@@ -26,14 +27,12 @@ use std::thread::Threads;
 
 /// Runs the script that the seed makes on the dataset, which is created, and gives the text that sums it up.
 pub(crate) fn run_made<R: Threads + Wait + Sync, K: Sink, D: Disk, G: Gate>(
-    rt: &R,
-    alloc: Global,
+    tools: &Tools<'_, R, G>,
     seed: u64,
     size: u32,
     dataset: &str,
     disk: &mut D,
     out: &mut K,
-    gate: &G,
 ) -> Outcome
     requires some { 1 ≤ size }
     requires few { size ≤ 64 }
@@ -50,16 +49,25 @@ pub(crate) fn run_made<R: Threads + Wait + Sync, K: Sink, D: Disk, G: Gate>(
     ensures readings { result.readings ≡ [] }
     ensures told { IfSome (line_of_status result.status) (λ line. GivesLine (K.faults out.old) (K.faults out.new) (K.given out.old) (K.given out.new) line) }
 {
-    let Begun { script, mut header } = match begin_made(alloc, seed, size, dataset, disk) {
+    let alloc = tools.alloc;
+    let mut begun = match begin_made(alloc, seed, size, dataset, disk) {
         Ok(begun) => begun,
         Err(stop) => return tell(alloc, out, stop, MarkList::new(alloc)),
     };
-    let mut records = header.records;
-    let end = run_ranks(rt, alloc, disk, &header, &mut records, &script, gate);
+    let mut records = begun.header.records;
+    let end = run_ranks(
+        tools.rt,
+        alloc,
+        disk,
+        &begun.header,
+        &mut records,
+        &begun.script,
+        tools.gate,
+    );
     match end.fault {
         None => {
-            header.records = records;
-            sum_up(alloc, out, seed, size, &script, &header, end)
+            begun.header.records = records;
+            sum_up(alloc, out, seed, size, &begun, end)
         }
         Some(StepErr::Disk) => tell(alloc, out, Stop::Disk, end.order),
         Some(StepErr::Memory) => tell(alloc, out, Stop::Memory, end.order),
@@ -97,21 +105,20 @@ fn sum_up<K: Sink>(
     out: &mut K,
     seed: u64,
     size: u32,
-    script: &Script,
-    header: &Header,
+    begun: &Begun,
     end: RunEnd,
 ) -> Outcome
-    requires counted { spec.has_counts script.now ≡ true }
-    requires sound { is_sound header.now ≡ true }
-    ensures whole { result.status ≡ 0 → K.given out.new ≡ with_end (K.given out.old) (spec.summary_text seed size script.now header.now end.order end.answers) }
-    ensures front { result.status ≡ 6 → (n : ℕ) × (K.given out.new ≡ with_end (K.given out.old) (take n (spec.summary_text seed size script.now header.now end.order end.answers))) }
+    requires counted { spec.has_counts begun.now.script ≡ true }
+    requires sound { is_sound begun.now.header ≡ true }
+    ensures whole { result.status ≡ 0 → K.given out.new ≡ with_end (K.given out.old) (spec.summary_text seed size begun.now.script begun.now.header end.order end.answers) }
+    ensures front { result.status ≡ 6 → (n : ℕ) × (K.given out.new ≡ with_end (K.given out.old) (take n (spec.summary_text seed size begun.now.script begun.now.header end.order end.answers))) }
     ensures sink { result.status ≡ 6 → Rose (K.faults out.old) (K.faults out.new) }
     ensures silent { result.status ≡ 8 → out.new ≡ out.old }
     ensures statuses { (result.status ≡ 0) ⊎ ((result.status ≡ 6) ⊎ (result.status ≡ 8)) }
     ensures order { result.order ≡ end.order }
     ensures readings { result.readings ≡ [] }
 {
-    match summary_text(alloc, seed, size, script, header, &end.order, &end.answers) {
+    match summary_text(alloc, seed, size, &begun.script, &begun.header, &end) {
         Ok(text) => give(out, text.as_slice(), end.order, ReadingTable::new(alloc)),
         Err(_) => tell(alloc, out, Stop::Memory, end.order),
     }

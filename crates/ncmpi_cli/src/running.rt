@@ -18,26 +18,24 @@ ghost use Rattle.dataset_start.specs.Stops.{line_of_status};
 ghost use Rattle.ncmpi_cli.specs.Watching.{AreReadings};
 
 use crate::ending::{finish, tell};
+use crate::tools::Tools;
 use crate::top::Outcome;
 use crate::watching::{Seen, WatchedRun, watch_ranks};
 use dataset_start::{Begun, Stop, begin};
 use nc_base::{Header, MarkList, ReadingTable, Script, SizeList, StepErr};
 use nc_outside::{Disk, Gate, Sink, Source};
 use rank_meeting::run_ranks;
-use std::alloc::Global;
 use std::sync::Wait;
 use std::thread::Threads;
 
 /// Runs the script that the source has on the dataset, beside so many watchers, and gives its text to the sink.
 pub(crate) fn run_script<R: Threads + Wait + Sync, S: Source, K: Sink, D: Disk, G: Gate>(
-    rt: &R,
-    alloc: Global,
+    tools: &Tools<'_, R, G>,
     dataset: &str,
     watchers: u32,
     script: &mut S,
     disk: &mut D,
     out: &mut K,
-    gate: &G,
 ) -> Outcome
     requires few { watchers ≤ 8 }
 
@@ -89,22 +87,14 @@ pub(crate) fn run_script<R: Threads + Wait + Sync, S: Source, K: Sink, D: Disk, 
     // The line that tells a fault, or a front of it where the sink failed.
     ensures told { IfSome (line_of_status result.status) (λ line. GivesLine (K.faults out.old) (K.faults out.new) (K.given out.old) (K.given out.new) line) }
 {
+    let alloc = tools.alloc;
     let Begun { script, mut header } = match begin(alloc, dataset, script, disk) {
         Ok(begun) => begun,
         Err(stop) => return tell(alloc, out, stop, MarkList::new(alloc)),
     };
     let opening = header.records;
     let mut records = opening;
-    let run = run_beside(
-        rt,
-        alloc,
-        disk,
-        &header,
-        &mut records,
-        &script,
-        gate,
-        watchers,
-    );
+    let run = run_beside(tools, disk, &header, &mut records, &script, watchers);
     match run.end.fault {
         None => {
             header.records = records;
@@ -117,13 +107,11 @@ pub(crate) fn run_script<R: Threads + Wait + Sync, S: Source, K: Sink, D: Disk, 
 
 // Runs the ranks, beside watchers where there are some.
 fn run_beside<R: Threads + Wait + Sync, D: Disk, G: Gate>(
-    rt: &R,
-    alloc: Global,
+    tools: &Tools<'_, R, G>,
     disk: &mut D,
     header: &Header,
     records: &mut u64,
     script: &Script,
-    gate: &G,
     watchers: u32,
 ) -> WatchedRun
     requires sound { is_sound header.now ≡ true }
@@ -137,10 +125,11 @@ fn run_beside<R: Threads + Wait + Sync, D: Disk, G: Gate>(
     ensures counted { IfSome (D.held disk.old) (AreCounted script.now header.now result) }
 {
     if watchers > 0 {
-        return watch_ranks(rt, alloc, disk, header, records, script, gate, watchers);
+        return watch_ranks(tools, disk, header, records, script, watchers);
     }
+    let alloc = tools.alloc;
     WatchedRun {
-        end: run_ranks(rt, alloc, disk, header, records, script, gate),
+        end: run_ranks(tools.rt, alloc, disk, header, records, script, tools.gate),
         seen: Some(Seen {
             readings: ReadingTable::new(alloc),
             counts: SizeList::new(alloc),

@@ -13,6 +13,7 @@ use crate::ending::tell;
 use crate::generating::run_made;
 use crate::offsets::list_offsets;
 use crate::running::run_script;
+use crate::tools::Tools;
 use dataset_start::Stop;
 use nc_base::{MarkList, ReadingTable};
 use nc_outside::{Disk, Gate, Sink, Source};
@@ -81,9 +82,10 @@ pub fn ncrun<R: Threads + Wait + Sync, S: Source, K: Sink, D: Disk, G: Gate>(
     // The line that tells a fault, or a front of it where the sink failed.
     ensures told { IfSome (line_of_status result.status) (λ line. GivesLine (K.faults out.old) (K.faults out.new) (K.given out.old) (K.given out.new) line) }
 {
+    let tools = Tools { rt, alloc, gate };
     match form_of(alloc, words) {
         Ok(Some(Form::Run { watchers, dataset })) => {
-            run_script(rt, alloc, dataset, watchers, script, disk, out, gate)
+            run_script(&tools, dataset, watchers, script, disk, out)
         }
         Ok(Some(Form::Offsets(dataset))) => list_offsets(alloc, disk, out, dataset),
         Ok(
@@ -94,7 +96,7 @@ pub fn ncrun<R: Threads + Wait + Sync, S: Source, K: Sink, D: Disk, G: Gate>(
                     dataset,
                 },
             ),
-        ) => run_made(rt, alloc, seed, size, dataset, disk, out, gate),
+        ) => run_made(&tools, seed, size, dataset, disk, out),
         Ok(None) => tell(alloc, out, Stop::Usage, MarkList::new(alloc)),
         Err(_) => tell(alloc, out, Stop::Memory, MarkList::new(alloc)),
     }

@@ -11,6 +11,7 @@ ghost use Rattle.turn_run.specs.Telling.{HasTold};
 ghost use Rattle.ncmpi_cli.specs.Watching.{AreReadings, seen_counts};
 ghost use Rattle.ncmpi_cli.specs.BeforeRun.{IsMade};
 
+use crate::tools::Tools;
 use crate::watcher::{Watched, numbers_of, read_beside};
 use nc_base::{Header, MarkList, Memory, ReadingTable, RunEnd, Script, SizeList, StepErr};
 use nc_outside::{Disk, Gate};
@@ -101,21 +102,17 @@ struct Scoped<'d, D, R: Wait + Drop> {
 /// The run in a scope of threads, in which each view reads beside it. A view whose thread can't be started reads after it.
 fn watch_in_scope<'s, 'd, E, R: Threads + Wait + Sync, B: Wait + Drop, D: Disk, G: Gate>(
     scope: &'s Scope<'s, E>,
-    rt: &'s R,
-    alloc: Global,
+    tools: &Tools<'s, R, G>,
     disk: &'d mut D,
     header: &Header,
-    records: u64,
     script: &Script,
-    gate: &'s G,
     made: Made<B>,
 ) -> Scoped<'d, D, B>
     requires sound { is_sound header.now ≡ true }
     requires lawful { is_lawful script.now ≡ true }
-    requires records { records ≡ header.now.records }
     requires from { D.from disk.old ≡ 0 }
     requires long { end_of header.now (header_len header.now) header.now.records ≤ D.len disk.old }
-    requires made { IsMade records made }
+    requires made { IsMade header.now.records made }
     ensures run { IsRun script.now header.now (D.held disk.old) (D.calls disk.old) (D.faults disk.old)
         (D.held result.disk.now) (D.calls result.disk.now) (D.faults result.disk.now) result.records result.end }
     ensures told { HasTold script.now header.now (D.held disk.old) (Some []) (Some result.board.pairs) result.end.order }
@@ -127,13 +124,13 @@ fn watch_in_scope<'s, 'd, E, R: Threads + Wait + Sync, B: Wait + Drop, D: Disk, 
         views,
         mut watched,
     } = made;
-    let mut records = records;
-    let Ok(mut started) = room_for(alloc, views.len()) else {
-        let end = not_begun(alloc, disk, header, records, script);
+    let (rt, gate) = (tools.rt, tools.gate);
+    let mut records = header.records;
+    let Ok(mut started) = room_for(tools.alloc, views.len()) else {
         return Scoped {
+            end: not_begun(tools.alloc, disk, header, records, script),
             disk,
             records,
-            end,
             board,
             watched,
         };
@@ -146,7 +143,7 @@ fn watch_in_scope<'s, 'd, E, R: Threads + Wait + Sync, B: Wait + Drop, D: Disk, 
     }
     let end = run_ranks_told(
         rt,
-        alloc,
+        tools.alloc,
         disk,
         header,
         &mut records,
@@ -154,18 +151,32 @@ fn watch_in_scope<'s, 'd, E, R: Threads + Wait + Sync, B: Wait + Drop, D: Disk, 
         gate,
         &mut board,
     );
-    for one in started {
-        watched.push_reserved(match one {
-            Ok(handle) => handle.join(rt),
-            Err(refused) => (refused.value)(),
-        });
-    }
+    join_all(rt, started, &mut watched);
     Scoped {
         disk,
         records,
         end,
         board,
         watched,
+    }
+}
+
+/// Adds what each watcher read, once its thread is over. A view whose thread couldn't be started reads now.
+fn join_all<R: Threads, F: FnOnce() -> Watched + Drop>(
+    rt: &R,
+    started: Vec<Result<JoinHandle<Watched>, SpawnError<F>>>,
+    watched: &mut Vec<Watched>,
+)
+    requires callable { (read : F) → F.pre read }
+    requires none { watched.old.items ≡ [] }
+    requires room { length started.items ≤ vec_capacity watched.old }
+    ensures { length watched.new.items ≡ length started.items }
+{
+    for one in started {
+        watched.push_reserved(match one {
+            Ok(handle) => handle.join(rt),
+            Err(refused) => (refused.value)(),
+        });
     }
 }
 
@@ -197,13 +208,11 @@ fn not_begun<D: Disk>(
 /// The run with a thread for each view, in a scope of threads.
 #[tactic(auto, using(crate::proofs::WatchedTables::told_long))]
 fn run_watched<R: Threads + Wait + Sync, D: Disk, G: Gate>(
-    rt: &R,
-    alloc: Global,
+    tools: &Tools<'_, R, G>,
     disk: &mut D,
     header: &Header,
     records: &mut u64,
     script: &Script,
-    gate: &G,
     made: Made<&R>,
 ) -> WatchedRun
     requires sound { is_sound header.now ≡ true }
@@ -211,13 +220,12 @@ fn run_watched<R: Threads + Wait + Sync, D: Disk, G: Gate>(
     requires records { records.old ≡ header.now.records }
     requires from { D.from disk.old ≡ 0 }
     requires long { end_of header.now (header_len header.now) header.now.records ≤ D.len disk.old }
-    requires made { IsMade records.old made }
+    requires made { IsMade header.now.records made }
     ensures run { IsRun script.now header.now (D.held disk.old) (D.calls disk.old) (D.faults disk.old) (D.held disk.new) (D.calls disk.new) (D.faults disk.new) records.new result.end }
     ensures readings { IfSome result.seen (λ seen. (length seen.readings ≡ length made.entry.views.items) × All (AreReadings (length result.end.order)) seen.readings) }
     ensures counts { IfSome result.seen (λ seen. length seen.counts ≡ length result.end.order) }
     ensures told { IfSome result.seen (λ seen. IfSome (D.held disk.old) (λ file. seen.counts ≡ seen_counts (told_of script.now header.now file result.end.order))) }
 {
-    let count = *records;
     let Scoped {
         disk: back,
         records: last,
@@ -226,20 +234,20 @@ fn run_watched<R: Threads + Wait + Sync, D: Disk, G: Gate>(
         watched,
     } = thread::scope(
         thread::scope_env(),
-        rt,
+        tools.rt,
         |scope| -> Scoped<D, &R>
-            requires { (is_sound header.now ≡ true) × (is_lawful script.now ≡ true) × (count ≡ header.now.records) × (D.from disk.now ≡ 0)
-                × (end_of header.now (header_len header.now) header.now.records ≤ D.len disk.now) × IsMade count made }
+            requires { (is_sound header.now ≡ true) × (is_lawful script.now ≡ true) × (D.from disk.now ≡ 0)
+                × (end_of header.now (header_len header.now) header.now.records ≤ D.len disk.now) × IsMade header.now.records made }
             ensures run { IsRun script.entry.now header.entry.now (D.held disk.entry.now) (D.calls disk.entry.now) (D.faults disk.entry.now)
                 (D.held result.disk.now) (D.calls result.disk.now) (D.faults result.disk.now) result.records result.end }
             ensures told { HasTold script.entry.now header.entry.now (D.held disk.entry.now) (Some []) (Some result.board.pairs) result.end.order }
             ensures watched { result.end.fault ≡ None → length result.watched.items ≡ length made.entry.views.items }
             ensures same { result.disk.ghost_name ≡ disk.entry.ghost_name }
-        { watch_in_scope(scope, rt, alloc, disk, header, count, script, gate, made) },
+        { watch_in_scope(scope, tools, disk, header, script, made) },
     );
     take_back(back);
     *records = last;
-    let seen = seen_after(alloc, &end, &mut board, watched);
+    let seen = seen_after(tools.alloc, &end, &mut board, watched);
     WatchedRun { end, seen }
 }
 
@@ -250,13 +258,11 @@ fn take_back<T>(lent: &mut T)
 
 /// Runs the ranks of a script as `run_ranks` does, while so many watchers read beside them how far the run has come.
 pub(crate) fn watch_ranks<R: Threads + Wait + Sync, D: Disk, G: Gate>(
-    rt: &R,
-    alloc: Global,
+    tools: &Tools<'_, R, G>,
     disk: &mut D,
     header: &Header,
     records: &mut u64,
     script: &Script,
-    gate: &G,
     watchers: u32,
 ) -> WatchedRun
     requires sound { is_sound header.now ≡ true }
@@ -271,10 +277,10 @@ pub(crate) fn watch_ranks<R: Threads + Wait + Sync, D: Disk, G: Gate>(
     ensures counts { IfSome result.seen (λ seen. length seen.counts ≡ length result.end.order) }
     ensures told { IfSome result.seen (λ seen. IfSome (D.held disk.old) (λ file. seen.counts ≡ seen_counts (told_of script.now header.now file result.end.order))) }
 {
-    match make_watch(rt, alloc, watchers, *records) {
-        Ok(made) => run_watched(rt, alloc, disk, header, records, script, gate, made),
+    match make_watch(tools.rt, tools.alloc, watchers, header.records) {
+        Ok(made) => run_watched(tools, disk, header, records, script, made),
         Err(_) => WatchedRun {
-            end: not_begun(alloc, disk, header, *records, script),
+            end: not_begun(tools.alloc, disk, header, *records, script),
             seen: None,
         },
     }

@@ -87,11 +87,24 @@ fn read_end(
     finish(alloc, number, table, lines)
 }
 
-/// The script that a draft and the calls make.
+/// What a script says before its calls: its version, or 0 for an existing dataset, how many ranks it has, and what it defines.
+#[derive(Drop)]
+struct Opening<'a> {
+    version: u8,
+    ranks: u32,
+    draft: Draft<'a>,
+}
+
+/// The script that an opening and the calls make.
 #[tactic(auto, unfolding(crate::specs::TopWords::made_by))]
-fn script_of(version: u8, ranks: u32, draft: Draft<'_>, calls: CallTable) -> Script
-    ensures { result ≡ made_by version ranks draft.entry calls }
+fn script_of(opening: Opening<'_>, calls: CallTable) -> Script
+    ensures { result ≡ made_by opening.entry.version opening.entry.ranks opening.entry.draft calls }
 {
+    let Opening {
+        version,
+        ranks,
+        draft,
+    } = opening;
     let Draft {
         hints,
         defined,
@@ -151,18 +164,12 @@ fn read_calls(
     Ok((number, table))
 }
 
-/// The script that a draft and a table of calls make.
-fn made(
-    alloc: Global,
-    version: u8,
-    ranks: u32,
-    draft: Draft<'_>,
-    table: RankTable,
-) -> Result<Script, LineErr>
-    ensures { GivesAt (λ script. script) result (Ok (made_by version ranks draft.entry table.calls)) }
+/// The script that an opening and a table of calls make.
+fn made(alloc: Global, opening: Opening<'_>, table: RankTable) -> Result<Script, LineErr>
+    ensures { GivesAt (λ script. script) result (Ok (made_by opening.entry.version opening.entry.ranks opening.entry.draft table.calls)) }
 {
     match table.into_calls(alloc) {
-        Ok(calls) => Ok(script_of(version, ranks, draft, calls)),
+        Ok(calls) => Ok(script_of(opening, calls)),
         Err(_) => Err(LineErr::Memory),
     }
 }
@@ -171,17 +178,15 @@ fn made(
 #[tactic(auto, unfolding(crate::specs::TopWords::end_by))]
 fn read_after_end(
     alloc: Global,
-    version: u8,
-    ranks: u32,
-    draft: Draft<'_>,
+    opening: Opening<'_>,
     number: u32,
     table: RankTable,
     lines: &mut TextLines<'_>,
 ) -> Result<Script, LineErr>
-    ensures { GivesAt (λ script. script) result (end_by version ranks draft.entry number table.calls (significant_of lines.old)) }
+    ensures { GivesAt (λ script. script) result (end_by opening.entry.version opening.entry.ranks opening.entry.draft number table.calls (significant_of lines.old)) }
 {
     match read_end(alloc, number, &table, lines) {
-        Ok(()) => made(alloc, version, ranks, draft, table),
+        Ok(()) => made(alloc, opening, table),
         Err(fault) => Err(fault),
     }
 }
@@ -191,16 +196,14 @@ fn read_after_end(
 fn read_after_data(
     alloc: Global,
     past: u32,
-    version: u8,
-    ranks: u32,
-    draft: Draft<'_>,
+    opening: Opening<'_>,
     lines: &mut TextLines<'_>,
 ) -> Result<Script, LineErr>
-    requires { ranks ≤ 64 }
-    ensures { GivesAt (λ script. script) result (calls_by past version ranks draft.entry (significant_of lines.old)) }
+    requires { opening.ranks ≤ 64 }
+    ensures { GivesAt (λ script. script) result (calls_by past opening.entry.version opening.entry.ranks opening.entry.draft (significant_of lines.old)) }
 {
-    match read_calls(alloc, past, ranks, &draft, lines) {
-        Ok((number, table)) => read_after_end(alloc, version, ranks, draft, number, table, lines),
+    match read_calls(alloc, past, opening.ranks, &opening.draft, lines) {
+        Ok((number, table)) => read_after_end(alloc, opening, number, table, lines),
         Err(fault) => Err(fault),
     }
 }
@@ -216,7 +219,14 @@ fn read_rest(
     ensures { GivesAt (λ script. script) result (rest_by past version (significant_of lines.old)) }
 {
     match read_definitions(alloc, past, version, lines) {
-        Ok((ranks, draft)) => read_after_data(alloc, past, version, ranks, draft, lines),
+        Ok((ranks, draft)) => {
+            let opening = Opening {
+                version,
+                ranks,
+                draft,
+            };
+            read_after_data(alloc, past, opening, lines)
+        }
         Err(fault) => Err(fault),
     }
 }

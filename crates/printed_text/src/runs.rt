@@ -82,9 +82,22 @@ fn push_ranks(
     let answers = end.answers.as_slice();
     let pending = end.pending.as_slice();
     for (rank, ((calls, answers), pending)) in calls.iter().zip(answers).zip(pending).enumerate() {
-        push_rank(alloc, out, names, rank as u64, calls, answers, *pending)?;
+        let run = RankRun {
+            calls,
+            answers,
+            pending: *pending,
+        };
+        push_rank(alloc, out, names, rank as u64, run)?;
     }
     Ok(())
+}
+
+/// What one rank did: its calls, their answers, and how many requests it left.
+#[derive(Drop)]
+struct RankRun<'a> {
+    calls: &'a CallList,
+    answers: &'a AnswerList,
+    pending: u64,
 }
 
 fn push_rank(
@@ -92,15 +105,19 @@ fn push_rank(
     out: &mut Vec<u8>,
     names: &NameDigits,
     rank: u64,
-    calls: &CallList,
-    answers: &AnswerList,
-    pending: u64,
+    run: RankRun<'_>,
 ) -> Result<(), Memory>
-    ensures { OnOk result (out.new.items ≡ out.old.items ++ rank_lines names.now (rank, ((calls.now, answers.now), pending))) }
+    ensures { OnOk result (out.new.items ≡ out.old.items ++ rank_lines names.now (rank, ((run.entry.calls.now, run.entry.answers.now), run.entry.pending))) }
 {
     push_number_line(out, b"rank ", rank)?;
-    push_calls(alloc, out, names, calls.as_slice(), answers.as_slice())?;
-    push_number_line(out, b"pending ", pending)?;
+    push_calls(
+        alloc,
+        out,
+        names,
+        run.calls.as_slice(),
+        run.answers.as_slice(),
+    )?;
+    push_number_line(out, b"pending ", run.pending)?;
     Ok(())
 }
 

@@ -8,7 +8,7 @@ ghost use Rattle.script_spec.specs.ScriptCalls.{Called, rank_of_text, call_line,
 ghost use Rattle.script_calls.specs.Posts.{IsNew};
 ghost use Rattle.script_words.specs.Reading.{Gives};
 
-use crate::calls::call_of;
+use crate::calls::{CallPlace, call_of};
 use crate::rank_calls::{RankCalls, kinds};
 use nc_base::{Call, CallTable, Items, MeetKind, Memory, ScriptKind, Values};
 use script_words::numbers::{begins_rank, digits_below};
@@ -96,15 +96,12 @@ impl RankTable {
     {
         let word = next(words)?;
         let own = &self.ranks[rank as usize];
-        call_of(
-            alloc,
-            self.ranks.len() as u32,
+        let place = CallPlace {
+            ranks: self.ranks.len() as u32,
             rank,
-            own,
-            self.values,
-            word,
-            words,
-        )
+            before: self.values,
+        };
+        call_of(alloc, place, own, word, words)
     }
 
     #[tactic(auto, using(crate::proofs::CallLaws::found_own))]

@@ -2,184 +2,28 @@
 ghost use Rattle.std.specs.Prelude.{◌≡◌, ◌≤◌, ◌^◌, ◌+◌, [], IfOk, None, option_map, false};
 ghost use Rattle.serial_spec.specs.Lawful.{values_in_call};
 ghost use Rattle.script_spec.specs.ScriptSteps.{whole};
-ghost use Rattle.script_spec.specs.ScriptCalls.{after_prefix, before_suffix, form_and_all, form_of_text, post_values, posted, id_of_post, choice, one_id, ids, fill_call, attach_call, inquiry, lone_call, other_call, plain_call, post_of_text, call_of, new_id, is_posted};
-ghost use Rattle.serial_spec.specs.Request.{count_of};
-ghost use Rattle.script_calls.specs.CallWords.{region_by, values_by, post_values_by, new_id_by, put_by, get_by, post_by, plain_by, post_or_plain_by, call_by};
+ghost use Rattle.script_spec.specs.ScriptCalls.{posted, id_of_post, choice, one_id, ids, fill_call, attach_call, inquiry, lone_call, other_call, plain_call, call_of};
+ghost use Rattle.script_calls.specs.CallWords.{plain_by, post_or_plain_by, call_by};
 ghost use Rattle.script_words.specs.Reading.{Gives, word_of};
 ghost use Rattle.script_calls.specs.Posts.{IsNew};
 
+use crate::accesses::{
+    after_prefix, form_and_all, get_call, owned, post_call, post_of_text, put_call,
+};
 use crate::rank_calls::RankCalls;
-use nc_base::{Call, Choice, Form, Given, IdList, Name, NumberList, PostKind, ScriptKind, Values};
-use script_values::regions::{form_of_text, region};
-use script_values::values::values;
+use nc_base::{Call, Choice, IdList, ScriptKind};
+use script_values::regions::form_of_text;
 use script_words::numbers::id_of_text;
-use script_words::reading::{bare, ended, id, name, size};
+use script_words::reading::{bare, ended, name, size};
 use script_words::{ReadErr, Token, Words};
-use std::alloc::{AllocError, Global};
+use std::alloc::Global;
 
-fn after_prefix<'a>(prefix: &[u8], word: &'a [u8]) -> Option<&'a [u8]>
-    ensures { option_map (λ rest. rest.now) result ≡ after_prefix prefix.now word.now }
-{
-    word.strip_prefix(prefix)
-}
-
-fn before_suffix<'a>(suffix: &[u8], word: &'a [u8]) -> Option<&'a [u8]>
-    ensures { option_map (λ rest. rest.now) result ≡ before_suffix suffix.now word.now }
-{
-    word.strip_suffix(suffix)
-}
-
-/// A form, and whether the word ends with `_all`.
-fn form_and_all(word: &[u8]) -> Option<(Form, bool)>
-    ensures { result ≡ form_and_all word.now }
-{
-    match before_suffix(b"_all".as_slice(), word) {
-        Some(form) => Some((form_of_text(form)?, true)),
-        None => Some((form_of_text(word)?, false)),
-    }
-}
-
-fn owned(alloc: Global, name: &[u8]) -> Result<Name, AllocError>
-    ensures { IfOk result (λ n. n ≡ name.now) }
-{
-    Ok(Name::from_vec(Vec::from_slice(alloc, name)?))
-}
-
-#[tactic(auto, unfolding(crate::specs::CallWords::region_by))]
-fn call_region(alloc: Global, form: Form, words: &mut Words<'_>) -> Result<Given, ReadErr>
-    ensures { Gives (λ g. (g, words.new)) result (region_by form words.old) }
-{
-    region(alloc, form, words)
-}
-
-#[tactic(auto, unfolding(crate::specs::CallWords::values_by))]
-fn call_values(alloc: Global, before: u64, words: &mut Words<'_>) -> Result<Values, ReadErr>
-    requires { before ≤ 2 ^ 24 }
-    ensures read { Gives (λ vs. vs) result (values_by before words.old) }
-    ensures bound { IfOk result (λ vs. before + count_of vs ≤ 2 ^ 24) }
-{
-    values(alloc, None, before, words)
-}
-
-#[tactic(auto, unfolding(crate::specs::CallWords::put_by))]
-fn put_call(
-    alloc: Global,
-    all: bool,
-    form: Form,
-    before: u64,
-    words: &mut Words<'_>,
-) -> Result<Call, ReadErr>
-    requires { before ≤ 2 ^ 24 }
-    ensures read { Gives (λ c. c) result (put_by all form before words.old) }
-    ensures bound { IfOk result (λ c. before + values_in_call c ≤ 2 ^ 24) }
-    ensures new { IfOk result (λ c. id_of_post c ≡ None) }
-{
-    let var = name(words)?;
-    let given = call_region(alloc, form, words)?;
-    let values = call_values(alloc, before, words)?;
-    Ok(Call::Put {
-        all,
-        var: owned(alloc, var)?,
-        given,
-        values,
-    })
-}
-
-#[tactic(auto, unfolding(crate::specs::CallWords::get_by))]
-fn get_call(alloc: Global, all: bool, form: Form, words: &mut Words<'_>) -> Result<Call, ReadErr>
-    ensures read { Gives (λ c. c) result (get_by all form words.old) }
-    ensures none { IfOk result (λ c. (values_in_call c ≡ 0) × (id_of_post c ≡ None)) }
-{
-    let var = name(words)?;
-    let given = call_region(alloc, form, words)?;
-    ended(words)?;
-    Ok(Call::Get {
-        all,
-        var: owned(alloc, var)?,
-        given,
-    })
-}
-
-/// Reads the values of a post; a get has none.
-fn post_values(
-    alloc: Global,
-    kind: PostKind,
-    before: u64,
-    words: &mut Words<'_>,
-) -> Result<Values, ReadErr>
-    requires { before ≤ 2 ^ 24 }
-    ensures read { Gives (λ vs. vs) result (post_values kind before words.old) }
-    ensures bound { IfOk result (λ vs. before + count_of vs ≤ 2 ^ 24) }
-{
-    match kind {
-        PostKind::Iget => {
-            ended(words)?;
-            Ok(Values::Numbers(NumberList::new(alloc)))
-        }
-        PostKind::Iput | PostKind::Bput => values(alloc, None, before, words),
-    }
-}
-
-/// Reads the id of a post, which the rank has not posted.
-fn new_id(own: &RankCalls, words: &mut Words<'_>) -> Result<u32, ReadErr>
-    ensures read { Gives (λ id. (id, words.new)) result (new_id (posted own.now) words.old) }
-    ensures new { IfOk result (λ id. is_posted id (posted own.now) ≡ false) }
-{
-    let id = id(words)?;
-    if own.has_posted(id) {
-        return Err(ReadErr::Fault(ScriptKind::TwiceNamed));
-    }
-    Ok(id)
-}
-
-/// The same under a name that proofs keep shut.
-#[tactic(auto, unfolding(crate::specs::CallWords::post_values_by))]
-fn values_of_post(
-    alloc: Global,
-    kind: PostKind,
-    before: u64,
-    words: &mut Words<'_>,
-) -> Result<Values, ReadErr>
-    requires { before ≤ 2 ^ 24 }
-    ensures read { Gives (λ vs. vs) result (post_values_by kind before words.old) }
-    ensures bound { IfOk result (λ vs. before + count_of vs ≤ 2 ^ 24) }
-{
-    post_values(alloc, kind, before, words)
-}
-
-#[tactic(auto, unfolding(crate::specs::CallWords::new_id_by))]
-fn id_of_new_post(own: &RankCalls, words: &mut Words<'_>) -> Result<u32, ReadErr>
-    ensures read { Gives (λ id. (id, words.new)) result (new_id_by (posted own.now) words.old) }
-    ensures new { IfOk result (λ id. is_posted id (posted own.now) ≡ false) }
-{
-    new_id(own, words)
-}
-
-#[tactic(auto, unfolding(crate::specs::CallWords::post_by))]
-fn post_call(
-    alloc: Global,
-    kind: PostKind,
-    own: &RankCalls,
-    form: Form,
-    before: u64,
-    words: &mut Words<'_>,
-) -> Result<Call, ReadErr>
-    requires { before ≤ 2 ^ 24 }
-    ensures read { Gives (λ c. c) result (post_by kind (posted own.now) form before words.old) }
-    ensures bound { IfOk result (λ c. before + values_in_call c ≤ 2 ^ 24) }
-    ensures new { IfOk result (λ c. IsNew (posted own.now) c) }
-{
-    let id = id_of_new_post(own, words)?;
-    let var = name(words)?;
-    let given = call_region(alloc, form, words)?;
-    let values = values_of_post(alloc, kind, before, words)?;
-    Ok(Call::Post {
-        id,
-        kind,
-        var: owned(alloc, var)?,
-        given,
-        values,
-    })
+/// Where a call stands in a script: which rank makes it, of how many, and how many values came before it.
+#[derive(Clone, Copy)]
+pub struct CallPlace {
+    pub ranks: u32,
+    pub rank: u32,
+    pub before: u64,
 }
 
 fn one_id(word: Token<'_>) -> Result<u32, ReadErr>
@@ -330,20 +174,6 @@ fn plain_call(
     other_call(alloc, ranks, rank, word, words)
 }
 
-/// The kind of a post, and what follows it in the word.
-fn post_of_text(word: &[u8]) -> Option<(PostKind, &[u8])>
-    ensures { option_map (λ k. (k.0, k.1.now)) result ≡ post_of_text word.now }
-{
-    if let Some(form) = after_prefix(b"iput_".as_slice(), word) {
-        return Some((PostKind::Iput, form));
-    }
-    if let Some(form) = after_prefix(b"bput_".as_slice(), word) {
-        return Some((PostKind::Bput, form));
-    }
-    let form = after_prefix(b"iget_".as_slice(), word)?;
-    Some((PostKind::Iget, form))
-}
-
 #[tactic(auto, unfolding(crate::specs::CallWords::plain_by))]
 fn call_without_form(
     alloc: Global,
@@ -362,47 +192,43 @@ fn call_without_form(
 #[tactic(auto, unfolding(crate::specs::CallWords::post_or_plain_by))]
 fn post_or_plain(
     alloc: Global,
-    ranks: u32,
-    rank: u32,
+    place: CallPlace,
     own: &RankCalls,
-    before: u64,
     word: &[u8],
     words: &mut Words<'_>,
 ) -> Result<Call, ReadErr>
-    requires { before ≤ 2 ^ 24 }
-    ensures read { Gives (λ c. c) result (post_or_plain_by ranks rank own.now before word.now words.old) }
-    ensures bound { IfOk result (λ c. before + values_in_call c ≤ 2 ^ 24) }
+    requires { place.before ≤ 2 ^ 24 }
+    ensures read { Gives (λ c. c) result (post_or_plain_by place.ranks place.rank own.now place.before word.now words.old) }
+    ensures bound { IfOk result (λ c. place.before + values_in_call c ≤ 2 ^ 24) }
     ensures new { IfOk result (λ c. IsNew (posted own.now) c) }
 {
     let Some((kind, form)) = post_of_text(word) else {
-        return call_without_form(alloc, ranks, rank, word, words);
+        return call_without_form(alloc, place.ranks, place.rank, word, words);
     };
     let Some(form) = form_of_text(form) else {
         return Err(ReadErr::Fault(ScriptKind::UnknownWord));
     };
-    post_call(alloc, kind, own, form, before, words)
+    post_call(alloc, kind, own, form, place.before, words)
 }
 
 #[tactic(auto, unfolding(crate::specs::CallWords::call_by))]
 fn call_named(
     alloc: Global,
-    ranks: u32,
-    rank: u32,
+    place: CallPlace,
     own: &RankCalls,
-    before: u64,
     word: &[u8],
     words: &mut Words<'_>,
 ) -> Result<Call, ReadErr>
-    requires { before ≤ 2 ^ 24 }
-    ensures read { Gives (λ c. c) result (call_by ranks rank own.now before word.now words.old) }
-    ensures bound { IfOk result (λ c. before + values_in_call c ≤ 2 ^ 24) }
+    requires { place.before ≤ 2 ^ 24 }
+    ensures read { Gives (λ c. c) result (call_by place.ranks place.rank own.now place.before word.now words.old) }
+    ensures bound { IfOk result (λ c. place.before + values_in_call c ≤ 2 ^ 24) }
     ensures new { IfOk result (λ c. IsNew (posted own.now) c) }
 {
     if let Some(form) = after_prefix(b"put_".as_slice(), word) {
         let Some((form, all)) = form_and_all(form) else {
             return Err(ReadErr::Fault(ScriptKind::UnknownWord));
         };
-        return put_call(alloc, all, form, before, words);
+        return put_call(alloc, all, form, place.before, words);
     }
     if let Some(form) = after_prefix(b"get_".as_slice(), word) {
         let Some((form, all)) = form_and_all(form) else {
@@ -410,23 +236,21 @@ fn call_named(
         };
         return get_call(alloc, all, form, words);
     }
-    post_or_plain(alloc, ranks, rank, own, before, word, words)
+    post_or_plain(alloc, place, own, word, words)
 }
 
-/// Reads a call of a rank by its word, where the rank has had these calls, and so many values have come.
+/// Reads a call of a rank by its word, where the rank has had these calls.
 pub fn call_of(
     alloc: Global,
-    ranks: u32,
-    rank: u32,
+    place: CallPlace,
     own: &RankCalls,
-    before: u64,
     word: &[u8],
     words: &mut Words<'_>,
 ) -> Result<Call, ReadErr>
-    requires { before ≤ 2 ^ 24 }
-    ensures read { Gives (λ c. c) result (call_of ranks rank own.now before word.now words.old) }
-    ensures bound { IfOk result (λ c. before + values_in_call c ≤ 2 ^ 24) }
+    requires { place.before ≤ 2 ^ 24 }
+    ensures read { Gives (λ c. c) result (call_of place.ranks place.rank own.now place.before word.now words.old) }
+    ensures bound { IfOk result (λ c. place.before + values_in_call c ≤ 2 ^ 24) }
     ensures new { IfOk result (λ c. IsNew (posted own.now) c) }
 {
-    call_named(alloc, ranks, rank, own, before, word, words)
+    call_named(alloc, place, own, word, words)
 }

@@ -9,6 +9,8 @@ ghost use Rattle.script_spec.specs.ScriptGrammar.{Reads, most_bytes, most_lines}
 ghost use Rattle.script_spec.specs.Shown.{shown};
 ghost use Rattle.script_text.specs.Expressible.{is_expressible, printed_lines};
 
+mod calls;
+mod definitions;
 mod printing;
 
 pub use printing::print_script;

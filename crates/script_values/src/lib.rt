@@ -2,5 +2,7 @@
 #![tactic(auto)]
 
 mod fits;
+mod limits;
 pub mod regions;
+mod sequences;
 pub mod values;

@@ -8,7 +8,7 @@ use super::NO_MEMORY;
 use generated_run::{made_law, make_script, summary_text};
 use nc_base::{
     Align, Answer, AnswerList, AnswerTable, BitList, Code, Header, Item, ItemList, Mark, MarkList,
-    NumberList, Script, Values,
+    NumberList, RunEnd, Script, SizeList, Values,
 };
 use std::alloc::Global;
 use std::process::Abort;
@@ -120,11 +120,16 @@ fn what_a_rank_did_is_summed_up(rt: HostRuntime) {
     let alloc = rt.alloc();
     let script = made(&rt, alloc, 7, 1);
     let header = laid_out(&rt, made(&rt, alloc, 7, 1).header);
-    let order = order(&rt, alloc);
     let mut answers = AnswerTable::new(alloc);
     answers
         .push(answers_of_rank(&rt, alloc))
         .expect(&rt, NO_MEMORY);
-    let text = summary_text(alloc, 7, 1, &script, &header, &order, &answers).expect(&rt, NO_MEMORY);
+    let end = RunEnd {
+        order: order(&rt, alloc),
+        answers,
+        pending: SizeList::new(alloc),
+        fault: None,
+    };
+    let text = summary_text(alloc, 7, 1, &script, &header, &end).expect(&rt, NO_MEMORY);
     assert_eq!(rt; text.as_slice(), TOLD);
 }

@@ -3,6 +3,3 @@ use Rattle.ncmpi_cli.proofs.watching.watch_in_scope.Given as goal
 
 abbrev pub invariant-loop-view : goal.invariant-loop-view
 invariant-loop-view g l = (length l.started.items + length l.view-iterator.rest.items ≡ length l.fn.made.views.items) × (length l.fn.made.views.items ≤ vec_capacity l.started)
-
-abbrev pub invariant-loop-one : goal.invariant-loop-one
-invariant-loop-one g l = (length l.watched.items + length l.one-iterator.rest.items ≡ length l.fn.made.views.items) × (length l.fn.made.views.items ≤ vec_capacity l.watched)

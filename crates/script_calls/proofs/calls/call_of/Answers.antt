@@ -8,5 +8,5 @@ use Rattle.script_calls.proofs.calls.call_of.Goals as goal
 pub returns-clause-read : goal.returns-clause-read
 returns-clause-read c =
     subst (λ (read : Result Call ScriptKind). Gives (λ (x : Call). x) c.call_named.result read)
-    (same_call c.args.ranks c.args.rank c.args.own.now c.args.before c.args.word.now c.args.words.now)
+    (same_call c.args.place.ranks c.args.place.rank c.args.own.now c.args.place.before c.args.word.now c.args.words.now)
     c.call_named.ensures.read

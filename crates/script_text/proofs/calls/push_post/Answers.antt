@@ -1,0 +1,11 @@
+use Rattle.std.proofs.Common.{List, ℕ, ◌∷◌, ◌++◌, decimal}
+use Rattle.script_spec.specs.Shown.{region_words, shown_values}
+use Rattle.printed_text.proofs.Appends.{then_append}
+use Rattle.printed_text.specs.Spaced.{spaced}
+use Rattle.script_text.proofs.calls.push_post.Goals as goal
+
+pub returns : goal.returns
+returns c =
+    let ws : List (List ℕ) = c.args.var.now ∷ region_words c.args.given.now ++ shown_values c.args.values.now in
+    let first = rw c.from.ensures at c.in_ok-push_numbered.ensures in
+    then_append c.args.out.now.items _ _ (32 ∷ decimal c.args.id) (spaced ws) first c.in_ok-push_access.ensures

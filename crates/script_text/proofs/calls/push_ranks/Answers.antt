@@ -1,0 +1,17 @@
+use Rattle.std.proofs.Common.{ℕ, List, arith}
+use Rattle.std.specs.List.{flat_map}
+use Rattle.nc_base.specs.declared.request.Call.{Call}
+use Rattle.script_spec.specs.Shown.{shown_call}
+use Rattle.script_text.proofs.PrintingLaws.{rank_pushed, ranks_pushed}
+use Rattle.script_text.proofs.calls.push_ranks.Goals as goal
+
+pub loop-rank-preserved : goal.loop-rank-preserved
+loop-rank-preserved c =
+    let pushed = rw c.as_slice.ensures at c.in_ok-push_calls.ensures in
+    rank_pushed (λ (p : ℕ × List Call). flat_map (shown_call p.0) p.1) c.args.out.now.items c.loop-rank.out.items c.push_calls.new.out.items c.args.ranks.now
+    c.loop-rank.rank c.index-ranks-rank.result (omega arith) c.index-ranks-rank.is c.loop-rank.invariant pushed
+
+pub returns : goal.returns
+returns c =
+    ranks_pushed (λ (p : ℕ × List Call). flat_map (shown_call p.0) p.1) c.args.out.now.items c.loop-rank.out.items c.args.ranks.now c.loop-rank.rank (omega arith)
+    c.loop-rank.invariant

@@ -1,0 +1,19 @@
+use Rattle.std.proofs.Common.{List, ℕ, [], ◌∷◌, ◌++◌, sym, ap, ◌∙◌}
+use Rattle.std.proofs.lemmas.List.Concat.{flat_map-append}
+use Rattle.printed_text.proofs.WordLaws.{spaced_one}
+use Rattle.script_spec.specs.Shown.{size_list}
+use Rattle.printed_text.proofs.Appends.{then_append}
+use Rattle.printed_text.specs.Spaced.{spaced}
+use Rattle.script_text.proofs.calls.push_strided.Goals as goal
+
+pub returns : goal.returns
+returns c =
+    let o : List ℕ = c.args.out.now.items in
+    let g = c.args.given.now in
+    let box : List (List ℕ) = size_list g.start ∷ size_list g.count ∷ [] in
+    let stride : List ℕ = size_list g.stride in
+    let first = rw (c.as_slice.ensures, c.as_slice-2.ensures) at c.in_ok-push_box.ensures in
+    let second = rw c.as_slice-3.ensures at c.in_ok-push_sizes.ensures in
+    then_append o _ _ (spaced box) (32 ∷ stride) first second
+    ∙ ap (λ (t : List ℕ). o ++ (spaced box ++ t)) (sym (spaced_one stride))
+    ∙ ap (λ (t : List ℕ). o ++ t) (sym (flat_map-append (λ (w : List ℕ). 32 ∷ w) box (stride ∷ [])))

@@ -1,0 +1,7 @@
+use Rattle.std.proofs.Common.{◌≡◌, ◌++◌, take}
+use Rattle.std.specs.List.{flat_map}
+use Rattle.script_spec.specs.Shown.{shown_attr}
+use Rattle.script_text.proofs.definitions.push_attrs.Given as goal
+
+abbrev pub invariant-loop-attr : goal.invariant-loop-attr
+invariant-loop-attr l = l.out.items ≡ l.initial.out.items ++ flat_map (shown_attr l.owner) (take l.attr-index l.attrs)

@@ -1,0 +1,7 @@
+use Rattle.std.proofs.Common.{◌≡◌, ◌++◌, take}
+use Rattle.std.specs.List.{flat_map}
+use Rattle.script_spec.specs.Shown.{shown_extra}
+use Rattle.script_text.proofs.definitions.push_extras.Given as goal
+
+abbrev pub invariant-loop-extra : goal.invariant-loop-extra
+invariant-loop-extra l = l.out.items ≡ l.initial.out.items ++ flat_map shown_extra (take l.extra-index l.extras)

@@ -1,0 +1,18 @@
+use Rattle.std.proofs.Common.{List, ℕ, [], ◌∷◌, ◌++◌, codes, ap, ◌∙◌}
+use Rattle.script_spec.specs.Shown.{bracketed}
+use Rattle.script_spec.specs.Texts.{joined, type_word}
+use Rattle.printed_text.proofs.Appends.{then_append}
+use Rattle.script_text.proofs.PrintingLaws.{title_then}
+use Rattle.script_text.proofs.definitions.push_named_var.Goals as goal
+
+pub returns : goal.returns
+returns c =
+    let o : List ℕ = c.args.out.now.items in
+    let kind = c.args.kind in
+    let name : List ℕ = c.args.name.now in
+    let titled = c.in_ok-push_var_title.ensures in
+    let b : List ℕ = bracketed c.args.dims.now in
+    let front : List ℕ = joined 32 (codes "var" ∷ type_word kind ∷ name ∷ []) ++ 32 ∷ [] in
+    let two = then_append o _ _ front b titled c.in_ok-push_names.ensures in
+    then_append o _ _ (front ++ b) (10 ∷ []) two c.in_ok-push.ensures.items
+    ∙ ap (λ (x : List ℕ). o ++ 118 ∷ 97 ∷ 114 ∷ 32 ∷ (x ++ 10 ∷ [])) (title_then (type_word kind) name b)

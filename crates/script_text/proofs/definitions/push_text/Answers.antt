@@ -1,0 +1,12 @@
+use Rattle.std.proofs.Common.{List, ℕ, [], ◌∷◌, ◌++◌, sym, ap, ◌∙◌}
+use Rattle.script_spec.specs.Texts.{quoted}
+use Rattle.printed_text.proofs.Appends.{then_append}
+use Rattle.script_text.proofs.PrintingLaws.{text_pushed}
+use Rattle.script_text.proofs.definitions.push_text.Goals as goal
+
+pub returns : goal.returns
+returns c =
+    let o : List ℕ = c.args.out.now.items in
+    let text = rw c.as_slice.ensures at c.in_ok-push_quoted.ensures in
+    then_append o _ _ (32 ∷ []) (quoted c.args.attr.now.bytes) c.in_ok-push.ensures.items text
+    ∙ ap (λ (t : List ℕ). o ++ t) (sym (text_pushed c.args.attr.now c.requires.kind c.requires.whole))

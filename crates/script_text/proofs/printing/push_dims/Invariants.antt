@@ -1,7 +1,0 @@
-use Rattle.std.proofs.Common.{◌≡◌, ◌++◌, take}
-use Rattle.std.specs.List.{flat_map}
-use Rattle.script_spec.specs.Shown.{shown_dim}
-use Rattle.script_text.proofs.printing.push_dims.Given as goal
-
-abbrev pub invariant-loop-dim : goal.invariant-loop-dim
-invariant-loop-dim l = l.out.items ≡ l.initial.out.items ++ flat_map shown_dim (take l.dim-index l.dims)

@@ -1,8 +1,0 @@
-use Rattle.std.proofs.Common.{ap, ◌∙◌, arith}
-use Rattle.serial_spec.specs.Lawful.{is_whole_extra}
-use Rattle.script_text.proofs.PrintingLaws.{all_at}
-use Rattle.script_text.proofs.printing.push_extras.Goals as goal
-
-pub push_extra-requires : goal.push_extra-requires
-push_extra-requires c =
-    ap is_whole_extra c.extra-item.is ∙ all_at is_whole_extra c.args.extras.now c.loop-extra.extra-index c.extra-item.result c.requires (omega arith)

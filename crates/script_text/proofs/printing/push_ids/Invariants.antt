@@ -1,6 +1,0 @@
-use Rattle.std.proofs.Common.{◌≡◌, ◌++◌, map, take, decimal}
-use Rattle.printed_text.specs.Spaced.{spaced}
-use Rattle.script_text.proofs.printing.push_ids.Given as goal
-
-abbrev pub invariant-loop-id : goal.invariant-loop-id
-invariant-loop-id l = l.out.items ≡ l.initial.out.items ++ spaced (map decimal (take l.id-index l.ids))
