@@ -1,5 +1,5 @@
 -- Puts and gets of two ranks, one each, and a put of one rank alone, as the tests have them.
-use Rattle.std.proofs.Common.{◌≡◌, ℕ, zero, suc, refl, sym, ◌∙◌, ap, subst, inl, inr, List, [], ◌∷◌, true, Some}
+use Rattle.std.proofs.Common.{◌≡◌, ℕ, zero, suc, refl, sym, subst, inl, inr, List, [], ◌∷◌, true, Some}
 use Rattle.std.specs.Prelude.{slice_get}
 use Rattle.overlay_laws.proofs.Members.{at_in}
 use Rattle.nc_base.specs.declared.header.Header.{Header}
@@ -46,22 +46,15 @@ two_own header a b batches sound e p q =
     subst (λ (bs : List Batch). IsOwnOnce (holdings header (puts_in bs))) (sym e)
     (own_once header (puts_in (two a b)) (two_keys a b) (all_once header (puts_in (two a b)) sound (two_are header a b p q)))
 
--- a list of such batches
-pub of_two : (batches : List Batch) (first second : Batch) (a b : Post) → batches ≡ first ∷ second ∷ [] → first ≡ lone a → second ≡ lone b → batches ≡ two a b
-of_two batches first second a b e f g = e ∙ ap (λ (x : Batch). x ∷ second ∷ []) f ∙ ap (λ (x : Batch). lone a ∷ x ∷ []) g
-
 -- ---- gets of two ranks
 
 abbrev ask : Post → Batch
 ask p = record { puts = []; gets = p ∷ [] }
 
-pub two_gets : (header : Header) (len : ℕ) (a b : Post) (batches : List Batch) (first second : Batch) → batches ≡ first ∷ second ∷ [] → first ≡ ask a → second ≡ ask b
+pub two_gets : (header : Header) (len : ℕ) (a b : Post) (batches : List Batch) → batches ≡ ask a ∷ ask b ∷ []
     → IsGet header len a → IsGet header len b → AreGets header len (gets_in batches)
-two_gets header len a b batches first second e f g p q = subst (λ (bs : List Batch). AreGets header len (gets_in bs)) (sym same) are
+two_gets header len a b batches e p q = subst (λ (bs : List Batch). AreGets header len (gets_in bs)) (sym e) are
   where
-    same : batches ≡ ask a ∷ ask b ∷ []
-    same = e ∙ ap (λ (x : Batch). x ∷ second ∷ []) f ∙ ap (λ (x : Batch). ask a ∷ x ∷ []) g
-
     are : AreGets header len (gets_in (ask a ∷ ask b ∷ []))
     are r (inl h) = subst (λ (s : Post). IsGet header len s) h p
     are r (inr (inl h)) = subst (λ (s : Post). IsGet header len s) h q

@@ -1,4 +1,6 @@
 // The leaves of a step, and whole steps, on small files.
+ghost use Rattle.std.specs.Prelude.{◌≡◌, [], ◌∷◌};
+
 mod aggregators;
 mod domains;
 mod overlaps;
@@ -6,29 +8,93 @@ mod sieving;
 mod steps;
 mod windows;
 
-use nc_base::{Blob, DiskCall};
-use nc_outside::MemDisk;
+use nc_base::{Blob, DiskCall, Items};
+use nc_outside::{Fail, FailOp, MemDisk};
 use std::alloc::Global;
 use std::process::Abort;
-use std::test::Fail;
+
+/// What a test says that has no memory.
+const NO_MEMORY: &str = "memory";
+
+/// What it says where a disk should tell its calls.
+const NO_CALLS: &str = "calls";
+
+/// What it says of a file that ends too soon.
+const TOO_SHORT: &str = "too short";
+
+/// The list of one item.
+fn one<T: Drop>(rt: &impl Abort, alloc: Global, item: T) -> Items<T>
+    ensures { result ≡ item ∷ [] }
+{
+    let mut list = Items::new(alloc);
+    list.push(item).expect(rt, NO_MEMORY);
+    list
+}
+
+/// The list of two items.
+fn two<T: Drop>(rt: &impl Abort, alloc: Global, item: T, other: T) -> Items<T>
+    ensures { result ≡ item ∷ other ∷ [] }
+{
+    let mut list = one(rt, alloc, item);
+    list.push(other).expect(rt, NO_MEMORY);
+    list
+}
+
+fn blob(rt: &impl Abort, alloc: Global, bytes: &[u8]) -> Blob
+    ensures { result ≡ bytes.now }
+{
+    Blob::from_vec(Vec::from_slice(alloc, bytes).expect(rt, NO_MEMORY))
+}
 
 /// A file whose byte at each place is the place.
-fn numbered(alloc: Global, len: u8) -> Result<Blob, Fail> {
-    let mut bytes = Vec::new(alloc);
+fn numbered(rt: &impl Abort, alloc: Global, len: u8) -> Blob {
+    let mut bytes = Blob::new(alloc);
     for byte in 0..len {
-        bytes.push(byte)?;
+        bytes.push(byte).expect(rt, NO_MEMORY);
     }
-    Ok(Blob::from_vec(bytes))
+    bytes
+}
+
+/// A disk with these bytes that tells its calls.
+fn disk_of(rt: &impl Abort, alloc: Global, bytes: Blob) -> MemDisk {
+    MemDisk::logged(alloc, bytes).expect(rt, NO_MEMORY)
+}
+
+/// The same whose byte at each place is the place.
+fn numbered_disk(rt: &impl Abort, alloc: Global, len: u8) -> MemDisk {
+    disk_of(rt, alloc, numbered(rt, alloc, len))
+}
+
+/// The same with calls that are refused once.
+fn failing_disk(rt: &impl Abort, alloc: Global, len: u8, faults: &[(FailOp, u64)]) -> MemDisk {
+    let mut plan = Items::new(alloc);
+    for (op, at) in faults {
+        plan.push(Fail { op: *op, at: *at }).expect(rt, NO_MEMORY);
+    }
+    MemDisk::failing(alloc, numbered(rt, alloc, len), plan).expect(rt, NO_MEMORY)
 }
 
 /// The disk had these calls.
-fn has_calls<R: Abort>(
-    rt: &R,
-    alloc: Global,
-    disk: &MemDisk,
-    calls: &[DiskCall],
-) -> Result<(), Fail> {
-    let told = disk.calls(alloc)?.ok_or("calls")?;
-    assert_eq!(rt; told.as_slice(), calls);
-    Ok(())
+fn has_calls(rt: &impl Abort, alloc: Global, disk: &MemDisk, calls: &[DiskCall]) {
+    let told = disk.calls(alloc).expect(rt, NO_MEMORY).expect(rt, NO_CALLS);
+    assert!(rt; told.as_slice() == calls);
+}
+
+/// The disk had so many calls.
+fn has_call_count(rt: &impl Abort, alloc: Global, disk: &MemDisk, count: usize) {
+    let told = disk.calls(alloc).expect(rt, NO_MEMORY).expect(rt, NO_CALLS);
+    assert!(rt; told.len() == count);
+}
+
+/// The disk has these bytes from a place on.
+fn has_bytes(rt: &impl Abort, alloc: Global, disk: &MemDisk, from: usize, bytes: &[u8]) {
+    let told = disk.bytes(alloc).expect(rt, NO_MEMORY);
+    let (_, rest) = told.as_slice().split_at_checked(from).expect(rt, TOO_SHORT);
+    assert!(rt; rest.starts_with(bytes));
+}
+
+/// The disk has this file.
+fn has_file(rt: &impl Abort, alloc: Global, disk: &MemDisk, file: &Blob) {
+    let told = disk.bytes(alloc).expect(rt, NO_MEMORY);
+    assert!(rt; told == *file);
 }

@@ -1,7 +1,6 @@
 // A header with words changed, and cut short.
-use crate::tests::read;
+use crate::tests::fault;
 use nc_base::HeaderErr;
-use std::test::*;
 
 /// One dimension and one variable of it, which begins at 80.
 const HEADER: [u8; 80] = [
@@ -44,7 +43,7 @@ fn with_word(mut bytes: [u8; 80], at: usize, word: u32) -> [u8; 80] {
 fn one_word_changed(rt: HostRuntime) {
     for (at, word, wanted) in TABLE {
         let bytes = with_word(HEADER, at, word);
-        assert_eq!(rt; read(rt.alloc(), &bytes).err(), wanted, "{word:x} at {at}");
+        assert!(rt; fault(rt.alloc(), &bytes) == wanted, "{word:x} at {at}");
     }
 }
 
@@ -52,10 +51,7 @@ fn one_word_changed(rt: HostRuntime) {
 fn many_attributes_of_which_the_first_is_none(rt: HostRuntime) {
     let tagged = with_word(HEADER, 28, 12);
     let bytes = with_word(tagged, 32, 0x7fff_ffff);
-    assert_eq!(rt;
-        read(rt.alloc(), &bytes).err(),
-        Some(HeaderErr::BadType(64))
-    );
+    assert!(rt; fault(rt.alloc(), &bytes) == Some(HeaderErr::BadType(64)));
 }
 
 /// Each field has four bytes here.
@@ -64,9 +60,6 @@ fn every_beginning_is_cut_at_a_field(rt: HostRuntime) {
     for (len, _) in HEADER.iter().enumerate() {
         let (bytes, _) = HEADER.split_at(len);
         let field = len as u64 / 4 * 4;
-        assert_eq!(rt;
-            read(rt.alloc(), bytes).err(),
-            Some(HeaderErr::Truncated(field))
-        );
+        assert!(rt; fault(rt.alloc(), bytes) == Some(HeaderErr::Truncated(field)));
     }
 }

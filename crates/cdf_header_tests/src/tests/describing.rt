@@ -1,78 +1,94 @@
 // A header as `ncdump -h` shows it.
 ghost use Rattle.std.specs.Prelude.{◌<◌};
 
-use nc_base::{Attr, Dim, Header, Name, NcType, Var};
+use crate::tests::NO_MEMORY;
+use nc_base::{Attr, AttrList, Dim, Header, Name, NcType, Var};
 use std::alloc::{AllocError, Global};
+use std::process::Abort;
 
 /// The lines of `ncdump -h`, without the first one and the last.
-pub(crate) fn described(alloc: Global, header: &Header) -> Result<String, AllocError> {
-    let mut text = String::from_str(alloc, "dimensions:\n")?;
-    for dim in header.dims.as_slice() {
-        put_dim(alloc, &mut text, header.records, dim)?;
-    }
-    text.push_str("variables:\n")?;
-    for var in header.vars.as_slice() {
-        put_var(alloc, &mut text, header, var)?;
-    }
-    if !header.attrs.is_empty() {
-        text.push_str("\n// global attributes:\n")?;
-    }
-    for attr in header.attrs.as_slice() {
-        text.push_str("\t\t:")?;
-        put_attr(alloc, &mut text, attr)?;
-    }
-    Ok(text)
+pub(crate) fn described(rt: &impl Abort, alloc: Global, header: &Header) -> String {
+    let mut text = String::new(alloc);
+    put_dims(rt, alloc, &mut text, header);
+    put_vars(rt, alloc, &mut text, header);
+    put_global(rt, alloc, &mut text, &header.attrs);
+    text
 }
 
-fn put_bytes(text: &mut String, bytes: &[u8]) -> Result<(), AllocError> {
+fn put(rt: &impl Abort, text: &mut String, part: &str) {
+    text.push_str(part).expect(rt, NO_MEMORY);
+}
+
+fn put_bytes(rt: &impl Abort, text: &mut String, bytes: &[u8]) {
     for byte in bytes {
-        text.push(char::from(*byte))?;
+        text.push(char::from(*byte)).expect(rt, NO_MEMORY);
     }
-    Ok(())
 }
 
-fn put_name(text: &mut String, name: &Name) -> Result<(), AllocError> {
-    put_bytes(text, name.as_slice())
+fn put_name(rt: &impl Abort, text: &mut String, name: &Name) {
+    put_bytes(rt, text, name.as_slice());
 }
 
-fn put_dim(alloc: Global, text: &mut String, records: u64, dim: &Dim) -> Result<(), AllocError> {
-    text.push('\t')?;
-    put_name(text, &dim.name)?;
+fn put_dims(rt: &impl Abort, alloc: Global, text: &mut String, header: &Header) {
+    put(rt, text, "dimensions:\n");
+    for dim in header.dims.as_slice() {
+        put_dim(rt, alloc, text, header.records, dim);
+    }
+}
+
+fn put_vars(rt: &impl Abort, alloc: Global, text: &mut String, header: &Header) {
+    put(rt, text, "variables:\n");
+    for var in header.vars.as_slice() {
+        put_var(rt, alloc, text, header, var);
+    }
+}
+
+fn put_global(rt: &impl Abort, alloc: Global, text: &mut String, attrs: &AttrList) {
+    if !attrs.is_empty() {
+        put(rt, text, "\n// global attributes:\n");
+    }
+    for attr in attrs.as_slice() {
+        put(rt, text, "\t\t:");
+        put_attr(rt, alloc, text, attr);
+    }
+}
+
+fn put_dim(rt: &impl Abort, alloc: Global, text: &mut String, records: u64, dim: &Dim) {
+    put(rt, text, "\t");
+    put_name(rt, text, &dim.name);
     let length = if dim.len == 0 {
-        format!(in alloc; " = UNLIMITED ; // ({records} currently)\n")?
+        format!(in alloc; " = UNLIMITED ; // ({records} currently)\n")
     } else {
-        format!(in alloc; " = {} ;\n", dim.len)?
+        format!(in alloc; " = {} ;\n", dim.len)
     };
-    text.push_str(length.as_str())
+    put(rt, text, length.expect(rt, NO_MEMORY).as_str());
 }
 
-fn put_var(alloc: Global, text: &mut String, header: &Header, var: &Var) -> Result<(), AllocError> {
-    text.push('\t')?;
-    text.push_str(word_of(var.kind))?;
-    text.push(' ')?;
-    put_name(text, &var.name)?;
-    put_shape(text, header, var.dims.as_slice())?;
-    text.push_str(" ;\n")?;
+fn put_var(rt: &impl Abort, alloc: Global, text: &mut String, header: &Header, var: &Var) {
+    put(rt, text, "\t");
+    put(rt, text, word_of(var.kind));
+    put(rt, text, " ");
+    put_name(rt, text, &var.name);
+    put_shape(rt, text, header, var.dims.as_slice());
+    put(rt, text, " ;\n");
     for attr in var.attrs.as_slice() {
-        text.push_str("\t\t")?;
-        put_name(text, &var.name)?;
-        text.push(':')?;
-        put_attr(alloc, text, attr)?;
+        put(rt, text, "\t\t");
+        put_name(rt, text, &var.name);
+        put(rt, text, ":");
+        put_attr(rt, alloc, text, attr);
     }
-    Ok(())
 }
 
-fn put_shape(text: &mut String, header: &Header, ids: &[u32]) -> Result<(), AllocError> {
+fn put_shape(rt: &impl Abort, text: &mut String, header: &Header, ids: &[u32]) {
     for (place, id) in ids.iter().enumerate() {
-        text.push_str(if place == 0 { "(" } else { ", " })?;
+        put(rt, text, if place == 0 { "(" } else { ", " });
         if let Some(dim) = header.dims.as_slice().get(*id as usize) {
-            put_name(text, &dim.name)?;
+            put_name(rt, text, &dim.name);
         }
     }
     if !ids.is_empty() {
-        text.push(')')?;
+        put(rt, text, ")");
     }
-    Ok(())
 }
 
 fn word_of(kind: NcType) -> &'static str {
@@ -91,53 +107,47 @@ fn word_of(kind: NcType) -> &'static str {
     }
 }
 
-fn put_attr(alloc: Global, text: &mut String, attr: &Attr) -> Result<(), AllocError> {
-    put_name(text, &attr.name)?;
-    text.push_str(" = ")?;
+fn put_attr(rt: &impl Abort, alloc: Global, text: &mut String, attr: &Attr) {
+    put_name(rt, text, &attr.name);
+    put(rt, text, " = ");
     match attr.kind {
-        NcType::Char => put_text(text, attr.bytes.as_slice())?,
-        NcType::Byte | NcType::UByte => put_values(alloc, text, attr, 1)?,
-        NcType::Short | NcType::UShort => put_values(alloc, text, attr, 2)?,
-        NcType::Int | NcType::UInt | NcType::Float => put_values(alloc, text, attr, 4)?,
-        NcType::Double | NcType::Int64 | NcType::UInt64 => put_values(alloc, text, attr, 8)?,
+        NcType::Char => put_text(rt, text, attr.bytes.as_slice()),
+        NcType::Byte | NcType::UByte => put_values(rt, alloc, text, attr, 1),
+        NcType::Short | NcType::UShort => put_values(rt, alloc, text, attr, 2),
+        NcType::Int | NcType::UInt | NcType::Float => put_values(rt, alloc, text, attr, 4),
+        NcType::Double | NcType::Int64 | NcType::UInt64 => put_values(rt, alloc, text, attr, 8),
     }
-    text.push_str(" ;\n")
+    put(rt, text, " ;\n");
 }
 
-fn put_text(text: &mut String, bytes: &[u8]) -> Result<(), AllocError> {
-    text.push('"')?;
-    put_bytes(text, bytes)?;
-    text.push('"')
+fn put_text(rt: &impl Abort, text: &mut String, bytes: &[u8]) {
+    put(rt, text, "\"");
+    put_bytes(rt, text, bytes);
+    put(rt, text, "\"");
 }
 
-fn put_values(alloc: Global, text: &mut String, attr: &Attr, size: usize) -> Result<(), AllocError>
+fn put_values(rt: &impl Abort, alloc: Global, text: &mut String, attr: &Attr, size: usize)
     requires { 0 < size }
 {
     for (place, value) in attr.bytes.as_slice().chunks_exact(size).enumerate() {
         if place > 0 {
-            text.push_str(", ")?;
+            put(rt, text, ", ");
         }
-        put_value(alloc, text, attr.kind, value)?;
+        let shown = value_of(alloc, attr.kind, value).expect(rt, NO_MEMORY);
+        put(rt, text, shown.as_str());
     }
-    Ok(())
 }
 
-fn put_value(
-    alloc: Global,
-    text: &mut String,
-    kind: NcType,
-    value: &[u8],
-) -> Result<(), AllocError> {
-    let shown = match (kind, value) {
-        (NcType::Byte, [a]) => format!(in alloc; "{}b", i8::from_be_bytes([*a]))?,
-        (NcType::UByte, [a]) => format!(in alloc; "{a}UB")?,
-        (NcType::Short, [a, b]) => format!(in alloc; "{}s", i16::from_be_bytes([*a, *b]))?,
-        (NcType::UShort, [a, b]) => format!(in alloc; "{}US", u16::from_be_bytes([*a, *b]))?,
-        (_, [a, b, c, d]) => word(alloc, kind, [*a, *b, *c, *d])?,
-        (_, [a, b, c, d, e, f, g, h]) => long_word(alloc, kind, [*a, *b, *c, *d, *e, *f, *g, *h])?,
-        _ => String::new(alloc),
-    };
-    text.push_str(shown.as_str())
+fn value_of(alloc: Global, kind: NcType, value: &[u8]) -> Result<String, AllocError> {
+    match (kind, value) {
+        (NcType::Byte, [a]) => format!(in alloc; "{}b", i8::from_be_bytes([*a])),
+        (NcType::UByte, [a]) => format!(in alloc; "{a}UB"),
+        (NcType::Short, [a, b]) => format!(in alloc; "{}s", i16::from_be_bytes([*a, *b])),
+        (NcType::UShort, [a, b]) => format!(in alloc; "{}US", u16::from_be_bytes([*a, *b])),
+        (_, [a, b, c, d]) => word(alloc, kind, [*a, *b, *c, *d]),
+        (_, [a, b, c, d, e, f, g, h]) => long_word(alloc, kind, [*a, *b, *c, *d, *e, *f, *g, *h]),
+        _ => Ok(String::new(alloc)),
+    }
 }
 
 /// The floats that the files have, by their bits.

@@ -1,7 +1,11 @@
 // Files that public tools wrote.
 use crate::tests::describing::described;
 use crate::tests::{files, read, shown};
-use std::test::*;
+use std::alloc::Global;
+use std::process::Abort;
+
+/// What a test says of a header that is read right.
+const FAULT: &str = "fault";
 
 /// The header of a file, what `ncdump -h` shows of it, and the begins that `ncoffsets` shows.
 struct RealFile {
@@ -56,22 +60,19 @@ const FILES: [RealFile; 7] = [
     },
 ];
 
-fn is_as_shown(rt: &HostRuntime, file: &RealFile) -> Result<bool, Fail> {
-    let (header, len) = read(rt.alloc(), file.bytes).ok().ok_or(file.name)?;
-    let text = described(rt.alloc(), &header)?;
+fn is_as_shown(rt: &impl Abort, alloc: Global, file: &RealFile) -> bool {
+    let (header, len) = read(alloc, file.bytes).expect(rt, FAULT);
+    let text = described(rt, alloc, &header);
     let begins = header.vars.as_slice().iter().map(|var| var.begin);
-    Ok(
-        len == file.bytes.len() as u64
-            && text.as_str() == file.shown
-            && begins.eq(file.begins.iter().copied()),
-    )
+    len == file.bytes.len() as u64
+        && text.as_str() == file.shown
+        && begins.eq(file.begins.iter().copied())
 }
 
 #[test]
-fn files_of_public_tools(rt: HostRuntime) -> Result<(), Fail> {
+fn files_of_public_tools(rt: HostRuntime) {
     for file in &FILES {
-        let right = is_as_shown(&rt, file)?;
+        let right = is_as_shown(&rt, rt.alloc(), file);
         assert!(rt; right, "{}", file.name);
     }
-    Ok(())
 }

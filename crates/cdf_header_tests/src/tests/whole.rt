@@ -1,8 +1,8 @@
 // Faults of whole headers.
-use crate::tests::{files, read};
+use crate::tests::{NO_MEMORY, fault, files};
 use nc_base::HeaderErr;
-use std::alloc::{AllocError, Global};
-use std::test::*;
+use std::alloc::Global;
+use std::process::Abort;
 
 /// The lengths of dimensions, and of each variable its dimensions and its begin.
 struct Whole {
@@ -82,104 +82,87 @@ const TABLE: [Whole; 13] = [
     },
 ];
 
-fn put(bytes: &mut Vec<u8>, word: u32) -> Result<(), AllocError> {
-    bytes.extend_from_slice(&word.to_be_bytes())
+fn put(rt: &impl Abort, bytes: &mut Vec<u8>, word: u32) {
+    bytes
+        .extend_from_slice(&word.to_be_bytes())
+        .expect(rt, NO_MEMORY);
 }
 
-fn put_dims(bytes: &mut Vec<u8>, dims: &[u32]) -> Result<(), AllocError> {
-    put(bytes, 10)?;
-    put(bytes, dims.len().min(9) as u32)?;
-    for len in dims {
-        put(bytes, 1)?;
-        put(bytes, 0x6400_0000)?;
-        put(bytes, *len)?;
+fn put_all(rt: &impl Abort, bytes: &mut Vec<u8>, words: &[u32]) {
+    for word in words {
+        put(rt, bytes, *word);
     }
-    Ok(())
+}
+
+fn put_dims(rt: &impl Abort, bytes: &mut Vec<u8>, dims: &[u32]) {
+    put_all(rt, bytes, &[10, dims.len().min(9) as u32]);
+    for len in dims {
+        put_all(rt, bytes, &[1, 0x6400_0000, *len]);
+    }
 }
 
 /// A variable of type int without attributes. The stored size is of no account.
-fn put_var(bytes: &mut Vec<u8>, ids: &[u32], begin: u32) -> Result<(), AllocError> {
-    put(bytes, 1)?;
-    put(bytes, 0x7600_0000)?;
-    put(bytes, ids.len().min(9) as u32)?;
-    for id in ids {
-        put(bytes, *id)?;
-    }
-    for word in [0, 0, 4, 0xffff_ffff, begin] {
-        put(bytes, word)?;
-    }
-    Ok(())
+fn put_var(rt: &impl Abort, bytes: &mut Vec<u8>, ids: &[u32], begin: u32) {
+    put_all(rt, bytes, &[1, 0x7600_0000, ids.len().min(9) as u32]);
+    put_all(rt, bytes, ids);
+    put_all(rt, bytes, &[0, 0, 4, 0xffff_ffff, begin]);
 }
 
 /// The first words, up to the count of the variables.
-fn put_front(bytes: &mut Vec<u8>, dims: &[u32], vars: u32) -> Result<(), AllocError> {
-    put(bytes, 0x4344_4601)?;
-    put(bytes, 0)?;
-    put_dims(bytes, dims)?;
-    for word in [0, 0, 11, vars] {
-        put(bytes, word)?;
-    }
-    Ok(())
+fn front(rt: &impl Abort, alloc: Global, dims: &[u32], vars: u32) -> Vec<u8> {
+    let mut bytes = Vec::new(alloc);
+    put_all(rt, &mut bytes, &[0x4344_4601, 0]);
+    put_dims(rt, &mut bytes, dims);
+    put_all(rt, &mut bytes, &[0, 0, 11, vars]);
+    bytes
 }
 
-fn bytes_of(alloc: Global, whole: &Whole) -> Result<Vec<u8>, AllocError> {
-    let mut bytes = Vec::new(alloc);
-    put_front(&mut bytes, whole.dims, whole.vars.len().min(9) as u32)?;
+fn bytes_of(rt: &impl Abort, alloc: Global, whole: &Whole) -> Vec<u8> {
+    let mut bytes = front(rt, alloc, whole.dims, whole.vars.len().min(9) as u32);
     for (ids, begin) in whole.vars {
-        put_var(&mut bytes, ids, *begin)?;
+        put_var(rt, &mut bytes, ids, *begin);
     }
-    Ok(bytes)
+    bytes
 }
 
 #[test]
-fn whole_headers(rt: HostRuntime) -> Result<(), Fail> {
+fn whole_headers(rt: HostRuntime) {
     for whole in &TABLE {
-        let bytes = bytes_of(rt.alloc(), whole)?;
-        assert_eq!(rt; read(rt.alloc(), &bytes).err(), whole.fault);
+        let bytes = bytes_of(&rt, rt.alloc(), whole);
+        assert!(rt; fault(rt.alloc(), &bytes) == whole.fault);
     }
-    Ok(())
 }
 
-/// So many variables of four bytes, one after the other from byte 2^20 on, but that the last one is where the one before is.
-fn crowded(alloc: Global, count: u32) -> Result<Vec<u8>, AllocError> {
-    let mut bytes = Vec::new(alloc);
-    put_front(&mut bytes, &[1], count)?;
+/// Two variables or more of four bytes, one after the other from byte 2^20 on, but that the last one is where the one before is.
+fn crowded(rt: &impl Abort, alloc: Global, count: u32) -> Vec<u8> {
+    let mut bytes = front(rt, alloc, &[1], count);
+    let last = count.saturating_sub(2);
     for number in 0..count {
-        let place = if number == count - 1 {
-            count.saturating_sub(2)
-        } else {
-            number
-        };
-        put_var(
-            &mut bytes,
-            &[0],
-            place.saturating_mul(4).saturating_add(1 << 20),
-        )?;
+        let begin = number.min(last).saturating_mul(4).saturating_add(1 << 20);
+        put_var(rt, &mut bytes, &[0], begin);
     }
-    Ok(bytes)
+    bytes
 }
 
 #[test]
-fn the_last_of_many_variables_share_a_byte(rt: HostRuntime) -> Result<(), Fail> {
-    let bytes = crowded(rt.alloc(), 500)?;
-    assert_eq!(rt;
-        read(rt.alloc(), &bytes).err(),
-        Some(HeaderErr::Shared(498, 499))
-    );
-    Ok(())
+fn the_last_of_many_variables_share_a_byte(rt: HostRuntime) {
+    let bytes = crowded(&rt, rt.alloc(), 500);
+    assert!(rt; fault(rt.alloc(), &bytes) == Some(HeaderErr::Shared(498, 499)));
 }
 
 #[test]
-fn a_wide_header_cut_and_of_a_stream(rt: HostRuntime) -> Result<(), Fail> {
-    let mut bytes = Vec::from_slice(rt.alloc(), files::WIDE)?;
-    let cut = bytes.as_slice().get(..100).ok_or("longer than 100 bytes")?;
-    assert_eq!(rt;
-        read(rt.alloc(), cut).err(),
-        Some(HeaderErr::Truncated(100))
-    );
+fn a_wide_header_is_cut(rt: HostRuntime) {
+    let (cut, _) = files::WIDE
+        .split_at_checked(100)
+        .expect(&rt, "longer than 100 bytes");
+    assert!(rt; fault(rt.alloc(), cut) == Some(HeaderErr::Truncated(100)));
+}
+
+#[test]
+fn a_wide_header_of_a_stream(rt: HostRuntime) {
+    let mut bytes = Vec::from_slice(rt.alloc(), files::WIDE).expect(&rt, NO_MEMORY);
     for byte in bytes.iter_mut().skip(4).take(8) {
         *byte = 0xff;
     }
-    assert_eq!(rt; read(rt.alloc(), &bytes).err(), Some(HeaderErr::Streaming));
-    Ok(())
+    assert!(rt; fault(rt.alloc(), &bytes) == Some(HeaderErr::Streaming));
 }

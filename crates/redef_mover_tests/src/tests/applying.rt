@@ -1,167 +1,121 @@
 // Variables and dimensions added to small headers.
-ghost use Rattle.std.specs.Prelude.{◌≡◌, ◌<◌, ◌^◌, ◌∷◌, [], true, IfOk};
+ghost use Rattle.std.specs.Prelude.{◌≡◌, ◌<◌, ◌^◌, ◌∷◌, [], true};
 ghost use Rattle.std.specs.List.{list_all};
 ghost use Rattle.serial_spec.specs.Examples.{dim, var};
 ghost use Rattle.serial_spec.specs.Lawful.{is_lawful_extra, is_whole_extra};
 ghost use Rattle.serial_spec.specs.Redefinition.{is_redefinable};
 
-use nc_base::{
-    AttrList, Dim, DimList, Extra, ExtraList, Header, IdList, Memory, Name, NameList, NcType,
-    RedefErr, Var, VarList,
-};
+use super::{NO_MEMORY, dimension, one, two, variable};
+use nc_base::{AttrList, DimList, Extra, Header, NcType, RedefErr};
 use redef_mover::apply;
 use std::alloc::Global;
-use std::test::*;
-
-fn name(alloc: Global, letter: u8) -> Result<Name, Memory>
-    ensures { IfOk result (λ name. name ≡ letter ∷ []) }
-{
-    let mut letters = Name::new(alloc);
-    letters.push(letter)?;
-    Ok(letters)
-}
-
-fn one_dim(alloc: Global, letter: u8, len: u64) -> Result<DimList, Memory>
-    ensures { IfOk result (λ dims. dims ≡ dim letter len ∷ []) }
-{
-    let name = name(alloc, letter)?;
-    let mut dims = DimList::new(alloc);
-    dims.push(Dim { name, len })?;
-    Ok(dims)
-}
-
-/// A variable over the first dimension, where the header ends.
-fn one_var(alloc: Global, letter: u8, kind: NcType, begin: u64) -> Result<VarList, Memory>
-    ensures { IfOk result (λ vars. vars ≡ record (var letter kind (0 ∷ [])) { begin = begin } ∷ []) }
-{
-    let name = name(alloc, letter)?;
-    let mut dims = IdList::new(alloc);
-    dims.push(0)?;
-    let mut vars = VarList::new(alloc);
-    vars.push(Var {
-        name,
-        dims,
-        attrs: AttrList::new(alloc),
-        kind,
-        begin,
-    })?;
-    Ok(vars)
-}
+use std::process::Abort;
 
 /// The dimension x of length 4, and the int variable v over it.
 #[tactic(auto, unfolding(serial_spec::specs::HeaderGrammar::canon))]
-fn fixed(alloc: Global) -> Result<Header, Memory>
-    ensures { IfOk result (λ header. is_redefinable header ≡ true) }
+fn fixed(rt: &impl Abort, alloc: Global) -> Header
+    ensures { is_redefinable result ≡ true }
 {
-    let dims = one_dim(alloc, b'x', 4)?;
-    let vars = one_var(alloc, b'v', NcType::Int, 80)?;
-    Ok(Header {
+    let x = dimension(rt, alloc, b'x', 4);
+    let v = variable(rt, alloc, b'v', NcType::Int, 80);
+    Header {
         version: 1,
         records: 0,
-        dims,
+        dims: one(rt, alloc, x),
         attrs: AttrList::new(alloc),
-        vars,
-    })
+        vars: one(rt, alloc, v),
+    }
 }
 
 /// The record dimension t with four records, and the short variable s over it.
 #[tactic(auto, unfolding(serial_spec::specs::HeaderGrammar::canon))]
-fn recorded(alloc: Global) -> Result<Header, Memory>
-    ensures { IfOk result (λ header. is_redefinable header ≡ true) }
+fn recorded(rt: &impl Abort, alloc: Global) -> Header
+    ensures { is_redefinable result ≡ true }
 {
-    let dims = one_dim(alloc, b't', 0)?;
-    let vars = one_var(alloc, b's', NcType::Short, 80)?;
-    Ok(Header {
+    let t = dimension(rt, alloc, b't', 0);
+    let s = variable(rt, alloc, b's', NcType::Short, 80);
+    Header {
         version: 1,
         records: 4,
-        dims,
+        dims: one(rt, alloc, t),
         attrs: AttrList::new(alloc),
-        vars,
-    })
+        vars: one(rt, alloc, s),
+    }
 }
 
 /// The dimensions x of length 4, x without a limit and y of length 3.
-fn three_dims(alloc: Global) -> Result<DimList, Memory>
-    ensures { IfOk result (λ dims. dims ≡ dim 120 4 ∷ dim 120 0 ∷ dim 121 3 ∷ []) }
+fn three_dims(rt: &impl Abort, alloc: Global) -> DimList
+    ensures { result ≡ dim 120 4 ∷ dim 120 0 ∷ dim 121 3 ∷ [] }
 {
-    let second = name(alloc, b'x')?;
-    let third = name(alloc, b'y')?;
-    let mut dims = one_dim(alloc, b'x', 4)?;
-    dims.push(Dim {
-        name: second,
-        len: 0,
-    })?;
-    dims.push(Dim {
-        name: third,
-        len: 3,
-    })?;
-    Ok(dims)
+    let first = dimension(rt, alloc, b'x', 4);
+    let second = dimension(rt, alloc, b'x', 0);
+    let third = dimension(rt, alloc, b'y', 3);
+    let mut dims = two(rt, alloc, first, second);
+    dims.push(third).expect(rt, NO_MEMORY);
+    dims
 }
 
 /// A header with two dimensions of one name, and the int variable v over the first.
 #[tactic(auto, unfolding(serial_spec::specs::HeaderGrammar::canon))]
-fn twice_named(alloc: Global) -> Result<Header, Memory>
-    ensures { IfOk result (λ header. is_redefinable header ≡ true) }
+fn twice_named(rt: &impl Abort, alloc: Global) -> Header
+    ensures { is_redefinable result ≡ true }
 {
-    let dims = three_dims(alloc)?;
-    let vars = one_var(alloc, b'v', NcType::Int, 104)?;
-    Ok(Header {
+    let v = variable(rt, alloc, b'v', NcType::Int, 104);
+    Header {
         version: 1,
         records: 0,
-        dims,
+        dims: three_dims(rt, alloc),
         attrs: AttrList::new(alloc),
-        vars,
-    })
+        vars: one(rt, alloc, v),
+    }
 }
 
-fn more_dim(alloc: Global, letter: u8, len: u64) -> Result<Extra, Memory>
+fn more_dim(rt: &impl Abort, alloc: Global, letter: u8, len: u64) -> Extra
     requires { len < 2 ^ 62 }
-    ensures lawful { IfOk result (λ extra. is_lawful_extra extra ≡ true) }
-    ensures whole { IfOk result (λ extra. is_whole_extra extra ≡ true) }
+    ensures lawful { is_lawful_extra result ≡ true }
+    ensures whole { is_whole_extra result ≡ true }
 {
-    Ok(Extra::Dim(Dim {
-        name: name(alloc, letter)?,
-        len,
-    }))
+    Extra::Dim(dimension(rt, alloc, letter, len))
 }
 
 /// A variable over one dimension.
-fn more_var(alloc: Global, letter: u8, kind: NcType, over: u8) -> Result<Extra, Memory>
-    ensures lawful { IfOk result (λ extra. is_lawful_extra extra ≡ true) }
-    ensures whole { IfOk result (λ extra. is_whole_extra extra ≡ true) }
+fn more_var(rt: &impl Abort, alloc: Global, letter: u8, kind: NcType, over: u8) -> Extra
+    ensures lawful { is_lawful_extra result ≡ true }
+    ensures whole { is_whole_extra result ≡ true }
 {
-    let mut dims = NameList::new(alloc);
-    dims.push(name(alloc, over)?)?;
-    Ok(Extra::Var {
+    let over = one(rt, alloc, over);
+    Extra::Var {
         kind,
-        name: name(alloc, letter)?,
-        dims,
-    })
+        name: one(rt, alloc, letter),
+        dims: one(rt, alloc, over),
+    }
 }
 
 /// The int variable q over the dimensions y and x.
-fn inner_x(alloc: Global) -> Result<Extra, Memory>
-    ensures lawful { IfOk result (λ extra. is_lawful_extra extra ≡ true) }
-    ensures whole { IfOk result (λ extra. is_whole_extra extra ≡ true) }
+fn inner_x(rt: &impl Abort, alloc: Global) -> Extra
+    ensures lawful { is_lawful_extra result ≡ true }
+    ensures whole { is_whole_extra result ≡ true }
 {
-    let mut dims = NameList::new(alloc);
-    dims.push(name(alloc, b'y')?)?;
-    dims.push(name(alloc, b'x')?)?;
-    Ok(Extra::Var {
+    let (y, x) = (one(rt, alloc, b'y'), one(rt, alloc, b'x'));
+    Extra::Var {
         kind: NcType::Int,
-        name: name(alloc, b'q')?,
-        dims,
-    })
+        name: one(rt, alloc, b'q'),
+        dims: two(rt, alloc, y, x),
+    }
 }
 
-/// The begins of the two variables of the header to which one extra is added.
-fn begins(alloc: Global, header: &Header, extra: Extra) -> Result<(u64, u64), RedefErr>
+/// The begins of the two variables of the header to which one extra is added, or why it is refused.
+fn begins(
+    rt: &impl Abort,
+    alloc: Global,
+    header: &Header,
+    extra: Extra,
+) -> Result<(u64, u64), RedefErr>
     requires redefinable { is_redefinable header.now ≡ true }
     requires lawful { is_lawful_extra extra ≡ true }
     requires whole { is_whole_extra extra ≡ true }
 {
-    let mut extras = ExtraList::new(alloc);
-    extras.push(extra)?;
+    let extras = one(rt, alloc, extra);
     let new = apply(alloc, header, &extras)?;
     match new.vars.as_slice() {
         [first, second] => Ok((first.begin, second.begin)),
@@ -170,60 +124,50 @@ fn begins(alloc: Global, header: &Header, extra: Extra) -> Result<(u64, u64), Re
 }
 
 #[test]
-fn variable_stands_behind_the_one_that_moves(rt: HostRuntime) -> Result<(), Fail> {
-    let header = fixed(rt.alloc())?;
-    let extra = more_var(rt.alloc(), b'q', NcType::Short, b'x')?;
-    assert_eq!(rt; begins(rt.alloc(), &header, extra), Ok((116, 132)));
-    Ok(())
+fn variable_stands_behind_the_one_that_moves(rt: HostRuntime) {
+    let header = fixed(&rt, rt.alloc());
+    let extra = more_var(&rt, rt.alloc(), b'q', NcType::Short, b'x');
+    assert!(rt; begins(&rt, rt.alloc(), &header, extra) == Ok((116, 132)));
 }
 
 #[test]
-fn record_variable_stands_behind_the_one_that_moves(rt: HostRuntime) -> Result<(), Fail> {
-    let header = recorded(rt.alloc())?;
-    let extra = more_var(rt.alloc(), b'q', NcType::Int, b't')?;
-    assert_eq!(rt; begins(rt.alloc(), &header, extra), Ok((116, 120)));
-    Ok(())
+fn record_variable_stands_behind_the_one_that_moves(rt: HostRuntime) {
+    let header = recorded(&rt, rt.alloc());
+    let extra = more_var(&rt, rt.alloc(), b'q', NcType::Int, b't');
+    assert!(rt; begins(&rt, rt.alloc(), &header, extra) == Ok((116, 120)));
 }
 
 #[test]
-fn first_dimension_of_a_name_counts(rt: HostRuntime) -> Result<(), Fail> {
-    let header = twice_named(rt.alloc())?;
-    let extra = inner_x(rt.alloc())?;
-    assert_eq!(rt; begins(rt.alloc(), &header, extra), Ok((144, 160)));
-    Ok(())
+fn first_dimension_of_a_name_counts(rt: HostRuntime) {
+    let header = twice_named(&rt, rt.alloc());
+    let extra = inner_x(&rt, rt.alloc());
+    assert!(rt; begins(&rt, rt.alloc(), &header, extra) == Ok((144, 160)));
 }
 
 #[test]
-fn name_that_is_there_is_refused(rt: HostRuntime) -> Result<(), Fail> {
-    let header = fixed(rt.alloc())?;
-    let extra = more_dim(rt.alloc(), b'x', 9)?;
-    assert_eq!(rt; begins(rt.alloc(), &header, extra), Err(RedefErr::Taken(0)));
-    Ok(())
+fn name_that_is_there_is_refused(rt: HostRuntime) {
+    let header = fixed(&rt, rt.alloc());
+    let extra = more_dim(&rt, rt.alloc(), b'x', 9);
+    assert!(rt; begins(&rt, rt.alloc(), &header, extra) == Err(RedefErr::Taken(0)));
 }
 
 #[test]
-fn dimension_that_is_not_there_is_refused(rt: HostRuntime) -> Result<(), Fail> {
-    let header = fixed(rt.alloc())?;
-    let extra = more_var(rt.alloc(), b'r', NcType::Short, b'y')?;
-    assert_eq!(rt;
-        begins(rt.alloc(), &header, extra),
-        Err(RedefErr::Unknown(0))
-    );
-    Ok(())
+fn dimension_that_is_not_there_is_refused(rt: HostRuntime) {
+    let header = fixed(&rt, rt.alloc());
+    let extra = more_var(&rt, rt.alloc(), b'r', NcType::Short, b'y');
+    assert!(rt; begins(&rt, rt.alloc(), &header, extra) == Err(RedefErr::Unknown(0)));
 }
 
 #[test]
-fn second_record_dimension_is_refused(rt: HostRuntime) -> Result<(), Fail> {
-    let header = recorded(rt.alloc())?;
-    let extra = more_dim(rt.alloc(), b'u', 0)?;
-    assert_eq!(rt; begins(rt.alloc(), &header, extra), Err(RedefErr::Shape(0)));
-    Ok(())
+fn second_record_dimension_is_refused(rt: HostRuntime) {
+    let header = recorded(&rt, rt.alloc());
+    let extra = more_dim(&rt, rt.alloc(), b'u', 0);
+    assert!(rt; begins(&rt, rt.alloc(), &header, extra) == Err(RedefErr::Shape(0)));
 }
 
 #[test]
-fn type_of_a_later_version_is_refused(rt: HostRuntime) -> Result<(), Fail> {
-    let header = fixed(rt.alloc())?;
-    let extra = more_var(rt.alloc(), b'q', NcType::UInt64, b'x')?;
-    assert_eq!(rt; begins(rt.alloc(), &header, extra), Err(RedefErr::Kind(0)));
-    Ok(())
+fn type_of_a_later_version_is_refused(rt: HostRuntime) {
+    let header = fixed(&rt, rt.alloc());
+    let extra = more_var(&rt, rt.alloc(), b'q', NcType::UInt64, b'x');
+    assert!(rt; begins(&rt, rt.alloc(), &header, extra) == Err(RedefErr::Kind(0)));
 }

@@ -1,99 +1,97 @@
 // The values of small datasets at their new places.
-ghost use Rattle.std.specs.Prelude.{◌≡◌, ◌≤◌, ◌^◌, [], ◌∷◌, List, IfOk};
+ghost use Rattle.std.specs.Prelude.{◌≡◌, ◌≤◌, ◌^◌, [], ◌∷◌, List};
 ghost use Rattle.nc_base.specs.declared.header.NcType.TheVariants.{Int, Short};
 ghost use Rattle.nc_base.specs.declared.script.Extra.{Extra};
 ghost use Rattle.redef_laws.specs.Applied.{IsApplied};
 ghost use Rattle.serial_spec.specs.Examples.{defined, dim, var};
 
-use nc_base::{
-    AttrList, Blob, Dim, DimList, DiskCall, Header, IdList, Memory, Name, NcType, Var, VarList,
-};
+use super::{NO_MEMORY, dimension, one, two, variable};
+use nc_base::{AttrList, Blob, DiskCall, Header, NcType, VarList};
 use nc_outside::MemDisk;
 use redef_mover::relocate;
 use std::alloc::Global;
 use std::process::Abort;
-use std::test::Fail;
-
-// A variable over the first dimension.
-fn variable(alloc: Global, name: u8, kind: NcType, begin: u64) -> Result<Var, Memory>
-    ensures { IfOk result (λ v. v ≡ record (var name kind (0 ∷ [])) { begin = begin }) }
-{
-    Ok(Var {
-        name: Name::from_vec(vec![in alloc; name]?),
-        dims: IdList::from_vec(vec![in alloc; 0]?),
-        attrs: AttrList::new(alloc),
-        kind,
-        begin,
-    })
-}
 
 // The dimension x of this length, and the variables over it.
-fn header(alloc: Global, records: u64, len: u64, vars: Vec<Var>) -> Result<Header, Memory>
-    ensures { IfOk result (λ h. h ≡ record (defined 1 (dim 120 len ∷ []) vars.items) { records = records }) }
+fn header(rt: &impl Abort, alloc: Global, records: u64, len: u64, vars: VarList) -> Header
+    ensures { result ≡ record (defined 1 (dim 120 len ∷ []) vars) { records = records } }
 {
-    let name = Name::from_vec(vec![in alloc; b'x']?);
-    Ok(Header {
+    let x = dimension(rt, alloc, b'x', len);
+    Header {
         version: 1,
         records,
-        dims: DimList::from_vec(vec![in alloc; Dim { name, len }]?),
+        dims: one(rt, alloc, x),
         attrs: AttrList::new(alloc),
-        vars: VarList::from_vec(vars),
-    })
+        vars,
+    }
 }
 
 // Four ints.
-fn four_ints(alloc: Global) -> Result<Header, Memory>
-    ensures { IfOk result (λ h. h ≡ defined 1 (dim 120 4 ∷ []) (record (var 118 Int (0 ∷ [])) { begin = 80 } ∷ [])) }
+fn four_ints(rt: &impl Abort, alloc: Global) -> Header
+    ensures { result ≡ defined 1 (dim 120 4 ∷ []) (record (var 118 Int (0 ∷ [])) { begin = 80 } ∷ []) }
 {
-    let vars = vec![in alloc; variable(alloc, b'v', NcType::Int, 80)?]?;
-    header(alloc, 0, 4, vars)
+    let v = variable(rt, alloc, b'v', NcType::Int, 80);
+    header(rt, alloc, 0, 4, one(rt, alloc, v))
 }
 
 // The same with four shorts behind them.
-fn ints_and_shorts(alloc: Global) -> Result<Header, Memory>
-    ensures { IfOk result (λ h. h ≡ defined 1 (dim 120 4 ∷ []) (record (var 118 Int (0 ∷ [])) { begin = 116 } ∷ record (var 113 Short (0 ∷ [])) { begin = 132 } ∷ [])) }
+fn ints_and_shorts(rt: &impl Abort, alloc: Global) -> Header
+    ensures { result ≡ defined 1 (dim 120 4 ∷ []) (record (var 118 Int (0 ∷ [])) { begin = 116 } ∷ record (var 113 Short (0 ∷ [])) { begin = 132 } ∷ []) }
 {
-    let v = variable(alloc, b'v', NcType::Int, 116)?;
-    let q = variable(alloc, b'q', NcType::Short, 132)?;
-    header(alloc, 0, 4, vec![in alloc; v, q]?)
+    let v = variable(rt, alloc, b'v', NcType::Int, 116);
+    let q = variable(rt, alloc, b'q', NcType::Short, 132);
+    header(rt, alloc, 0, 4, two(rt, alloc, v, q))
 }
 
 // A short in each of four records, without padding.
-fn four_records(alloc: Global) -> Result<Header, Memory>
-    ensures { IfOk result (λ h. h ≡ record (defined 1 (dim 120 0 ∷ []) (record (var 115 Short (0 ∷ [])) { begin = 80 } ∷ [])) { records = 4 }) }
+fn four_records(rt: &impl Abort, alloc: Global) -> Header
+    ensures { result ≡ record (defined 1 (dim 120 0 ∷ []) (record (var 115 Short (0 ∷ [])) { begin = 80 } ∷ [])) { records = 4 } }
 {
-    let vars = vec![in alloc; variable(alloc, b's', NcType::Short, 80)?]?;
-    header(alloc, 4, 0, vars)
+    let s = variable(rt, alloc, b's', NcType::Short, 80);
+    header(rt, alloc, 4, 0, one(rt, alloc, s))
 }
 
 // The same with an int in each record.
-fn padded_records(alloc: Global) -> Result<Header, Memory>
-    ensures { IfOk result (λ h. h ≡ record (defined 1 (dim 120 0 ∷ []) (record (var 115 Short (0 ∷ [])) { begin = 116 } ∷ record (var 113 Int (0 ∷ [])) { begin = 120 } ∷ [])) { records = 4 }) }
+fn padded_records(rt: &impl Abort, alloc: Global) -> Header
+    ensures { result ≡ record (defined 1 (dim 120 0 ∷ []) (record (var 115 Short (0 ∷ [])) { begin = 116 } ∷ record (var 113 Int (0 ∷ [])) { begin = 120 } ∷ [])) { records = 4 } }
 {
-    let s = variable(alloc, b's', NcType::Short, 116)?;
-    let q = variable(alloc, b'q', NcType::Int, 120)?;
-    header(alloc, 4, 0, vec![in alloc; s, q]?)
+    let s = variable(rt, alloc, b's', NcType::Short, 116);
+    let q = variable(rt, alloc, b'q', NcType::Int, 120);
+    header(rt, alloc, 4, 0, two(rt, alloc, s, q))
 }
 
 // A file of these bytes behind 80 of an old header.
-fn file(alloc: Global, values: &[u8]) -> Result<MemDisk, Fail>
-    ensures { IfOk result (λ disk. disk.from ≡ 0) }
+fn file(rt: &impl Abort, alloc: Global, values: &[u8]) -> MemDisk
+    ensures { result.from ≡ 0 }
 {
-    let mut bytes = vec![in alloc; 255; 80]?;
-    bytes.extend_from_slice(values)?;
-    Ok(MemDisk::logged(alloc, Blob::from_vec(bytes))?)
+    let mut bytes = vec![in alloc; 255; 80].expect(rt, NO_MEMORY);
+    bytes.extend_from_slice(values).expect(rt, NO_MEMORY);
+    MemDisk::logged(alloc, Blob::from_vec(bytes)).expect(rt, NO_MEMORY)
 }
 
-// Relocates, and looks at the calls and at the bytes behind the new header, which has 116.
-fn relocates<R: Abort>(
-    rt: &R,
+// The calls that the disk is to have had, and the bytes behind the new header, which has 116.
+struct Moved {
+    calls: &'static [DiskCall],
+    values: &'static [u8],
+}
+
+fn has_moved(rt: &impl Abort, alloc: Global, disk: &MemDisk, moved: &Moved) {
+    let told = disk.calls(alloc).expect(rt, NO_MEMORY).expect(rt, "calls");
+    assert!(rt; told.as_slice() == moved.calls);
+    let bytes = disk.bytes(alloc).expect(rt, NO_MEMORY);
+    let bytes = bytes.as_slice();
+    assert!(rt; bytes.starts_with(b"CDF\x01"));
+    assert!(rt; bytes.get(116..) == Some(moved.values));
+}
+
+fn relocates(
+    rt: &impl Abort,
     alloc: Global,
     disk: &mut MemDisk,
     headers: (&Header, &Header),
     size: u64,
-    calls: &[DiskCall],
-    values: &[u8],
-) -> Result<(), Fail>
+    moved: &Moved,
+)
     requires applied { (extras : List Extra) × IsApplied headers.0.now extras headers.1.now }
     requires from { disk.old.from ≡ 0 }
     requires some { 1 ≤ size }
@@ -101,27 +99,13 @@ fn relocates<R: Abort>(
 {
     let (old, new) = headers;
     assert!(rt; relocate(alloc, disk, old, new, size).is_ok());
-    let told = disk.calls(alloc)?.ok_or("calls")?;
-    assert_eq!(rt; told.as_slice(), calls);
-    let bytes = disk.bytes(alloc)?;
-    let bytes = bytes.as_slice();
-    assert!(rt; bytes.starts_with(b"CDF\x01"));
-    assert_eq!(rt; bytes.get(116..), Some(values));
-    Ok(())
+    has_moved(rt, alloc, disk, moved);
 }
 
 const INTS: [u8; 16] = [0, 0, 0, 1, 0, 0, 0, 2, 0, 0, 0, 3, 0, 0, 0, 4];
 
-const MOVED_INTS: [u8; 24] = [
-    0, 0, 0, 1, 0, 0, 0, 2, 0, 0, 0, 3, 0, 0, 0, 4, 0, 0, 0, 0, 0, 0, 0, 0,
-];
-
-#[test]
-fn ints_move_in_windows(rt: HostRuntime) -> Result<(), Fail> {
-    let alloc = rt.alloc();
-    let (old, new) = (four_ints(alloc)?, ints_and_shorts(alloc)?);
-    let mut disk = file(alloc, &INTS)?;
-    let calls = [
+const MOVED_INTS: Moved = Moved {
+    calls: &[
         DiskCall::Grow(140),
         DiskCall::Load(90, 6),
         DiskCall::Store(126, 6),
@@ -132,16 +116,22 @@ fn ints_move_in_windows(rt: HostRuntime) -> Result<(), Fail> {
         DiskCall::Store(132, 6),
         DiskCall::Store(138, 2),
         DiskCall::Store(0, 116),
-    ];
-    relocates(&rt, alloc, &mut disk, (&old, &new), 6, &calls, &MOVED_INTS)
-}
+    ],
+    values: &[
+        0, 0, 0, 1, 0, 0, 0, 2, 0, 0, 0, 3, 0, 0, 0, 4, 0, 0, 0, 0, 0, 0, 0, 0,
+    ],
+};
 
 #[test]
-fn shorts_move_record_by_record(rt: HostRuntime) -> Result<(), Fail> {
+fn ints_move_in_windows(rt: HostRuntime) {
     let alloc = rt.alloc();
-    let (old, new) = (four_records(alloc)?, padded_records(alloc)?);
-    let mut disk = file(alloc, &[0, 1, 0, 2, 0, 3, 0, 7])?;
-    let calls = [
+    let (old, new) = (four_ints(&rt, alloc), ints_and_shorts(&rt, alloc));
+    let mut disk = file(&rt, alloc, &INTS);
+    relocates(&rt, alloc, &mut disk, (&old, &new), 6, &MOVED_INTS);
+}
+
+const MOVED_SHORTS: Moved = Moved {
+    calls: &[
         DiskCall::Grow(148),
         DiskCall::Load(86, 2),
         DiskCall::Store(140, 2),
@@ -156,18 +146,17 @@ fn shorts_move_record_by_record(rt: HostRuntime) -> Result<(), Fail> {
         DiskCall::Store(134, 6),
         DiskCall::Store(142, 6),
         DiskCall::Store(0, 116),
-    ];
-    let values = [
+    ],
+    values: &[
         0, 1, 0, 0, 0, 0, 0, 0, 0, 2, 0, 0, 0, 0, 0, 0, 0, 3, 0, 0, 0, 0, 0, 0, 0, 7, 0, 0, 0, 0,
         0, 0,
-    ];
-    relocates(
-        &rt,
-        alloc,
-        &mut disk,
-        (&old, &new),
-        16777216,
-        &calls,
-        &values,
-    )
+    ],
+};
+
+#[test]
+fn shorts_move_record_by_record(rt: HostRuntime) {
+    let alloc = rt.alloc();
+    let (old, new) = (four_records(&rt, alloc), padded_records(&rt, alloc));
+    let mut disk = file(&rt, alloc, &[0, 1, 0, 2, 0, 3, 0, 7]);
+    relocates(&rt, alloc, &mut disk, (&old, &new), 16777216, &MOVED_SHORTS);
 }

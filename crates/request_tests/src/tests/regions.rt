@@ -1,95 +1,99 @@
 mod extents;
 mod parts;
 
+use super::{NO_MEMORY, one};
 use nc_base::{
-    AttrList, Code, Dim, DimList, Direction, Form, Given, Header, IdList, Memory, Name, NcType,
-    PartList, Region, SizeList, Var, VarList,
+    AttrList, Code, Dim, Direction, Form, Given, Header, Name, NcType, PartList, Region, SizeList,
+    Var,
 };
 use std::alloc::Global;
-use std::test::Fail;
+use std::process::Abort;
 use var_layout::Measures;
 use vara_extents::{check, widen};
 
-fn one(alloc: Global, number: u64) -> Result<SizeList, Memory> {
-    let mut list = SizeList::new(alloc);
-    list.push(number)?;
-    Ok(list)
-}
-
 /// A header with one dimension of this length, and a byte variable over it.
-fn header_of(alloc: Global, len: u64) -> Result<Header, Memory> {
-    let mut dims = DimList::new(alloc);
-    dims.push(Dim {
+fn header_of(rt: &impl Abort, alloc: Global, len: u64) -> Header {
+    let dim = Dim {
         name: Name::new(alloc),
         len,
-    })?;
-    let mut ids = IdList::new(alloc);
-    ids.push(0)?;
-    let mut vars = VarList::new(alloc);
-    vars.push(Var {
+    };
+    let var = Var {
         name: Name::new(alloc),
-        dims: ids,
+        dims: one(rt, alloc, 0),
         attrs: AttrList::new(alloc),
         kind: NcType::Byte,
         begin: 80,
-    })?;
-    Ok(Header {
+    };
+    Header {
         version: 1,
         records: 0,
-        dims,
+        dims: one(rt, alloc, dim),
         attrs: AttrList::new(alloc),
-        vars,
-    })
+        vars: one(rt, alloc, var),
+    }
 }
 
-fn region_of(alloc: Global, start: u64, count: u64, stride: u64) -> Result<Region, Memory> {
-    Ok(Region {
-        start: one(alloc, start)?,
-        count: one(alloc, count)?,
-        stride: one(alloc, stride)?,
+fn region_of(rt: &impl Abort, alloc: Global, start: u64, count: u64, stride: u64) -> Region {
+    Region {
+        start: one(rt, alloc, start),
+        count: one(rt, alloc, count),
+        stride: one(rt, alloc, stride),
         imap: SizeList::new(alloc),
         packed: true,
-    })
-}
-
-#[test]
-fn causes_of_refusals(rt: HostRuntime) -> Result<(), Fail> {
-    let alloc = rt.alloc();
-    for (len, start, count, stride, code) in [
-        (4, 4, 0, 1, Code::Ok),
-        (4, 4, 1, 1, Code::EInvalCoords),
-        (4, 3, 2, 1, Code::EEdge),
-        (4, 0, 1, 0, Code::EStride),
-        (4, 0, 2, 3, Code::Ok),
-        (2000000, 0, 1048576, 1, Code::Ok),
-        (2000000, 0, 1048577, 1, Code::ETooLarge),
-    ] {
-        let header = header_of(alloc, len)?;
-        let region = region_of(alloc, start, count, stride)?;
-        let measures = Measures::of(&header);
-        match check(&header, &measures, 0, &region, 0, Direction::Put) {
-            Ok(()) => assert!(rt; code == Code::Ok),
-            Err(refusal) => assert!(rt; refusal == code),
-        }
-        assert!(rt; check(&header, &measures, 1, &region, 0, Direction::Put) == Err(Code::ENotVar));
     }
-    Ok(())
 }
 
+/// The refusal of a put.
+fn refusal(header: &Header, var: usize, region: &Region) -> Option<Code> {
+    check(
+        header,
+        &Measures::of(header),
+        var,
+        region,
+        0,
+        Direction::Put,
+    )
+    .err()
+}
+
+/// The length of the dimension, the start, the count and the stride of a put, and its refusal.
+const PUTS: [([u64; 4], Option<Code>); 7] = [
+    ([4, 4, 0, 1], None),
+    ([4, 4, 1, 1], Some(Code::EInvalCoords)),
+    ([4, 3, 2, 1], Some(Code::EEdge)),
+    ([4, 0, 1, 0], Some(Code::EStride)),
+    ([4, 0, 2, 3], None),
+    ([2000000, 0, 1048576, 1], None),
+    ([2000000, 0, 1048577, 1], Some(Code::ETooLarge)),
+];
+
 #[test]
-fn a_whole_variable_has_the_known_records(rt: HostRuntime) -> Result<(), Fail> {
-    let alloc = rt.alloc();
-    let given = Given {
+fn causes_of_refusals(rt: HostRuntime) {
+    for ([len, start, count, stride], code) in PUTS {
+        let header = header_of(&rt, rt.alloc(), len);
+        let region = region_of(&rt, rt.alloc(), start, count, stride);
+        assert!(rt; refusal(&header, 0, &region) == code);
+        assert!(rt; refusal(&header, 1, &region) == Some(Code::ENotVar));
+    }
+}
+
+/// A call on a whole variable.
+fn whole(alloc: Global) -> Given {
+    Given {
         form: Form::Var,
         start: SizeList::new(alloc),
         count: SizeList::new(alloc),
         stride: SizeList::new(alloc),
         imap: SizeList::new(alloc),
         parts: PartList::new(alloc),
-    };
-    let header = header_of(alloc, 0)?;
-    assert_eq!(rt; header.vars.len(), 1);
-    let region = widen(alloc, &header, 0, &given, 3)?;
-    assert!(rt; region == region_of(alloc, 0, 3, 1)?);
-    Ok(())
+    }
+}
+
+#[test]
+fn a_whole_variable_has_the_known_records(rt: HostRuntime) {
+    let alloc = rt.alloc();
+    let header = header_of(&rt, alloc, 0);
+    assert!(rt; header.vars.len() == 1);
+    let region = widen(alloc, &header, 0, &whole(alloc), 3).expect(&rt, NO_MEMORY);
+    assert!(rt; region == region_of(&rt, alloc, 0, 3, 1));
 }

@@ -1,17 +1,16 @@
 // Steps by two aggregators: at each room of their lines, on threads and in turn. Calls and bytes are worked out by hand.
-ghost use Rattle.std.specs.Prelude.{◌≡◌, true, IfOk};
+ghost use Rattle.std.specs.Prelude.{◌≡◌, true};
 ghost use Rattle.serial_spec.specs.HeaderGrammar.{is_sound};
 ghost use Rattle.serial_spec.specs.Lawful.{are_lawful_hints};
 
-use super::steps::{Dataset, HINTS, get_two, has_blob, placed, post, put_two, unplaced};
-use super::{has_calls, numbered};
+use super::steps::{Asked, Dataset, HINTS, get_two, has_got, placed, post, put_two};
+use super::{failing_disk, has_calls, has_file, numbered, numbered_disk};
 use collective_round::PutEnd;
 use nc_base::{Blob, DiskCall, GotTable, Hints, NcType, StepErr};
-use nc_outside::{Fail as Fault, FailList, FailOp, MemDisk};
+use nc_outside::{FailOp, MemDisk};
 use std::alloc::Global;
 use std::process::Abort;
 use std::sync::Wait;
-use std::test::Fail;
 use std::thread::Threads;
 
 /// The room of the lines, and whether aggregators have threads.
@@ -59,53 +58,78 @@ fn hints_of(rt: &impl Abort, way: Way) -> Hints
 }
 
 /// Eight ints from byte 80 on.
-fn eight_ints(rt: &impl Abort, alloc: Global, way: Way) -> Result<Dataset, Fail>
-    ensures sound { IfOk result (λ set. is_sound set.header ≡ true) }
-    ensures hints { IfOk result (λ set. are_lawful_hints set.hints ≡ true) }
+fn eight_ints(rt: &impl Abort, alloc: Global, way: Way) -> Dataset
+    ensures sound { is_sound result.header ≡ true }
+    ensures hints { are_lawful_hints result.hints ≡ true }
 {
-    Ok(Dataset {
-        header: placed(rt, unplaced(alloc, 8, NcType::Int)?),
+    Dataset {
+        header: placed(rt, alloc, 8, NcType::Int),
         hints: hints_of(rt, way),
-    })
+    }
 }
 
 /// Rank 0 puts every other int up to the seventh, rank 1 the second one and the fourth.
 ///
 /// So the bytes from 80 to 108 have a hole from 100 to 104. The second domain begins at 94, within the fourth int, and its second
 /// window at 106, within the seventh.
+const PUTS: [Asked; 2] = [
+    Asked {
+        from: 0,
+        count: 4,
+        stride: 2,
+        bytes: b"\x01\x01\x01\x01\x03\x03\x03\x03\x05\x05\x05\x05\x07\x07\x07\x07",
+    },
+    Asked {
+        from: 1,
+        count: 2,
+        stride: 2,
+        bytes: b"\x02\x02\x02\x02\x04\x04\x04\x04",
+    },
+];
+
 fn put<R: Abort + Threads + Wait + Sync>(
     rt: &R,
     alloc: Global,
     disk: &mut MemDisk,
     set: &Dataset,
-) -> Result<Result<PutEnd, StepErr>, Fail>
+) -> Result<PutEnd, StepErr>
     requires sound { is_sound set.now.header ≡ true }
     requires hints { are_lawful_hints set.now.hints ≡ true }
 {
-    let a = post(
-        alloc,
-        0,
-        4,
-        2,
-        b"\x01\x01\x01\x01\x03\x03\x03\x03\x05\x05\x05\x05\x07\x07\x07\x07",
-    )?;
-    let b = post(alloc, 1, 2, 2, b"\x02\x02\x02\x02\x04\x04\x04\x04")?;
-    let (end, records) = put_two(rt, alloc, disk, set, a, b)?;
+    let [a, b] = &PUTS;
+    let (a, b) = (post(rt, alloc, a), post(rt, alloc, b));
+    let (end, records) = put_two(rt, alloc, disk, set, a, b);
     assert!(rt; records == 0);
-    Ok(end)
+    end
 }
 
 /// The ranks get the same ints.
+const GETS: [Asked; 2] = [
+    Asked {
+        from: 0,
+        count: 4,
+        stride: 2,
+        bytes: &[],
+    },
+    Asked {
+        from: 1,
+        count: 2,
+        stride: 2,
+        bytes: &[],
+    },
+];
+
 fn get<R: Abort + Threads + Wait + Sync>(
     rt: &R,
     alloc: Global,
     disk: &mut MemDisk,
     set: &Dataset,
-) -> Result<Result<GotTable, StepErr>, Fail>
+) -> Result<GotTable, StepErr>
     requires sound { is_sound set.now.header ≡ true }
     requires hints { are_lawful_hints set.now.hints ≡ true }
 {
-    let (a, b) = (post(alloc, 0, 4, 2, &[])?, post(alloc, 1, 2, 2, &[])?);
+    let [a, b] = &GETS;
+    let (a, b) = (post(rt, alloc, a), post(rt, alloc, b));
     get_two(rt, alloc, disk, set, a, b)
 }
 
@@ -116,8 +140,8 @@ const PUT: [u8; 32] = [
 ];
 
 /// The file with the puts done but from one place to another, where each byte is its place.
-fn put_but(alloc: Global, from: usize, to: usize) -> Result<Blob, Fail> {
-    let mut bytes = numbered(alloc, 112)?.into_vec();
+fn put_but(rt: &impl Abort, alloc: Global, from: usize, to: usize) -> Blob {
+    let mut bytes = numbered(rt, alloc, 112).into_vec();
     for (k, new) in PUT.iter().enumerate() {
         let place = k.saturating_add(80);
         if place < from || to <= place {
@@ -126,7 +150,22 @@ fn put_but(alloc: Global, from: usize, to: usize) -> Result<Blob, Fail> {
             }
         }
     }
-    Ok(Blob::from_vec(bytes))
+    Blob::from_vec(bytes)
+}
+
+/// The put ends well, and all of it is in the file.
+fn is_done<R: Abort + Threads + Wait + Sync>(
+    rt: &R,
+    alloc: Global,
+    disk: &mut MemDisk,
+    set: &Dataset,
+)
+    requires sound { is_sound set.now.header ≡ true }
+    requires hints { are_lawful_hints set.now.hints ≡ true }
+{
+    let end = put(rt, alloc, disk, set);
+    assert!(rt; end == Ok(PutEnd::Done));
+    has_file(rt, alloc, disk, &put_but(rt, alloc, 0, 0));
 }
 
 const PUT_CALLS: [DiskCall; 5] = [
@@ -138,17 +177,14 @@ const PUT_CALLS: [DiskCall; 5] = [
 ];
 
 #[test]
-fn puts_have_the_same_calls_by_each_way(rt: HostRuntime) -> Result<(), Fail> {
+fn puts_have_the_same_calls_by_each_way(rt: HostRuntime) {
     let alloc = rt.alloc();
     for way in WAYS {
-        let set = eight_ints(&rt, alloc, way)?;
-        let mut disk = MemDisk::logged(alloc, numbered(alloc, 112)?)?;
-        let end = put(&rt, alloc, &mut disk, &set)?;
-        assert!(rt; end == Ok(PutEnd::Done));
-        assert_eq!(rt; disk.bytes(alloc)?, put_but(alloc, 0, 0)?);
-        has_calls(&rt, alloc, &disk, &PUT_CALLS)?;
+        let set = eight_ints(&rt, alloc, way);
+        let mut disk = numbered_disk(&rt, alloc, 112);
+        is_done(&rt, alloc, &mut disk, &set);
+        has_calls(&rt, alloc, &disk, &PUT_CALLS);
     }
-    Ok(())
 }
 
 const GET_CALLS: [DiskCall; 4] = [
@@ -158,26 +194,30 @@ const GET_CALLS: [DiskCall; 4] = [
     DiskCall::Load(106, 2),
 ];
 
-/// The ranks got their ints.
-fn has_got(rt: &impl Abort, got: Result<GotTable, StepErr>) {
-    let Ok(table) = got else {
-        panic!(rt; "no table");
-    };
+/// The ranks get their ints.
+fn is_got<R: Abort + Threads + Wait + Sync>(
+    rt: &R,
+    alloc: Global,
+    disk: &mut MemDisk,
+    set: &Dataset,
+)
+    requires sound { is_sound set.now.header ≡ true }
+    requires hints { are_lawful_hints set.now.hints ≡ true }
+{
+    let got = get(rt, alloc, disk, set);
     let first = b"\x50\x51\x52\x53\x58\x59\x5a\x5b\x60\x61\x62\x63\x68\x69\x6a\x6b";
-    has_blob(rt, &table, 0, first);
-    has_blob(rt, &table, 1, b"\x54\x55\x56\x57\x5c\x5d\x5e\x5f");
+    has_got(rt, got, first, b"\x54\x55\x56\x57\x5c\x5d\x5e\x5f");
 }
 
 #[test]
-fn gets_have_the_same_calls_by_each_way(rt: HostRuntime) -> Result<(), Fail> {
+fn gets_have_the_same_calls_by_each_way(rt: HostRuntime) {
     let alloc = rt.alloc();
     for way in WAYS {
-        let set = eight_ints(&rt, alloc, way)?;
-        let mut disk = MemDisk::logged(alloc, numbered(alloc, 112)?)?;
-        has_got(&rt, get(&rt, alloc, &mut disk, &set)?);
-        has_calls(&rt, alloc, &disk, &GET_CALLS)?;
+        let set = eight_ints(&rt, alloc, way);
+        let mut disk = numbered_disk(&rt, alloc, 112);
+        is_got(&rt, alloc, &mut disk, &set);
+        has_calls(&rt, alloc, &disk, &GET_CALLS);
     }
-    Ok(())
 }
 
 /// Each call of a put that the disk may refuse, and from where to where the file is then left as it was while the other aggregator goes
@@ -193,48 +233,35 @@ const REFUSED_PUTS: [(FailOp, u64, [usize; 2]); 8] = [
     (FailOp::Store, 106, [106, 108]),
 ];
 
-/// A file whose bytes are their places, of which one call is refused.
-fn failing(alloc: Global, op: FailOp, at: u64) -> Result<MemDisk, Fail> {
-    let plan = FailList::from_vec(vec![in alloc; Fault { op, at }]?);
-    Ok(MemDisk::failing(alloc, numbered(alloc, 112)?, plan)?)
-}
-
 /// The put is refused, and leaves the file as it was from one place to another. Then the disk is whole: the same put ends well.
 fn is_refused<R: Abort + Threads + Wait + Sync>(
     rt: &R,
     alloc: Global,
     way: Way,
     fault: (FailOp, u64),
-    from: usize,
-    to: usize,
-) -> Result<(), Fail> {
-    let (op, at) = fault;
-    let set = eight_ints(rt, alloc, way)?;
-    let mut disk = failing(alloc, op, at)?;
-    let end = put(rt, alloc, &mut disk, &set)?;
+    [from, to]: [usize; 2],
+) {
+    let set = eight_ints(rt, alloc, way);
+    let mut disk = failing_disk(rt, alloc, 112, &[fault]);
+    let end = put(rt, alloc, &mut disk, &set);
     assert!(rt; end == Err(StepErr::Disk));
-    assert_eq!(rt; disk.bytes(alloc)?, put_but(alloc, from, to)?);
-    let end = put(rt, alloc, &mut disk, &set)?;
-    assert!(rt; end == Ok(PutEnd::Done));
-    assert_eq!(rt; disk.bytes(alloc)?, put_but(alloc, 0, 0)?);
-    Ok(())
+    has_file(rt, alloc, &disk, &put_but(rt, alloc, from, to));
+    is_done(rt, alloc, &mut disk, &set);
 }
 
 #[test]
-fn one_aggregator_goes_on_while_the_other_is_refused(rt: HostRuntime) -> Result<(), Fail> {
-    for (op, at, [from, to]) in REFUSED_PUTS {
-        is_refused(&rt, rt.alloc(), SIDE_BY_SIDE, (op, at), from, to)?;
+fn one_aggregator_goes_on_while_the_other_is_refused(rt: HostRuntime) {
+    for (op, at, left) in REFUSED_PUTS {
+        is_refused(&rt, rt.alloc(), SIDE_BY_SIDE, (op, at), left);
     }
-    Ok(())
 }
 
 // What stands behind the refused call is not begun.
 #[test]
-fn in_turn_a_refused_call_is_the_last(rt: HostRuntime) -> Result<(), Fail> {
+fn in_turn_a_refused_call_is_the_last(rt: HostRuntime) {
     for (op, at, [from, _]) in REFUSED_PUTS {
-        is_refused(&rt, rt.alloc(), IN_TURN, (op, at), from, 108)?;
+        is_refused(&rt, rt.alloc(), IN_TURN, (op, at), [from, 108]);
     }
-    Ok(())
 }
 
 /// Each call of a get.
@@ -253,22 +280,19 @@ fn is_refused_once<R: Abort + Threads + Wait + Sync>(
     alloc: Global,
     way: Way,
     fault: (FailOp, u64),
-) -> Result<(), Fail> {
-    let (op, at) = fault;
-    let set = eight_ints(rt, alloc, way)?;
-    let mut disk = failing(alloc, op, at)?;
-    let got = get(rt, alloc, &mut disk, &set)?;
+) {
+    let set = eight_ints(rt, alloc, way);
+    let mut disk = failing_disk(rt, alloc, 112, &[fault]);
+    let got = get(rt, alloc, &mut disk, &set);
     assert!(rt; matches!(&got, Err(StepErr::Disk)));
-    assert_eq!(rt; disk.bytes(alloc)?, numbered(alloc, 112)?);
-    has_got(rt, get(rt, alloc, &mut disk, &set)?);
-    Ok(())
+    has_file(rt, alloc, &disk, &numbered(rt, alloc, 112));
+    is_got(rt, alloc, &mut disk, &set);
 }
 
 #[test]
-fn a_refused_get_leaves_the_disk_whole(rt: HostRuntime) -> Result<(), Fail> {
+fn a_refused_get_leaves_the_disk_whole(rt: HostRuntime) {
     for fault in REFUSED_GETS {
-        is_refused_once(&rt, rt.alloc(), SIDE_BY_SIDE, fault)?;
-        is_refused_once(&rt, rt.alloc(), IN_TURN, fault)?;
+        is_refused_once(&rt, rt.alloc(), SIDE_BY_SIDE, fault);
+        is_refused_once(&rt, rt.alloc(), IN_TURN, fault);
     }
-    Ok(())
 }

@@ -1,14 +1,13 @@
 // Elements of one rank alone, window by window.
-ghost use Rattle.std.specs.Prelude.{◌≡◌, ◌+◌, ◌*◌, ◌<◌, ◌≤◌, slice_get, length, IfOk};
+ghost use Rattle.std.specs.Prelude.{◌≡◌, ◌+◌, ◌*◌, ◌<◌, ◌≤◌, slice_get, length};
 ghost use Rattle.data_sieving.specs.Sieving.{bytes_of_post, blob_at};
 
-use super::{has_calls, numbered};
+use super::{blob, failing_disk, has_bytes, has_call_count, has_calls, numbered_disk, one, two};
 use data_sieving::{sieve_get, sieve_put};
-use nc_base::{Blob, BlobList, DiskCall, Extent, Items, Owned, Post, PostList, Region, SizeList};
-use nc_outside::{Disk, DiskErr, Fail, FailOp, MemDisk};
+use nc_base::{BlobList, DiskCall, Extent, Owned, Post, PostList, Region, SizeList};
+use nc_outside::{Disk, DiskErr, FailOp, MemDisk};
 use std::alloc::Global;
 use std::process::Abort;
-use std::test::Fail as TestFail;
 
 fn entry(slot: u32, at: u64, len: u64, from: u64) -> Owned {
     Owned {
@@ -20,52 +19,50 @@ fn entry(slot: u32, at: u64, len: u64, from: u64) -> Owned {
     }
 }
 
-// One post with these bytes.
-fn posts(alloc: Global, bytes: &[u8]) -> Result<PostList, TestFail>
-    ensures { IfOk result (λ list. bytes_of_post (slice_get list 0) ≡ bytes.now) }
-{
-    let region = Region {
+fn no_region(alloc: Global) -> Region {
+    Region {
         start: SizeList::new(alloc),
         count: SizeList::new(alloc),
         stride: SizeList::new(alloc),
         imap: SizeList::new(alloc),
         packed: true,
-    };
-    let bytes = Blob::from_vec(Vec::from_slice(alloc, bytes)?);
-    let mut list = PostList::new(alloc);
-    list.push(Post {
+    }
+}
+
+// One post with these bytes.
+fn posts(rt: &impl Abort, alloc: Global, bytes: &[u8]) -> PostList
+    ensures { bytes_of_post (slice_get result 0) ≡ bytes.now }
+{
+    let post = Post {
         id: 0,
         var: 0,
-        region,
-        bytes,
-    })?;
-    Ok(list)
+        region: no_region(alloc),
+        bytes: blob(rt, alloc, bytes),
+    };
+    one(rt, alloc, post)
 }
 
 // Two blobs of eight bytes.
-fn two_blobs(alloc: Global) -> Result<BlobList, TestFail>
-    ensures first { IfOk result (λ list. length (blob_at list 0) ≡ 8) }
-    ensures second { IfOk result (λ list. length (blob_at list 1) ≡ 8) }
+fn two_blobs(rt: &impl Abort, alloc: Global) -> BlobList
+    ensures first { length (blob_at result 0) ≡ 8 }
+    ensures second { length (blob_at result 1) ≡ 8 }
 {
-    let first = Blob::from_vec(Vec::from_slice(alloc, &[255; 8])?);
-    let second = Blob::from_vec(Vec::from_slice(alloc, &[255; 8])?);
-    let mut list = BlobList::new(alloc);
-    list.push(first)?;
-    list.push(second)?;
-    Ok(list)
+    let first = blob(rt, alloc, &[255; 8]);
+    let second = blob(rt, alloc, &[255; 8]);
+    two(rt, alloc, first, second)
 }
 
 // Puts two entries of one post, whose bytes are given, through a buffer of so many bytes.
-fn put_two<R: Abort>(
-    rt: &R,
+fn put_two(
+    rt: &impl Abort,
     alloc: Global,
     disk: &mut MemDisk,
     a: Owned,
     b: Owned,
     bytes: &[u8],
     size: usize,
-) -> Result<Result<(), DiskErr>, TestFail> {
-    let puts = posts(alloc, bytes)?;
+) -> Result<(), DiskErr> {
+    let puts = posts(rt, alloc, bytes);
     let mut buf = [0; 16];
     let from = disk.first_place();
     let len = disk.size();
@@ -78,7 +75,7 @@ fn put_two<R: Abort>(
     assert!(rt; a.from < 1000 && b.from < 1000);
     assert!(rt; a.extent.at + a.extent.len <= len && a.from + a.extent.len <= count);
     assert!(rt; b.extent.at + b.extent.len <= len && b.from + b.extent.len <= count);
-    Ok(put_both(alloc, disk, a, b, bytes, &puts, &mut buf[..size]))
+    put_both(alloc, disk, a, b, bytes, &puts, &mut buf[..size])
 }
 
 fn put_both(
@@ -106,15 +103,15 @@ fn put_both(
 }
 
 // Gets two entries into the blobs through a buffer of so many bytes.
-fn get_two<R: Abort>(
-    rt: &R,
+fn get_two(
+    rt: &impl Abort,
     alloc: Global,
     disk: &mut MemDisk,
     a: Owned,
     b: Owned,
     size: usize,
-) -> Result<(Result<(), DiskErr>, BlobList), TestFail> {
-    let mut blobs = two_blobs(alloc)?;
+) -> (Result<(), DiskErr>, BlobList) {
+    let mut blobs = two_blobs(rt, alloc);
     let mut buf = [0; 16];
     let from = disk.first_place();
     let len = disk.size();
@@ -128,7 +125,7 @@ fn get_two<R: Abort>(
     assert!(rt; b.extent.at + b.extent.len <= len && b.from + b.extent.len <= 8);
     assert!(rt; a.from + a.extent.len <= b.from + 1000 * u64::from(b.slot));
     let end = get_both(alloc, disk, a, b, &mut buf[..size], &mut blobs);
-    Ok((end, blobs))
+    (end, blobs)
 }
 
 fn get_both(
@@ -155,142 +152,112 @@ fn get_both(
     sieve_get(alloc, disk, &[a, b], buf, into)
 }
 
-fn has_bytes<R: Abort>(
-    rt: &R,
-    alloc: Global,
-    disk: &MemDisk,
-    bytes: &[u8],
-) -> Result<(), TestFail> {
-    let told = disk.bytes(alloc)?;
-    assert_eq!(rt; told.as_slice().get(79..93), Some(bytes));
-    Ok(())
-}
-
 #[test]
-fn elements_with_a_hole_are_read_and_written_at_once(rt: HostRuntime) -> Result<(), TestFail> {
+fn elements_with_a_hole_are_read_and_written_at_once(rt: HostRuntime) {
     let alloc = rt.alloc();
-    let mut disk = MemDisk::logged(alloc, numbered(alloc, 96)?)?;
+    let mut disk = numbered_disk(&rt, alloc, 96);
     let (a, b) = (entry(0, 80, 4, 0), entry(0, 88, 4, 4));
-    assert!(rt; put_two(&rt, alloc, &mut disk, a, b, b"abcdefgh", 16)?.is_ok());
-    has_calls(
-        &rt,
-        alloc,
-        &disk,
-        &[DiskCall::Load(80, 12), DiskCall::Store(80, 12)],
-    )?;
-    has_bytes(&rt, alloc, &disk, b"Oabcd\x54\x55\x56\x57efgh\x5c")
+    assert!(rt; put_two(&rt, alloc, &mut disk, a, b, b"abcdefgh", 16).is_ok());
+    let calls = [DiskCall::Load(80, 12), DiskCall::Store(80, 12)];
+    has_calls(&rt, alloc, &disk, &calls);
+    has_bytes(&rt, alloc, &disk, 79, b"Oabcd\x54\x55\x56\x57efgh\x5c");
 }
 
+const PIECES: [DiskCall; 6] = [
+    DiskCall::Store(80, 3),
+    DiskCall::Store(83, 3),
+    DiskCall::Store(86, 3),
+    DiskCall::Store(89, 3),
+    DiskCall::Store(92, 3),
+    DiskCall::Store(95, 1),
+];
+
 #[test]
-fn a_full_range_is_written_in_pieces(rt: HostRuntime) -> Result<(), TestFail> {
+fn a_full_range_is_written_in_pieces(rt: HostRuntime) {
     let alloc = rt.alloc();
-    let mut disk = MemDisk::logged(alloc, numbered(alloc, 96)?)?;
+    let mut disk = numbered_disk(&rt, alloc, 96);
     let (a, b) = (entry(0, 80, 10, 0), entry(0, 90, 6, 10));
-    assert!(rt; put_two(&rt, alloc, &mut disk, a, b, b"abcdefghijklmnop", 3)?.is_ok());
-    let want = [
-        DiskCall::Store(80, 3),
-        DiskCall::Store(83, 3),
-        DiskCall::Store(86, 3),
-        DiskCall::Store(89, 3),
-        DiskCall::Store(92, 3),
-        DiskCall::Store(95, 1),
-    ];
-    has_calls(&rt, alloc, &disk, &want)?;
-    has_bytes(&rt, alloc, &disk, b"Oabcdefghijklm")
+    assert!(rt; put_two(&rt, alloc, &mut disk, a, b, b"abcdefghijklmnop", 3).is_ok());
+    has_calls(&rt, alloc, &disk, &PIECES);
+    has_bytes(&rt, alloc, &disk, 79, b"Oabcdefghijklm");
 }
+
+// How the same put ends again and again, and what it leaves from byte 79 on.
+const REFUSED_PUTS: [(Result<(), DiskErr>, &[u8]); 3] = [
+    (Err(DiskErr::Failed), b"OPQRSTUVWXYZ[\x5c"),
+    (Err(DiskErr::Failed), b"OabRSTUVWXYZ[\x5c"),
+    (Ok(()), b"OabcdTUVWefgh\x5c"),
+];
 
 #[test]
-fn each_call_of_a_put_is_refused(rt: HostRuntime) -> Result<(), TestFail> {
+fn each_call_of_a_put_is_refused(rt: HostRuntime) {
     let alloc = rt.alloc();
-    let load = Fail {
-        op: FailOp::Load,
-        at: 85,
-    };
-    let store = Fail {
-        op: FailOp::Store,
-        at: 82,
-    };
-    let plan = Items::from_vec(Vec::from_slice(alloc, &[load, store])?);
-    let mut disk = MemDisk::failing(alloc, numbered(alloc, 96)?, plan)?;
-    let table: [(Result<(), DiskErr>, &[u8]); 3] = [
-        (Err(DiskErr::Failed), b"OPQRSTUVWXYZ[\x5c"),
-        (Err(DiskErr::Failed), b"OabRSTUVWXYZ[\x5c"),
-        (Ok(()), b"OabcdTUVWefgh\x5c"),
-    ];
-    for (want, bytes) in table {
+    let faults = [(FailOp::Load, 85), (FailOp::Store, 82)];
+    let mut disk = failing_disk(&rt, alloc, 96, &faults);
+    for (want, bytes) in &REFUSED_PUTS {
         let (a, b) = (entry(0, 80, 4, 0), entry(0, 88, 4, 4));
-        assert!(rt; put_two(&rt, alloc, &mut disk, a, b, b"abcdefgh", 16)? == want);
-        has_bytes(&rt, alloc, &disk, bytes)?;
+        assert!(rt; put_two(&rt, alloc, &mut disk, a, b, b"abcdefgh", 16) == *want);
+        has_bytes(&rt, alloc, &disk, 79, bytes);
     }
-    assert_eq!(rt; disk.faults(), 2);
-    Ok(())
+    assert!(rt; disk.faults() == 2);
 }
 
-fn has_blobs<R: Abort>(rt: &R, blobs: &BlobList, first: &[u8], second: &[u8]) {
+fn has_blobs(rt: &impl Abort, blobs: &BlobList, first: &[u8], second: &[u8]) {
     let list = blobs.as_slice();
     assert!(rt; list.len() == 2);
-    assert_eq!(rt; list[0].as_slice(), first);
-    assert_eq!(rt; list[1].as_slice(), second);
+    assert!(rt; list[0].as_slice() == first);
+    assert!(rt; list[1].as_slice() == second);
 }
 
 #[test]
-fn elements_are_read_at_once(rt: HostRuntime) -> Result<(), TestFail> {
+fn elements_are_read_at_once(rt: HostRuntime) {
     let alloc = rt.alloc();
-    let mut disk = MemDisk::logged(alloc, numbered(alloc, 96)?)?;
+    let mut disk = numbered_disk(&rt, alloc, 96);
     let (a, b) = (entry(0, 80, 3, 1), entry(0, 88, 4, 4));
-    let (end, blobs) = get_two(&rt, alloc, &mut disk, a, b, 16)?;
+    let (end, blobs) = get_two(&rt, alloc, &mut disk, a, b, 16);
     assert!(rt; end.is_ok());
-    has_calls(&rt, alloc, &disk, &[DiskCall::Load(80, 12)])?;
+    has_calls(&rt, alloc, &disk, &[DiskCall::Load(80, 12)]);
     has_blobs(&rt, &blobs, &[255, 80, 81, 82, 88, 89, 90, 91], &[255; 8]);
-    Ok(())
 }
 
+const PARTS: [DiskCall; 3] = [
+    DiskCall::Load(80, 3),
+    DiskCall::Load(83, 3),
+    DiskCall::Load(86, 2),
+];
+
 #[test]
-fn two_gets_share_bytes(rt: HostRuntime) -> Result<(), TestFail> {
+fn two_gets_share_bytes(rt: HostRuntime) {
     let alloc = rt.alloc();
-    let mut disk = MemDisk::logged(alloc, numbered(alloc, 96)?)?;
+    let mut disk = numbered_disk(&rt, alloc, 96);
     let (a, b) = (entry(0, 80, 8, 0), entry(1, 82, 4, 2));
-    let (end, blobs) = get_two(&rt, alloc, &mut disk, a, b, 3)?;
+    let (end, blobs) = get_two(&rt, alloc, &mut disk, a, b, 3);
     assert!(rt; end.is_ok());
-    let want = [
-        DiskCall::Load(80, 3),
-        DiskCall::Load(83, 3),
-        DiskCall::Load(86, 2),
-    ];
-    has_calls(&rt, alloc, &disk, &want)?;
-    has_blobs(
-        &rt,
-        &blobs,
-        &[80, 81, 82, 83, 84, 85, 86, 87],
-        &[255, 255, 82, 83, 84, 85, 255, 255],
+    has_calls(&rt, alloc, &disk, &PARTS);
+    let (first, second) = (
+        [80, 81, 82, 83, 84, 85, 86, 87],
+        [255, 255, 82, 83, 84, 85, 255, 255],
     );
-    Ok(())
+    has_blobs(&rt, &blobs, &first, &second);
 }
 
+// How the same get ends again and again, and how many calls the disk has had then.
+const REFUSED_GETS: [(Result<(), DiskErr>, usize); 3] = [
+    (Err(DiskErr::Failed), 0),
+    (Err(DiskErr::Failed), 1),
+    (Ok(()), 3),
+];
+
 #[test]
-fn each_call_of_a_get_is_refused(rt: HostRuntime) -> Result<(), TestFail> {
+fn each_call_of_a_get_is_refused(rt: HostRuntime) {
     let alloc = rt.alloc();
-    let first = Fail {
-        op: FailOp::Load,
-        at: 80,
-    };
-    let second = Fail {
-        op: FailOp::Load,
-        at: 90,
-    };
-    let plan = Items::from_vec(Vec::from_slice(alloc, &[first, second])?);
-    let mut disk = MemDisk::failing(alloc, numbered(alloc, 96)?, plan)?;
-    let table: [(Result<(), DiskErr>, usize); 3] = [
-        (Err(DiskErr::Failed), 0),
-        (Err(DiskErr::Failed), 1),
-        (Ok(()), 3),
-    ];
-    for (want, calls) in table {
+    let faults = [(FailOp::Load, 80), (FailOp::Load, 90)];
+    let mut disk = failing_disk(&rt, alloc, 96, &faults);
+    for (want, calls) in &REFUSED_GETS {
         let (a, b) = (entry(0, 80, 4, 0), entry(1, 88, 4, 0));
-        let (end, _) = get_two(&rt, alloc, &mut disk, a, b, 4)?;
-        assert!(rt; end == want);
-        let told = disk.calls(alloc)?.ok_or("calls")?;
-        assert_eq!(rt; told.len(), calls);
+        let (end, _) = get_two(&rt, alloc, &mut disk, a, b, 4);
+        assert!(rt; end == *want);
+        has_call_count(&rt, alloc, &disk, *calls);
     }
-    has_bytes(&rt, alloc, &disk, b"OPQRSTUVWXYZ[\x5c")
+    has_bytes(&rt, alloc, &disk, 79, b"OPQRSTUVWXYZ[\x5c");
 }

@@ -1,5 +1,5 @@
 // Steps of two ranks and of one on small datasets, with the calls and the bytes worked out by hand.
-ghost use Rattle.std.specs.Prelude.{◌≡◌, ◌<◌, ◌≤◌, [], ◌∷◌, true, length, IfOk, IfSome};
+ghost use Rattle.std.specs.Prelude.{◌≡◌, ◌<◌, ◌≤◌, [], ◌∷◌, true, length, IfSome};
 ghost use Rattle.serial_spec.specs.HeaderGrammar.{header_len, is_sound};
 ghost use Rattle.serial_spec.specs.Lawful.{are_lawful_hints};
 ghost use Rattle.serial_spec.specs.Layout.{end_of, product};
@@ -7,19 +7,17 @@ ghost use Rattle.serial_spec.specs.RankSide.{wanted};
 ghost use Rattle.var_layout.specs.Unplaced.{is_unplaced};
 ghost use Rattle.collective_round.specs.Rounds.{IsGet, IsPut};
 
-use super::{has_calls, numbered};
+use super::{NO_MEMORY, blob, disk_of, has_bytes, has_calls, numbered_disk, one, two};
 use collective_round::{Dataset as Lent, PutEnd, get_all, put_all, put_solo};
 use nc_base::{
-    Align, AttrList, Batch, BatchList, Blob, Dim, DimList, Direction, DiskCall, GotTable, Header,
-    Hints, IdList, Job, Name, NcType, OverlapRule, Pair, Post, PostList, Region, SizeList, StepErr,
-    Var, VarList,
+    Align, AttrList, Batch, Blob, Dim, Direction, DiskCall, GotTable, Header, Hints, Job, NcType,
+    OverlapRule, Pair, Post, PostList, Region, SizeList, StepErr, Var,
 };
-use nc_outside::{Disk, Fail as Fault, FailList, FailOp, MemDisk, OpenGate};
+use nc_outside::{Disk, Fail as Fault, FailOp, MemDisk, OpenGate};
 use piece_exchange::Tools;
-use std::alloc::{AllocError, Global};
+use std::alloc::Global;
 use std::process::Abort;
 use std::sync::Wait;
-use std::test::Fail;
 use std::thread::Threads;
 use type_external::size_of;
 use var_layout::{Measures, file_end, lay_out};
@@ -39,25 +37,35 @@ pub(super) const HINTS: Hints = Hints {
     striping_unit: 1,
 };
 
-/// Two aggregators, whose domains are cut at multiples of 4.
-fn two_aggregators() -> Hints
-    ensures { are_lawful_hints result ≡ true }
-{
-    Hints {
-        cb_nodes: 2,
-        cb_buffer: 16,
-        striping_unit: 4,
-        ..HINTS
-    }
+/// What a test says where gets are refused that should not be.
+const NO_TABLE: &str = "no table";
+
+/// How a step is done.
+#[derive(Clone, Copy)]
+enum How {
+    /// By one aggregator, with windows of one int.
+    Plain,
+    /// By two aggregators, whose domains are cut at multiples of 4.
+    Two,
+    /// Requests of later ranks are done over those of ranks before.
+    Serial,
 }
 
-/// Requests of later ranks are done over those of ranks before.
-fn one_after_another() -> Hints
+fn hints_of(how: How) -> Hints
     ensures { are_lawful_hints result ≡ true }
 {
-    Hints {
-        overlap: OverlapRule::Serial,
-        ..HINTS
+    match how {
+        How::Plain => HINTS,
+        How::Two => Hints {
+            cb_nodes: 2,
+            cb_buffer: 16,
+            striping_unit: 4,
+            ..HINTS
+        },
+        How::Serial => Hints {
+            overlap: OverlapRule::Serial,
+            ..HINTS
+        },
     }
 }
 
@@ -68,92 +76,101 @@ pub(super) struct Dataset {
     pub(super) hints: Hints,
 }
 
-// The dimension x of this length, and the variable v over it without a begin.
-pub(super) fn unplaced(alloc: Global, len: u64, kind: NcType) -> Result<Header, AllocError>
-    ensures { IfOk result (λ header. is_unplaced header ≡ true) }
+/// The dimension x of this length, and the variable v over it without a begin.
+fn unplaced(rt: &impl Abort, alloc: Global, len: u64, kind: NcType) -> Header
+    ensures { is_unplaced result ≡ true }
 {
     let x = Dim {
-        name: Name::from_vec(vec![in alloc; b'x']?),
+        name: one(rt, alloc, b'x'),
         len,
     };
     let v = Var {
-        name: Name::from_vec(vec![in alloc; b'v']?),
-        dims: IdList::from_vec(vec![in alloc; 0]?),
+        name: one(rt, alloc, b'v'),
+        dims: one(rt, alloc, 0),
         attrs: AttrList::new(alloc),
         kind,
         begin: 0,
     };
-    Ok(Header {
+    Header {
         version: 1,
         records: 0,
-        dims: DimList::from_vec(vec![in alloc; x]?),
+        dims: one(rt, alloc, x),
         attrs: AttrList::new(alloc),
-        vars: VarList::from_vec(vec![in alloc; v]?),
-    })
+        vars: one(rt, alloc, v),
+    }
 }
 
-// The same with its begin, which is 80.
-pub(super) fn placed(rt: &impl Abort, mut header: Header) -> Header
-    requires { is_unplaced header ≡ true }
+/// The same with its begin, which is 80.
+pub(super) fn placed(rt: &impl Abort, alloc: Global, len: u64, kind: NcType) -> Header
     ensures { is_sound result ≡ true }
 {
-    let align = Align { header: 4, var: 4 };
-    let answer = lay_out(&mut header, &align);
+    let mut header = unplaced(rt, alloc, len, kind);
+    let answer = lay_out(&mut header, &Align { header: 4, var: 4 });
     assert!(rt; answer.is_ok());
     header
 }
 
-fn list_of(alloc: Global, number: u64) -> Result<SizeList, AllocError> {
-    Ok(SizeList::from_vec(vec![in alloc; number]?))
+/// A request for elements of v: the first, how many, at what stride, and the bytes of a put.
+#[derive(Clone, Copy)]
+pub(super) struct Asked {
+    pub(super) from: u64,
+    pub(super) count: u64,
+    pub(super) stride: u64,
+    pub(super) bytes: &'static [u8],
 }
 
-/// A request for elements of v.
-pub(super) fn post(
-    alloc: Global,
-    from: u64,
-    count: u64,
-    stride: u64,
-    bytes: &[u8],
-) -> Result<Post, AllocError> {
+pub(super) fn post(rt: &impl Abort, alloc: Global, asked: &Asked) -> Post {
     let region = Region {
-        start: list_of(alloc, from)?,
-        count: list_of(alloc, count)?,
-        stride: list_of(alloc, stride)?,
+        start: one(rt, alloc, asked.from),
+        count: one(rt, alloc, asked.count),
+        stride: one(rt, alloc, asked.stride),
         imap: SizeList::new(alloc),
         packed: true,
     };
-    Ok(Post {
+    Post {
         id: 0,
         var: 0,
         region,
-        bytes: Blob::from_vec(Vec::from_slice(alloc, bytes)?),
-    })
+        bytes: blob(rt, alloc, asked.bytes),
+    }
 }
 
-fn batch_of_put(alloc: Global, post: Post) -> Result<Batch, AllocError>
-    ensures { IfOk result (λ batch. batch ≡ record { puts = post ∷ []; gets = [] }) }
+fn batch_of_put(rt: &impl Abort, alloc: Global, post: Post) -> Batch
+    ensures { result ≡ record { puts = post ∷ []; gets = [] } }
 {
-    Ok(Batch {
-        puts: PostList::from_vec(vec![in alloc; post]?),
+    Batch {
+        puts: one(rt, alloc, post),
         gets: PostList::new(alloc),
-    })
+    }
 }
 
-fn batch_of_get(alloc: Global, post: Post) -> Result<Batch, AllocError>
-    ensures { IfOk result (λ batch. batch ≡ record { puts = []; gets = post ∷ [] }) }
+fn batch_of_get(rt: &impl Abort, alloc: Global, post: Post) -> Batch
+    ensures { result ≡ record { puts = []; gets = post ∷ [] } }
 {
-    Ok(Batch {
+    Batch {
         puts: PostList::new(alloc),
-        gets: PostList::from_vec(vec![in alloc; post]?),
-    })
+        gets: one(rt, alloc, post),
+    }
 }
 
-fn job_of(alloc: Global, a: Batch, b: Batch) -> Result<Job, AllocError>
-    ensures { IfOk result (λ job. job.batches ≡ a ∷ b ∷ []) }
+/// A put of each of two ranks.
+fn puts_of(rt: &impl Abort, alloc: Global, a: Post, b: Post) -> Job
+    ensures { result.batches ≡ record { puts = a ∷ []; gets = [] } ∷ record { puts = b ∷ []; gets = [] } ∷ [] }
 {
-    Ok(Job {
-        batches: BatchList::from_vec(vec![in alloc; a, b]?),
-    })
+    let (first, second) = (batch_of_put(rt, alloc, a), batch_of_put(rt, alloc, b));
+    Job {
+        batches: two(rt, alloc, first, second),
+    }
+}
+
+/// A get of each of two ranks.
+fn gets_of(rt: &impl Abort, alloc: Global, a: Post, b: Post) -> Job
+    ensures { result.batches ≡ record { puts = []; gets = a ∷ [] } ∷ record { puts = []; gets = b ∷ [] } ∷ [] }
+{
+    let (first, second) = (batch_of_get(rt, alloc, a), batch_of_get(rt, alloc, b));
+    Job {
+        batches: two(rt, alloc, first, second),
+    }
 }
 
 /// The elements of a region of one dimension.
@@ -232,7 +249,7 @@ pub(super) fn put_two<R: Abort + Threads + Wait + Sync>(
     set: &Dataset,
     a: Post,
     b: Post,
-) -> Result<(Result<PutEnd, StepErr>, u64), Fail>
+) -> (Result<PutEnd, StepErr>, u64)
     requires sound { is_sound set.now.header ≡ true }
     requires hints { are_lawful_hints set.now.hints ≡ true }
 {
@@ -240,7 +257,7 @@ pub(super) fn put_two<R: Abort + Threads + Wait + Sync>(
     is_put(rt, header, &a);
     is_put(rt, header, &b);
     is_long(rt, header, disk);
-    let job = job_of(alloc, batch_of_put(alloc, a)?, batch_of_put(alloc, b)?)?;
+    let job = puts_of(rt, alloc, a, b);
     let measures = Measures::of(header);
     let dataset = Lent {
         header,
@@ -254,7 +271,7 @@ pub(super) fn put_two<R: Abort + Threads + Wait + Sync>(
     };
     let mut records = 0;
     let end = put_all(&tools, disk, &dataset, &mut records, &job);
-    Ok((end, records))
+    (end, records)
 }
 
 /// What two ranks get, one blob each.
@@ -265,7 +282,7 @@ pub(super) fn get_two<R: Abort + Threads + Wait + Sync>(
     set: &Dataset,
     a: Post,
     b: Post,
-) -> Result<Result<GotTable, StepErr>, Fail>
+) -> Result<GotTable, StepErr>
     requires sound { is_sound set.now.header ≡ true }
     requires hints { are_lawful_hints set.now.hints ≡ true }
 {
@@ -274,7 +291,7 @@ pub(super) fn get_two<R: Abort + Threads + Wait + Sync>(
     let len = disk.size();
     is_get(rt, header, len, &a);
     is_get(rt, header, len, &b);
-    let job = job_of(alloc, batch_of_get(alloc, a)?, batch_of_get(alloc, b)?)?;
+    let job = gets_of(rt, alloc, a, b);
     let measures = Measures::of(header);
     let dataset = Lent {
         header,
@@ -286,48 +303,56 @@ pub(super) fn get_two<R: Abort + Threads + Wait + Sync>(
         alloc,
         gate: &OpenGate,
     };
-    Ok(get_all(&tools, disk, &dataset, &job))
+    get_all(&tools, disk, &dataset, &job)
 }
 
 /// How the put of a rank alone ends.
-fn put_one<R: Abort>(
-    rt: &R,
+fn put_one(
+    rt: &impl Abort,
     alloc: Global,
     disk: &mut MemDisk,
     header: &Header,
     a: Post,
-) -> Result<Result<PutEnd, StepErr>, Fail>
+) -> Result<PutEnd, StepErr>
     requires { is_sound header.now ≡ true }
 {
     is_put(rt, header, &a);
     is_long(rt, header, disk);
-    let batch = batch_of_put(alloc, a)?;
+    let batch = batch_of_put(rt, alloc, a);
     let measures = Measures::of(header);
     let dataset = Lent {
         header,
         measures: &measures,
         hints: &HINTS,
     };
-    Ok(put_solo(alloc, disk, &dataset, 3, &batch))
+    put_solo(alloc, disk, &dataset, 3, &batch)
 }
 
-fn zeros(alloc: Global, len: usize) -> Result<MemDisk, Fail> {
-    let bytes = Blob::from_vec(vec![in alloc; 0; len]?);
-    Ok(MemDisk::logged(alloc, bytes)?)
+/// A file of zeros.
+fn zeros(rt: &impl Abort, alloc: Global, len: usize) -> MemDisk {
+    let bytes = vec![in alloc; 0; len].expect(rt, NO_MEMORY);
+    disk_of(rt, alloc, Blob::from_vec(bytes))
 }
 
-/// The disk had these calls, and has these bytes behind the header.
-fn has<R: Abort>(
-    rt: &R,
-    alloc: Global,
-    disk: &MemDisk,
-    calls: &[DiskCall],
-    tail: &[u8],
-) -> Result<(), Fail> {
-    has_calls(rt, alloc, disk, calls)?;
-    let bytes = disk.bytes(alloc)?;
-    assert_eq!(rt; bytes.as_slice().get(80..), Some(tail));
-    Ok(())
+/// The disk had these calls, and has these bytes alone behind the header.
+fn has(rt: &impl Abort, alloc: Global, disk: &MemDisk, calls: &[DiskCall], tail: &[u8]) {
+    has_calls(rt, alloc, disk, calls);
+    has_bytes(rt, alloc, disk, 80, tail);
+    assert!(rt; disk.size() == 80 + tail.len() as u64);
+}
+
+/// Two puts on a file of zeros: the length of x, the type of v, the length of the file, and what each of the ranks puts. Then the end,
+/// the record count, the calls, and the bytes behind the header.
+struct Puts {
+    how: How,
+    len: u64,
+    kind: NcType,
+    size: usize,
+    asked: [Asked; 2],
+    end: PutEnd,
+    records: u64,
+    calls: &'static [DiskCall],
+    tail: &'static [u8],
 }
 
 /// Four ints, put one by one.
@@ -338,84 +363,176 @@ const FOUR: [DiskCall; 4] = [
     DiskCall::Store(92, 4),
 ];
 
-#[test]
-fn two_ranks_fill_each_others_gaps(rt: HostRuntime) -> Result<(), Fail> {
-    let alloc = rt.alloc();
-    let set = Dataset {
-        header: placed(&rt, unplaced(alloc, 4, NcType::Int)?),
-        hints: HINTS,
-    };
-    let mut disk = zeros(alloc, 96)?;
-    let a = post(alloc, 0, 2, 2, b"\0\0\0\x01\0\0\0\x03")?;
-    let b = post(alloc, 1, 2, 2, b"\0\0\0\x02\0\0\0\x04")?;
-    let (end, records) = put_two(&rt, alloc, &mut disk, &set, a, b)?;
-    assert!(rt; end == Ok(PutEnd::Done) && records == 0);
-    let tail = b"\0\0\0\x01\0\0\0\x02\0\0\0\x03\0\0\0\x04";
-    has(&rt, alloc, &disk, &FOUR, tail)
+const SHARED: Pair = Pair {
+    rank1: 0,
+    request1: 0,
+    rank2: 1,
+    request2: 0,
+    at: 88,
+};
+
+const PUTS: [Puts; 5] = [
+    // Two ranks fill each other's gaps.
+    Puts {
+        how: How::Plain,
+        len: 4,
+        kind: NcType::Int,
+        size: 96,
+        asked: [
+            Asked {
+                from: 0,
+                count: 2,
+                stride: 2,
+                bytes: b"\0\0\0\x01\0\0\0\x03",
+            },
+            Asked {
+                from: 1,
+                count: 2,
+                stride: 2,
+                bytes: b"\0\0\0\x02\0\0\0\x04",
+            },
+        ],
+        end: PutEnd::Done,
+        records: 0,
+        calls: &FOUR,
+        tail: b"\0\0\0\x01\0\0\0\x02\0\0\0\x03\0\0\0\x04",
+    },
+    // A shared byte is told, and nothing is written.
+    Puts {
+        how: How::Plain,
+        len: 4,
+        kind: NcType::Int,
+        size: 96,
+        asked: [
+            Asked {
+                from: 0,
+                count: 3,
+                stride: 1,
+                bytes: &[1; 12],
+            },
+            Asked {
+                from: 2,
+                count: 2,
+                stride: 1,
+                bytes: &[2; 8],
+            },
+        ],
+        end: PutEnd::Overlap(SHARED),
+        records: 0,
+        calls: &[],
+        tail: &[0; 16],
+    },
+    // The later rank has a shared byte.
+    Puts {
+        how: How::Serial,
+        len: 4,
+        kind: NcType::Int,
+        size: 96,
+        asked: [
+            Asked {
+                from: 0,
+                count: 3,
+                stride: 1,
+                bytes: &[1; 12],
+            },
+            Asked {
+                from: 2,
+                count: 2,
+                stride: 1,
+                bytes: &[2; 8],
+            },
+        ],
+        end: PutEnd::Done,
+        records: 0,
+        calls: &FOUR,
+        tail: &[1, 1, 1, 1, 1, 1, 1, 1, 2, 2, 2, 2, 2, 2, 2, 2],
+    },
+    // Bytes 82 to 88 with a hole are of the first domain, 90 to 94 of the second one, which begins at 88.
+    Puts {
+        how: How::Two,
+        len: 8,
+        kind: NcType::Short,
+        size: 96,
+        asked: [
+            Asked {
+                from: 1,
+                count: 2,
+                stride: 2,
+                bytes: b"\0\x01\0\x02",
+            },
+            Asked {
+                from: 5,
+                count: 2,
+                stride: 1,
+                bytes: b"\0\x05\0\x06",
+            },
+        ],
+        end: PutEnd::Done,
+        records: 0,
+        calls: &[
+            DiskCall::Load(82, 6),
+            DiskCall::Store(82, 6),
+            DiskCall::Store(90, 4),
+        ],
+        tail: b"\0\0\0\x01\0\0\0\x02\0\0\0\x05\0\x06\0\0",
+    },
+    // Records grow the file and are counted.
+    Puts {
+        how: How::Plain,
+        len: 0,
+        kind: NcType::Short,
+        size: 80,
+        asked: [
+            Asked {
+                from: 3,
+                count: 1,
+                stride: 1,
+                bytes: b"\0\x07",
+            },
+            Asked {
+                from: 0,
+                count: 0,
+                stride: 1,
+                bytes: b"",
+            },
+        ],
+        end: PutEnd::Done,
+        records: 4,
+        calls: &[
+            DiskCall::Grow(88),
+            DiskCall::Store(86, 2),
+            DiskCall::Store(4, 4),
+        ],
+        tail: b"\0\0\0\0\0\0\0\x07",
+    },
+];
+
+/// The dataset of the puts.
+fn small_dataset(rt: &impl Abort, alloc: Global, len: u64, kind: NcType, how: How) -> Dataset
+    ensures sound { is_sound result.header ≡ true }
+    ensures hints { are_lawful_hints result.hints ≡ true }
+{
+    Dataset {
+        header: placed(rt, alloc, len, kind),
+        hints: hints_of(how),
+    }
+}
+
+fn puts_end<R: Abort + Threads + Wait + Sync>(rt: &R, alloc: Global, puts: &Puts) {
+    let set = small_dataset(rt, alloc, puts.len, puts.kind, puts.how);
+    let mut disk = zeros(rt, alloc, puts.size);
+    let [a, b] = &puts.asked;
+    let (a, b) = (post(rt, alloc, a), post(rt, alloc, b));
+    let (end, records) = put_two(rt, alloc, &mut disk, &set, a, b);
+    assert!(rt; end == Ok(puts.end) && records == puts.records);
+    has(rt, alloc, &disk, puts.calls, puts.tail);
 }
 
 #[test]
-fn a_shared_byte_is_told_and_nothing_is_written(rt: HostRuntime) -> Result<(), Fail> {
-    let alloc = rt.alloc();
-    let set = Dataset {
-        header: placed(&rt, unplaced(alloc, 4, NcType::Int)?),
-        hints: HINTS,
-    };
-    let mut disk = zeros(alloc, 96)?;
-    let (a, b) = (
-        post(alloc, 0, 3, 1, &[1; 12])?,
-        post(alloc, 2, 2, 1, &[2; 8])?,
-    );
-    let (end, _) = put_two(&rt, alloc, &mut disk, &set, a, b)?;
-    let pair = Pair {
-        rank1: 0,
-        request1: 0,
-        rank2: 1,
-        request2: 0,
-        at: 88,
-    };
-    assert!(rt; end == Ok(PutEnd::Overlap(pair)));
-    has(&rt, alloc, &disk, &[], &[0; 16])
-}
-
-#[test]
-fn the_later_rank_has_a_shared_byte(rt: HostRuntime) -> Result<(), Fail> {
-    let alloc = rt.alloc();
-    let set = Dataset {
-        header: placed(&rt, unplaced(alloc, 4, NcType::Int)?),
-        hints: one_after_another(),
-    };
-    let mut disk = zeros(alloc, 96)?;
-    let (a, b) = (
-        post(alloc, 0, 3, 1, &[1; 12])?,
-        post(alloc, 2, 2, 1, &[2; 8])?,
-    );
-    let (end, _) = put_two(&rt, alloc, &mut disk, &set, a, b)?;
-    assert!(rt; end == Ok(PutEnd::Done));
-    let tail = [1, 1, 1, 1, 1, 1, 1, 1, 2, 2, 2, 2, 2, 2, 2, 2];
-    has(&rt, alloc, &disk, &FOUR, &tail)
-}
-
-// Bytes 82 to 88 with a hole are of the first domain, 90 to 94 of the second one, which begins at 88.
-#[test]
-fn puts_go_domain_by_domain(rt: HostRuntime) -> Result<(), Fail> {
-    let alloc = rt.alloc();
-    let set = Dataset {
-        header: placed(&rt, unplaced(alloc, 8, NcType::Short)?),
-        hints: two_aggregators(),
-    };
-    let mut disk = zeros(alloc, 96)?;
-    let a = post(alloc, 1, 2, 2, b"\0\x01\0\x02")?;
-    let b = post(alloc, 5, 2, 1, b"\0\x05\0\x06")?;
-    let (end, _) = put_two(&rt, alloc, &mut disk, &set, a, b)?;
-    assert!(rt; end == Ok(PutEnd::Done));
-    let calls = [
-        DiskCall::Load(82, 6),
-        DiskCall::Store(82, 6),
-        DiskCall::Store(90, 4),
-    ];
-    let tail = b"\0\0\0\x01\0\0\0\x02\0\0\0\x05\0\x06\0\0";
-    has(&rt, alloc, &disk, &calls, tail)
+fn puts_of_two_ranks(rt: HostRuntime) {
+    for puts in &PUTS {
+        puts_end(&rt, rt.alloc(), puts);
+    }
 }
 
 pub(super) fn has_blob(rt: &impl Abort, table: &GotTable, rank: usize, bytes: &[u8]) {
@@ -423,90 +540,106 @@ pub(super) fn has_blob(rt: &impl Abort, table: &GotTable, rank: usize, bytes: &[
     assert!(rt; rank < ranks.len());
     let blobs = ranks[rank].as_slice();
     assert!(rt; blobs.len() == 1);
-    assert_eq!(rt; blobs[0].as_slice(), bytes);
+    assert!(rt; blobs[0].as_slice() == bytes);
+}
+
+/// The two ranks got these bytes.
+pub(super) fn has_got(
+    rt: &impl Abort,
+    got: Result<GotTable, StepErr>,
+    first: &[u8],
+    second: &[u8],
+) {
+    let table = got.expect(rt, NO_TABLE);
+    has_blob(rt, &table, 0, first);
+    has_blob(rt, &table, 1, second);
 }
 
 #[test]
-fn gets_go_domain_by_domain(rt: HostRuntime) -> Result<(), Fail> {
+fn gets_go_domain_by_domain(rt: HostRuntime) {
     let alloc = rt.alloc();
-    let set = Dataset {
-        header: placed(&rt, unplaced(alloc, 8, NcType::Short)?),
-        hints: two_aggregators(),
-    };
-    let mut disk = MemDisk::logged(alloc, numbered(alloc, 96)?)?;
-    let (a, b) = (post(alloc, 1, 2, 2, &[])?, post(alloc, 5, 2, 1, &[])?);
-    match get_two(&rt, alloc, &mut disk, &set, a, b)? {
-        Ok(table) => {
-            has_blob(&rt, &table, 0, &[82, 83, 86, 87]);
-            has_blob(&rt, &table, 1, &[90, 91, 92, 93]);
-        }
-        Err(_) => assert!(rt; false),
-    }
-    has_calls(
-        &rt,
-        alloc,
-        &disk,
-        &[DiskCall::Load(82, 6), DiskCall::Load(90, 4)],
-    )
+    let set = small_dataset(&rt, alloc, 8, NcType::Short, How::Two);
+    let mut disk = numbered_disk(&rt, alloc, 96);
+    let (a, b) = (
+        Asked {
+            from: 1,
+            count: 2,
+            stride: 2,
+            bytes: &[],
+        },
+        Asked {
+            from: 5,
+            count: 2,
+            stride: 1,
+            bytes: &[],
+        },
+    );
+    let (a, b) = (post(&rt, alloc, &a), post(&rt, alloc, &b));
+    let got = get_two(&rt, alloc, &mut disk, &set, a, b);
+    has_got(&rt, got, &[82, 83, 86, 87], &[90, 91, 92, 93]);
+    let calls = [DiskCall::Load(82, 6), DiskCall::Load(90, 4)];
+    has_calls(&rt, alloc, &disk, &calls);
 }
 
-#[test]
-fn records_grow_the_file_and_are_counted(rt: HostRuntime) -> Result<(), Fail> {
-    let alloc = rt.alloc();
-    let set = Dataset {
-        header: placed(&rt, unplaced(alloc, 0, NcType::Short)?),
-        hints: HINTS,
-    };
-    let mut disk = zeros(alloc, 80)?;
-    let (a, b) = (post(alloc, 3, 1, 1, b"\0\x07")?, post(alloc, 0, 0, 1, b"")?);
-    let (end, records) = put_two(&rt, alloc, &mut disk, &set, a, b)?;
-    assert!(rt; end == Ok(PutEnd::Done) && records == 4);
-    let calls = [
-        DiskCall::Grow(88),
-        DiskCall::Store(86, 2),
-        DiskCall::Store(4, 4),
-    ];
-    has(&rt, alloc, &disk, &calls, b"\0\0\0\0\0\0\0\x07")
-}
-
-// The record is written, and then the disk refuses its count.
-#[test]
-fn a_refused_count_is_not_told(rt: HostRuntime) -> Result<(), Fail> {
-    let alloc = rt.alloc();
-    let set = Dataset {
-        header: placed(&rt, unplaced(alloc, 0, NcType::Short)?),
-        hints: HINTS,
-    };
+/// A file of zeros that refuses its record count.
+fn refuses_its_count(rt: &impl Abort, alloc: Global) -> MemDisk {
+    let bytes = Blob::from_vec(vec![in alloc; 0; 80].expect(rt, NO_MEMORY));
     let refused = Fault {
         op: FailOp::Store,
         at: 4,
     };
-    let plan = FailList::from_vec(vec![in alloc; refused]?);
-    let bytes = Blob::from_vec(vec![in alloc; 0; 80]?);
-    let mut disk = MemDisk::failing(alloc, bytes, plan)?;
-    let (a, b) = (post(alloc, 3, 1, 1, b"\0\x07")?, post(alloc, 0, 0, 1, b"")?);
-    let (end, records) = put_two(&rt, alloc, &mut disk, &set, a, b)?;
+    MemDisk::failing(alloc, bytes, one(rt, alloc, refused)).expect(rt, NO_MEMORY)
+}
+
+// The record is written, and then the disk refuses its count.
+#[test]
+fn a_refused_count_is_not_told(rt: HostRuntime) {
+    let alloc = rt.alloc();
+    let set = small_dataset(&rt, alloc, 0, NcType::Short, How::Plain);
+    let mut disk = refuses_its_count(&rt, alloc);
+    let (a, b) = (
+        Asked {
+            from: 3,
+            count: 1,
+            stride: 1,
+            bytes: b"\0\x07",
+        },
+        Asked {
+            from: 0,
+            count: 0,
+            stride: 1,
+            bytes: b"",
+        },
+    );
+    let (a, b) = (post(&rt, alloc, &a), post(&rt, alloc, &b));
+    let (end, records) = put_two(&rt, alloc, &mut disk, &set, a, b);
     assert!(rt; end == Err(StepErr::Disk) && records == 0);
     let calls = [DiskCall::Grow(88), DiskCall::Store(86, 2)];
-    has_calls(&rt, alloc, &disk, &calls)?;
-    let mut left = vec![in alloc; 0; 87]?;
-    left.push(7)?;
-    assert_eq!(rt; disk.bytes(alloc)?, Blob::from_vec(left));
-    Ok(())
+    has(&rt, alloc, &disk, &calls, b"\0\0\0\0\0\0\0\x07");
+    has_bytes(&rt, alloc, &disk, 0, &[0; 80]);
 }
 
 #[test]
-fn one_rank_alone_leaves_the_count(rt: HostRuntime) -> Result<(), Fail> {
+fn one_rank_alone_leaves_the_count(rt: HostRuntime) {
     let alloc = rt.alloc();
-    let header = placed(&rt, unplaced(alloc, 0, NcType::Short)?);
-    let mut disk = zeros(alloc, 80)?;
-    let a = post(alloc, 0, 2, 3, b"\0\x05\0\x07")?;
-    let end = put_one(&rt, alloc, &mut disk, &header, a)?;
+    let header = placed(&rt, alloc, 0, NcType::Short);
+    let mut disk = zeros(&rt, alloc, 80);
+    let a = post(
+        &rt,
+        alloc,
+        &Asked {
+            from: 0,
+            count: 2,
+            stride: 3,
+            bytes: b"\0\x05\0\x07",
+        },
+    );
+    let end = put_one(&rt, alloc, &mut disk, &header, a);
     assert!(rt; end == Ok(PutEnd::Done));
     let calls = [
         DiskCall::Grow(88),
         DiskCall::Load(80, 8),
         DiskCall::Store(80, 8),
     ];
-    has(&rt, alloc, &disk, &calls, b"\0\x05\0\0\0\0\0\x07")
+    has(&rt, alloc, &disk, &calls, b"\0\x05\0\0\0\0\0\x07");
 }

@@ -1,12 +1,11 @@
 // Windows that are put and got.
-use super::{has_calls, numbered};
+use super::{blob, failing_disk, has_bytes, has_call_count, has_calls, numbered_disk};
 use aggregator_rounds::{close_window, get_window, lay, open_window, put_window};
 use file_domains::Window;
-use nc_base::{Blob, DiskCall, Extent, Items, Piece};
-use nc_outside::{Disk, DiskErr, Fail, FailOp, MemDisk};
+use nc_base::{DiskCall, Extent, Piece};
+use nc_outside::{Disk, DiskErr, FailOp, MemDisk};
 use std::alloc::Global;
 use std::process::Abort;
-use std::test::Fail as TestFail;
 
 fn window(at: u64, len: u64, full: bool) -> Window {
     Window {
@@ -16,18 +15,18 @@ fn window(at: u64, len: u64, full: bool) -> Window {
     }
 }
 
-fn piece(alloc: Global, at: u64, bytes: &[u8]) -> Result<Piece, TestFail> {
-    Ok(Piece {
+fn piece(rt: &impl Abort, alloc: Global, at: u64, bytes: &[u8]) -> Piece {
+    Piece {
         round: 0,
         rank: 0,
         at,
-        bytes: Blob::from_vec(Vec::from_slice(alloc, bytes)?),
-    })
+        bytes: blob(rt, alloc, bytes),
+    }
 }
 
 // Overlays a window that has a hole with one piece.
-fn put<R: Abort>(
-    rt: &R,
+fn put(
+    rt: &impl Abort,
     alloc: Global,
     disk: &mut MemDisk,
     window: &Window,
@@ -52,8 +51,8 @@ fn put<R: Abort>(
 }
 
 // Writes a full window of one piece.
-fn fill<R: Abort>(
-    rt: &R,
+fn fill(
+    rt: &impl Abort,
     alloc: Global,
     disk: &mut MemDisk,
     window: &Window,
@@ -73,8 +72,8 @@ fn fill<R: Abort>(
     close_window(alloc, disk, window, buf)
 }
 
-fn get<R: Abort>(
-    rt: &R,
+fn get(
+    rt: &impl Abort,
     alloc: Global,
     disk: &mut MemDisk,
     window: &Window,
@@ -88,92 +87,77 @@ fn get<R: Abort>(
     get_window(alloc, disk, window, buf)
 }
 
+const OVERLAID: [DiskCall; 4] = [
+    DiskCall::Load(80, 16),
+    DiskCall::Store(80, 16),
+    DiskCall::Load(84, 12),
+    DiskCall::Store(84, 12),
+];
+
 #[test]
-fn a_hull_with_a_hole_is_read_overlaid_and_written(rt: HostRuntime) -> Result<(), TestFail> {
+fn a_hull_with_a_hole_is_read_overlaid_and_written(rt: HostRuntime) {
     let alloc = rt.alloc();
-    let mut disk = MemDisk::logged(alloc, numbered(alloc, 96)?)?;
-    let first = piece(alloc, 80, &[0, 0, 0, 7])?;
+    let mut disk = numbered_disk(&rt, alloc, 96);
+    let first = piece(&rt, alloc, 80, &[0, 0, 0, 7]);
     assert!(rt; put(&rt, alloc, &mut disk, &window(80, 16, false), first).is_ok());
-    let last = piece(alloc, 94, &[1, 2])?;
+    let last = piece(&rt, alloc, 94, &[1, 2]);
     assert!(rt; put(&rt, alloc, &mut disk, &window(84, 12, false), last).is_ok());
-    let want = [
-        DiskCall::Load(80, 16),
-        DiskCall::Store(80, 16),
-        DiskCall::Load(84, 12),
-        DiskCall::Store(84, 12),
-    ];
-    has_calls(&rt, alloc, &disk, &want)?;
-    let bytes = disk.bytes(alloc)?;
+    has_calls(&rt, alloc, &disk, &OVERLAID);
     let want = [79, 0, 0, 0, 7, 84, 85, 86, 87, 88, 89, 90, 91, 92, 93, 1, 2];
-    assert_eq!(rt; bytes.as_slice().get(79..96), Some(want.as_slice()));
-    Ok(())
+    has_bytes(&rt, alloc, &disk, 79, &want);
 }
 
+// Three full windows, each with the bytes of its one piece.
+const FULL: [(u64, &[u8]); 3] = [(80, b"abcdef"), (86, b"ghijkl"), (92, b"mnop")];
+
+const WRITTEN: [DiskCall; 3] = [
+    DiskCall::Store(80, 6),
+    DiskCall::Store(86, 6),
+    DiskCall::Store(92, 4),
+];
+
 #[test]
-fn a_full_window_is_only_written(rt: HostRuntime) -> Result<(), TestFail> {
+fn a_full_window_is_only_written(rt: HostRuntime) {
     let alloc = rt.alloc();
-    let mut disk = MemDisk::logged(alloc, numbered(alloc, 96)?)?;
-    let table: [(u64, &[u8]); 3] = [(80, b"abcdef"), (86, b"ghijkl"), (92, b"mnop")];
-    for (at, bytes) in table {
-        let piece = piece(alloc, at, bytes)?;
-        let len = bytes.len() as u64;
-        assert!(rt; fill(&rt, alloc, &mut disk, &window(at, len, true), &piece).is_ok());
+    let mut disk = numbered_disk(&rt, alloc, 96);
+    for (at, bytes) in &FULL {
+        let piece = piece(&rt, alloc, *at, bytes);
+        let window = window(*at, bytes.len() as u64, true);
+        assert!(rt; fill(&rt, alloc, &mut disk, &window, &piece).is_ok());
     }
-    let want = [
-        DiskCall::Store(80, 6),
-        DiskCall::Store(86, 6),
-        DiskCall::Store(92, 4),
-    ];
-    has_calls(&rt, alloc, &disk, &want)?;
-    let bytes = disk.bytes(alloc)?;
-    assert_eq!(rt;
-        bytes.as_slice().get(79..96),
-        Some(b"Oabcdefghijklmnop".as_slice())
-    );
-    Ok(())
+    has_calls(&rt, alloc, &disk, &WRITTEN);
+    has_bytes(&rt, alloc, &disk, 79, b"Oabcdefghijklmnop");
 }
 
 #[test]
-fn a_window_is_read(rt: HostRuntime) -> Result<(), TestFail> {
+fn a_window_is_read(rt: HostRuntime) {
     let alloc = rt.alloc();
-    let mut disk = MemDisk::logged(alloc, numbered(alloc, 96)?)?;
+    let mut disk = numbered_disk(&rt, alloc, 96);
     let mut buf = [0; 4];
     assert!(rt; get(&rt, alloc, &mut disk, &window(84, 4, false), &mut buf).is_ok());
-    assert_eq!(rt; buf, [84, 85, 86, 87]);
-    has_calls(&rt, alloc, &disk, &[DiskCall::Load(84, 4)])
+    assert!(rt; buf == [84, 85, 86, 87]);
+    has_calls(&rt, alloc, &disk, &[DiskCall::Load(84, 4)]);
 }
 
+// How the same put ends again and again, byte 81 then, and how many calls the disk has had.
+const REFUSED: [(Result<(), DiskErr>, u8, usize); 3] = [
+    (Err(DiskErr::Failed), 81, 0),
+    (Err(DiskErr::Failed), 255, 1),
+    (Ok(()), 255, 3),
+];
+
 #[test]
-fn each_call_of_a_window_is_refused(rt: HostRuntime) -> Result<(), TestFail> {
+fn each_call_of_a_window_is_refused(rt: HostRuntime) {
     let alloc = rt.alloc();
-    let load = Fail {
-        op: FailOp::Load,
-        at: 90,
-    };
-    let store = Fail {
-        op: FailOp::Store,
-        at: 82,
-    };
-    let plan = Items::from_vec(Vec::from_slice(alloc, &[load, store])?);
-    let mut disk = MemDisk::failing(alloc, numbered(alloc, 96)?, plan)?;
+    let faults = [(FailOp::Load, 90), (FailOp::Store, 82)];
+    let mut disk = failing_disk(&rt, alloc, 96, &faults);
     let whole = window(80, 16, false);
-    let table: [(Result<(), DiskErr>, u8, usize); 3] = [
-        (Err(DiskErr::Failed), 81, 0),
-        (Err(DiskErr::Failed), 255, 1),
-        (Ok(()), 255, 3),
-    ];
-    for (want, second, calls) in table {
-        let piece = piece(alloc, 81, &[255, 255])?;
-        assert!(rt; put(&rt, alloc, &mut disk, &whole, piece) == want);
-        let bytes = disk.bytes(alloc)?;
-        assert_eq!(rt; bytes.as_slice().get(81).copied(), Some(second));
-        let told = disk.calls(alloc)?.ok_or("calls")?;
-        assert_eq!(rt; told.len(), calls);
+    for (want, second, calls) in &REFUSED {
+        let piece = piece(&rt, alloc, 81, &[255, 255]);
+        assert!(rt; put(&rt, alloc, &mut disk, &whole, piece) == *want);
+        has_bytes(&rt, alloc, &disk, 81, &[*second]);
+        has_call_count(&rt, alloc, &disk, *calls);
     }
-    assert_eq!(rt; disk.faults(), 2);
-    assert_eq!(rt;
-        disk.bytes(alloc)?.as_slice().get(82..84),
-        Some([255, 83].as_slice())
-    );
-    Ok(())
+    assert!(rt; disk.faults() == 2);
+    has_bytes(&rt, alloc, &disk, 82, &[255, 83]);
 }

@@ -1,17 +1,16 @@
 // The extents of regions, in the first version of the format. The header of two nameless dimensions has 84 bytes with an int
 // variable over both, 120 with two of them, 76 with a scalar one.
-ghost use Rattle.std.specs.Prelude.{◌≡◌, ◌≤◌, [], ◌∷◌, true, IfOk};
+ghost use Rattle.std.specs.Prelude.{◌≡◌, ◌≤◌, [], ◌∷◌, true};
 ghost use Rattle.nc_base.specs.declared.header.NcType.TheVariants.{Int};
 ghost use Rattle.serial_spec.specs.HeaderGrammar.{is_sound};
 ghost use Rattle.var_layout.specs.Unplaced.{is_unplaced};
 
+use crate::tests::{NO_MEMORY, one, two};
 use nc_base::{
-    Align, AttrList, Dim, DimList, Direction, Header, IdList, Memory, Name, NcType, Region,
-    SizeList, Var, VarList,
+    Align, AttrList, Dim, Direction, Header, IdList, Name, NcType, Region, SizeList, Var, VarList,
 };
 use std::alloc::Global;
 use std::process::Abort;
-use std::test::Fail;
 use var_layout::{Measures, lay_out};
 use vara_extents::{Extents, check};
 
@@ -24,84 +23,70 @@ fn dimension(alloc: Global, len: u64) -> Dim
     }
 }
 
-/// The dimensions y and x.
-fn dimensions(alloc: Global, y: u64, x: u64) -> Result<DimList, Memory>
-    ensures { IfOk result (λ dims. dims ≡ record { name = []; len = y } ∷ record { name = []; len = x } ∷ []) }
-{
-    let y = dimension(alloc, y);
-    let x = dimension(alloc, x);
-    Ok(DimList::from_vec(vec![in alloc; y, x]?))
-}
-
-/// An int variable over y and x.
-fn grid(alloc: Global) -> Result<Var, Memory>
-    ensures { IfOk result (λ v. v ≡ record { name = []; dims = 0 ∷ 1 ∷ []; attrs = []; kind = Int; begin = 0 }) }
-{
-    Ok(Var {
-        name: Name::new(alloc),
-        dims: IdList::from_vec(vec![in alloc; 0, 1]?),
-        attrs: AttrList::new(alloc),
-        kind: NcType::Int,
-        begin: 0,
-    })
-}
-
-/// An int variable of no dimension.
-fn scalar(alloc: Global) -> Var
-    ensures { result ≡ record { name = []; dims = []; attrs = []; kind = Int; begin = 0 } }
+/// An int variable over these dimensions.
+fn variable(alloc: Global, dims: IdList) -> Var
+    ensures { result ≡ record { name = []; dims = dims; attrs = []; kind = Int; begin = 0 } }
 {
     Var {
         name: Name::new(alloc),
-        dims: IdList::new(alloc),
+        dims,
         attrs: AttrList::new(alloc),
         kind: NcType::Int,
         begin: 0,
     }
 }
 
+/// An int variable over y and x.
+fn grid(rt: &impl Abort, alloc: Global) -> Var
+    ensures { result ≡ record { name = []; dims = 0 ∷ 1 ∷ []; attrs = []; kind = Int; begin = 0 } }
+{
+    variable(alloc, two(rt, alloc, 0, 1))
+}
+
 /// A header of these variables over y and x.
-fn header_of(alloc: Global, y: u64, x: u64, vars: VarList) -> Result<Header, Memory>
-    ensures { IfOk result (λ header. header ≡ record {
+fn header_of(rt: &impl Abort, alloc: Global, y: u64, x: u64, vars: VarList) -> Header
+    ensures { result ≡ record {
       version = 1;
       records = 0;
       dims = record { name = []; len = y } ∷ record { name = []; len = x } ∷ [];
       attrs = [];
       vars = vars;
-    }) }
+    } }
 {
-    Ok(Header {
+    let (y, x) = (dimension(alloc, y), dimension(alloc, x));
+    Header {
         version: 1,
         records: 0,
-        dims: dimensions(alloc, y, x)?,
+        dims: two(rt, alloc, y, x),
         attrs: AttrList::new(alloc),
         vars,
-    })
+    }
 }
 
 /// One variable over y and x.
-fn one_grid(alloc: Global, y: u64, x: u64) -> Result<Header, Memory>
+fn one_grid(rt: &impl Abort, alloc: Global, y: u64, x: u64) -> Header
     requires { 1 ≤ x }
-    ensures { IfOk result (λ header. is_unplaced header ≡ true) }
+    ensures { is_unplaced result ≡ true }
 {
-    let vars = VarList::from_vec(vec![in alloc; grid(alloc)?]?);
-    header_of(alloc, y, x, vars)
+    let grid = grid(rt, alloc);
+    header_of(rt, alloc, y, x, one(rt, alloc, grid))
 }
 
 /// Two variables over y and x.
-fn two_grids(alloc: Global, y: u64, x: u64) -> Result<Header, Memory>
+fn two_grids(rt: &impl Abort, alloc: Global, y: u64, x: u64) -> Header
     requires { 1 ≤ x }
-    ensures { IfOk result (λ header. is_unplaced header ≡ true) }
+    ensures { is_unplaced result ≡ true }
 {
-    let vars = VarList::from_vec(vec![in alloc; grid(alloc)?, grid(alloc)?]?);
-    header_of(alloc, y, x, vars)
+    let (first, second) = (grid(rt, alloc), grid(rt, alloc));
+    header_of(rt, alloc, y, x, two(rt, alloc, first, second))
 }
 
 /// A scalar variable.
-fn one_scalar(alloc: Global) -> Result<Header, Memory>
-    ensures { IfOk result (λ header. is_unplaced header ≡ true) }
+fn one_scalar(rt: &impl Abort, alloc: Global) -> Header
+    ensures { is_unplaced result ≡ true }
 {
-    let vars = VarList::from_vec(vec![in alloc; scalar(alloc)]?);
-    header_of(alloc, 3, 4, vars)
+    let scalar = variable(alloc, IdList::new(alloc));
+    header_of(rt, alloc, 3, 4, one(rt, alloc, scalar))
 }
 
 /// The header with its begins.
@@ -114,118 +99,135 @@ fn laid_out(rt: &impl Abort, mut header: Header) -> Header
     header
 }
 
-fn list(alloc: Global, numbers: &[u64]) -> Result<SizeList, Memory> {
-    Ok(SizeList::from_vec(numbers.to_vec(alloc)?))
+fn list(rt: &impl Abort, alloc: Global, numbers: &[u64]) -> SizeList {
+    SizeList::from_vec(Vec::from_slice(alloc, numbers).expect(rt, NO_MEMORY))
 }
 
-/// A put of these values gives these extents, each with its place and its length.
-fn assert_extents(
-    rt: &impl Abort,
-    alloc: Global,
-    header: &Header,
-    lists: [&[u64]; 3],
-    wanted: &[(u64, u64)],
-) -> Result<(), Memory>
-    requires { is_sound header.now ≡ true }
-{
+/// The start, the count and the stride of a region, and its extents, each with its place and its length.
+struct Case {
+    lists: [&'static [u64]; 3],
+    extents: &'static [(u64, u64)],
+}
+
+fn region_of(rt: &impl Abort, alloc: Global, lists: [&[u64]; 3]) -> Region {
     let [start, count, stride] = lists;
-    let region = Region {
-        start: list(alloc, start)?,
-        count: list(alloc, count)?,
-        stride: list(alloc, stride)?,
+    Region {
+        start: list(rt, alloc, start),
+        count: list(rt, alloc, count),
+        stride: list(rt, alloc, stride),
         imap: SizeList::new(alloc),
         packed: true,
-    };
-    assert_given(rt, header, &region, wanted);
-    Ok(())
+    }
 }
 
-fn assert_given(rt: &impl Abort, header: &Header, region: &Region, wanted: &[(u64, u64)])
+/// A put of the region gives these extents.
+fn assert_extents(rt: &impl Abort, alloc: Global, header: &Header, case: &Case)
     requires { is_sound header.now ≡ true }
 {
+    let region = region_of(rt, alloc, case.lists);
     let measures = Measures::of(header);
-    let answer = check(header, &measures, 0, region, 0, Direction::Put);
-    assert!(rt; answer.is_ok());
-    let mut wanted = wanted.iter();
-    for extent in Extents::new(header, &measures, 0, region) {
-        assert_eq!(rt; wanted.next(), Some(&(extent.at, extent.len)));
+    assert!(rt; check(header, &measures, 0, &region, 0, Direction::Put).is_ok());
+    let mut wanted = case.extents.iter();
+    for extent in Extents::new(header, &measures, 0, &region) {
+        assert!(rt; wanted.next() == Some(&(extent.at, extent.len)));
     }
-    assert_eq!(rt; wanted.next(), None);
+    assert!(rt; wanted.next().is_none());
 }
 
-#[test]
-fn whole_variable_is_one_extent(rt: HostRuntime) -> Result<(), Fail> {
-    let header = laid_out(&rt, one_grid(rt.alloc(), 3, 4)?);
-    let region: [&[u64]; 3] = [&[0, 0], &[3, 4], &[1, 1]];
-    assert_extents(&rt, rt.alloc(), &header, region, &[(84, 48)])?;
-    Ok(())
-}
+/// The lengths of y and x, and a region of one variable over them.
+const GRIDS: [(u64, u64, Case); 7] = [
+    // The whole variable is one extent.
+    (
+        3,
+        4,
+        Case {
+            lists: [&[0, 0], &[3, 4], &[1, 1]],
+            extents: &[(84, 48)],
+        },
+    ),
+    // Columns give an extent a row.
+    (
+        3,
+        4,
+        Case {
+            lists: [&[0, 1], &[3, 2], &[1, 1]],
+            extents: &[(88, 8), (104, 8), (120, 8)],
+        },
+    ),
+    // A stride gives an extent an element.
+    (
+        2,
+        4,
+        Case {
+            lists: [&[0, 0], &[2, 2], &[1, 2]],
+            extents: &[(84, 4), (92, 4), (100, 4), (108, 4)],
+        },
+    ),
+    // Ends of rows are joined.
+    (
+        2,
+        4,
+        Case {
+            lists: [&[0, 0], &[2, 2], &[1, 3]],
+            extents: &[(84, 4), (96, 8), (112, 4)],
+        },
+    ),
+    // Records of one variable are joined.
+    (
+        0,
+        4,
+        Case {
+            lists: [&[1, 0], &[2, 4], &[1, 1]],
+            extents: &[(100, 32)],
+        },
+    ),
+    // No element gives no extent.
+    (
+        3,
+        4,
+        Case {
+            lists: [&[3, 0], &[0, 4], &[1, 1]],
+            extents: &[],
+        },
+    ),
+    // As many elements of one row as a request may have are one extent.
+    (
+        2,
+        1048576,
+        Case {
+            lists: [&[1, 0], &[1, 1048576], &[1, 1]],
+            extents: &[(4194388, 4194304)],
+        },
+    ),
+];
 
 #[test]
-fn columns_give_an_extent_a_row(rt: HostRuntime) -> Result<(), Fail> {
-    let header = laid_out(&rt, one_grid(rt.alloc(), 3, 4)?);
-    let region: [&[u64]; 3] = [&[0, 1], &[3, 2], &[1, 1]];
-    let wanted = [(88, 8), (104, 8), (120, 8)];
-    assert_extents(&rt, rt.alloc(), &header, region, &wanted)?;
-    Ok(())
+fn regions_of_one_variable(rt: HostRuntime) {
+    for (y, x, case) in &GRIDS {
+        assert!(rt; 1 <= *x);
+        let header = laid_out(&rt, one_grid(&rt, rt.alloc(), *y, *x));
+        assert_extents(&rt, rt.alloc(), &header, case);
+    }
 }
 
-#[test]
-fn stride_gives_an_extent_an_element(rt: HostRuntime) -> Result<(), Fail> {
-    let header = laid_out(&rt, one_grid(rt.alloc(), 2, 4)?);
-    let region: [&[u64]; 3] = [&[0, 0], &[2, 2], &[1, 2]];
-    let wanted = [(84, 4), (92, 4), (100, 4), (108, 4)];
-    assert_extents(&rt, rt.alloc(), &header, region, &wanted)?;
-    Ok(())
-}
+const RECORDS: Case = Case {
+    lists: [&[0, 0], &[2, 4], &[1, 1]],
+    extents: &[(120, 16), (152, 16)],
+};
 
 #[test]
-fn ends_of_rows_are_joined(rt: HostRuntime) -> Result<(), Fail> {
-    let header = laid_out(&rt, one_grid(rt.alloc(), 2, 4)?);
-    let region: [&[u64]; 3] = [&[0, 0], &[2, 2], &[1, 3]];
-    let wanted = [(84, 4), (96, 8), (112, 4)];
-    assert_extents(&rt, rt.alloc(), &header, region, &wanted)?;
-    Ok(())
+fn records_of_two_variables_are_apart(rt: HostRuntime) {
+    let header = laid_out(&rt, two_grids(&rt, rt.alloc(), 0, 4));
+    assert_extents(&rt, rt.alloc(), &header, &RECORDS);
 }
 
-#[test]
-fn records_of_one_variable_are_joined(rt: HostRuntime) -> Result<(), Fail> {
-    let header = laid_out(&rt, one_grid(rt.alloc(), 0, 4)?);
-    let region: [&[u64]; 3] = [&[1, 0], &[2, 4], &[1, 1]];
-    assert_extents(&rt, rt.alloc(), &header, region, &[(100, 32)])?;
-    Ok(())
-}
+const SCALAR: Case = Case {
+    lists: [&[], &[], &[]],
+    extents: &[(76, 4)],
+};
 
 #[test]
-fn records_of_two_variables_are_apart(rt: HostRuntime) -> Result<(), Fail> {
-    let header = laid_out(&rt, two_grids(rt.alloc(), 0, 4)?);
-    let region: [&[u64]; 3] = [&[0, 0], &[2, 4], &[1, 1]];
-    let wanted = [(120, 16), (152, 16)];
-    assert_extents(&rt, rt.alloc(), &header, region, &wanted)?;
-    Ok(())
-}
-
-#[test]
-fn no_element_gives_no_extent(rt: HostRuntime) -> Result<(), Fail> {
-    let header = laid_out(&rt, one_grid(rt.alloc(), 3, 4)?);
-    let region: [&[u64]; 3] = [&[3, 0], &[0, 4], &[1, 1]];
-    assert_extents(&rt, rt.alloc(), &header, region, &[])?;
-    Ok(())
-}
-
-#[test]
-fn scalar_is_one_extent(rt: HostRuntime) -> Result<(), Fail> {
-    let header = laid_out(&rt, one_scalar(rt.alloc())?);
-    let region: [&[u64]; 3] = [&[], &[], &[]];
-    assert_extents(&rt, rt.alloc(), &header, region, &[(76, 4)])?;
-    Ok(())
-}
-
-#[test]
-fn most_elements_of_one_row_are_one_extent(rt: HostRuntime) -> Result<(), Fail> {
-    let header = laid_out(&rt, one_grid(rt.alloc(), 2, 1048576)?);
-    let region: [&[u64]; 3] = [&[1, 0], &[1, 1048576], &[1, 1]];
-    let wanted = [(4194388, 4194304)];
-    assert_extents(&rt, rt.alloc(), &header, region, &wanted)?;
-    Ok(())
+fn scalar_is_one_extent(rt: HostRuntime) {
+    let header = laid_out(&rt, one_scalar(&rt, rt.alloc()));
+    assert_extents(&rt, rt.alloc(), &header, &SCALAR);
 }

@@ -3,4 +3,4 @@ use Rattle.redef_mover_tests.proofs.SmallHeaders.{ints_added}
 use Rattle.redef_mover_tests.proofs.tests.relocating.ints_move_in_windows.Goals as goal
 
 pub relocates-requires-clause-applied : goal.relocates-requires-clause-applied
-relocates-requires-clause-applied g c = ints_added c.in_ok-old.old c.in_ok-new.new c.in_ok-old.ensures c.in_ok-new.ensures
+relocates-requires-clause-applied g c = ints_added c.four_ints-old.result c.ints_and_shorts-new.result c.four_ints-old.ensures c.ints_and_shorts-new.ensures

@@ -3,4 +3,4 @@ use Rattle.redef_mover_tests.proofs.SmallHeaders.{shorts_added}
 use Rattle.redef_mover_tests.proofs.tests.relocating.shorts_move_record_by_record.Goals as goal
 
 pub relocates-requires-clause-applied : goal.relocates-requires-clause-applied
-relocates-requires-clause-applied g c = shorts_added c.in_ok-old.old c.in_ok-new.new c.in_ok-old.ensures c.in_ok-new.ensures
+relocates-requires-clause-applied g c = shorts_added c.four_records-old.result c.padded_records-new.result c.four_records-old.ensures c.padded_records-new.ensures

@@ -6,8 +6,8 @@ use Rattle.request_queue.proofs.PostedLaws.{status_of-push}
 use Rattle.request_tests.proofs.tests.queues.pile.Goals as goal
 
 pub loop-id-preserved : goal.loop-id-preserved
-loop-id-preserved c = λ k le.
-    let id = c.in_ok-one_int.ensures in
-    let after = ap (λ (q : Queued). q.posted) c.in_ok-post.ensures.ok in
+loop-id-preserved g c = λ k le.
+    let id = c.one_int-post.ensures in
+    let after = ap (λ (q : Queued). q.posted) c.post_put.ensures in
     subst (λ (l : List Posted). status_of l k ≡ None) (sym after)
     (status_of-push c.loop-id.queue.posted _ k (ne_eqb _ k (λ e. omega (arith, le, e, id))) (c.loop-id.invariant k (omega (arith, le))))

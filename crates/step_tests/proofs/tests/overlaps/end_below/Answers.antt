@@ -1,5 +1,5 @@
 -- One more entry that ends below 2^62.
-use Rattle.std.proofs.Common.{◌+◌, ◌^◌, ◌<◌, arith}
+use Rattle.std.proofs.Common.{◌^◌, arith}
 use Rattle.overlap_report.proofs.KeySteps.{ends_next, ends_all}
 use Rattle.step_tests.proofs.tests.overlaps.end_below.Goals as goal
 

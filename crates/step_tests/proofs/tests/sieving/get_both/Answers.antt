@@ -1,5 +1,5 @@
 -- The entries lie apart in a blob that they share.
-use Rattle.std.proofs.Common.{◌≡◌, ◌+◌, ◌*◌, ◌≤◌, arith}
+use Rattle.std.proofs.Common.{arith}
 use Rattle.step_tests.proofs.TwoEntries.{two_places}
 use Rattle.step_tests.proofs.tests.sieving.get_both.Goals as goal
 

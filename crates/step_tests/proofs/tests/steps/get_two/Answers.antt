@@ -12,6 +12,5 @@ is_get-requires-2 g c = omega (arith, c.size-len.ensures.size, c.is_long.ensures
 
 pub get_all-requires-clause-gets : goal.get_all-requires-clause-gets
 get_all-requires-clause-gets g c κs within =
-    subst (λ (n : ℕ). AreGets c.args.set.now.header n (gets_in c.in_ok-job.job.batches)) c.size-len.ensures.size
-    (two_gets c.args.set.now.header c.size-len.result c.args.a c.args.b c.in_ok-job.job.batches c.in_ok-batch_of_get.field-0 c.in_ok-batch_of_get-2.field-0 c.in_ok-job.ensures
-    c.in_ok-batch_of_get.ensures c.in_ok-batch_of_get-2.ensures c.is_get.ensures c.is_get-2.ensures)
+    subst (λ (n : ℕ). AreGets c.args.set.now.header n (gets_in c.gets_of-job.result.batches)) c.size-len.ensures.size
+    (two_gets c.args.set.now.header c.size-len.result c.args.a c.args.b c.gets_of-job.result.batches c.gets_of-job.ensures c.is_get.ensures c.is_get-2.ensures)
