@@ -55,13 +55,7 @@ pub(crate) fn take_all<R: Wait, D: Disk>(
 }
 
 // Lends the blob that came back from a helper to the next one, where one came.
-fn hand_on<R: Wait>(
-    rt: &R,
-    lenders: &mut Lenders,
-    number: usize,
-    ended: bool,
-    blob: Option<Blob>,
-)
+fn hand_on<R: Wait>(rt: &R, lenders: &mut Lenders, number: usize, ended: bool, blob: Option<Blob>)
     requires { AreReady lenders.old.each.items }
     ensures { AreReady lenders.new.each.items }
 {

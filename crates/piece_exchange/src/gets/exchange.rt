@@ -188,7 +188,14 @@ fn get_in_scope<'s, E, R: Threads + Wait + Sync, D: Disk + 's, G: Gate>(
         mut lenders,
         spares,
     } = lending;
-    start_all(scope, tools, plan, domains, Supply { parts, spares }, &mut crew);
+    start_all(
+        scope,
+        tools,
+        plan,
+        domains,
+        Supply { parts, spares },
+        &mut crew,
+    );
     let Crew {
         mut seats,
         rest,

@@ -18,11 +18,7 @@ pub(crate) struct Shelf<'a> {
 }
 
 /// The calling thread's end, and all windows of a domain to be taken.
-pub(crate) fn shelf_of<'a>(
-    plan: &GetPlan<'a>,
-    domain: Extent,
-    line: LineTake<Reading>,
-) -> Shelf<'a>
+pub(crate) fn shelf_of<'a>(plan: &GetPlan<'a>, domain: Extent, line: LineTake<Reading>) -> Shelf<'a>
     requires plan { IsGetPlanned plan.now }
     ensures ready { IsShelf plan.now.list.now (min plan.now.hints.now.cb_buffer domain.len) result }
     ensures due { turns_due result ≡ get_turns plan.now domain }

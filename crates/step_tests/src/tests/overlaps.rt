@@ -33,14 +33,14 @@ fn end_below(list: &[Owned]) -> bool
     true
 }
 
-fn pair_of(rt: &impl Abort, list: &mut [Owned]) -> Option<Pair> {
-    gather(list);
+fn pair_of(rt: &impl Abort, alloc: Global, list: &mut [Owned]) -> Option<Pair> {
+    gather(alloc, list).expect(rt, NO_MEMORY);
     assert!(rt; end_below(list));
     first_pair(list)
 }
 
 fn has_cover(rt: &impl Abort, alloc: Global, list: &mut [Owned], wanted: &[Extent]) {
-    gather(list);
+    gather(alloc, list).expect(rt, NO_MEMORY);
     assert!(rt; end_below(list));
     let found = cover(alloc, list).expect(rt, NO_MEMORY);
     assert!(rt; found.as_slice() == wanted);
@@ -65,7 +65,7 @@ fn entries_are_sorted(rt: HostRuntime) {
         entry(80, 12, 0, 0),
         entry(88, 4, 0, 5),
     ];
-    gather(&mut list);
+    gather(rt.alloc(), &mut list).expect(&rt, NO_MEMORY);
     let want = [
         entry(80, 12, 0, 0),
         entry(80, 4, 0, 1),
@@ -79,11 +79,11 @@ fn entries_are_sorted(rt: HostRuntime) {
 #[test]
 fn the_least_shared_byte_has_a_pair(rt: HostRuntime) {
     let mut apart = [entry(80, 8, 0, 0), entry(88, 8, 1, 0), entry(84, 0, 2, 0)];
-    assert!(rt; pair_of(&rt, &mut apart).is_none());
+    assert!(rt; pair_of(&rt, rt.alloc(), &mut apart).is_none());
     let mut two = [entry(88, 8, 1, 0), entry(80, 12, 0, 0)];
-    assert!(rt; pair_of(&rt, &mut two) == Some(pair(0, 0, 1, 0, 88)));
+    assert!(rt; pair_of(&rt, rt.alloc(), &mut two) == Some(pair(0, 0, 1, 0, 88)));
     let mut own = [entry(80, 12, 0, 0), entry(84, 4, 0, 0), entry(90, 1, 0, 7)];
-    assert!(rt; pair_of(&rt, &mut own) == Some(pair(0, 0, 0, 7, 90)));
+    assert!(rt; pair_of(&rt, rt.alloc(), &mut own) == Some(pair(0, 0, 0, 7, 90)));
 }
 
 #[test]
@@ -95,7 +95,7 @@ fn the_least_ranks_that_share_a_byte_are_its_pair(rt: HostRuntime) {
         entry(90, 2, 2, 9),
         entry(85, 2, 5, 0),
     ];
-    assert!(rt; pair_of(&rt, &mut many) == Some(pair(2, 0, 2, 9, 90)));
+    assert!(rt; pair_of(&rt, rt.alloc(), &mut many) == Some(pair(2, 0, 2, 9, 90)));
 }
 
 #[test]
@@ -126,7 +126,7 @@ fn scattered(rt: &impl Abort, alloc: Global) -> Vec<Owned> {
 #[test]
 fn many_entries_are_joined(rt: HostRuntime) {
     let mut list = scattered(&rt, rt.alloc());
-    assert!(rt; pair_of(&rt, list.as_mut_slice()).is_none());
+    assert!(rt; pair_of(&rt, rt.alloc(), list.as_mut_slice()).is_none());
     let want = [Extent {
         at: 0,
         len: 262_144,
@@ -185,7 +185,7 @@ fn slots_rise(list: &[Owned]) -> bool
 }
 
 fn resolved_of(rt: &impl Abort, alloc: Global, list: &mut [Owned]) -> OwnedList {
-    gather(list);
+    gather(alloc, list).expect(rt, NO_MEMORY);
     assert!(rt; end_below(list));
     assert!(rt; found_below(list));
     assert!(rt; slots_rise(list));
