@@ -1,18 +1,22 @@
 -- Puts on the parts of a disk, which are joined again.
-use Rattle.std.proofs.Common.{◌≡◌, ℕ, ◌+◌, ◌-◌, ◌≤◌, sym, subst, List, [], ◌∷◌, length, map, Result, arith}
-use Rattle.std.specs.Prelude.{flat_map, zip, IfSome}
+use Rattle.std.proofs.Common.{◌≡◌, ℕ, ◌+◌, ◌-◌, ◌^◌, ◌<◌, ◌≤◌, sym, subst, List, [], ◌∷◌, length, map, Result, arith}
+use Rattle.std.specs.Prelude.{flat_map, zip, IfSome, IsErrOf}
 use Rattle.std.specs.List.{range_with_len, AllZip}
 use Rattle.nc_base.specs.declared.plan.Extent.{Extent}
 use Rattle.nc_base.specs.declared.plan.Owned.{Owned}
+use Rattle.nc_outside.specs.Cause.{HasDiskCause, Rose}
+use Rattle.nc_outside.specs.declared.disk.DiskErr.{DiskErr}
+use Rattle.nc_outside.specs.declared.disk.DiskErr.TheVariants.{Failed}
 use Rattle.data_sieving.specs.Sieving.{AreFilled, LieOn}
 use Rattle.data_sieving.proofs.PutSteps.{entries_within}
 use Rattle.overlay_laws.specs.Entries.{ranges, In, HaveSame, Source}
 use Rattle.overlay_laws.specs.Walks.{end_after, spans, IsCover}
 use Rattle.overlay_laws.proofs.HullLaws.{flat_in, in_left, in_range, in_right, range_high}
-use Rattle.piece_exchange.specs.Put.{HasPut, PartState}
+use Rattle.piece_exchange.specs.Put.{HasPut, PartState, SomeZip}
 use Rattle.piece_exchange.specs.Turns.{Told}
 use Rattle.collective_round.specs.Parts.{parts_of, with_parts, Adjoin, AreDomains, Follow, IsFront}
-use Rattle.collective_round.proofs.PartLaws.{cells_behind, domains_room, puts_follow, puts_joined, HasPutWhole}
+use Rattle.collective_round.proofs.PartSplits.{joined_at_least}
+use Rattle.collective_round.proofs.PartLaws.{cells_behind, domains_room, joined_rose, puts_follow, puts_joined, HasPutWhole}
 
 -- ---- the domains lie on the disk
 
@@ -47,6 +51,29 @@ pub record AreSplit {D : Type 0} (state : D → PartState) (disk front : PartSta
   pub room : end_after 0 domains ≤ disk.len
   pub front_is : IsFront domains disk front
   pub parts_are : map state parts ≡ parts_of disk domains
+
+pub are_split : {D : Type 0} (state : D → PartState) (disk front : PartState) (cover domains : List Extent) (list : List Owned) (parts : List D) → disk.from ≡ 0
+    → IsCover cover → HaveSame (spans cover) (ranges list) → LieOn 0 disk.len list → AreDomains cover domains → IsFront domains disk front → map state parts ≡ parts_of disk domains
+    → AreSplit state disk front domains parts
+are_split state disk front cover domains list parts begin h same on div front_is are = record {
+  begin = begin;
+  line = div.line;
+  room = plan_room cover domains list disk.len h same on div;
+  front_is = front_is;
+  parts_are = are;
+}
+
+-- the parts fail only where a count rose
+pub parts_cause : {D T : Type 0} (state : D → PartState) (disk front new : PartState) (domains : List Extent) (parts news : List D) (end : Result T DiskErr)
+    → map state parts ≡ parts_of disk domains → disk.faults < 2 ^ 64 → disk.faults ≤ front.faults
+    → (IsErrOf end Failed → SomeZip (λ old new. Rose (state old).faults (state new).faults) parts news) → new ≡ with_parts front (map state news)
+    → HasDiskCause disk.faults new.faults end
+parts_cause state disk front new domains parts news end are counted later failed joined =
+    subst (λ (n : PartState). HasDiskCause disk.faults n.faults end) (sym joined)
+    (record {
+      later = joined_at_least disk.faults front (map state news) counted later;
+      failed = λ e. joined_rose state disk.faults disk front domains parts news are later (failed e);
+    })
 
 pub parts_follow : {D T E : Type 0} (state : D → PartState) (source : Source) (list : List Owned) (turns : Extent → List Told) (disk front : PartState) (domains : List Extent) (parts news : List D) (end : Result T E)
     → AreSplit state disk front domains parts

@@ -1,16 +1,15 @@
 -- What a refused step of puts leaves of a file.
 use Rattle.overlay_laws.proofs.Members.{each_in}
-use Rattle.list_laws.proofs.Truth.{and_first, and_second}
+use Rattle.list_laws.proofs.Truth.{and_first, and_second, no_false, or_first_false, or_second_false}
 use Rattle.std.proofs.lemmas.Bool.{leb-true, le-leb, lt-ltb}
-use Rattle.std.proofs.Common.{◌≡◌, ℕ, zero, suc, ◌+◌, ◌-◌, ◌<◌, ◌≤◌, refl, sym, ap, subst, ◌∙◌, inl, inr, ◌⊎◌, List, [], ◌∷◌, length, take, drop, Bool, true, false, cond, ◌||◌, ◌&&◌, max, Option, Some, None, length-append, arith}
+use Rattle.std.proofs.Common.{◌≡◌, ℕ, ◌+◌, ◌-◌, ◌<◌, ◌≤◌, refl, sym, ap, subst, ◌∙◌, inl, inr, ◌⊎◌, List, [], ◌∷◌, length, take, drop, Bool, true, false, cond, ◌||◌, ◌&&◌, max, Option, Some, None, length-append, arith}
 use Rattle.std.proofs.lemmas.Grind.{common_steps}
 use Rattle.std.proofs.lemmas.Bool.Decides.{nat_tests}
 use Rattle.std.proofs.lemmas.List.{length-replicate}
-use Rattle.std.proofs.lemmas.List.Folds.{list_any-append}
-use Rattle.std.specs.Prelude.{fold, flat_map, map, nat_lt, nat_le, ◌==◌, slice_get, replicate}
+use Rattle.std.specs.Prelude.{fold, map, nat_lt, nat_le, ◌==◌, slice_get, replicate}
 use Rattle.std.specs.List.{list_any, range_with_len}
 use Rattle.std.specs.Int.{byte_len}
-use borrow.Author.Tests.{ltb-true, ltb-false, eqb-true}
+use borrow.Author.Tests.{ltb-true, ltb-false}
 use Rattle.nc_base.specs.declared.header.Header.{Header}
 use Rattle.nc_base.specs.declared.header.Var.{Var}
 use Rattle.nc_base.specs.declared.plan.Post.{Post}
@@ -35,73 +34,13 @@ use Rattle.serial_spec.proofs.FileLaws.{at-longer, at-written_before, at-written
 use Rattle.var_layout.proofs.WrittenLengths.{canon_len}
 use Rattle.overlay_laws.specs.Changes.{IsBetween}
 use Rattle.overlay_laws.specs.Entries.{In}
-use Rattle.overlay_laws.proofs.HullLaws.{flat_in, range_low}
+use Rattle.overlay_laws.proofs.HullLaws.{any_in, flat_in, range_low}
 use Rattle.serial_spec.specs.Desk.{needed_now}
 use Rattle.collective_round.specs.Rounds.{ArePuts, after_round, counted}
 use Rattle.collective_round.proofs.PutLaws.{laid_round}
 use Rattle.collective_round.proofs.StepLaws.{round_by}
 use Rattle.collective_round.proofs.ResultSteps.{told_as}
-use Rattle.serial_spec.proofs.KeepLaws.{count_long as length-count}
-
--- ---- bytes that no put holds stay
-
-no_true : {A : Type 0} → true ≡ false → A
-no_true h = cc
-
-pub or_left_false : (a b : Bool) → (a || b) ≡ false → a ≡ false
-or_left_false true b h = cc
-or_left_false false b h = refl
-
-pub or_right_false : (a b : Bool) → (a || b) ≡ false → b ≡ false
-or_right_false true b h = cc
-or_right_false false b h = h
-
-not_in_range : (a n x : ℕ) → list_any (λ y. y == x) (range_with_len a n) ≡ false → (x < a) ⊎ (a + n ≤ x)
-not_in_range a zero x h = by_test (nat_lt x a) refl
-  where
-    by_test : (t : Bool) → nat_lt x a ≡ t → (x < a) ⊎ (a + zero ≤ x)
-    by_test true e = inl (ltb-true _ _ e)
-    by_test false e = let l : a ≤ x = ltb-false _ _ e in inr (omega arith)
-not_in_range a (suc n) x h =
-    by_rest (or_left_false (a == x) _ h) (not_in_range (a + 1) n x (or_right_false (a == x) _ h))
-  where
-    by_rest : (a == x) ≡ false → (x < a + 1) ⊎ (a + 1 + n ≤ x) → (x < a) ⊎ (a + suc n ≤ x)
-    by_rest d (inr l) = inr (omega arith)
-    by_rest d (inl l) = inl (grind (arith, nat_tests))
-
-cell_short : (size : ℕ) (bytes : List ℕ) → length (take size bytes) ≤ size
-cell_short size bytes = grind (arith, common_steps)
-
-cell_keeps : (file bytes : List ℕ) (p size x : ℕ) → (x < p) ⊎ (p + size ≤ x) → at (written file p (take size bytes)) x ≡ at file x
-cell_keeps file bytes p size x (inl h) = at-written_before file (take size bytes) p x h
-cell_keeps file bytes p size x (inr h) = let l = cell_short size bytes in at-written_after file (take size bytes) p x (omega arith)
-
-cells_keep : (size : ℕ) (ps : List ℕ) (bytes file : List ℕ) (x : ℕ) → list_any (λ y. y == x) (flat_map (λ p. range_with_len p size) ps) ≡ false
-    → at (fold (λ f cell. written f cell.0 cell.1) file (cells size ps bytes)) x ≡ at file x
-cells_keep size [] bytes file x h = refl
-cells_keep size (p ∷ ps) bytes file x h =
-    let split = sym (list_any-append (λ y. y == x) (range_with_len p size) (flat_map (λ q. range_with_len q size) ps)) ∙ h in
-    cells_keep size ps (drop size bytes) (written file p (take size bytes)) x (or_right_false (list_any (λ y. y == x) (range_with_len p size)) _ split)
-    ∙ cell_keeps file bytes p size x (not_in_range p size x (or_left_false _ _ split))
-
-post_keeps_by : (s : Setting) (v : Option Var) (post : Post) (file : List ℕ) (x : ℕ) → list_any (λ y. y == x) (bytes_of_some s.header v post) ≡ false
-    → at (put_some s v post file) x ≡ at file x
-post_keeps_by s None post file x h = refl
-post_keeps_by s (Some v) post file x h = cells_keep (size_of v.kind) (places s.header v post.region) post.bytes file x h
-
-puts_keep : (s : Setting) (puts : Puts) (file : List ℕ) (x : ℕ) → list_any (λ y. y == x) (covered s.header puts) ≡ false
-    → at (fold (put_post s) file puts) x ≡ at file x
-puts_keep s [] file x h = refl
-puts_keep s (p ∷ puts) file x h =
-    let split = sym (list_any-append (λ y. y == x) (bytes_of s.header p.1) (covered s.header puts)) ∙ h in
-    puts_keep s puts (put_post s file p) x (or_right_false (list_any (λ y. y == x) (bytes_of s.header p.1)) _ split)
-    ∙ post_keeps_by s (slice_get s.header.vars p.1.var) p.1 file x (or_left_false _ _ split)
-
-pub after_keeps : (s : Setting) (puts : Puts) (pair : Option Pair) (file : List ℕ) (x : ℕ) → list_any (λ y. y == x) (covered s.header puts) ≡ false
-    → at (after_puts s puts pair file) x ≡ at file x
-after_keeps s puts (Some p) file x h = refl
-after_keeps s puts None file x h =
-    puts_keep s puts (longer file (end_for s (needed_by s.header puts))) x h ∙ at-longer file (end_for s (needed_by s.header puts)) x
+use Rattle.serial_spec.proofs.KeepLaws.{after_keeps, count_long as length-count}
 
 -- ---- no step makes a file shorter
 
@@ -181,14 +120,6 @@ covered_past header puts x sound are m =
         from_map f (z ∷ xs) y (inl e) = (z, inl refl, e)
         from_map f (z ∷ xs) y (inr m) = let r = from_map f xs y m in (r.0, inr r.1, r.2)
 
-any_in : (xs : List ℕ) (x : ℕ) → list_any (λ y. y == x) xs ≡ true → In xs x
-any_in [] x h = cc
-any_in (y ∷ ys) x h = by_test (λ k. any_in ys x k) (y == x) refl
-  where
-    by_test : (list_any (λ z. z == x) ys ≡ true → In ys x) → (t : Bool) → (y == x) ≡ t → In (y ∷ ys) x
-    by_test rest true e = inl (eqb-true _ _ e)
-    by_test rest false e = inr (rest (sym (ap (λ (b : Bool). b || list_any (λ z. z == x) ys) e) ∙ h))
-
 -- ---- a torn file
 
 outside_of : (field x : ℕ) → (nat_le 4 x && nat_lt x (4 + field)) ≡ false → (x < 4) ⊎ (4 + field ≤ x)
@@ -196,7 +127,7 @@ outside_of field x h = by_low (nat_le 4 x) refl
   where
     by_high : (t : Bool) → nat_lt x (4 + field) ≡ t → nat_le 4 x ≡ true → (x < 4) ⊎ (4 + field ≤ x)
     by_high false e g = inr (ltb-false _ _ e)
-    by_high true e g = no_true (sym ((λ i. g i && e i)) ∙ h)
+    by_high true e g = no_false (sym h ∙ (λ i. g i && e i))
 
     by_low : (t : Bool) → nat_le 4 x ≡ t → (x < 4) ⊎ (4 + field ≤ x)
     by_low false e = inl (grind (arith, nat_tests))
@@ -211,7 +142,7 @@ torn_by bytes field old new left long short inside beside outside = record {
   long = long;
   short = short;
   changed = λ x l h. by_any x (list_any (λ y. y == x) bytes) refl h;
-  kept = λ x l h. outside x (or_left_false _ _ h) (outside_of field x (or_right_false (list_any (λ y. y == x) bytes) _ h));
+  kept = λ x l h. outside x (or_first_false _ _ h) (outside_of field x (or_second_false (list_any (λ y. y == x) bytes) _ h));
 }
   where
     by_any : (x : ℕ) (t : Bool) → list_any (λ y. y == x) bytes ≡ t → (t || (nat_le 4 x && nat_lt x (4 + field))) ≡ true → (at left x ≡ at old x) ⊎ (at left x ≡ at new x)

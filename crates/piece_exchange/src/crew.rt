@@ -9,6 +9,10 @@ use nc_outside::DiskErr;
 use ruled_line::{LinePut, LineTake, settle};
 use std::alloc::Global;
 
+/// How many bytes of stack a helper's thread has. It calls few functions deep, and the C library keeps stacks of this size from one step
+/// to the next, where it would give back those of its usual size and map them anew.
+pub(crate) const STACK_SIZE: usize = 1 << 20;
+
 /// The word that a helper waits for.
 #[derive(Drop)]
 pub(crate) enum Word {
@@ -31,25 +35,27 @@ pub(crate) struct Returned<D: Drop, L: Drop> {
     pub end: Option<Result<(), DiskErr>>,
 }
 
-/// The helpers that were started, in order of their parts, and the parts behind them, for which none could be started.
+/// The helpers that were started, in order of their parts, the parts behind them, for which none could be started, and the parts that
+/// came back.
 #[derive(Drop)]
 pub(crate) struct Crew<S: Drop, D: Drop> {
     pub seats: Vec<S>,
     pub rest: Vec<D>,
+    pub back: Vec<D>,
 }
 
 /// Room for so many helpers, and for their parts.
 pub(crate) fn make_rooms<S: Drop, D: Drop>(
     alloc: Global,
     count: usize,
-) -> Result<(Crew<S, D>, Vec<D>), Memory>
-    ensures { IfOk result (λ rooms. HasRooms count rooms.0.seats.items rooms.0.rest.items rooms.1.items (vec_capacity rooms.0.seats) (vec_capacity rooms.0.rest) (vec_capacity rooms.1)) }
+) -> Result<Crew<S, D>, Memory>
+    ensures { IfOk result (λ crew. HasRooms count crew.seats.items crew.rest.items crew.back.items (vec_capacity crew.seats) (vec_capacity crew.rest) (vec_capacity crew.back)) }
 {
-    let crew = Crew {
+    Ok(Crew {
         seats: Vec::with_capacity(alloc, count)?,
         rest: Vec::with_capacity(alloc, count)?,
-    };
-    Ok((crew, Vec::with_capacity(alloc, count)?))
+        back: Vec::with_capacity(alloc, count)?,
+    })
 }
 
 /// Gives the parts back for which no helper was started.

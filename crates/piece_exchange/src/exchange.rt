@@ -16,7 +16,6 @@ use crate::plan::{PutPlan, Tools};
 use crate::starting::{Seat, start_all, stop_all};
 use nc_base::Extent;
 use nc_outside::{Disk, DiskErr, Gate};
-use std::alloc::Global;
 use std::sync::Wait;
 use std::thread;
 use std::thread::{Scope, Threads};
@@ -28,12 +27,10 @@ use std::thread::{Scope, Threads};
 /// The parts come back in order. Refused, each byte of a part is old or new, and the fault is the first of the parts'; `Memory` comes
 /// also where a list of the parts or a buffer can't be had, before anything is done.
 pub fn exchange_put<R: Threads + Wait + Sync, D: Disk, G: Gate>(
-    rt: &R,
-    alloc: Global,
+    tools: &Tools<R, G>,
     plan: &PutPlan,
     domains: &[Extent],
     parts: Vec<D>,
-    gate: &G,
 ) -> (Vec<D>, Result<(), DiskErr>)
     requires plan { IsPlanned plan.now }
     requires line_low { 1 ≤ plan.now.hints.now.line_room }
@@ -46,14 +43,13 @@ pub fn exchange_put<R: Threads + Wait + Sync, D: Disk, G: Gate>(
         (record { from = D.from new; len = D.len new; held = D.held new; calls = D.calls new; faults = D.faults new }) result.1) (zip parts.items domains.now) result.0.items }
     ensures failed { IsErrOf result.1 Failed → SomeZip (λ old new. Rose (D.faults old) (D.faults new)) parts.items result.0.items }
 {
-    let tools = Tools { rt, alloc, gate };
     if !plan.hints.threads || parts.len() < 2 {
-        return put_in_turn(&tools, plan, domains, parts);
+        return put_in_turn(tools, plan, domains, parts);
     }
-    let (back, end) = put_on_threads(&tools, plan, domains, parts);
+    let (back, end) = put_on_threads(tools, plan, domains, parts);
     match end {
         Some(end) => (back, end),
-        None => put_in_turn(&tools, plan, domains, back),
+        None => put_in_turn(tools, plan, domains, back),
     }
 }
 
@@ -76,7 +72,7 @@ fn put_on_threads<R: Threads + Wait + Sync, D: Disk, G: Gate>(
     ensures failed { IfSome result.1 (λ end. IsErrOf end Failed → SomeZip (λ old new. Rose (D.faults old) (D.faults new)) parts.items result.0.items) }
     ensures kept { IfNone result.1 (result.0.items ≡ parts.items) }
 {
-    let Ok((crew, back)) = make_rooms(tools.alloc, parts.len()) else {
+    let Ok(crew) = make_rooms(tools.alloc, parts.len()) else {
         return (parts, None);
     };
     thread::scope(
@@ -85,13 +81,13 @@ fn put_on_threads<R: Threads + Wait + Sync, D: Disk, G: Gate>(
         |scope| -> (Vec<D>, Option<Result<(), DiskErr>>)
             requires { IsPlanned plan.now × (1 ≤ plan.now.hints.now.line_room) × (plan.now.hints.now.line_room ≤ 64) × (length domains.now ≤ 64) × (length domains.now ≡ length parts.items)
                 × ((k : ℕ) (part : D) (domain : Extent) → slice_get parts.items k ≡ Some part → slice_get domains.now k ≡ Some domain → IsDomainOf plan.now.list.now (D.from part) (D.len part) domain)
-                × HasRooms (length parts.items) crew.seats.items crew.rest.items back.items (vec_capacity crew.seats) (vec_capacity crew.rest) (vec_capacity back) }
+                × HasRooms (length parts.items) crew.seats.items crew.rest.items crew.back.items (vec_capacity crew.seats) (vec_capacity crew.rest) (vec_capacity crew.back) }
             ensures put { IfSome result.1 (λ end. AllZip (λ p new. HasPut (source_in plan.entry.now) plan.entry.now.list.now (planned_turns plan.entry.now p.1)
                 (record { from = D.from p.0; len = D.len p.0; held = D.held p.0; calls = D.calls p.0; faults = D.faults p.0 })
                 (record { from = D.from new; len = D.len new; held = D.held new; calls = D.calls new; faults = D.faults new }) end) (zip parts.items domains.entry.now) result.0.items) }
             ensures failed { IfSome result.1 (λ end. IsErrOf end Failed → SomeZip (λ old new. Rose (D.faults old) (D.faults new)) parts.items result.0.items) }
             ensures kept { IfNone result.1 (result.0.items ≡ parts.items) }
-        { put_in_scope(scope, tools, plan, domains, parts, crew, back) },
+        { put_in_scope(scope, tools, plan, domains, parts, crew) },
     )
 }
 
@@ -103,7 +99,6 @@ fn put_in_scope<'s, E, R: Threads + Wait + Sync, D: Disk + 's, G: Gate>(
     domains: &[Extent],
     parts: Vec<D>,
     crew: Crew<Seat<'s, D>, D>,
-    back: Vec<D>,
 ) -> (Vec<D>, Option<Result<(), DiskErr>>)
     requires plan { IsPlanned plan.now }
     requires line_low { 1 ≤ plan.now.hints.now.line_room }
@@ -111,7 +106,7 @@ fn put_in_scope<'s, E, R: Threads + Wait + Sync, D: Disk + 's, G: Gate>(
     requires few { length domains.now ≤ 64 }
     requires one_each { length domains.now ≡ length parts.items }
     requires domains { (k : ℕ) (part : D) (domain : Extent) → slice_get parts.items k ≡ Some part → slice_get domains.now k ≡ Some domain → IsDomainOf plan.now.list.now (D.from part) (D.len part) domain }
-    requires rooms { HasRooms (length parts.items) crew.seats.items crew.rest.items back.items (vec_capacity crew.seats) (vec_capacity crew.rest) (vec_capacity back) }
+    requires rooms { HasRooms (length parts.items) crew.seats.items crew.rest.items crew.back.items (vec_capacity crew.seats) (vec_capacity crew.rest) (vec_capacity crew.back) }
     ensures put { IfSome result.1 (λ end. AllZip (λ p new. HasPut (source_in plan.now) plan.now.list.now (planned_turns plan.now p.1)
         (record { from = D.from p.0; len = D.len p.0; held = D.held p.0; calls = D.calls p.0; faults = D.faults p.0 })
         (record { from = D.from new; len = D.len new; held = D.held new; calls = D.calls new; faults = D.faults new }) end) (zip parts.items domains.now) result.0.items) }
@@ -123,9 +118,12 @@ fn put_in_scope<'s, E, R: Threads + Wait + Sync, D: Disk + 's, G: Gate>(
         return (parts, None);
     };
     let mut crew = crew;
-    let mut back = back;
     start_all(scope, tools, plan, domains, parts, &mut crew);
-    let Crew { mut seats, rest } = crew;
+    let Crew {
+        mut seats,
+        rest,
+        mut back,
+    } = crew;
     if !rest.is_empty() {
         stop_all(tools.rt, plan, seats, &mut back);
         give_back(rest, &mut back);

@@ -4,9 +4,10 @@ ghost use Rattle.piece_exchange.specs.Helped.{HasReturned};
 ghost use Rattle.piece_exchange.specs.Plan.{IsDomainOf, IsPlanned};
 ghost use Rattle.piece_exchange.specs.Turns.{turns_of};
 
-use crate::crew::{Ends, Returned, Word, stopped};
+use crate::crew::{Ends, Returned, STACK_SIZE, Word, stopped};
 use crate::laying::lay_part;
 use crate::plan::{Aggregator, PutPlan, Tools};
+use core::thread::Stack;
 use nc_base::{Extent, ExtentList, Job, Owned, OwnedList};
 use nc_outside::{Disk, Gate};
 use ruled_line::{LinePut, LineTake};
@@ -85,7 +86,10 @@ pub(crate) fn start<'s, E, D: Disk + 's, G: Gate, R: Threads + Wait + Sync>(
         requires { IsPlanned plan.now × IsDomainOf plan.now.list.now (D.from ends.part) (D.len ends.part) aggregator.domain
             × (length ends.lines.buf.items ≡ min plan.now.hints.now.cb_buffer aggregator.domain.len) × (ends.word.items ≡ []) × (ends.lines.line.items ≡ []) }
     { take_part(tools, plan, aggregator, ends) };
-    match scope.spawn_with(duty, work) {
+    match Stack::new()
+        .stack_size(STACK_SIZE)
+        .spawn_scoped_with(scope, duty, work)
+    {
         Ok(child) => Ok(Helper { word: go, child }),
         Err(refused) => {
             let mut go = go;

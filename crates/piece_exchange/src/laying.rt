@@ -20,6 +20,14 @@ use nc_outside::{Disk, DiskErr, Gate, Point};
 use ruled_line::LineTake;
 use std::sync::Wait;
 
+// A window whose pieces are due: how many come, and the puts that they are of.
+#[derive(Clone, Copy, Drop)]
+struct Due<'a> {
+    window: Window,
+    count: usize,
+    batches: &'a [Batch],
+}
+
 /// Serves the windows of an aggregator's domain, which lies on the part: takes their pieces off the line, and overlays each hull by one
 /// read at most and one write. The buffer holds the longest hull.
 ///
@@ -59,7 +67,12 @@ pub(crate) fn lay_part<R: Wait, D: Disk, G: Gate>(
             Point::Window(aggregator.number, turn.window.round),
         );
         let count = piece_count(&turn, ranks);
-        end = serve_turn(tools, &turn.window, count, batches, part, line, buf, end);
+        let due = Due {
+            window: turn.window,
+            count,
+            batches,
+        };
+        end = serve_turn(tools, &due, part, line, buf, end);
     }
     end
 }
@@ -67,62 +80,65 @@ pub(crate) fn lay_part<R: Wait, D: Disk, G: Gate>(
 // Serves one window, unless something was refused before: then its pieces are taken and dropped.
 fn serve_turn<R: Wait, D: Disk, G>(
     tools: &Tools<R, G>,
-    window: &Window,
-    count: usize,
-    batches: &[Batch],
+    due: &Due,
     part: &mut D,
     line: &mut LineTake<Owned>,
     buf: &mut [u8],
     before: Result<(), DiskErr>,
 ) -> Result<(), DiskErr>
-    requires low { D.from part.old ≤ window.now.hull.at }
-    requires high { window.now.hull.at + window.now.hull.len ≤ D.from part.old + D.len part.old }
-    requires hull { window.now.hull.at + window.now.hull.len < 2 ^ 62 }
-    requires room { window.now.hull.len ≤ length buf.old }
+    requires low { D.from part.old ≤ due.now.window.hull.at }
+    requires high { due.now.window.hull.at + due.now.window.hull.len ≤ D.from part.old + D.len part.old }
+    requires hull { due.now.window.hull.at + due.now.window.hull.len < 2 ^ 62 }
+    requires room { due.now.window.hull.len ≤ length buf.old }
     ensures of { line.new.of ≡ line.old.of }
-    ensures taken { HasTaken count line.old.items line.new.items }
-    ensures put { IsOk before → HasPutTaken (source_of batches.now) (D.from part.old) (told_window window.now) count line.old.items line.new.items (D.held part.old) (D.held part.new) result }
+    ensures taken { HasTaken due.now.count line.old.items line.new.items }
+    ensures put { IsOk before → HasPutTaken (source_of due.now.batches.now) (D.from part.old) (told_window due.now.window) due.now.count line.old.items line.new.items (D.held part.old) (D.held part.new) result }
     ensures kept { IsErr before → D.held part.new ≡ D.held part.old }
     ensures ok { OnOk result (IsOk before) }
-    ensures calls { OnOk result (D.calls part.new ≡ with_end (D.calls part.old) (store_calls (told_window window.now))) }
+    ensures calls { OnOk result (D.calls part.new ≡ with_end (D.calls part.old) (store_calls (told_window due.now.window))) }
     ensures from { D.from part.new ≡ D.from part.old }
     ensures len { D.len part.new ≡ D.len part.old }
     ensures later { D.faults part.old ≤ D.faults part.new }
     ensures failed { IsErrOf result Failed → IsErrOf before Failed ⊎ Rose (D.faults part.old) (D.faults part.new) }
 {
     if let Err(fault) = before {
-        drop_pieces(tools.rt, count, line);
+        drop_pieces(tools.rt, due.count, line);
         return Err(fault);
     }
-    put_turn(tools, window, count, batches, part, line, buf)
+    put_turn(tools, due, part, line, buf)
 }
 
 // Overlays the hull of a window with so many pieces, by one read at most and one write. They are taken also where the read is refused.
 fn put_turn<R: Wait, D: Disk, G>(
     tools: &Tools<R, G>,
-    window: &Window,
-    count: usize,
-    batches: &[Batch],
+    due: &Due,
     part: &mut D,
     line: &mut LineTake<Owned>,
     buf: &mut [u8],
 ) -> Result<(), DiskErr>
-    requires low { D.from part.old ≤ window.now.hull.at }
-    requires high { window.now.hull.at + window.now.hull.len ≤ D.from part.old + D.len part.old }
-    requires hull { window.now.hull.at + window.now.hull.len < 2 ^ 62 }
-    requires room { window.now.hull.len ≤ length buf.old }
+    requires low { D.from part.old ≤ due.now.window.hull.at }
+    requires high { due.now.window.hull.at + due.now.window.hull.len ≤ D.from part.old + D.len part.old }
+    requires hull { due.now.window.hull.at + due.now.window.hull.len < 2 ^ 62 }
+    requires room { due.now.window.hull.len ≤ length buf.old }
     ensures of { line.new.of ≡ line.old.of }
-    ensures put { HasPutTaken (source_of batches.now) (D.from part.old) (told_window window.now) count line.old.items line.new.items (D.held part.old) (D.held part.new) result }
-    ensures calls { OnOk result (D.calls part.new ≡ with_end (D.calls part.old) (store_calls (told_window window.now))) }
+    ensures put { HasPutTaken (source_of due.now.batches.now) (D.from part.old) (told_window due.now.window) due.now.count line.old.items line.new.items (D.held part.old) (D.held part.new) result }
+    ensures calls { OnOk result (D.calls part.new ≡ with_end (D.calls part.old) (store_calls (told_window due.now.window))) }
     ensures from { D.from part.new ≡ D.from part.old }
     ensures len { D.len part.new ≡ D.len part.old }
     ensures cause { HasDiskCause (D.faults part.old) (D.faults part.new) result }
 {
     let _size = part.size();
-    let bytes = &mut buf[..window.hull.len as usize];
-    let opened = open_window(tools.alloc, part, window, bytes);
-    take_pieces(tools.rt, window.hull, count, batches, line, bytes);
+    let bytes = &mut buf[..due.window.hull.len as usize];
+    let opened = open_window(tools.alloc, part, &due.window, bytes);
+    take_pieces(
+        tools.rt,
+        due.window.hull,
+        due.count,
+        due.batches,
+        line,
+        bytes,
+    );
     opened?;
-    close_window(tools.alloc, part, window, bytes)?;
+    close_window(tools.alloc, part, &due.window, bytes)?;
     Ok(())
 }

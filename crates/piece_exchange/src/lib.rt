@@ -21,4 +21,4 @@ mod walk;
 
 pub use exchange::exchange_put;
 pub use gets::exchange_get;
-pub use plan::{GetPlan, PutPlan};
+pub use plan::{GetPlan, PutPlan, Tools};

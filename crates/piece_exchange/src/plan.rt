@@ -31,10 +31,13 @@ pub(crate) struct Aggregator {
     pub domain: Extent,
 }
 
-/// What a part is served with.
+/// What an exchange is done with. All aggregators are lent it.
 #[derive(Drop)]
-pub(crate) struct Tools<'a, R, G> {
+pub struct Tools<'a, R, G> {
+    /// Starts threads, and waits for them.
     pub rt: &'a R,
+    /// Lists, lines and buffers come from it.
     pub alloc: Global,
+    /// Each aggregator passes it before each of its windows.
     pub gate: &'a G,
 }

@@ -43,6 +43,7 @@ pub(crate) fn start_all<'s, E, D: Disk + 's, G: Gate, R: Threads + Wait + Sync>(
     requires seats_room { length parts.items ≤ vec_capacity crew.old.seats }
     requires rest_room { length parts.items ≤ vec_capacity crew.old.rest }
     ensures parts { map (λ seat. part_of seat) crew.new.seats.items ++ crew.new.rest.items ≡ parts.items }
+    ensures back { crew.new.back ≡ crew.old.back }
     ensures domains { map (λ seat. domain_of seat) crew.new.seats.items ≡ take (length crew.new.seats.items) domains.now }
     ensures seats { (seat : Seat D) → In crew.new.seats.items seat → IsFresh plan.now seat }
 {

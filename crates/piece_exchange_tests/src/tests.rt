@@ -13,7 +13,7 @@ use nc_base::{
 use nc_outside::{
     Disk, DiskErr, Fail as Fault, FailList, FailOp, Gate, MeetGate, MemDisk, OpenGate, Point,
 };
-use piece_exchange::{PutPlan, exchange_put};
+use piece_exchange::{PutPlan, Tools, exchange_put};
 use std::alloc::Global;
 use std::process::Abort;
 use std::sync::Wait;
@@ -179,7 +179,8 @@ fn put<R: Abort + Threads + Wait + Sync, G: Gate>(
         job: &puts.job,
         hints: &hints,
     };
-    let (parts, end) = exchange_put(rt, alloc, &plan, &domains, parts, gate);
+    let tools = Tools { rt, alloc, gate };
+    let (parts, end) = exchange_put(&tools, &plan, &domains, parts);
     Ok(Ended { parts, end })
 }
 

@@ -22,7 +22,6 @@ use crate::gets::starting::{ReadSeat, start_all, stop_all};
 use crate::plan::{GetPlan, Tools};
 use nc_base::{BlobList, Extent, GotTable};
 use nc_outside::{Disk, DiskErr, Gate};
-use std::alloc::Global;
 use std::sync::Wait;
 use std::thread;
 use std::thread::{Scope, Threads};
@@ -34,13 +33,11 @@ use std::thread::{Scope, Threads};
 /// The parts come back in order. Refused, some bytes of the blobs may be read, and the fault is the first of the parts'; `Memory` comes
 /// also where a list of the parts or a buffer can't be had, before anything is done.
 pub fn exchange_get<R: Threads + Wait + Sync, D: Disk, G: Gate>(
-    rt: &R,
-    alloc: Global,
+    tools: &Tools<R, G>,
     plan: &GetPlan,
     domains: &[Extent],
     parts: Vec<D>,
     into: &mut GotTable,
-    gate: &G,
 ) -> (Vec<D>, Result<(), DiskErr>)
     requires plan { IsGetPlanned plan.now }
     requires line_low { 1 ≤ plan.now.hints.now.line_room }
@@ -58,26 +55,24 @@ pub fn exchange_get<R: Threads + Wait + Sync, D: Disk, G: Gate>(
     ensures blobs { AreAsLong into.old into.new }
     ensures failed { IsErrOf result.1 Failed → SomeZip (λ old new. Rose (D.faults old) (D.faults new)) parts.items result.0.items }
 {
-    let tools = Tools { rt, alloc, gate };
     if !plan.hints.threads || parts.len() < 2 {
-        return get_in_turn(&tools, plan, domains, parts, into);
+        return get_in_turn(tools, plan, domains, parts, into);
     }
     let table = into.take().into_vec();
-    let Fetched { back, table, end } = get_on_threads(&tools, plan, domains, parts, table);
+    let Fetched { back, table, end } = get_on_threads(tools, plan, domains, parts, table);
     *into = GotTable::from_vec(table);
     match end {
         Some(end) => (back, end),
-        None => get_in_turn(&tools, plan, domains, back, into),
+        None => get_in_turn(tools, plan, domains, back, into),
     }
 }
 
-// What is moved into the scope of the helpers: the parts, the blobs, and the lists that were made for the helpers.
+// What is moved into the scope of the helpers: the parts, the blobs, and the lists that were made for both.
 #[derive(Drop)]
 struct Fetching<'a, D: Disk> {
     parts: Vec<D>,
     table: Vec<BlobList>,
     crew: Crew<ReadSeat<'a, D>, D>,
-    back: Vec<D>,
 }
 
 // The parts and the blobs as they come back. No end where a helper can't be started: then nothing was done.
@@ -112,19 +107,14 @@ fn get_on_threads<R: Threads + Wait + Sync, D: Disk, G: Gate>(
     ensures failed { IfSome result.end (λ end. IsErrOf end Failed → SomeZip (λ old new. Rose (D.faults old) (D.faults new)) parts.items result.back.items) }
     ensures kept { IfNone result.end ((result.back.items ≡ parts.items) × (result.table.items ≡ table.items)) }
 {
-    let Ok((crew, back)) = make_rooms(tools.alloc, parts.len()) else {
+    let Ok(crew) = make_rooms(tools.alloc, parts.len()) else {
         return Fetched {
             back: parts,
             table,
             end: None,
         };
     };
-    let work = Fetching {
-        parts,
-        table,
-        crew,
-        back,
-    };
+    let work = Fetching { parts, table, crew };
     thread::scope(
         thread::scope_env(),
         tools.rt,
@@ -132,7 +122,7 @@ fn get_on_threads<R: Threads + Wait + Sync, D: Disk, G: Gate>(
             requires { IsGetPlanned plan.now × (1 ≤ plan.now.hints.now.line_room) × (plan.now.hints.now.line_room ≤ 64) × (length domains.now ≤ 64) × (length domains.now ≡ length work.parts.items)
                 × ((k : ℕ) (part : D) (domain : Extent) → slice_get work.parts.items k ≡ Some part → slice_get domains.now k ≡ Some domain → IsDomainOf plan.now.list.now (D.from part) (D.len part) domain)
                 × FitTable work.table.items plan.now.list.now × HaveOnePlaces plan.now.list.now
-                × HasRooms (length work.parts.items) work.crew.seats.items work.crew.rest.items work.back.items (vec_capacity work.crew.seats) (vec_capacity work.crew.rest) (vec_capacity work.back) }
+                × HasRooms (length work.parts.items) work.crew.seats.items work.crew.rest.items work.crew.back.items (vec_capacity work.crew.seats) (vec_capacity work.crew.rest) (vec_capacity work.crew.back) }
             ensures got { IfSome result.end (λ end. AllZip (λ p new. HasGot (get_turns plan.entry.now p.1)
                 (record { from = D.from p.0; len = D.len p.0; held = D.held p.0; calls = D.calls p.0; faults = D.faults p.0 })
                 (record { from = D.from new; len = D.len new; held = D.held new; calls = D.calls new; faults = D.faults new }) end) (zip work.entry.parts.items domains.entry.now) result.back.items) }
@@ -160,7 +150,7 @@ fn get_in_scope<'s, E, R: Threads + Wait + Sync, D: Disk + 's, G: Gate>(
     requires domains { (k : ℕ) (part : D) (domain : Extent) → slice_get work.parts.items k ≡ Some part → slice_get domains.now k ≡ Some domain → IsDomainOf plan.now.list.now (D.from part) (D.len part) domain }
     requires fit { FitTable work.table.items plan.now.list.now }
     requires one_place { HaveOnePlaces plan.now.list.now }
-    requires rooms { HasRooms (length work.parts.items) work.crew.seats.items work.crew.rest.items work.back.items (vec_capacity work.crew.seats) (vec_capacity work.crew.rest) (vec_capacity work.back) }
+    requires rooms { HasRooms (length work.parts.items) work.crew.seats.items work.crew.rest.items work.crew.back.items (vec_capacity work.crew.seats) (vec_capacity work.crew.rest) (vec_capacity work.crew.back) }
     ensures got { IfSome result.end (λ end. AllZip (λ p new. HasGot (get_turns plan.now p.1)
         (record { from = D.from p.0; len = D.len p.0; held = D.held p.0; calls = D.calls p.0; faults = D.faults p.0 })
         (record { from = D.from new; len = D.len new; held = D.held new; calls = D.calls new; faults = D.faults new }) end) (zip work.entry.parts.items domains.now) result.back.items) }
@@ -173,10 +163,13 @@ fn get_in_scope<'s, E, R: Threads + Wait + Sync, D: Disk + 's, G: Gate>(
         parts,
         mut table,
         mut crew,
-        mut back,
     } = work;
     start_all(scope, tools, plan, domains, parts, &mut crew);
-    let Crew { mut seats, rest } = crew;
+    let Crew {
+        mut seats,
+        rest,
+        mut back,
+    } = crew;
     if !rest.is_empty() {
         stop_all(tools.rt, plan, seats, &mut back);
         give_back(rest, &mut back);

@@ -5,9 +5,10 @@ ghost use Rattle.piece_exchange.specs.Gets.{get_turns, IsGetPlanned};
 ghost use Rattle.piece_exchange.specs.Plan.{IsDomainOf};
 ghost use Rattle.piece_exchange.specs.Turns.{turns_of};
 
-use crate::crew::{Ends, Returned, Word, stopped};
+use crate::crew::{Ends, Returned, STACK_SIZE, Word, stopped};
 use crate::gets::reading::{Reading, read_part};
 use crate::plan::{Aggregator, GetPlan, Tools};
+use core::thread::Stack;
 use nc_base::{Blob, Extent, ExtentList};
 use nc_outside::{Disk, Gate};
 use ruled_line::{LinePut, LineTake};
@@ -79,7 +80,10 @@ pub(crate) fn start<'s, E, D: Disk + 's, G: Gate, R: Threads + Wait + Sync>(
         requires { IsGetPlanned plan.now × IsDomainOf plan.now.list.now (D.from ends.part) (D.len ends.part) aggregator.domain
             × (ends.word.items ≡ []) × (ends.lines.line.items ≡ []) }
     { take_part(tools, plan, aggregator, ends) };
-    match scope.spawn_with(duty, work) {
+    match Stack::new()
+        .stack_size(STACK_SIZE)
+        .spawn_scoped_with(scope, duty, work)
+    {
         Ok(child) => Ok(GetHelper { word: go, child }),
         Err(refused) => {
             let mut go = go;

@@ -12,10 +12,10 @@ use crate::gets::helper::{GetHelper, GetLines, start};
 use crate::gets::reading::Reading;
 use crate::gets::shelf::{Shelf, shelf_of};
 use crate::plan::{Aggregator, GetPlan, Tools};
+use file_domains::windows;
 use nc_base::{Blob, Extent, Memory};
 use nc_outside::{Disk, Gate};
 use ruled_line::{LinePut, LineTake, line};
-use std::alloc::Global;
 use std::sync::Wait;
 use std::thread::{Scope, Threads};
 
@@ -46,6 +46,7 @@ pub(crate) fn start_all<'s, E, D: Disk + 's, G: Gate, R: Threads + Wait + Sync>(
     requires seats_room { length parts.items ≤ vec_capacity crew.old.seats }
     requires rest_room { length parts.items ≤ vec_capacity crew.old.rest }
     ensures parts { map (λ seat. part_of seat) crew.new.seats.items ++ crew.new.rest.items ≡ parts.items }
+    ensures back { crew.new.back ≡ crew.old.back }
     ensures domains { map (λ seat. domain_of seat) crew.new.seats.items ≡ take (length crew.new.seats.items) domains.now }
     ensures seats { (seat : ReadSeat D) → In crew.new.seats.items seat → IsFresh plan.now seat }
 {
@@ -66,7 +67,7 @@ pub(crate) fn start_all<'s, E, D: Disk + 's, G: Gate, R: Threads + Wait + Sync>(
     }
 }
 
-// Starts a helper for a part, with lines of its own and two blobs. Where one of them can't be had the part comes back as it was.
+// Starts a helper for a part, with lines of its own and blobs to read into. Where one of them can't be had the part comes back as it was.
 fn start_one<'s, E, D: Disk + 's, G: Gate, R: Threads + Wait + Sync>(
     scope: &'s Scope<'s, E>,
     tools: &'s Tools<'s, R, G>,
@@ -89,8 +90,7 @@ fn start_one<'s, E, D: Disk + 's, G: Gate, R: Threads + Wait + Sync>(
     let Ok((put, taken)) = line::<Reading>(tools.alloc, plan.hints.line_room) else {
         return Err(part);
     };
-    let longest = plan.hints.cb_buffer.min(aggregator.domain.len) as usize;
-    let Ok((back, spare)) = spare_line(tools.rt, tools.alloc, longest) else {
+    let Ok((back, spare)) = spare_line(tools, plan, aggregator.domain) else {
         return Err(part);
     };
     let ends = Ends {
@@ -103,19 +103,33 @@ fn start_one<'s, E, D: Disk + 's, G: Gate, R: Threads + Wait + Sync>(
     Ok(ReadSeat { helper, shelf })
 }
 
-// A line with two blobs on it, each of which has room for the longest hull. No more blobs than these go round, so that no put on the
-// line ever waits.
-fn spare_line<R: Wait>(
-    rt: &R,
-    alloc: Global,
-    longest: usize,
-) -> Result<(LinePut<Blob>, LineTake<Blob>), Memory> {
-    let first = Blob::with_capacity(alloc, longest)?;
-    let second = Blob::with_capacity(alloc, longest)?;
-    let (mut put, take) = line::<Blob>(alloc, 2)?;
-    put.put(rt, first);
-    put.put(rt, second);
+// A line with blobs on it, each of which has room for the longest hull of the domain: two, so that one is filled while the other is copied
+// from, or one where there is one window at most. No more blobs than these go round, so that no put on the line ever waits.
+fn spare_line<R: Wait, G>(
+    tools: &Tools<R, G>,
+    plan: &GetPlan,
+    domain: Extent,
+) -> Result<(LinePut<Blob>, LineTake<Blob>), Memory>
+    requires plan { IsGetPlanned plan.now }
+{
+    let longest = longest_hull(plan, domain) as usize;
+    let (mut put, take) = line::<Blob>(tools.alloc, 2)?;
+    put.put(tools.rt, Blob::with_capacity(tools.alloc, longest)?);
+    if domain.len > plan.hints.cb_buffer {
+        put.put(tools.rt, Blob::with_capacity(tools.alloc, longest)?);
+    }
     Ok((put, take))
+}
+
+// How long the longest hull of a domain's windows is.
+fn longest_hull(plan: &GetPlan, domain: Extent) -> u64
+    requires plan { IsGetPlanned plan.now }
+{
+    let mut longest = 0;
+    for window in windows(domain, plan.cover.as_slice(), plan.hints.cb_buffer) {
+        longest = window.hull.len.max(longest);
+    }
+    longest
 }
 
 /// Tells the helpers to stop, and joins them. Their parts come back as they were, in order.

@@ -8,13 +8,14 @@ ghost use Rattle.var_layout.specs.Unplaced.{is_unplaced};
 ghost use Rattle.collective_round.specs.Rounds.{IsGet, IsPut};
 
 use super::{has_calls, numbered};
-use collective_round::{PutEnd, get_all, put_all, put_solo};
+use collective_round::{Dataset as Lent, PutEnd, get_all, put_all, put_solo};
 use nc_base::{
     Align, AttrList, Batch, BatchList, Blob, Dim, DimList, Direction, DiskCall, GotTable, Header,
     Hints, IdList, Job, Name, NcType, OverlapRule, Pair, Post, PostList, Region, SizeList, StepErr,
     Var, VarList,
 };
 use nc_outside::{Disk, Fail as Fault, FailList, FailOp, MemDisk, OpenGate};
+use piece_exchange::Tools;
 use std::alloc::{AllocError, Global};
 use std::process::Abort;
 use std::sync::Wait;
@@ -240,18 +241,19 @@ pub(super) fn put_two<R: Abort + Threads + Wait + Sync>(
     is_put(rt, header, &b);
     is_long(rt, header, disk);
     let job = job_of(alloc, batch_of_put(alloc, a)?, batch_of_put(alloc, b)?)?;
-    let mut records = 0;
-    let end = put_all(
+    let measures = Measures::of(header);
+    let dataset = Lent {
+        header,
+        measures: &measures,
+        hints: &set.hints,
+    };
+    let tools = Tools {
         rt,
         alloc,
-        disk,
-        header,
-        &Measures::of(header),
-        &mut records,
-        &job,
-        &set.hints,
-        &OpenGate,
-    );
+        gate: &OpenGate,
+    };
+    let mut records = 0;
+    let end = put_all(&tools, disk, &dataset, &mut records, &job);
     Ok((end, records))
 }
 
@@ -274,9 +276,17 @@ pub(super) fn get_two<R: Abort + Threads + Wait + Sync>(
     is_get(rt, header, len, &b);
     let job = job_of(alloc, batch_of_get(alloc, a)?, batch_of_get(alloc, b)?)?;
     let measures = Measures::of(header);
-    Ok(get_all(
-        rt, alloc, disk, header, &measures, &job, &set.hints, &OpenGate,
-    ))
+    let dataset = Lent {
+        header,
+        measures: &measures,
+        hints: &set.hints,
+    };
+    let tools = Tools {
+        rt,
+        alloc,
+        gate: &OpenGate,
+    };
+    Ok(get_all(&tools, disk, &dataset, &job))
 }
 
 /// How the put of a rank alone ends.
@@ -293,7 +303,12 @@ fn put_one<R: Abort>(
     is_long(rt, header, disk);
     let batch = batch_of_put(alloc, a)?;
     let measures = Measures::of(header);
-    Ok(put_solo(alloc, disk, header, &measures, 3, &batch, &HINTS))
+    let dataset = Lent {
+        header,
+        measures: &measures,
+        hints: &HINTS,
+    };
+    Ok(put_solo(alloc, disk, &dataset, 3, &batch))
 }
 
 fn zeros(alloc: Global, len: usize) -> Result<MemDisk, Fail> {

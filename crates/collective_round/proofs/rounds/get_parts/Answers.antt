@@ -1,14 +1,13 @@
 -- The gets of the parts are those of the disk.
-use Rattle.std.proofs.Common.{◌≡◌, ◌∙◌, ℕ, ap, List, length, map, rules, arith}
+use Rattle.std.proofs.Common.{◌≡◌, ◌∙◌, ℕ, List, length, rules, arith}
 use Rattle.std.proofs.lemmas.Grind.{common_steps}
 use Rattle.std.specs.Prelude.{flat_map}
 use Rattle.list_laws.proofs.Optional.{if_some_at}
 use Rattle.piece_exchange.specs.Gets.{get_turns}
 use Rattle.piece_exchange.specs.Blobs.{HasRead}
 use Rattle.piece_exchange.specs.Put.{PartState}
-use Rattle.collective_round.proofs.PartLaws.{as_many_parts, domain_of_part, joined_rose, on_some_part}
-use Rattle.collective_round.proofs.PartSplits.{joined_at_least}
-use Rattle.collective_round.proofs.PutPartLaws.{cover_room, plan_room, AreSplit}
+use Rattle.collective_round.proofs.PartLaws.{as_many_parts, domain_of_part, on_some_part}
+use Rattle.collective_round.proofs.PutPartLaws.{are_split, cover_room, parts_cause, plan_room, AreSplit}
 use Rattle.collective_round.proofs.GetPartLaws.{gets_follow, part_read, parts_got, told_read, HasGotWhole}
 use Rattle.collective_round.proofs.rounds.get_parts.Given.{Over}
 use Rattle.collective_round.proofs.rounds.get_parts.Goals as goal
@@ -44,25 +43,15 @@ append_all-requires-after_bounds g c κs within =
     let plan = c.args.plan.now in
     gets_follow (state g) (λ d. get_turns plan d) (state g c.args.disk.now) (state g c.split.new.disk) c.args.domains.now c.in_ok-parts.parts.items c.exchange_get-parts.result.0.items
     c.exchange_get-parts.result.1
-    (record {
-      begin = c.requires.from;
-      line = c.requires.domains.line;
-      room = plan_room plan.cover.now c.args.domains.now plan.list.now (g.D.Disk.len c.args.disk.now) c.requires.plan.covers c.requires.plan.cover_bytes c.requires.on_disk c.requires.domains;
-      front_is = c.in_ok-parts.ensures.front;
-      parts_are = c.in_ok-parts.ensures.parts;
-    })
+    (are_split (state g) (state g c.args.disk.now) (state g c.split.new.disk) plan.cover.now c.args.domains.now plan.list.now c.in_ok-parts.parts.items
+    c.requires.from c.requires.plan.covers c.requires.plan.cover_bytes c.requires.on_disk c.requires.domains c.in_ok-parts.ensures.front c.in_ok-parts.ensures.parts)
     c.exchange_get-parts.ensures.got
 
 split_so : (g : Over) (c : goal.After-append_all g) → AreSplit (state g) (state g c.args.disk.now) (state g c.split.new.disk) c.args.domains.now c.in_ok-parts.parts.items
 split_so g c =
     let plan = c.args.plan.now in
-    record {
-      begin = c.requires.from;
-      line = c.requires.domains.line;
-      room = plan_room plan.cover.now c.args.domains.now plan.list.now (g.D.Disk.len c.args.disk.now) c.requires.plan.covers c.requires.plan.cover_bytes c.requires.on_disk c.requires.domains;
-      front_is = c.in_ok-parts.ensures.front;
-      parts_are = c.in_ok-parts.ensures.parts;
-    }
+    are_split (state g) (state g c.args.disk.now) (state g c.split.new.disk) plan.cover.now c.args.domains.now plan.list.now c.in_ok-parts.parts.items
+    c.requires.from c.requires.plan.covers c.requires.plan.cover_bytes c.requires.on_disk c.requires.domains c.in_ok-parts.ensures.front c.in_ok-parts.ensures.parts
 
 got_done : (g : Over) (c : goal.After-append_all g)
     → HasGotWhole (flat_map (λ d. get_turns c.args.plan.now d) c.args.domains.now) (state g c.args.disk.now) (state g c.append_all.new.disk) c.exchange_get-parts.result.1
@@ -91,18 +80,9 @@ returns-clause-len g c = (got_done g c).place.len
 
 pub returns-clause-cause : goal.returns-clause-cause
 returns-clause-cause g c =
-    let before = g.D.Disk.faults c.args.disk.now in
-    let front = state g c.split.new.disk in
-    let news = c.exchange_get-parts.result.0.items in
-    let cause = c.in_ok-parts.ensures.cause c.size-size.ensures.counted in
-    let faults = ap (λ (s : PartState). s.faults) c.append_all.ensures in
-    record {
-      later = (let l = joined_at_least before front (map (state g) news) c.size-size.ensures.counted cause.later in omega arith);
-      failed = λ e.
-          (let r = joined_rose (state g) before (state g c.args.disk.now) front c.args.domains.now c.in_ok-parts.parts.items news c.in_ok-parts.ensures.parts cause.later
-          (c.exchange_get-parts.ensures.failed e) in
-          omega arith);
-    }
+    parts_cause (state g) (state g c.args.disk.now) (state g c.split.new.disk) (state g c.append_all.new.disk) c.args.domains.now c.in_ok-parts.parts.items
+    c.exchange_get-parts.result.0.items c.exchange_get-parts.result.1 c.in_ok-parts.ensures.parts c.size-size.ensures.counted
+    (c.in_ok-parts.ensures.cause c.size-size.ensures.counted).later c.exchange_get-parts.ensures.failed c.append_all.ensures
 
 pub returns-in_err-parts-clause-cause : goal.returns-in_err-parts-clause-cause
 returns-in_err-parts-clause-cause g c =

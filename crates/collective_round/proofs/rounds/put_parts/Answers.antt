@@ -1,12 +1,11 @@
 -- The puts of the parts are those of the disk.
-use Rattle.std.proofs.Common.{◌∙◌, ap, map, rules, arith}
+use Rattle.std.proofs.Common.{◌∙◌, rules, arith}
 use Rattle.std.proofs.lemmas.Grind.{common_steps}
 use Rattle.std.specs.Prelude.{flat_map}
 use Rattle.piece_exchange.specs.Plan.{planned_turns, source_in}
 use Rattle.piece_exchange.specs.Put.{PartState}
-use Rattle.collective_round.proofs.PartLaws.{as_many_parts, domain_of_part, joined_rose, HasPutWhole}
-use Rattle.collective_round.proofs.PartSplits.{joined_at_least}
-use Rattle.collective_round.proofs.PutPartLaws.{cover_room, plan_room, parts_follow, parts_put}
+use Rattle.collective_round.proofs.PartLaws.{as_many_parts, domain_of_part, HasPutWhole}
+use Rattle.collective_round.proofs.PutPartLaws.{are_split, cover_room, parts_cause, parts_follow, parts_put, plan_room}
 use Rattle.collective_round.proofs.rounds.put_parts.Given.{Over}
 use Rattle.collective_round.proofs.rounds.put_parts.Goals as goal
 
@@ -34,13 +33,8 @@ append_all-requires-after_bounds g c κs within =
     let plan = c.args.plan.now in
     parts_follow (state g) (source_in plan) plan.list.now (λ d. planned_turns plan d) (state g c.args.disk.now) (state g c.split.new.disk) c.args.domains.now
     c.in_ok-parts.parts.items c.exchange_put-parts.result.0.items c.exchange_put-parts.result.1
-    (record {
-      begin = c.requires.from;
-      line = c.requires.domains.line;
-      room = plan_room plan.cover.now c.args.domains.now plan.list.now (g.D.Disk.len c.args.disk.now) c.requires.plan.covers c.requires.plan.cover_bytes c.requires.on_disk c.requires.domains;
-      front_is = c.in_ok-parts.ensures.front;
-      parts_are = c.in_ok-parts.ensures.parts;
-    })
+    (are_split (state g) (state g c.args.disk.now) (state g c.split.new.disk) plan.cover.now c.args.domains.now plan.list.now c.in_ok-parts.parts.items
+    c.requires.from c.requires.plan.covers c.requires.plan.cover_bytes c.requires.on_disk c.requires.domains c.in_ok-parts.ensures.front c.in_ok-parts.ensures.parts)
     c.exchange_put-parts.ensures.put
 
 put_done : (g : Over) (c : goal.After-append_all g)
@@ -50,13 +44,8 @@ put_done g c =
     let plan = c.args.plan.now in
     parts_put (state g) (source_in plan) plan.list.now (λ d. planned_turns plan d) plan.cover.now (state g c.args.disk.now) (state g c.split.new.disk) (state g c.append_all.new.disk) c.args.domains.now
     c.in_ok-parts.parts.items c.exchange_put-parts.result.0.items c.exchange_put-parts.result.1
-    (record {
-      begin = c.requires.from;
-      line = c.requires.domains.line;
-      room = plan_room plan.cover.now c.args.domains.now plan.list.now (g.D.Disk.len c.args.disk.now) c.requires.plan.covers c.requires.plan.cover_bytes c.requires.on_disk c.requires.domains;
-      front_is = c.in_ok-parts.ensures.front;
-      parts_are = c.in_ok-parts.ensures.parts;
-    })
+    (are_split (state g) (state g c.args.disk.now) (state g c.split.new.disk) plan.cover.now c.args.domains.now plan.list.now c.in_ok-parts.parts.items
+    c.requires.from c.requires.plan.covers c.requires.plan.cover_bytes c.requires.on_disk c.requires.domains c.in_ok-parts.ensures.front c.in_ok-parts.ensures.parts)
     c.size-size.ensures.told (λ o m. (c.requires.plan.pieces o m).some) c.requires.on_disk
     c.requires.plan.covers c.requires.plan.cover_bytes c.requires.domains c.exchange_put-parts.ensures.put c.append_all.ensures
 
@@ -77,18 +66,9 @@ returns-clause-len g c = (put_done g c).place.len
 
 pub returns-clause-cause : goal.returns-clause-cause
 returns-clause-cause g c =
-    let before = g.D.Disk.faults c.args.disk.now in
-    let front = state g c.split.new.disk in
-    let news = c.exchange_put-parts.result.0.items in
-    let cause = c.in_ok-parts.ensures.cause c.size-size.ensures.counted in
-    let faults = ap (λ (s : PartState). s.faults) c.append_all.ensures in
-    record {
-      later = (let l = joined_at_least before front (map (state g) news) c.size-size.ensures.counted cause.later in omega arith);
-      failed = λ e.
-          (let r = joined_rose (state g) before (state g c.args.disk.now) front c.args.domains.now c.in_ok-parts.parts.items news c.in_ok-parts.ensures.parts cause.later
-          (c.exchange_put-parts.ensures.failed e) in
-          omega arith);
-    }
+    parts_cause (state g) (state g c.args.disk.now) (state g c.split.new.disk) (state g c.append_all.new.disk) c.args.domains.now c.in_ok-parts.parts.items
+    c.exchange_put-parts.result.0.items c.exchange_put-parts.result.1 c.in_ok-parts.ensures.parts c.size-size.ensures.counted
+    (c.in_ok-parts.ensures.cause c.size-size.ensures.counted).later c.exchange_put-parts.ensures.failed c.append_all.ensures
 
 pub returns-in_err-parts-clause-cause : goal.returns-in_err-parts-clause-cause
 returns-in_err-parts-clause-cause g c =

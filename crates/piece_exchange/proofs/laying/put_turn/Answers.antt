@@ -16,17 +16,17 @@ use Rattle.piece_exchange.proofs.laying.put_turn.Goals as goal
 
 pub returns-clause-put : goal.returns-clause-put
 returns-clause-put g c =
-    let at = c.args.window.now.hull.at in
-    let len = c.args.window.now.hull.len in
-    let t = told_window c.args.window.now in
-    let source = source_of c.args.batches.now in
+    let at = c.args.due.now.window.hull.at in
+    let len = c.args.due.now.window.hull.len in
+    let t = told_window c.args.due.now.window in
+    let source = source_of c.args.due.now.batches.now in
     let from = g.D.Disk.from c.args.part.now in
     let got = c.take_pieces.ensures.laid.got in
     let room : length c.open_window-opened.new.buf ≡ len = first_of (search rules, grind (arith, common_steps)) in
     let bytes : ArePieces source got → IsFilledBy t (cells_in source t got) → g.D.Disk.held c.close_window.new.disk ≡ after (put_window source from t got) (g.D.Disk.held c.args.part.now)
     = λ pieces whole.
     window_told_by
-    (g.D.Disk.held c.args.part.now) (g.D.Disk.held c.open_window-opened.new.disk) (g.D.Disk.held c.close_window.new.disk) c.args.window.now.full
+    (g.D.Disk.held c.args.part.now) (g.D.Disk.held c.open_window-opened.new.disk) (g.D.Disk.held c.close_window.new.disk) c.args.due.now.window.full
     c.open_window-opened.new.buf c.take_pieces.new.buf from (g.D.Disk.from c.open_window-opened.new.disk) at len
     (g.D.Disk.len c.args.part.now) (cells_in source t got)
     c.in_ok-opened.ensures.from c.in_ok-opened.ensures.bytes (c.take_pieces.ensures.laid.laid pieces)
@@ -46,10 +46,10 @@ returns-clause-put g c =
 
 pub returns-in_err-close_window-clause-put : goal.returns-in_err-close_window-clause-put
 returns-in_err-close_window-clause-put g c =
-    let at = c.args.window.now.hull.at in
-    let len = c.args.window.now.hull.len in
-    let t = told_window c.args.window.now in
-    let source = source_of c.args.batches.now in
+    let at = c.args.due.now.window.hull.at in
+    let len = c.args.due.now.window.hull.len in
+    let t = told_window c.args.due.now.window in
+    let source = source_of c.args.due.now.batches.now in
     let from = g.D.Disk.from c.args.part.now in
     let got = c.take_pieces.ensures.laid.got in
     let room : length c.open_window-opened.new.buf ≡ len = first_of (search rules, grind (arith, common_steps)) in
@@ -60,7 +60,7 @@ returns-in_err-close_window-clause-put g c =
       bytes = λ pieces whole. err_not_ok _ c.from_residual-in_err-close_window.result c.from_residual-in_err-close_window.ensures.0;
       between = λ pieces whole.
           window_refused_by
-          (g.D.Disk.held c.args.part.now) (g.D.Disk.held c.open_window-opened.new.disk) (g.D.Disk.held c.close_window.new.disk) c.args.window.now.full
+          (g.D.Disk.held c.args.part.now) (g.D.Disk.held c.open_window-opened.new.disk) (g.D.Disk.held c.close_window.new.disk) c.args.due.now.window.full
           c.open_window-opened.new.buf c.take_pieces.new.buf from (g.D.Disk.from c.open_window-opened.new.disk) at len
           (g.D.Disk.len c.args.part.now) (cells_in source t got)
           c.in_ok-opened.ensures.from c.in_ok-opened.ensures.bytes (c.take_pieces.ensures.laid.laid pieces)
@@ -72,7 +72,7 @@ returns-in_err-close_window-clause-put g c =
 
 pub returns-in_err-opened-clause-put : goal.returns-in_err-opened-clause-put
 returns-in_err-opened-clause-put g c =
-    let t = told_window c.args.window.now in
+    let t = told_window c.args.due.now.window in
     let got = c.take_pieces.ensures.laid.got in
     record {
       got = got;
@@ -80,6 +80,6 @@ returns-in_err-opened-clause-put g c =
       many = c.take_pieces.ensures.laid.many;
       bytes = λ pieces whole. err_not_ok _ c.from_residual.result c.from_residual.ensures.0;
       between = λ pieces whole.
-          told_kept (g.D.Disk.held c.args.part.now) (g.D.Disk.held c.open_window-opened.new.disk) (put_window (source_of c.args.batches.now) (g.D.Disk.from c.args.part.now) t got)
+          told_kept (g.D.Disk.held c.args.part.now) (g.D.Disk.held c.open_window-opened.new.disk) (put_window (source_of c.args.due.now.batches.now) (g.D.Disk.from c.args.part.now) t got)
           c.in_err-opened.ensures.bytes;
     }

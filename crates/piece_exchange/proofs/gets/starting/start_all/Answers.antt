@@ -51,4 +51,5 @@ loop-part-preserved-in-Ok g c =
       seats = crew_each (λ seat. IsFresh c.args.plan.now seat) c.loop-part.crew.seats.items _ c.in-Ok.seat pushed c.loop-part.invariant.seats c.in-Ok.ensures.seat;
       seats_room = c.push_reserved.ensures.capacity ∙ c.loop-part.invariant.seats_room;
       rest_room = c.loop-part.invariant.rest_room;
+      back = c.loop-part.invariant.back;
     }

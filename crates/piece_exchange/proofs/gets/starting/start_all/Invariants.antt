@@ -13,4 +13,5 @@ invariant-loop-part g l = record {
   seats : (seat : ReadSeat _) → In l.crew.seats.items seat → IsFresh l.plan seat;
   seats_room : vec_capacity l.crew.seats ≡ vec_capacity l.initial.crew.seats;
   rest_room : vec_capacity l.crew.rest ≡ vec_capacity l.initial.crew.rest;
+  back : l.crew.back ≡ l.initial.crew.back;
 }
