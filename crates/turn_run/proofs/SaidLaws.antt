@@ -1,14 +1,11 @@
 -- The answers of ranks that a fault cut off.
 use Rattle.std.proofs.Common.{◌≡◌, ℕ, zero, suc, ◌<◌, ◌≤◌, ◌≢◌, refl, sym, ◌∙◌, ap, subst, List, [], ◌∷◌, ◌++◌, length, map, set, Bool, true, false, cond, Option, Some, None, length-append, append_assoc, arith}
-use Rattle.std.proofs.lemmas.Bool.{eqb-true}
 use Rattle.std.proofs.lemmas.Bool.Decides.{nat_tests}
 use Rattle.std.proofs.lemmas.Grind.{fold-append}
 use Rattle.std.proofs.lemmas.List.{append-nil, append_cancel_left}
 use Rattle.std.proofs.lemmas.List.Elements.{filter-append}
 use Rattle.std.proofs.lemmas.Option.{same_Some}
 use Rattle.std.specs.Prelude.{slice_get, fold, filter, nat_lt, ◌==◌, IfSome}
-use Rattle.std.specs.List.{list_all}
-use Rattle.list_laws.proofs.Truth.{and_first, and_second}
 use Rattle.nc_base.specs.declared.answer.Answer.{Answer}
 use Rattle.nc_base.specs.declared.header.Header.{Header}
 use Rattle.nc_base.specs.declared.request.Call.{Call}
@@ -28,7 +25,6 @@ use Rattle.serial_spec.specs.SerialEnd.{Going, advance, after_mark, hears, solo_
 use Rattle.serial_spec.specs.Torn.{Begins, HasAnswers}
 use Rattle.collective_round.specs.Rounds.{counted}
 use Rattle.run_laws.specs.Arrivals.{Arrived, Stand, solo_to, step_to}
-use Rattle.run_laws.specs.Standing.{is_solo_of}
 use Rattle.run_laws.proofs.WayLaws.{others_filter as solos_beside}
 use Rattle.turn_run.specs.Said.{HasSaid, SaysAt, AllSay, HasReached, AreAnswers, HaveAnswers, all_between}
 use Rattle.turn_run.specs.Seated.{between, calls_of, AreFree, HasArrived}

@@ -1,9 +1,7 @@
 -- When all ranks have met, or have ended.
 use Rattle.std.proofs.Common.{◌≡◌, ℕ, zero, suc, ◌+◌, ◌<◌, refl, sym, ◌∙◌, ap, subst, List, [], ◌∷◌, ◌++◌, length, map, drop, true, Option, Some, None, arith}
-use Rattle.std.proofs.lemmas.Bool.Decides.{nat_tests}
-use Rattle.std.specs.Prelude.{slice_get, nat_le, is_some}
+use Rattle.std.specs.Prelude.{slice_get, is_some}
 use Rattle.std.proofs.lemmas.Option.{same_Some}
-use Rattle.list_laws.proofs.Truth.{and_first}
 use Rattle.nc_base.specs.declared.header.Header.{Header}
 use Rattle.nc_base.specs.declared.request.Call.{Call}
 use Rattle.nc_base.specs.declared.answer.Answer.{Answer}
@@ -14,7 +12,7 @@ use Rattle.nc_base.specs.declared.step.Offer.{Offer}
 use Rattle.nc_base.specs.declared.step.OfferKind.{OfferKind}
 use Rattle.nc_base.specs.declared.step.OfferKind.TheVariants as offer
 use Rattle.serial_spec.specs.History.{IsLegal}
-use Rattle.serial_spec.specs.Lawful.{is_lawful, is_within, most_calls, most_ranks}
+use Rattle.serial_spec.specs.Lawful.{is_lawful, most_calls}
 use Rattle.serial_spec.specs.RankMachine as machine
 use Rattle.serial_spec.specs.SerialEnd.{Going, advance}
 use Rattle.run_laws.specs.Ways.{meetings, IsOnWay}

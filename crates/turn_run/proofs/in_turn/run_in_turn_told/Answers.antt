@@ -53,33 +53,33 @@ returns-in-Err-seats_of-clause-run g c =
     (stood_first c.args.script.now c.args.header.now e end.result.order (g.D.Disk.held c.args.disk.now) (g.D.Disk.held c.args.disk.now) c.args.records.now c.args.records.now c.requires.lawful
     memory (end.ensures.order ∙ c.new-order.ensures) refl refl c.requires.records))
 
-pub make_calls-requires-clause-seats : goal.make_calls-requires-clause-seats
-make_calls-requires-clause-seats g c κs within =
+pub make_calls-done-requires-clause-seats : goal.make_calls-done-requires-clause-seats
+make_calls-done-requires-clause-seats g c κs within =
     subst (λ (ms : List Mark). AreSeats c.args.script.now c.args.header.now (g.D.Disk.len c.args.disk.now) ms c.deref_mut.result.now) (sym c.new-order.ensures)
     (first_seats c.args.script.now c.args.header.now (g.D.Disk.len c.args.disk.now) c.args.records.now c.deref_mut.result.now c.requires.lawful c.requires.sound
     c.requires.records c.requires.long (c.deref_mut.ensures.value ∙ c.in-Ok-seats_of.ensures))
 
-pub make_calls-requires-clause-free : goal.make_calls-requires-clause-free
-make_calls-requires-clause-free g c κs within =
+pub make_calls-done-requires-clause-free : goal.make_calls-done-requires-clause-free
+make_calls-done-requires-clause-free g c κs within =
     first_free c.args.header.now c.args.script.now.ranks c.args.records.now c.deref_mut.result.now (c.deref_mut.ensures.value ∙ c.in-Ok-seats_of.ensures)
 
-pub make_calls-requires-clause-records : goal.make_calls-requires-clause-records
-make_calls-requires-clause-records g c κs within =
+pub make_calls-done-requires-clause-records : goal.make_calls-done-requires-clause-records
+make_calls-done-requires-clause-records g c κs within =
     first_count c.args.header.now (g.D.Disk.len c.args.disk.now) c.args.records.now c.requires.sound c.requires.records c.requires.long
 
-pub returns-in-Ok-make_calls-clause-run : goal.returns-in-Ok-make_calls-clause-run
-returns-in-Ok-make_calls-clause-run g c =
+pub returns-in-Ok-done-clause-run : goal.returns-in-Ok-done-clause-run
+returns-in-Ok-done-clause-run g c =
     let script = c.args.script.now in
     let header = c.args.header.now in
     let held = g.D.Disk.held c.args.disk.now in
     let done = g.D.Disk.calls c.args.disk.now in
     let count = c.args.records.now in
     let seats = c.deref_mut.result.now in
-    let order = c.make_calls.new.progress.order in
+    let order = c.make_calls-done.new.progress.order in
     let first = c.deref_mut.ensures.value ∙ c.in-Ok-seats_of.ensures in
-    let now = with_items_is c.in-Ok-seats_of.seats c.make_calls.new.seats (search rules) in
+    let now = with_items_is c.in-Ok-seats_of.seats c.make_calls-done.new.seats (search rules) in
     let e = c.ended.ensures in
-    let m = c.in-Ok-make_calls.ensures in
+    let m = c.in-Ok-done.ensures in
     let serial : (file : List ℕ) → ended_from (setting_of script header) (counted file count, arrived_all header script.calls seats) order ≡ serial_from script header file c.ended.result.order = λ file.
     serial_from_first script header file count seats order c.requires.lawful c.requires.records first ∙ ap (λ (ms : List Mark). serial_from script header file ms) (sym e.order) in
     record {
@@ -97,43 +97,43 @@ returns-in-Ok-make_calls-clause-run g c =
       cut = λ e is.
           let none = c.ended.ensures.none e is in
           let memory = ended_memory e c.ended.result.fault is c.ended.ensures.memory in
-          cut_run script header e c.ended.result.order (g.D.Disk.held c.args.disk.now) (g.D.Disk.held c.make_calls.new.disk) c.make_calls.new.progress.records c.ended.result.answers
+          cut_run script header e c.ended.result.order (g.D.Disk.held c.args.disk.now) (g.D.Disk.held c.make_calls-done.new.disk) c.make_calls-done.new.progress.records c.ended.result.answers
           (no_rows script e c.ended.result.answers memory none)
           (λ file there. no_answers script header e c.ended.result.order file c.ended.result.answers none)
-          (ends_stood script header e c.args.records.now c.deref_mut.result.now c.ended.result.order (g.D.Disk.held c.args.disk.now) (g.D.Disk.held c.make_calls.new.disk) c.make_calls.new.progress.records
-          c.requires.lawful c.requires.records first (subst (λ (ms : List Mark). HasBegun script ms) (sym c.ended.ensures.order) c.make_calls.ensures.begun)
-          (ends_as script (setting_of script header) e e (g.D.Disk.held c.args.disk.now) c.args.records.now (arrived_all header script.calls c.deref_mut.result.now) c.make_calls.new.progress.order c.ended.result.order
-          (g.D.Disk.held c.make_calls.new.disk) c.make_calls.new.progress.records (inl refl) c.ended.ensures.order (c.in-Ok-make_calls.ensures.raised e)));
+          (ends_stood script header e c.args.records.now c.deref_mut.result.now c.ended.result.order (g.D.Disk.held c.args.disk.now) (g.D.Disk.held c.make_calls-done.new.disk) c.make_calls-done.new.progress.records
+          c.requires.lawful c.requires.records first (subst (λ (ms : List Mark). HasBegun script ms) (sym c.ended.ensures.order) c.make_calls-done.ensures.begun)
+          (ends_as script (setting_of script header) e e (g.D.Disk.held c.args.disk.now) c.args.records.now (arrived_all header script.calls c.deref_mut.result.now) c.make_calls-done.new.progress.order c.ended.result.order
+          (g.D.Disk.held c.make_calls-done.new.disk) c.make_calls-done.new.progress.records (inl refl) c.ended.ensures.order (c.in-Ok-done.ensures.raised e)));
     }
 
 pub returns-clause-run : goal.returns-clause-run
 returns-clause-run g c =
     let script = c.args.script.now in
     let before = c.args.disk.now in
-    let after = c.make_calls.new.disk in
-    let cause = c.in-Err-make_calls.ensures.cause in
-    fault_run script c.args.header.now (g.D.Disk.held before) (g.D.Disk.calls before) (g.D.Disk.faults before) (g.D.Disk.held after) (g.D.Disk.calls after) (g.D.Disk.faults after) c.make_calls.new.progress.records
-    c.cut_off.result c.cut_off.ensures.some (subst (λ (ms : List Mark). HasBegun script ms) (sym c.cut_off.ensures.order) c.make_calls.ensures.begun)
+    let after = c.make_calls-done.new.disk in
+    let cause = c.in-Err-done.ensures.cause in
+    fault_run script c.args.header.now (g.D.Disk.held before) (g.D.Disk.calls before) (g.D.Disk.faults before) (g.D.Disk.held after) (g.D.Disk.calls after) (g.D.Disk.faults after) c.make_calls-done.new.progress.records
+    c.cut_off.result c.cut_off.ensures.some (subst (λ (ms : List Mark). HasBegun script ms) (sym c.cut_off.ensures.order) c.make_calls-done.ensures.begun)
     (λ disk. cause.failed (ap (λ (x : StepErr). Err x) (c.cut_off.ensures.disk disk).0)) cause.later
     (λ e is.
     let header = c.args.header.now in
     let first = c.deref_mut.ensures.value ∙ c.in-Ok-seats_of.ensures in
-    let cause = c.in-Err-make_calls.cause in
+    let cause = c.in-Err-done.cause in
     let order = c.cut_off.result.order in
     let answers = c.cut_off.result.answers in
-    let last = c.make_calls.new.seats in
+    let last = c.make_calls-done.new.seats in
     let table = ap (λ (ss : List Seat). map (λ (seat : Seat). seat.answers) ss) (with_items_is c.in-Ok-seats_of.seats last (search rules)) in
     let are = rows_as answers _ _ table c.cut_off.ensures.answers in
     let which = c.cut_off.ensures.fault e is in
-    cut_run script header e order (g.D.Disk.held c.args.disk.now) (g.D.Disk.held c.make_calls.new.disk) c.make_calls.new.progress.records answers
-    (cut_rows script e last answers (first_long script (ranks_lawful script c.requires.lawful).one_each header c.args.records.now c.deref_mut.result.now last first c.make_calls.auto.seats) (λ d. (c.cut_off.ensures.disk (is ∙ ap (λ (x : StepErr). Some x) d)).1 ∙ table) are)
+    cut_run script header e order (g.D.Disk.held c.args.disk.now) (g.D.Disk.held c.make_calls-done.new.disk) c.make_calls-done.new.progress.records answers
+    (cut_rows script e last answers (first_long script (ranks_lawful script c.requires.lawful).one_each header c.args.records.now c.deref_mut.result.now last first c.make_calls-done.auto.seats) (λ d. (c.cut_off.ensures.disk (is ∙ ap (λ (x : StepErr). Some x) d)).1 ∙ table) are)
     (λ file there. cut_answers script header e cause c.args.records.now c.deref_mut.result.now last c.new-order.result order file answers c.requires.lawful c.requires.records first c.new-order.ensures which
-    (answers_as (setting_of script header) cause c.new-order.result c.make_calls.new.progress.order order (g.D.Disk.held c.args.disk.now) (Some file) c.args.records.now (all_between script.calls c.deref_mut.result.now) last
-    there c.cut_off.ensures.order (c.in-Err-make_calls.ensures.answered cause refl)) are)
-    (ends_stood script header e c.args.records.now c.deref_mut.result.now order (g.D.Disk.held c.args.disk.now) (g.D.Disk.held c.make_calls.new.disk) c.make_calls.new.progress.records
-    c.requires.lawful c.requires.records first (subst (λ (ms : List Mark). HasBegun script ms) (sym c.cut_off.ensures.order) c.make_calls.ensures.begun)
-    (ends_as script (setting_of script header) cause e (g.D.Disk.held c.args.disk.now) c.args.records.now (arrived_all header script.calls c.deref_mut.result.now) c.make_calls.new.progress.order
-    order (g.D.Disk.held c.make_calls.new.disk) c.make_calls.new.progress.records which c.cut_off.ensures.order (c.in-Err-make_calls.ensures.cut cause refl))))
+    (answers_as (setting_of script header) cause c.new-order.result c.make_calls-done.new.progress.order order (g.D.Disk.held c.args.disk.now) (Some file) c.args.records.now (all_between script.calls c.deref_mut.result.now) last
+    there c.cut_off.ensures.order (c.in-Err-done.ensures.answered cause refl)) are)
+    (ends_stood script header e c.args.records.now c.deref_mut.result.now order (g.D.Disk.held c.args.disk.now) (g.D.Disk.held c.make_calls-done.new.disk) c.make_calls-done.new.progress.records
+    c.requires.lawful c.requires.records first (subst (λ (ms : List Mark). HasBegun script ms) (sym c.cut_off.ensures.order) c.make_calls-done.ensures.begun)
+    (ends_as script (setting_of script header) cause e (g.D.Disk.held c.args.disk.now) c.args.records.now (arrived_all header script.calls c.deref_mut.result.now) c.make_calls-done.new.progress.order
+    order (g.D.Disk.held c.make_calls-done.new.disk) c.make_calls-done.new.progress.records which c.cut_off.ensures.order (c.in-Err-done.ensures.cut cause refl))))
 
 pub returns-in-Err-clause-told : goal.returns-in-Err-clause-told
 returns-in-Err-clause-told g c =
@@ -144,14 +144,14 @@ returns-in-Err-seats_of-clause-told g c =
     let end = c.stopped-in-Err-seats_of in
     told_nothing c.args.script.now c.args.header.now (g.D.Disk.held c.args.disk.now) (g.T.Told.heard c.args.told.now) end.result.order (end.ensures.order ∙ c.new-order.ensures)
 
-pub returns-in-Ok-make_calls-clause-told : goal.returns-in-Ok-make_calls-clause-told
-returns-in-Ok-make_calls-clause-told g c =
-    told_whole c.args.script.now c.args.header.now (g.D.Disk.held c.args.disk.now) c.args.records.now c.deref_mut.result.now c.new-order.result c.make_calls.new.progress.order c.ended.result.order
-    (g.T.Told.heard c.args.told.now) (g.T.Told.heard c.make_calls.new.told) c.requires.lawful c.requires.records (c.deref_mut.ensures.value ∙ c.in-Ok-seats_of.ensures) c.new-order.ensures
-    c.ended.ensures.order c.make_calls.ensures.told
+pub returns-in-Ok-done-clause-told : goal.returns-in-Ok-done-clause-told
+returns-in-Ok-done-clause-told g c =
+    told_whole c.args.script.now c.args.header.now (g.D.Disk.held c.args.disk.now) c.args.records.now c.deref_mut.result.now c.new-order.result c.make_calls-done.new.progress.order c.ended.result.order
+    (g.T.Told.heard c.args.told.now) (g.T.Told.heard c.make_calls-done.new.told) c.requires.lawful c.requires.records (c.deref_mut.ensures.value ∙ c.in-Ok-seats_of.ensures) c.new-order.ensures
+    c.ended.ensures.order c.make_calls-done.ensures.told
 
 pub returns-clause-told : goal.returns-clause-told
 returns-clause-told g c =
-    told_whole c.args.script.now c.args.header.now (g.D.Disk.held c.args.disk.now) c.args.records.now c.deref_mut.result.now c.new-order.result c.make_calls.new.progress.order c.cut_off.result.order
-    (g.T.Told.heard c.args.told.now) (g.T.Told.heard c.make_calls.new.told) c.requires.lawful c.requires.records (c.deref_mut.ensures.value ∙ c.in-Ok-seats_of.ensures) c.new-order.ensures
-    c.cut_off.ensures.order c.make_calls.ensures.told
+    told_whole c.args.script.now c.args.header.now (g.D.Disk.held c.args.disk.now) c.args.records.now c.deref_mut.result.now c.new-order.result c.make_calls-done.new.progress.order c.cut_off.result.order
+    (g.T.Told.heard c.args.told.now) (g.T.Told.heard c.make_calls-done.new.told) c.requires.lawful c.requires.records (c.deref_mut.ensures.value ∙ c.in-Ok-seats_of.ensures) c.new-order.ensures
+    c.cut_off.ensures.order c.make_calls-done.ensures.told
