@@ -2,6 +2,7 @@
 --     of_fault, of_stranger    the fault, and the number of the strange arrival
 --     IsHaltAt ..              what tells that it stopped there
 --     HasHalted ..             along the first arrivals nothing was strange, and with the later ones each offer has its item
+--     HasHaltedBy .. out ..   the same by what the owner's steps change
 use Rattle.std.specs.Prelude.{◌≡◌, ℕ, ◌≤◌, List, [], ◌∷◌, ◌++◌, Bool, true, Option, Some, None}
 use Rattle.nc_base.specs.declared.script.Hints.{Hints}
 use Rattle.nc_base.specs.declared.step.DiskCall.{DiskCall}
@@ -11,13 +12,18 @@ use Rattle.nc_base.specs.declared.step.RankItem.{RankItem}
 use Rattle.nc_base.specs.declared.step.StepErr.{StepErr}
 use Rattle.nc_base.specs.declared.step.StepErr.TheVariants as fault
 use Rattle.nc_outside.specs.Cause.{Rose}
+use Rattle.nc_outside.specs.declared.disk.Disk.{Ghosts as DiskGhosts}
+use Rattle.nc_outside.specs.declared.told.Told.{Ghosts as ToldGhosts}
 use Rattle.ruled_line.specs.Ends.{End, Receiver}
 use Rattle.serial_spec.specs.Desk.{is_strange, stops}
 use Rattle.serial_spec.specs.FileStep.{Setting}
 use Rattle.serial_spec.specs.History.{Arrival}
+use Rattle.thread_run.specs.Lent.{setting_of}
 use Rattle.thread_run.specs.Owned.{desk_at, Grows, HasRun, Standing}
 use Rattle.thread_run.specs.Refused.{IsFaultAt}
 use Rattle.thread_run.specs.Stopping.{stops_for, AllHaveEnded, HaveEnded, IsMore}
+use Rattle.thread_run.specs.declared.lent.Dataset.{Dataset}
+use Rattle.thread_run.specs.declared.lent.Outlets.{Outlets}
 use Rattle.thread_run.specs.declared.serving.Halt.{Halt}
 use Rattle.thread_run.specs.declared.serving.Halt.TheVariants as halt
 
@@ -66,6 +72,11 @@ pub record HasHalted (hints : Hints) (s : Setting) (old now : Receiver RankItem)
   pub stopped : Grows middle.lines (stops (desk_at middle []) later) lines
   pub halted : IsHaltAt s middle later n held made halt
   pub seen : HasSeenAll old.senders flags halt
+
+-- the same by what an owner's steps change, and the order of the steps
+abbrev pub HasHaltedBy : {D T : Type 0} → DiskGhosts D → ToldGhosts T → Dataset → Receiver RankItem → Receiver RankItem → List Bool → Standing → Outlets D T → List Mark → Halt → Type 0
+HasHaltedBy disk told dataset old now flags before out marks halt =
+    HasHalted dataset.hints.now (setting_of dataset) old now flags before out.records.now (disk.held out.disk.now) (disk.calls out.disk.now) marks (told.heard out.told.now) out.back.now halt
 
 -- these were taken, none of them strange
 pub record HasServed (hints : Hints) (s : Setting) (old now : Receiver RankItem) (flags : List Bool) (before after : Standing) : Type 0 where
