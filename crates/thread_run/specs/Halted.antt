@@ -3,6 +3,8 @@
 --     IsHaltAt ..              what tells that it stopped there
 --     HasHalted ..             along the first arrivals nothing was strange, and with the later ones each offer has its item
 --     HasHaltedBy .. out ..   the same by what the owner's steps change
+--     Outcome ..               the same of all that was taken
+--     HasEndedBy .. out ..     that by what the owner's steps change
 use Rattle.std.specs.Prelude.{◌≡◌, ℕ, ◌≤◌, List, [], ◌∷◌, ◌++◌, Bool, true, Option, Some, None}
 use Rattle.nc_base.specs.declared.script.Hints.{Hints}
 use Rattle.nc_base.specs.declared.step.DiskCall.{DiskCall}
@@ -98,6 +100,30 @@ pub record HasFinished (old now : Receiver RankItem) (before after : List (End O
   pub noted : (arrivals : List Arrival) → HaveEnded flags arrivals → HaveEnded left (arrivals ++ more)
   pub all : AllHaveEnded old.senders left
   pub last : IsNoMore more halt
+
+-- along the first of all that was taken nothing was strange, and with the last of it each offer has its item
+pub record Outcome (hints : Hints) (s : Setting) (old now : Receiver RankItem) (left : List Bool) (before : Standing) (n : ℕ) (held : Option (List ℕ)) (made : Option (List DiskCall)) (marks : List Mark)
+    (heard : Option (List (Mark × ℕ))) (lines : List (End OwnerItem)) (halt : Halt) : Type 0 where
+  pub first : List Arrival
+  pub last : List Arrival
+  pub middle : Standing
+  pub taken : IsMore old (first ++ last) now
+  pub ended : HaveEnded left (first ++ last)
+  pub all : AllHaveEnded old.senders left
+  pub run : HasRun hints s first before middle
+  pub order : marks ≡ middle.order
+  pub heard_all : heard ≡ middle.heard
+  pub stopped : Grows middle.lines (stops (desk_at middle []) last) lines
+  pub later : List Arrival
+  pub more : List Arrival
+  pub parts : last ≡ later ++ more
+  pub halted : IsHaltAt s middle later n held made halt
+  pub none : IsNoMore more halt
+
+-- the same by what an owner's steps change, and the order of the steps
+abbrev pub HasEndedBy : {D T : Type 0} → DiskGhosts D → ToldGhosts T → Dataset → Receiver RankItem → Receiver RankItem → Standing → Outlets D T → List Mark → Halt → Type 0
+HasEndedBy disk told dataset old now before out marks halt =
+    (left : List Bool) × Outcome dataset.hints.now (setting_of dataset) old now left before out.records.now (disk.held out.disk.now) (disk.calls out.disk.now) marks (told.heard out.told.now) out.back.now halt
 
 pub record HasHaltCause (before now : ℕ) (halt : Halt) : Type 0 where
   pub later : before ≤ now

@@ -11,7 +11,7 @@ ghost use Rattle.serial_spec.specs.Lawful.{are_lawful_hints};
 ghost use Rattle.serial_spec.specs.Layout.{end_of};
 ghost use Rattle.collective_round.specs.Rounds.{counted, setting};
 ghost use Rattle.turn_run.specs.Counts.{IsCount};
-ghost use Rattle.thread_run.specs.Halted.{of_fault, of_stranger, HasFinished, HasHaltedBy, HasHaltCause, HasSeenAll};
+ghost use Rattle.thread_run.specs.Halted.{of_fault, of_stranger, HasEndedBy, HasFinished, HasHaltedBy, HasHaltCause, HasSeenAll};
 ghost use Rattle.thread_run.specs.Lent.{AreSame, IsReadable};
 ghost use Rattle.thread_run.specs.Owned.{desk_calls, first_standing, standing, AreSingle, IsSteady};
 ghost use Rattle.thread_run.specs.Refused.{HasCutService};
@@ -106,14 +106,37 @@ pub fn serve<R: Threads + Wait + Sync, D: Disk, G: Gate, T: Told>(
         told,
         back,
     };
-    let mut door = Door::new();
-    let (order, halt) = open_desk(&tools, &dataset, &mut out, &mut door, inbox);
-    finish(rt, halt, &mut door, inbox, out.back, gate);
+    let (order, halt) = serve_to_end(&tools, &dataset, &mut out, inbox);
     ServeEnd {
         order,
         fault: fault_of(halt),
         stranger: stranger_of(halt),
     }
+}
+
+/// Serves from a desk at which nothing arrived, and then stops what still comes.
+fn serve_to_end<R: Threads + Wait + Sync, D: Disk, G: Gate, T: Told>(
+    tools: &Tools<R, G>,
+    dataset: &Dataset,
+    out: &mut Outlets<D, T>,
+    inbox: &mut InTake<SentItem>,
+) -> (MarkList, Halt)
+    requires dataset { IsReadable dataset.now }
+    requires count { IsCount dataset.now.header.now (D.len out.old.disk.now) out.old.records.now }
+    requires from { D.from out.old.disk.now ≡ 0 }
+    requires lines { length out.old.back.now ≡ inbox.old.senders }
+    requires few { inbox.old.senders ≤ 64 }
+    ensures same { AreSame out.old out.new }
+    ensures outcome { HasEndedBy D.Disk T.Told dataset.now inbox.old inbox.new (first_standing D.Disk T.Told inbox.old.senders out.old) out.new result.0 result.1 }
+    ensures count { IsCount dataset.now.header.now (D.len out.new.disk.now) out.new.records.now }
+    ensures from { D.from out.new.disk.now ≡ 0 }
+    ensures longer { D.len out.old.disk.now ≤ D.len out.new.disk.now }
+    ensures cause { HasHaltCause (D.faults out.old.disk.now) (D.faults out.new.disk.now) result.1 }
+{
+    let mut door = Door::new();
+    let (order, halt) = open_desk(tools, dataset, out, &mut door, inbox);
+    finish(tools.rt, halt, &mut door, inbox, out.back, tools.gate);
+    (order, halt)
 }
 
 /// Takes what still comes, and stops each offer.
