@@ -1,7 +1,6 @@
 -- One thread more.
-use Rattle.std.proofs.Common.{◌≡◌, ℕ, sym, ◌∙◌, ap, subst, List, ◌++◌, ◌∷◌, [], ◌<◌, All}
+use Rattle.std.proofs.Common.{◌≡◌, ℕ, sym, ◌∙◌, ap, subst, ◌++◌, [], ◌<◌, All}
 use Rattle.std.proofs.lemmas.List.Elements.{All-push}
-use Rattle.thread_run.specs.Resident.{IsResident}
 use Rattle.thread_run.proofs.ThreadStarts.{all_middle, both_long, number_middle, of_push, resident_at, residents_push, snoc_append}
 use Rattle.thread_run.proofs.rank_threads.start_all.Goals as goal
 
