@@ -9,6 +9,7 @@ ghost use Rattle.thread_run.specs.Attending.{HasAttended, HasStood};
 ghost use Rattle.turn_run.specs.Seated.{calls_of};
 ghost use Rattle.turn_run.specs.Steps.{first_seat};
 
+use crate::lent::Tools;
 use nc_base::{Header, Memory, OwnerItem, RankEnd, RankStop, Script};
 use nc_outside::Gate;
 use rank_core::Names;
@@ -43,7 +44,8 @@ pub fn attend<R: Wait, G: Gate>(
         × HasAttended header.now (calls_of script.now out.old.number) put taken result }
 {
     let mut seat = Seat::new(alloc, header, names, header.records);
-    let end = match make_calls(&mut seat, rt, header, script, out, back, gate) {
+    let tools = Tools { rt, alloc, gate };
+    let end = match make_calls(&mut seat, &tools, header, script, out, back) {
         Ok(end) => end,
         Err(_) => RankStop::Memory,
     };
@@ -59,12 +61,11 @@ pub fn attend<R: Wait, G: Gate>(
 /// Goes through the calls of the rank, and puts each offer.
 fn make_calls<R: Wait, G: Gate>(
     seat: &mut Seat,
-    rt: &R,
+    tools: &Tools<R, G>,
     header: &Header,
     script: &Script,
     out: &mut InPut<SentItem>,
     back: &mut LineTake<OwnerItem>,
-    gate: &G,
 ) -> Result<RankStop, Memory>
     requires sound { is_sound header.now ≡ true }
     requires lawful { is_lawful script.now ≡ true }
@@ -75,6 +76,7 @@ fn make_calls<R: Wait, G: Gate>(
     ensures stood { (put : List RankItem) × (taken : List OwnerItem) × (out.new.items ≡ out.old.items ++ put) × (back.new.items ≡ back.old.items ++ taken)
         × HasStood header.now (calls_of script.now out.old.number) put taken seat.new result }
 {
+    let Tools { rt, alloc: _, gate } = *tools;
     let number = out.number();
     let calls = own_calls(script, number);
     seat.go_on(rt, gate, header, script, number, calls)?;
