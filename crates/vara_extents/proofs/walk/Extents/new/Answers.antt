@@ -1,20 +1,20 @@
 -- Nothing is given when a walk begins.
-use Rattle.std.proofs.Common.{◌≡◌, ◌*◌, ◌/◌, ℕ, refl, sym, ap, subst, ◌∙◌, arith}
+use Rattle.std.proofs.Common.{◌≡◌, ◌*◌, ◌/◌, ℕ, sym, ap, subst, ◌∙◌, arith}
 use Rattle.serial_spec.specs.ExternalForm.{size_of}
 use Rattle.serial_spec.specs.Layout.{product}
 use Rattle.serial_spec.specs.Place.{place}
 use Rattle.var_layout.proofs.Soundness.{if_there}
-use Rattle.vara_extents.specs.declared.walk.Extents.{Extents}
+use Rattle.vara_extents.specs.declared.walk.Runs.{Runs}
 use Rattle.vara_extents.specs.Joined.{extents_of}
-use Rattle.vara_extents.specs.Left.{extents_left}
+use Rattle.vara_extents.specs.Left.{extents_from}
 use Rattle.vara_extents.specs.Numbered.{index_of, AreRuns}
 use Rattle.vara_extents.proofs.PlaceLaws.{small_of}
 use Rattle.vara_extents.proofs.WalkLaws.{all_left, no_runs, whole_runs}
 use Rattle.vara_extents.proofs.walk.Extents.new.Goals as goal
 use Rattle.vara_extents.proofs.walk.Extents.new.Goals.{then-elements-eq0, else-elements-eq0}
 
-pub returns-clause-ready : goal.returns-clause-ready
-returns-clause-ready c =
+pub run-next-requires-clause-ready : goal.run-next-requires-clause-ready
+run-next-requires-clause-ready c =
     let at : ℕ → ℕ = λ k. place c.args.header.now c.variable_at-var.result.now (index_of c.args.region.now k) in
     let size = size_of c.variable_at-var.result.now.kind in
     let elements = product c.args.region.now.count in
@@ -32,19 +32,17 @@ returns-clause-ready c =
       accepted = (c.args.var, c.variable_at-var.ensures, c.requires.accepted);
       recsize = c.recsize-recsize.ensures.value;
       follow = follow;
-      runs = whole_runs at size c.if-elements-eq0.run elements follow ∙ ap (λ (n : ℕ). n / c.if-elements-eq0.run * c.if-elements-eq0.run) (sym all);
-      given = omega arith;
+      total = whole_runs at size c.if-elements-eq0.run elements follow ∙ ap (λ (n : ℕ). n / c.if-elements-eq0.run * c.if-elements-eq0.run) (sym all);
     }
 
 pub returns-clause-extents : goal.returns-clause-extents
 returns-clause-extents c =
-    let e : Extents = record {
+    let r : Runs = record {
       header = c.args.header;
       var = c.variable_at-var.result;
       region = c.args.region;
       recsize = c.recsize-recsize.result;
-      run = c.if-elements-eq0.run;
-      runs = c.element_count-elements.result / c.if-elements-eq0.run;
-      given = 0;
+      elements = c.if-elements-eq0.run;
+      count = c.element_count-elements.result / c.if-elements-eq0.run;
     } in
-    if_there _ _ (λ v. extents_left e ≡ extents_of c.args.header.now v c.args.region.now) c.variable_at-var.ensures (all_left e refl)
+    if_there _ _ (λ v. extents_from r c.run-next.result.number ≡ extents_of c.args.header.now v c.args.region.now) c.variable_at-var.ensures (all_left r c.run-next.result.number c.run-next.ensures.number)
