@@ -36,9 +36,44 @@ struct Run {
 }
 
 impl<'a> Runs<'a> {
-    ghost use Rattle.std.specs.Prelude.{◌≡◌, ◌*◌, ◌<◌, ◌≤◌, ◌+◌};
+    ghost use Rattle.std.specs.Prelude.{◌≡◌, ◌*◌, ◌<◌, ◌≤◌, ◌+◌, IfSome, slice_get, true};
     ghost use Rattle.serial_spec.specs.ExternalForm as external;
-    ghost use Rattle.vara_extents.specs.Left.{AreReady, IsRunOf};
+    ghost use Rattle.serial_spec.specs.HeaderGrammar.{is_sound};
+    ghost use Rattle.var_layout.specs.Measures.{AreMeasures};
+    ghost use Rattle.vara_extents.specs.Accepted.{IsAccepted};
+    ghost use Rattle.vara_extents.specs.Joined.{extents_of};
+    ghost use Rattle.vara_extents.specs.Left.{extents_from, AreReady, IsRunOf};
+
+    /// The runs of a region of the variable at this place of the header's list, as long as can be.
+    fn new(
+        header: &'a Header,
+        measures: &Measures,
+        var: usize,
+        region: &'a Region,
+    ) -> Runs<'a>
+        requires sound { is_sound header.now ≡ true }
+        requires measured { AreMeasures header.now measures.now }
+        requires accepted { IsAccepted header.now var region.now }
+        ensures extents { IfSome (slice_get header.now.vars var) (λ v. extents_from result 0 ≡ extents_of header.now v region.now) }
+        ensures ready { AreReady result }
+    {
+        let var = variable_at(header, var);
+        let recsize = measures.recsize(header);
+        let elements = element_count(region.count.as_slice());
+        let run = if elements == 0 {
+            1
+        } else {
+            run_of(header, var, region, recsize)
+        };
+        Runs {
+            header,
+            var,
+            region,
+            recsize,
+            elements: run,
+            count: elements / run,
+        }
+    }
 
     /// The run with this number; behind the last one, no run.
     fn run(&self, number: u64) -> Run
@@ -119,22 +154,7 @@ impl<'a> Extents<'a> {
         ensures extents { IfSome (slice_get header.now.vars var) (λ v. extents_left result ≡ extents_of header.now v region.now) }
         ensures ready { IsReady result }
     {
-        let var = variable_at(header, var);
-        let recsize = measures.recsize(header);
-        let elements = element_count(region.count.as_slice());
-        let run = if elements == 0 {
-            1
-        } else {
-            run_of(header, var, region, recsize)
-        };
-        let runs = Runs {
-            header,
-            var,
-            region,
-            recsize,
-            elements: run,
-            count: elements / run,
-        };
+        let runs = Runs::new(header, measures, var, region);
         let next = runs.run(0);
         Extents { runs, next }
     }
