@@ -66,9 +66,10 @@ first_run r k at len h l is long =
 pub placed_run : (r : Runs) (run next : Run) (len : ℕ) → AreReady r → IsRunOf r run → run.number < r.count → len ≡ r.elements * size_of r.var.now.kind → next.number ≡ run.number + 1
     → (extents_from r run.number ≡ joined_to (record { at = run.at; len = len }) (extents_from r next.number)) × (run.at + len ≤ 2 ^ 62)
 placed_run r run next len h placed l long after =
-    let at = placed.at l in
-    (first_run r run.number run.at len h l at long ∙ ap (λ (k : ℕ). joined_to (record { at = run.at; len = len }) (extents_from r k)) (sym after),
-     omega (arith, at, long, (inside r run.number h l).low))
+    let at = placed.at l in (
+      first_run r run.number run.at len h l at long ∙ ap (λ (k : ℕ). joined_to (record { at = run.at; len = len }) (extents_from r k)) (sym after),
+      omega (arith, at, long, (inside r run.number h l).low),
+    )
 
 -- nothing is left after the last run
 pub none_left : (r : Runs) (k : ℕ) → AreReady r → r.count ≤ k → extents_from r k ≡ []

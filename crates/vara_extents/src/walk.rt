@@ -45,12 +45,7 @@ impl<'a> Runs<'a> {
     ghost use Rattle.vara_extents.specs.Left.{extents_from, AreReady, IsRunOf};
 
     /// The runs of a region of the variable at this place of the header's list, as long as can be.
-    fn new(
-        header: &'a Header,
-        measures: &Measures,
-        var: usize,
-        region: &'a Region,
-    ) -> Runs<'a>
+    fn new(header: &'a Header, measures: &Measures, var: usize, region: &'a Region) -> Runs<'a>
         requires sound { is_sound header.now ≡ true }
         requires measured { AreMeasures header.now measures.now }
         requires accepted { IsAccepted header.now var region.now }
