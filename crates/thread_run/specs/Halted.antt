@@ -24,7 +24,7 @@ use Rattle.thread_run.specs.Lent.{setting_of}
 use Rattle.thread_run.specs.Owned.{desk_at, Grows, HasRun, Standing}
 use Rattle.thread_run.specs.Refused.{IsFaultAt}
 use Rattle.thread_run.specs.Stopping.{stops_for, AllHaveEnded, HaveEnded, IsMore}
-use Rattle.thread_run.specs.declared.lent.Dataset.{Dataset}
+use Rattle.collective_round.specs.declared.lent.Dataset.{Dataset}
 use Rattle.thread_run.specs.declared.lent.Outlets.{Outlets}
 use Rattle.thread_run.specs.declared.serving.Halt.{Halt}
 use Rattle.thread_run.specs.declared.serving.Halt.TheVariants as halt

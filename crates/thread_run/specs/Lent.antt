@@ -16,7 +16,7 @@ use Rattle.collective_round.specs.Rounds.{setting}
 use Rattle.rank_core.specs.Indexed.{IsIndexOf}
 use Rattle.turn_run.specs.Run.{IsRun}
 use Rattle.var_layout.specs.Measures.{AreMeasures}
-use Rattle.thread_run.specs.declared.lent.Dataset.{Dataset}
+use Rattle.collective_round.specs.declared.lent.Dataset.{Dataset}
 use Rattle.thread_run.specs.declared.lent.Lent.{Lent}
 use Rattle.thread_run.specs.declared.lent.Outlets.{Outlets}
 

@@ -9,9 +9,9 @@ ghost use Rattle.thread_run.specs.Attending.{HasAttended, HasStood};
 ghost use Rattle.turn_run.specs.Seated.{calls_of};
 ghost use Rattle.turn_run.specs.Steps.{first_seat};
 
-use crate::lent::Tools;
 use nc_base::{Header, Memory, OwnerItem, RankEnd, RankStop, Script};
 use nc_outside::Gate;
+use piece_exchange::Tools;
 use rank_core::Names;
 use rank_items::SentItem;
 use ruled_line::{InPut, LineTake};
@@ -76,13 +76,12 @@ fn make_calls<R: Wait, G: Gate>(
     ensures stood { (put : List RankItem) × (taken : List OwnerItem) × (out.new.items ≡ out.old.items ++ put) × (back.new.items ≡ back.old.items ++ taken)
         × HasStood header.now (calls_of script.now out.old.number) put taken seat.new result }
 {
-    let Tools { rt, alloc: _, gate } = *tools;
     let number = out.number();
     let calls = own_calls(script, number);
-    seat.go_on(rt, gate, header, script, number, calls)?;
+    seat.go_on(tools, header, script, number, calls)?;
     'offers: while let Some(offer) = seat.held.take() {
-        out.put(rt, SentItem::offer(seat.answers.len() as u32, offer));
-        let reply = match back.take(rt) {
+        out.put(tools.rt, SentItem::offer(seat.answers.len() as u32, offer));
+        let reply = match back.take(tools.rt) {
             OwnerItem::Reply(reply) => reply,
             OwnerItem::Stop => return Ok(RankStop::Stopped),
         };
@@ -90,7 +89,7 @@ fn make_calls<R: Wait, G: Gate>(
             return Ok(RankStop::Misfit);
         }
         seat.hear(reply)?;
-        seat.go_on(rt, gate, header, script, number, calls)?;
+        seat.go_on(tools, header, script, number, calls)?;
     }
     Ok(RankStop::Done)
 }

@@ -1,25 +1,8 @@
 // What a run lends to its steps, and what they change.
-use nc_base::{Header, Hints, OwnerItem, Script};
+use nc_base::{Header, OwnerItem, Script};
 use rank_core::Names;
 use ruled_line::LinePutList;
 use std::alloc::Global;
-use var_layout::Measures;
-
-/// What a step is done with: the runtime, the allocator and the gate of the threads.
-#[derive(Drop)]
-pub(crate) struct Tools<'a, R, G> {
-    pub rt: &'a R,
-    pub alloc: Global,
-    pub gate: &'a G,
-}
-
-/// A dataset as its steps are lent it: the header, what the header implies, and the hints.
-#[derive(Drop)]
-pub(crate) struct Dataset<'a> {
-    pub header: &'a Header,
-    pub measures: &'a Measures,
-    pub hints: &'a Hints,
-}
 
 /// What the steps of an owner change beside what it holds: the file and its record count, who is told of each step, and the lines back
 /// to the ranks.

@@ -16,13 +16,14 @@ ghost use Rattle.thread_run.specs.Resident.{AreOf, AreResidents, IsToldToGo};
 ghost use Rattle.thread_run.specs.Threads.{HasRooms};
 ghost use Rattle.thread_run.specs.declared.resident.Resident.{Resident};
 
-use crate::lent::{Lent, Tools};
+use crate::lent::Lent;
 use crate::rank_ends::end_run;
 use crate::resident::{Resident, Word, start};
 use crate::returned::join_all;
 use crate::serving::serve;
 use nc_base::{Header, Memory, OwnerItem, RankEnd, RunEnd, Script};
 use nc_outside::{Deaf, Disk, Gate, Told};
+use piece_exchange::Tools;
 use rank_core::Names;
 use rank_items::SentItem;
 use ruled_line::{InPut, InTake, LinePut, LinePutList, inbox};

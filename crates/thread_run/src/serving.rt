@@ -20,10 +20,12 @@ ghost use Rattle.thread_run.specs.Stopping.{HaveEnded};
 ghost use Rattle.var_layout.specs.Measures.{AreMeasures};
 
 use crate::desk::Desk;
-use crate::lent::{Dataset, Outlets, Tools};
+use crate::lent::Outlets;
 use crate::stopping::{Door, stop_arrival, stop_held, stop_rest};
+use collective_round::Dataset;
 use nc_base::{Header, Hints, MarkList, OwnerItem, ServeEnd, StepErr};
 use nc_outside::{Disk, Gate, Told};
+use piece_exchange::Tools;
 use rank_items::SentItem;
 use ruled_line::{InTake, LinePutList};
 use std::alloc::Global;

@@ -13,12 +13,14 @@ ghost use Rattle.turn_run.specs.Steps.{batches_of, known_of};
 ghost use Rattle.thread_run.specs.Stopping.{held_stops, stop_each, stops_for};
 
 use crate::desk::{Desk, all_hold, take_all};
-use crate::lent::{Dataset, Outlets, Tools};
+use crate::lent::Outlets;
 use crate::stopping::{stop_each, stop_held};
+use collective_round::Dataset;
 use nc_base::{
     GotTable, Job, Mark, Memory, Offer, OfferKind, OwnerItem, Pair, RankItem, Reply, StepErr,
 };
 use nc_outside::{Disk, Gate, Told};
+use piece_exchange::Tools;
 use ruled_line::LinePutList;
 use std::alloc::Global;
 use std::sync::Wait;
@@ -163,20 +165,7 @@ impl Desk {
         ensures longer { D.len out.old.disk.now ≤ D.len out.new.disk.now }
         ensures cause { HasStepCause (D.faults out.old.disk.now) (D.faults out.new.disk.now) result }
     {
-        let Dataset {
-            header,
-            measures,
-            hints,
-        } = *dataset;
-        let reply = solo_reply(
-            tools.alloc,
-            out.disk,
-            header,
-            measures,
-            hints,
-            solo.number,
-            solo.offer,
-        )?;
+        let reply = solo_reply(tools.alloc, out.disk, dataset, solo.number, solo.offer)?;
         let mark = Mark::Solo(solo.number, solo.call);
         let records = *out.records;
         note_step(
@@ -264,32 +253,22 @@ impl Desk {
         ensures longer { D.len out.old.disk.now ≤ D.len out.new.disk.now }
         ensures cause { HasStepCause (D.faults out.old.disk.now) (D.faults out.new.disk.now) result }
     {
-        let Tools { rt, alloc, gate } = *tools;
-        let Dataset {
-            header,
-            measures,
-            hints,
-        } = *dataset;
-        let (job, known) = self.take_job(alloc)?;
-        let (pair, table) = meet_on_file(
-            rt,
-            alloc,
-            out.disk,
-            header,
-            measures,
-            out.records,
-            hints,
-            gate,
-            &job,
-            known,
-        )?;
+        let (job, known) = self.take_job(tools.alloc)?;
+        let (pair, table) = meet_on_file(tools, out.disk, dataset, out.records, &job, known)?;
         let met = next_number(self.met)?;
         let mark = Mark::Meet(self.met);
         let records = *out.records;
-        note_step(rt, alloc, &mut self.order, out.told, mark, records)?;
+        note_step(
+            tools.rt,
+            tools.alloc,
+            &mut self.order,
+            out.told,
+            mark,
+            records,
+        )?;
         self.met = met;
         self.reached = self.reached.max(records);
-        reply_all(rt, out.back, pair, records, table);
+        reply_all(tools.rt, out.back, pair, records, table);
         Ok(())
     }
 }
