@@ -1,14 +1,11 @@
 -- Items that are alike, one list after another; and lines on which items are put one after another.
-use Rattle.std.proofs.Common.{◌≡◌, ℕ, zero, suc, ◌+◌, ◌<◌, refl, sym, ◌∙◌, ap, subst, List, [], ◌∷◌, ◌++◌, length, map, drop, replicate, Option, Some, None, append_assoc, arith}
+use Rattle.std.proofs.Common.{◌≡◌, ℕ, zero, suc, ◌<◌, refl, sym, ◌∙◌, ap, subst, List, [], ◌∷◌, ◌++◌, length, Some, append_assoc, arith}
 use Rattle.std.proofs.lemmas.List.{append-nil}
 use Rattle.std.specs.Prelude.{slice_get}
 use Rattle.nc_base.specs.declared.step.OwnerItem.{OwnerItem}
-use Rattle.nc_base.specs.declared.step.OwnerItem.TheVariants.{Reply, Stop}
-use Rattle.nc_base.specs.declared.step.Reply as reply
 use Rattle.ruled_line.specs.Ends.{End}
-use Rattle.join_laws.specs.Alike.{AreAlike, TellAlike}
+use Rattle.join_laws.specs.Alike.{AreAlike}
 use Rattle.thread_run.specs.Owned.{Grows}
-use Rattle.turn_run.proofs.ListLaws.{get_there}
 
 -- ---- alike
 

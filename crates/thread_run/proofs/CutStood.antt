@@ -1,10 +1,9 @@
 -- Where a run on threads stood that a fault cut off, and which answers its ranks have.
-use Rattle.std.proofs.Common.{◌≡◌, ℕ, zero, suc, ◌+◌, ◌<◌, ◌≤◌, refl, sym, ◌∙◌, ap, subst, inl, inr, ◌⊎◌, List, [], ◌∷◌, ◌++◌, length, map, set, replicate, Bool, true, false, cond, Option, Some, None, append_assoc, arith}
+use Rattle.std.proofs.Common.{◌≡◌, ℕ, ◌+◌, ◌≤◌, refl, sym, ◌∙◌, ap, subst, inl, inr, ◌⊎◌, List, [], ◌∷◌, ◌++◌, length, map, set, Bool, true, false, Option, Some, None, arith}
 use Rattle.std.proofs.lemmas.Bool.Decides.{eqb_tells}
 use Rattle.std.proofs.lemmas.List.{append-nil}
 use borrow.Author.Tests.{ltb-true, ltb-false}
-use Rattle.std.proofs.lemmas.Option.{same_Some}
-use Rattle.std.specs.Prelude.{slice_get, flat_map, fold, nat_lt, ◌==◌}
+use Rattle.std.specs.Prelude.{slice_get, flat_map, nat_lt, ◌==◌}
 use Rattle.std.specs.List.{enumerate_from, list_all, list_any}
 use Rattle.std.specs.Int.{byte_len}
 use Rattle.list_laws.proofs.Places.{entry_below}
@@ -23,16 +22,15 @@ use Rattle.nc_base.specs.declared.step.RankItem.{RankItem}
 use Rattle.nc_base.specs.declared.step.RankItem.TheVariants as item
 use Rattle.nc_base.specs.declared.step.Reply as reply
 use Rattle.nc_base.specs.declared.step.StepErr.{StepErr}
-use Rattle.nc_base.specs.declared.step.StepErr.TheVariants as fault
 use Rattle.overlay_laws.specs.Entries.{In}
 use Rattle.overlay_laws.proofs.SaidLaws.{same_file}
 use Rattle.serial_spec.specs.Desk.{Desk, Event, Seat, at_offer, event, holds, is_strange, meets_if, offers_at, offers_held, offers_met, own_items, step_offers}
 use Rattle.serial_spec.specs.File.{at}
-use Rattle.serial_spec.specs.FileStep.{Setting, Counted, after_puts, meeting, puts_of, raised, solo, told}
+use Rattle.serial_spec.specs.FileStep.{Setting, Counted, after_puts, puts_of, told}
 use Rattle.serial_spec.specs.HeaderGrammar.{count_width}
 use Rattle.serial_spec.specs.History.{Arrival, IsLegal}
 use Rattle.serial_spec.specs.RankSide.{fits_offer, offered, offered_by, waiting}
-use Rattle.serial_spec.specs.SerialEnd.{Going, advance, after_mark, closed, first_going, hears, offers_of, rank_offer, solo_of}
+use Rattle.serial_spec.specs.SerialEnd.{Going, advance, after_mark, closed, first_going, hears, offers_of, solo_of}
 use Rattle.serial_spec.specs.SharedByte.{Puts, covered}
 use Rattle.serial_spec.specs.Torn.{IsLeft, IsTorn, OwnerStoodAt, StoodAt, bytes_of_mark}
 use Rattle.serial_spec.specs.Torn.OwnerStoodAt.{at_arrival, between_arrivals}
@@ -44,12 +42,11 @@ use Rattle.join_laws.specs.Begun.{HasOffered, IsBeginning}
 use Rattle.join_laws.proofs.ListLaws.{get_beside}
 use Rattle.join_laws.proofs.StreamLaws.{waiting_misfit, waiting_reply}
 use Rattle.join_laws.proofs.StepLaws.{meeting_is, same_offers, solo_of_is}
-use Rattle.turn_run.proofs.ListLaws.{get_set}
 use Rattle.thread_run.specs.Owned.{AreSingle, IsSingleOffer}
-use Rattle.thread_run.proofs.CutJoin.{Sits, Stands, fits_now, held_keeps, own_offer}
+use Rattle.thread_run.proofs.CutJoin.{Stands, fits_now, held_keeps, own_offer}
 use Rattle.join_laws.proofs.StrangeLaws.{event_is, strange_alone}
 use Rattle.join_laws.proofs.EventLaws.{own_here, own_other}
-use Rattle.thread_run.proofs.DeskRuns.{seat_ended, seat_held}
+use Rattle.thread_run.proofs.DeskRuns.{seat_held}
 use Rattle.thread_run.proofs.ThreadCalls.{single_go}
 
 -- ---- the step that an arrival brings

@@ -14,6 +14,8 @@ use Rattle.nc_base.specs.declared.step.OwnerItem.TheVariants.{Stop}
 use Rattle.nc_base.specs.declared.step.RankItem.{RankItem}
 use Rattle.nc_base.specs.declared.step.StepErr.{StepErr}
 use Rattle.nc_outside.specs.Told.{with_end}
+use Rattle.nc_outside.specs.declared.disk.Disk.{Ghosts as DiskGhosts}
+use Rattle.nc_outside.specs.declared.told.Told.{Ghosts as ToldGhosts}
 use Rattle.overlay_laws.specs.Entries.{In}
 use Rattle.ruled_line.specs.Ends.{End, Receiver}
 use Rattle.serial_spec.specs.Desk.{Desk, Seat, free_seat, given_along, is_strange, offers_in, owed, own_items, served, stop_held, stops, IsGivenInPart}
@@ -23,11 +25,12 @@ use Rattle.serial_spec.specs.Joined.{HasEnd}
 use Rattle.serial_spec.specs.Torn.{OwnerStoodAt}
 use Rattle.collective_round.specs.Rounds.{counted}
 use Rattle.join_laws.proofs.JoinLaws.{owed_stop}
-use Rattle.thread_run.specs.Halted.{of_fault, of_stranger, HasFinished, HasHalted, HasSeenAll, IsHaltAt, IsLeft, IsNoMore}
+use Rattle.thread_run.specs.Halted.{of_fault, of_stranger, HasFinished, HasHalted, HasSeenAll, IsHaltAt, IsLeft, IsNoMore, Outcome}
 use Rattle.thread_run.specs.Owned.{desk_at, desk_calls, opening_standing, run, AreSingle, GoesSo, Grows, HasRun, HoldSingle, Standing}
 use Rattle.thread_run.specs.Refused.{HasCutService}
 use Rattle.thread_run.specs.Serving.{arrived, gained, more_on, opening, HasFailed, HasTaken, HasToldAlong, HavePut, IsCutOff, IsDone, IsDoneSo}
 use Rattle.thread_run.specs.Stopping.{stops_for, AllHaveEnded, HaveEnded, IsMore}
+use Rattle.thread_run.specs.declared.lent.Outlets.{Outlets}
 use Rattle.thread_run.specs.declared.serving.Halt.{Halt}
 use Rattle.thread_run.specs.declared.serving.Halt.TheVariants as halt
 use Rattle.thread_run.proofs.AlikeLaws.{alike_by, alike_long, lines_as, lines_twice}
@@ -61,24 +64,6 @@ arrived_is : (old now : Receiver RankItem) (more : List Arrival) → IsMore old 
 arrived_is old now more h = ap (drop (length old.items)) h.items ∙ drop-append_seam old.items more
 
 -- ---- all that was taken
-
-pub record Outcome (hints : Hints) (s : Setting) (old now : Receiver RankItem) (left : List Bool) (before : Standing) (n : ℕ) (held : Option (List ℕ)) (made : Option (List DiskCall)) (marks : List Mark)
-    (heard : Option (List (Mark × ℕ))) (lines : List (End OwnerItem)) (halt : Halt) : Type 0 where
-  pub first : List Arrival
-  pub last : List Arrival
-  pub middle : Standing
-  pub taken : IsMore old (first ++ last) now
-  pub ended : HaveEnded left (first ++ last)
-  pub all : AllHaveEnded old.senders left
-  pub run : HasRun hints s first before middle
-  pub order : marks ≡ middle.order
-  pub heard_all : heard ≡ middle.heard
-  pub stopped : Grows middle.lines (stops (desk_at middle []) last) lines
-  pub later : List Arrival
-  pub more : List Arrival
-  pub parts : last ≡ later ++ more
-  pub halted : IsHaltAt s middle later n held made halt
-  pub none : IsNoMore more halt
 
 numbers_joined : (n : ℕ) (xs ys : List Arrival) → list_all (λ (a : Arrival). nat_lt a.0 n) xs ≡ true → list_all (λ (a : Arrival). nat_lt a.0 n) ys ≡ true → list_all (λ (a : Arrival). nat_lt a.0 n) (xs ++ ys) ≡ true
 numbers_joined n [] ys h k = k
@@ -426,6 +411,17 @@ module _ (hints : Hints) (s : Setting) (old now : Receiver RankItem) (left : Lis
 
       low : (q : ℕ) → q < length before.seats → q < length before.lines
       low q l = let wide = ap (λ (ss : List Seat). length ss) seats ∙ length-replicate senders free_seat in omega arith
+
+-- the same where what was lent is given back
+pub outcome_given : {D T : Type 0} (disk : DiskGhosts D) (told : ToldGhosts T) (hints : Hints) (s : Setting) (old now : Receiver RankItem) (left : List Bool) (before : Standing) (out : Outlets D T) (marks : List Mark) (h : Halt)
+    (d : D) (n : ℕ) (t : T) (lines : List (End OwnerItem)) → d ≡ out.disk.now → n ≡ out.records.now → t ≡ out.told.now → lines ≡ out.back.now
+    → Outcome hints s old now left before out.records.now (disk.held out.disk.now) (disk.calls out.disk.now) marks (told.heard out.told.now) out.back.now h
+    → Outcome hints s old now left before n (disk.held d) (disk.calls d) marks (told.heard t) lines h
+outcome_given {D} {T} disk told hints s old now left before out marks h d n t lines same_disk same_records same_told same_back o =
+    subst (λ (x : D). Outcome hints s old now left before n (disk.held x) (disk.calls x) marks (told.heard t) lines h) (sym same_disk)
+    (subst (λ (x : ℕ). Outcome hints s old now left before x (disk.held out.disk.now) (disk.calls out.disk.now) marks (told.heard t) lines h) (sym same_records)
+    (subst (λ (x : T). Outcome hints s old now left before out.records.now (disk.held out.disk.now) (disk.calls out.disk.now) marks (told.heard x) lines h) (sym same_told)
+    (subst (λ (x : List (End OwnerItem)). Outcome hints s old now left before out.records.now (disk.held out.disk.now) (disk.calls out.disk.now) marks (told.heard out.told.now) x h) (sym same_back) o)))
 
 -- ---- from the opening
 

@@ -1,5 +1,5 @@
 -- How a run with a fault ended.
-use Rattle.std.proofs.Common.{◌≡◌, ℕ, refl, sym, ◌∙◌, ap, subst, inl, inr, ◌⊎◌, List, [], max, Option, Some, None, Result, Ok, Err}
+use Rattle.std.proofs.Common.{◌≡◌, ℕ, refl, sym, subst, inl, inr, ◌⊎◌, List, [], Option, Some, None, Result, Err}
 use Rattle.std.specs.Prelude.{OnErr}
 use Rattle.std.specs.Int.{byte_len}
 use Rattle.nc_base.specs.declared.header.Header.{Header}

@@ -18,7 +18,7 @@ use Rattle.serial_spec.specs.FileStep.{Setting}
 use Rattle.serial_spec.specs.History.{Arrival}
 use Rattle.turn_run.specs.Counts.{IsCount}
 use Rattle.thread_run.specs.Halted.{HasFinished, HasHaltCause, HasHalted, HasSeenAll, HasServed, IsNoMore}
-use Rattle.thread_run.specs.Owned.{desk_at, opening_standing, standing, Grows, HasDone, IsSteady, Standing}
+use Rattle.thread_run.specs.Owned.{desk_at, opening_standing, standing_at, Grows, HasDone, IsSteady, Standing}
 use Rattle.thread_run.specs.Stopping.{held_stops, stops_for, AllHaveEnded, HaveEnded, HasMetAll, IsMore}
 use Rattle.thread_run.specs.declared.desk.Desk.{Desk as Held}
 use Rattle.thread_run.specs.declared.serving.Halt.{Halt}
@@ -171,7 +171,7 @@ fault_cause before mid now e l k h = record { later = omega arith; failed = λ f
 -- ---- a new desk
 
 pub opened_is : (d : Held) (senders k n : ℕ) (held : Option (List ℕ)) (made : Option (List DiskCall)) (heard : Option (List (Mark × ℕ))) (lines : List (End OwnerItem)) → d.seats.items ≡ replicate k free_seat
-    → k ≡ senders → d.met ≡ 0 → d.reached ≡ n → d.order ≡ [] → standing d n held made heard lines ≡ opening_standing senders n held made heard lines
+    → k ≡ senders → d.met ≡ 0 → d.reached ≡ n → d.order ≡ [] → standing_at d n held made heard lines ≡ opening_standing senders n held made heard lines
 opened_is d senders k n held made heard lines seats count met reached order =
     λ i. record { seats = (seats ∙ ap (λ (j : ℕ). replicate j free_seat) count) i; met = met i; reached = reached i; records = n; told = held; calls = made; order = order i; heard = heard; lines = lines }
 

@@ -5,7 +5,7 @@ use Rattle.std.specs.Prelude.{slice_get, is_some}
 use Rattle.std.specs.List.{list_all, AllByRecursion}
 use Rattle.std.specs.Option.{option_to_list}
 use Rattle.std.proofs.lemmas.Option.{same_Some}
-use Rattle.list_laws.proofs.Truth.{and_first, and_second}
+use Rattle.list_laws.proofs.Truth.{and_first}
 use Rattle.nc_base.specs.declared.header.Header.{Header}
 use Rattle.nc_base.specs.declared.plan.Batch.{Batch}
 use Rattle.nc_base.specs.declared.step.MeetKind.TheVariants as kind
@@ -18,7 +18,7 @@ use Rattle.serial_spec.specs.Desk.{Seat, freed, holds, offers_held}
 use Rattle.collective_round.proofs.NeedLaws.{greatest_joined}
 use Rattle.turn_run.specs.Counts.{IsCount, IsFit, IsRise}
 use Rattle.list_laws.proofs.Optional.{some_or_none}
-use Rattle.thread_run.specs.Owned.{AreOfOneKind, HoldAll, HoldSingle, IsHeld, IsSteady, Standing, IsSingleOffer}
+use Rattle.thread_run.specs.Owned.{AreOfOneKind, HoldAll, HoldSingle, IsSteady, Standing, IsSingleOffer}
 use Rattle.turn_run.specs.Steps.{batches_of, known_of, IsJob, IsOneRise}
 use Rattle.turn_run.proofs.CountLaws.{count_longer, count_max}
 use Rattle.turn_run.proofs.MeetLists.{take_next}

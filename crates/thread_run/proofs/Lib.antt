@@ -6,6 +6,7 @@ pub mod RefusedSteps
 pub mod PutLaws
 pub mod AloneSteps
 pub mod HeldLaws
+pub mod LentLaws
 pub mod TogetherSteps
 pub mod StrangeLaws
 pub mod AlikeLaws

@@ -1,5 +1,5 @@
 -- Items that are put on lines, one line after another.
-use Rattle.std.proofs.Common.{◌≡◌, ℕ, zero, suc, ◌+◌, ◌<◌, ◌≤◌, refl, sym, ◌∙◌, ap, subst, inl, inr, ◌⊎◌, List, [], ◌∷◌, ◌++◌, length, map, Bool, true, false, Option, Some, None, arith}
+use Rattle.std.proofs.Common.{◌≡◌, ℕ, ◌+◌, ◌<◌, ◌≤◌, refl, sym, ◌∙◌, ap, inl, inr, ◌⊎◌, List, [], ◌∷◌, ◌++◌, length, map, Bool, true, false, Option, Some, None, arith}
 use Rattle.std.proofs.lemmas.Bool.{cases_eq}
 use Rattle.std.proofs.lemmas.Bool.Decides.{nat_tests}
 use Rattle.std.proofs.lemmas.List.{append-nil}
@@ -10,7 +10,7 @@ use Rattle.nc_base.specs.declared.step.OwnerItem.TheVariants.{Stop}
 use Rattle.nc_base.specs.declared.step.RankItem.{RankItem}
 use Rattle.nc_base.specs.declared.step.RankItem.TheVariants as item
 use Rattle.ruled_line.specs.Ends.{with_item, End}
-use Rattle.serial_spec.specs.Desk.{holds, own_items, stop_held, Seat}
+use Rattle.serial_spec.specs.Desk.{holds, stop_held, Seat}
 use Rattle.serial_spec.specs.History.{is_offer}
 use Rattle.join_laws.proofs.EventLaws.{own_here, own_other}
 use Rattle.list_laws.proofs.Truth.{equal_itself}

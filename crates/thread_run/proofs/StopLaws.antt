@@ -5,7 +5,6 @@ use Rattle.std.proofs.lemmas.Bool.Decides.{nat_tests}
 use Rattle.std.proofs.lemmas.List.{append-nil}
 use Rattle.std.specs.Prelude.{filter, nat_lt, ◌==◌}
 use Rattle.std.specs.List.{list_all}
-use Rattle.nc_base.specs.declared.step.Offer.{Offer}
 use Rattle.nc_base.specs.declared.step.OwnerItem.{OwnerItem}
 use Rattle.nc_base.specs.declared.step.OwnerItem.TheVariants.{Stop}
 use Rattle.nc_base.specs.declared.step.RankItem.{RankItem}
@@ -17,8 +16,8 @@ use Rattle.serial_spec.specs.Joined.{HasEnd}
 use Rattle.join_laws.proofs.EventLaws.{own_here}
 use Rattle.thread_run.specs.Owned.{Grows}
 use Rattle.thread_run.specs.Stopping.{stops_for, HaveEnded, HaveMet, IsMore}
-use Rattle.thread_run.proofs.AlikeLaws.{lines_as, lines_none, lines_twice}
-use Rattle.turn_run.proofs.ListLaws.{get_long, get_set, get_set_other, get_there}
+use Rattle.thread_run.proofs.AlikeLaws.{lines_as, lines_twice}
+use Rattle.turn_run.proofs.ListLaws.{get_set_other}
 
 -- ---- items of one number
 

@@ -36,7 +36,6 @@ use Rattle.join_laws.proofs.StrangeLaws.{event_is, freed_none as none_held}
 use Rattle.list_laws.proofs.Each.{fails_at}
 use Rattle.list_laws.proofs.Places.{entry_set}
 use Rattle.overlay_laws.proofs.Members.{at_in}
-use Rattle.thread_run.specs.Owned.{AreOfOneKind, HoldAll, IsHeld}
 use Rattle.thread_run.specs.Strange.{fails_as_offer, fails_test, leaves_behind, leaves_with}
 use Rattle.thread_run.proofs.DeskRuns.{seat_ended, seat_held}
 

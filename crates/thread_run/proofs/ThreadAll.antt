@@ -1,6 +1,6 @@
 -- A run on threads, from what the owner tells and what the close tells.
-use Rattle.std.proofs.Common.{◌≡◌, ℕ, ◌+◌, ◌-◌, ◌^◌, ◌<◌, ◌≤◌, refl, sym, ◌∙◌, ap, subst, inl, inr, ◌⊎◌, List, [], ◌∷◌, ◌++◌, length, map, max, min, replicate, true, Option, Some, None, arith}
-use Rattle.std.specs.Prelude.{slice_get, nat_lt, IfSome}
+use Rattle.std.proofs.Common.{◌≡◌, ℕ, ◌≤◌, refl, sym, ◌∙◌, ap, subst, inl, inr, ◌⊎◌, List, [], ◌∷◌, ◌++◌, map, max, replicate, true, Option, Some, None, arith}
+use Rattle.std.specs.Prelude.{nat_lt, IfSome}
 use Rattle.nc_base.specs.declared.header.Header.{Header}
 use Rattle.nc_base.specs.declared.run.RankEnd.{RankEnd}
 use Rattle.nc_base.specs.declared.run.RunEnd.{RunEnd}

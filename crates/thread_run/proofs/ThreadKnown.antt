@@ -6,8 +6,6 @@ use Rattle.std.specs.Prelude.{slice_get, flat_map, fold, not, nat_lt, ◌==◌, 
 use Rattle.std.specs.List.{enumerate_from, list_all, list_any}
 use Rattle.std.proofs.lemmas.Option.{same_Some}
 use Rattle.list_laws.proofs.Truth.{or_first_false, or_second_false}
-use Rattle.nc_base.specs.declared.answer.Code.{Code}
-use Rattle.nc_base.specs.declared.answer.Code.TheVariants as code
 use Rattle.nc_base.specs.declared.answer.Pair.{Pair}
 use Rattle.nc_base.specs.declared.header.Header.{Header}
 use Rattle.nc_base.specs.declared.header.Var.{Var}
@@ -28,7 +26,6 @@ use Rattle.serial_spec.specs.History.{Arrival}
 use Rattle.serial_spec.specs.Layout.{end_of, greatest, product}
 use Rattle.serial_spec.specs.Limits.{record_limit}
 use Rattle.serial_spec.specs.Records.{needed}
-use Rattle.serial_spec.specs.RegionCheck.{is_ok_code}
 use Rattle.serial_spec.specs.SerialEnd.{Going, advance, after_mark}
 use Rattle.serial_spec.specs.SharedByte.{Puts}
 use Rattle.var_layout.proofs.ElementPlaces.{sound_end}

@@ -15,7 +15,7 @@ use Rattle.serial_spec.specs.History.{Arrival}
 use Rattle.serial_spec.specs.Lawful.{is_lawful}
 use Rattle.run_laws.proofs.LawfulLaws.{ranks_lawful}
 use Rattle.join_laws.proofs.ListLaws.{get_beside}
-use Rattle.thread_run.specs.Resident.{AreOf, AreResidents, AreSettled, IsOf, IsResident, IsSettled, IsSettledOf, IsToldToGo}
+use Rattle.thread_run.specs.Resident.{AreOf, AreResidents, AreSettled, IsSettled, IsSettledOf, IsToldToGo}
 use Rattle.turn_run.specs.Seated.{calls_of}
 use Rattle.thread_run.specs.Serving.{HasTaken, HavePut, arrived, gained}
 use Rattle.thread_run.specs.declared.resident.Resident.{Resident}

@@ -1,5 +1,5 @@
 -- The owner's whole run beside the serial run: its device calls, its offers, and the count to which it is closed.
-use Rattle.std.proofs.Common.{◌≡◌, ℕ, zero, suc, ◌+◌, ◌^◌, ◌<◌, ◌≤◌, refl, sym, ◌∙◌, ap, subst, List, [], ◌∷◌, ◌++◌, length, map, max, replicate, true, false, Option, Some, None, arith}
+use Rattle.std.proofs.Common.{◌≡◌, ℕ, suc, ◌+◌, ◌^◌, ◌<◌, ◌≤◌, refl, sym, ◌∙◌, ap, subst, List, [], ◌∷◌, ◌++◌, length, map, max, replicate, true, Option, Some, None, arith}
 use Rattle.std.proofs.lemmas.List.{length-map, length-replicate}
 use Rattle.std.specs.Prelude.{slice_get, fold, nat_lt}
 use Rattle.std.specs.List.{enumerate_from, list_all}
@@ -9,7 +9,7 @@ use Rattle.nc_base.specs.declared.script.Script.{Script}
 use Rattle.nc_base.specs.declared.step.MeetKind.{MeetKind}
 use Rattle.nc_base.specs.declared.step.Offer.{Offer}
 use Rattle.nc_base.specs.declared.step.OfferKind.TheVariants as offer
-use Rattle.serial_spec.specs.Desk.{Desk, Seat, free_seat, holds, own_items, owed, served}
+use Rattle.serial_spec.specs.Desk.{Desk, Seat, free_seat, own_items, owed, served}
 use Rattle.serial_spec.specs.DeviceCalls.{run_calls, store_records}
 use Rattle.serial_spec.specs.FileStep.{Counted, Setting}
 use Rattle.serial_spec.specs.HeaderGrammar.{header_len, is_sound}

@@ -1,5 +1,6 @@
 pub mod Attending
 pub mod Halted
+pub mod Lent
 pub mod Owned
 pub mod Refused
 pub mod Serving

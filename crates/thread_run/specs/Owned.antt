@@ -6,6 +6,8 @@
 --     desk_told s d arrivals     the same of all that the owner does along arrivals
 --     Grows old more now         lines on which so much was put
 --     Standing                   what can be seen of an owner
+--     standing .. d out          what can be seen of a desk and the owner's outlets
+--     first_standing .. n out    the same before anything arrived from n senders
 --     HasDone hints s a b n      what can be seen went from one to the other by the arrival
 --     HasRun hints s as b n      the same by arrivals, none of them strange
 --     IsSteady header len x      what is held is fit to be done
@@ -25,6 +27,8 @@ use Rattle.nc_base.specs.declared.step.OwnerItem.TheVariants.{Reply}
 use Rattle.nc_base.specs.declared.step.RankItem.{RankItem}
 use Rattle.nc_base.specs.declared.step.RankItem.TheVariants as item
 use Rattle.nc_outside.specs.Told.{with_end}
+use Rattle.nc_outside.specs.declared.disk.Disk.{Ghosts as DiskGhosts}
+use Rattle.nc_outside.specs.declared.told.Told.{Ghosts as ToldGhosts}
 use Rattle.ruled_line.specs.Ends.{End}
 use Rattle.serial_spec.specs.Desk.{Desk, Event, Seat, does_meeting, does_solo, event, free_seat, given_along, holds, is_strange, offers_held, served}
 use Rattle.serial_spec.specs.DeviceCalls.{meeting_calls, solo_calls}
@@ -36,6 +40,7 @@ use Rattle.join_laws.specs.Alike.{AreAlike}
 use Rattle.turn_run.specs.Counts.{IsCount, IsFit}
 use Rattle.turn_run.specs.Seated.{reply_of}
 use Rattle.thread_run.specs.declared.desk.Desk.{Desk as Held}
+use Rattle.thread_run.specs.declared.lent.Outlets.{Outlets}
 
 -- ---- what the owner does along arrivals
 
@@ -103,14 +108,21 @@ pub record Standing : Type 0 where
   pub lines : List (End OwnerItem)
 
 -- what stands beside a desk
-abbrev pub standing : Held → ℕ → Option (List ℕ) → Option (List DiskCall) → Option (List (Mark × ℕ)) → List (End OwnerItem) → Standing
-standing d records told calls heard lines =
+abbrev pub standing_at : Held → ℕ → Option (List ℕ) → Option (List DiskCall) → Option (List (Mark × ℕ)) → List (End OwnerItem) → Standing
+standing_at d records told calls heard lines =
     record { seats = d.seats.items; met = d.met; reached = d.reached; records = records; told = told; calls = calls; order = d.order; heard = heard; lines = lines }
+
+-- the same by what an owner's steps change
+abbrev pub standing : {D T : Type 0} → DiskGhosts D → ToldGhosts T → Held → Outlets D T → Standing
+standing disk told d out = standing_at d out.records.now (disk.held out.disk.now) (disk.calls out.disk.now) (told.heard out.told.now) out.back.now
 
 -- before anything arrived
 abbrev pub opening_standing : ℕ → ℕ → Option (List ℕ) → Option (List DiskCall) → Option (List (Mark × ℕ)) → List (End OwnerItem) → Standing
 opening_standing senders records told calls heard lines =
     record { seats = replicate senders free_seat; met = 0; reached = records; records = records; told = told; calls = calls; order = []; heard = heard; lines = lines }
+
+abbrev pub first_standing : {D T : Type 0} → DiskGhosts D → ToldGhosts T → ℕ → Outlets D T → Standing
+first_standing disk told senders out = opening_standing senders out.records.now (disk.held out.disk.now) (disk.calls out.disk.now) (told.heard out.told.now) out.back.now
 
 abbrev pub desk_of : Held → List ℕ → ℕ → Desk
 desk_of d file records = record { seats = d.seats.items; met = d.met; state = counted file records; reached = d.reached }

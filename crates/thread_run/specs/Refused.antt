@@ -3,7 +3,7 @@
 --     IsRefusedAlone, IsRefusedTogether, IsRefusedArrival     by a number's own step, by a meeting of what is held, by an arrival
 --     IsFaultAt ..              where the owner stood that met the fault
 --     HasCutService ..          what its ends, its disk and its order tell
-use Rattle.std.specs.Prelude.{◌≡◌, ℕ, ◌<◌, ◌⊎◌, List, [], ◌++◌, flat_map, length, Option, Some, None, IfSome}
+use Rattle.std.specs.Prelude.{◌≡◌, ℕ, ◌<◌, List, [], ◌++◌, flat_map, length, Option, Some, IfSome}
 use Rattle.std.specs.List.{enumerate_from}
 use Rattle.nc_base.specs.declared.step.Mark.{Mark}
 use Rattle.nc_base.specs.declared.step.Offer.{Offer}

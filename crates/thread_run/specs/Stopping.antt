@@ -6,7 +6,7 @@
 --     IsMore old more now       what was taken since
 --     HaveMet ..                a stop for each offer that came
 --     HasMetAll ..              the same until all numbers had ended
-use Rattle.std.specs.Prelude.{◌≡◌, ℕ, ◌<◌, List, [], ◌∷◌, ◌++◌, filter, map, length, nat_lt, ◌==◌, Bool, true, false, Some, slice_get, IsTrue}
+use Rattle.std.specs.Prelude.{◌≡◌, ℕ, ◌<◌, List, [], ◌∷◌, ◌++◌, filter, map, nat_lt, ◌==◌, Bool, true, false, Some, slice_get, IsTrue}
 use Rattle.std.specs.List.{list_all}
 use Rattle.nc_base.specs.declared.step.OwnerItem.{OwnerItem}
 use Rattle.nc_base.specs.declared.step.OwnerItem.TheVariants.{Stop}

@@ -11,6 +11,7 @@ ghost use Rattle.turn_run.specs.Steps.{first_seat};
 
 use nc_base::{Header, Memory, OwnerItem, RankEnd, RankStop, Script};
 use nc_outside::Gate;
+use piece_exchange::Tools;
 use rank_core::Names;
 use rank_items::SentItem;
 use ruled_line::{InPut, LineTake};
@@ -43,7 +44,8 @@ pub fn attend<R: Wait, G: Gate>(
         × HasAttended header.now (calls_of script.now out.old.number) put taken result }
 {
     let mut seat = Seat::new(alloc, header, names, header.records);
-    let end = match make_calls(&mut seat, rt, header, script, out, back, gate) {
+    let tools = Tools { rt, alloc, gate };
+    let end = match make_calls(&mut seat, &tools, header, script, out, back) {
         Ok(end) => end,
         Err(_) => RankStop::Memory,
     };
@@ -59,12 +61,11 @@ pub fn attend<R: Wait, G: Gate>(
 /// Goes through the calls of the rank, and puts each offer.
 fn make_calls<R: Wait, G: Gate>(
     seat: &mut Seat,
-    rt: &R,
+    tools: &Tools<R, G>,
     header: &Header,
     script: &Script,
     out: &mut InPut<SentItem>,
     back: &mut LineTake<OwnerItem>,
-    gate: &G,
 ) -> Result<RankStop, Memory>
     requires sound { is_sound header.now ≡ true }
     requires lawful { is_lawful script.now ≡ true }
@@ -77,10 +78,10 @@ fn make_calls<R: Wait, G: Gate>(
 {
     let number = out.number();
     let calls = own_calls(script, number);
-    seat.go_on(rt, gate, header, script, number, calls)?;
+    seat.go_on(tools, header, script, number, calls)?;
     'offers: while let Some(offer) = seat.held.take() {
-        out.put(rt, SentItem::offer(seat.answers.len() as u32, offer));
-        let reply = match back.take(rt) {
+        out.put(tools.rt, SentItem::offer(seat.answers.len() as u32, offer));
+        let reply = match back.take(tools.rt) {
             OwnerItem::Reply(reply) => reply,
             OwnerItem::Stop => return Ok(RankStop::Stopped),
         };
@@ -88,7 +89,7 @@ fn make_calls<R: Wait, G: Gate>(
             return Ok(RankStop::Misfit);
         }
         seat.hear(reply)?;
-        seat.go_on(rt, gate, header, script, number, calls)?;
+        seat.go_on(tools, header, script, number, calls)?;
     }
     Ok(RankStop::Done)
 }

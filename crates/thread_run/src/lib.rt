@@ -3,6 +3,7 @@
 
 mod attending;
 mod desk;
+mod lent;
 mod rank_ends;
 mod rank_threads;
 mod resident;

@@ -8,21 +8,22 @@ ghost use Rattle.nc_base.specs.declared.header.Header.{Header};
 ghost use Rattle.nc_base.specs.declared.script.Script.{Script};
 ghost use Rattle.nc_base.specs.declared.step.OwnerItem.{OwnerItem};
 ghost use Rattle.nc_base.specs.declared.step.RankItem.{RankItem};
-ghost use Rattle.rank_core.specs.Indexed.{IsIndexOf};
 ghost use Rattle.ruled_line.specs.Ends.{End, Line};
 ghost use Rattle.turn_run.specs.Run.{IsRun};
 ghost use Rattle.turn_run.specs.Telling.{HasTold};
+ghost use Rattle.thread_run.specs.Lent.{IsRunnable, RunsOn};
 ghost use Rattle.thread_run.specs.Resident.{AreOf, AreResidents, IsToldToGo};
 ghost use Rattle.thread_run.specs.Threads.{HasRooms};
 ghost use Rattle.thread_run.specs.declared.resident.Resident.{Resident};
-ghost use Rattle.var_layout.specs.Measures.{AreMeasures};
 
+use crate::lent::Lent;
 use crate::rank_ends::end_run;
 use crate::resident::{Resident, Word, start};
 use crate::returned::join_all;
 use crate::serving::serve;
 use nc_base::{Header, Memory, OwnerItem, RankEnd, RunEnd, Script};
 use nc_outside::{Deaf, Disk, Gate, Told};
+use piece_exchange::Tools;
 use rank_core::Names;
 use rank_items::SentItem;
 use ruled_line::{InPut, InTake, LinePut, LinePutList, inbox};
@@ -31,7 +32,6 @@ use std::sync::Wait;
 use std::thread;
 use std::thread::{Scope, Threads};
 use turn_run::run_in_turn_told;
-use var_layout::Measures;
 
 /// Runs the ranks of a script, each on a thread of its own, whose offers this thread takes as they come. Where the threads are off, or
 /// one can't be started, the ranks run in turn.
@@ -79,7 +79,8 @@ pub fn run_ranks_told<R: Threads + Wait + Sync, D: Disk, G: Gate, T: Told>(
     if !script.hints.threads {
         return run_in_turn_told(rt, alloc, disk, header, records, script, gate, told);
     }
-    match run_on_threads(rt, alloc, disk, header, records, script, gate, told) {
+    let tools = Tools { rt, alloc, gate };
+    match run_on_threads(&tools, disk, header, records, script, told) {
         Some(end) => end,
         None => run_in_turn_told(rt, alloc, disk, header, records, script, gate, told),
     }
@@ -114,13 +115,11 @@ pub(crate) struct Scoped<'d, 't, D, T> {
 
 /// The run on threads. None where one can't be started: then nothing was done.
 fn run_on_threads<R: Threads + Wait + Sync, D: Disk, G: Gate, T: Told>(
-    rt: &R,
-    alloc: Global,
+    tools: &Tools<R, G>,
     disk: &mut D,
     header: &Header,
     records: &mut u64,
     script: &Script,
-    gate: &G,
     told: &mut T,
 ) -> Option<RunEnd>
     requires sound { is_sound header.now ≡ true }
@@ -128,43 +127,42 @@ fn run_on_threads<R: Threads + Wait + Sync, D: Disk, G: Gate, T: Told>(
     requires records { records.old ≡ header.now.records }
     requires from { D.from disk.old ≡ 0 }
     requires long { end_of header.now (header_len header.now) header.now.records ≤ D.len disk.old }
-    ensures run { IfSome result (IsRun script.now header.now (D.held disk.old) (D.calls disk.old) (D.faults disk.old) (D.held disk.new) (D.calls disk.new) (D.faults disk.new) records.new) }
+    ensures run { IfSome result (RunsOn D.Disk script.now header.now disk.old disk.new records.new) }
     ensures told { IfSome result (λ end. HasTold script.now header.now (D.held disk.old) (T.heard told.old) (T.heard told.new) end.order) }
     ensures kept { result ≡ None → (disk.new ≡ disk.old) × (records.new ≡ records.old) × (told.new ≡ told.old) }
 {
-    let Ok(names) = Names::new(alloc, header) else {
+    let Ok(names) = Names::new(tools.alloc, header) else {
         return None;
     };
-    let Ok(rooms) = make_rooms(alloc, script.ranks) else {
+    let Ok(rooms) = make_rooms(tools.alloc, script.ranks) else {
         return None;
     };
-    run_scoped(
-        rt, alloc, disk, header, records, script, &names, gate, told, rooms,
-    )
+    let lent = Lent {
+        rt: tools.rt,
+        alloc: tools.alloc,
+        gate: tools.gate,
+        header,
+        names: &names,
+        script,
+    };
+    run_scoped(&lent, disk, records, told, rooms)
 }
 
 /// The run in a scope of threads.
 fn run_scoped<R: Threads + Wait + Sync, D: Disk, G: Gate, T: Told>(
-    rt: &R,
-    alloc: Global,
+    lent: &Lent<R, G>,
     disk: &mut D,
-    header: &Header,
     records: &mut u64,
-    script: &Script,
-    names: &Names,
-    gate: &G,
     told: &mut T,
     rooms: Rooms,
 ) -> Option<RunEnd>
-    requires sound { is_sound header.now ≡ true }
-    requires lawful { is_lawful script.now ≡ true }
-    requires names { IsIndexOf header.now names.now }
-    requires records { records.old ≡ header.now.records }
+    requires runnable { IsRunnable lent.now }
+    requires records { records.old ≡ lent.now.header.now.records }
     requires from { D.from disk.old ≡ 0 }
-    requires long { end_of header.now (header_len header.now) header.now.records ≤ D.len disk.old }
-    requires rooms { HasRooms script.now.ranks rooms }
-    ensures run { IfSome result (IsRun script.now header.now (D.held disk.old) (D.calls disk.old) (D.faults disk.old) (D.held disk.new) (D.calls disk.new) (D.faults disk.new) records.new) }
-    ensures told { IfSome result (λ end. HasTold script.now header.now (D.held disk.old) (T.heard told.old) (T.heard told.new) end.order) }
+    requires long { end_of lent.now.header.now (header_len lent.now.header.now) lent.now.header.now.records ≤ D.len disk.old }
+    requires rooms { HasRooms lent.now.script.now.ranks rooms }
+    ensures run { IfSome result (RunsOn D.Disk lent.now.script.now lent.now.header.now disk.old disk.new records.new) }
+    ensures told { IfSome result (λ end. HasTold lent.now.script.now lent.now.header.now (D.held disk.old) (T.heard told.old) (T.heard told.new) end.order) }
     ensures kept { result ≡ None → (disk.new ≡ disk.old) × (records.new ≡ records.old) × (told.new ≡ told.old) }
 {
     let count = *records;
@@ -175,21 +173,16 @@ fn run_scoped<R: Threads + Wait + Sync, D: Disk, G: Gate, T: Told>(
         end,
     } = thread::scope(
         thread::scope_env(),
-        rt,
+        lent.rt,
         |scope| -> Scoped<D, T>
-            requires { (is_sound header.now ≡ true) × (is_lawful script.now ≡ true) × IsIndexOf header.now names.now × (count ≡ header.now.records) × (D.from disk.now ≡ 0)
-                × (end_of header.now (header_len header.now) header.now.records ≤ D.len disk.now) × HasRooms script.now.ranks rooms }
-            ensures run { IfSome result.end (IsRun script.entry.now header.entry.now (D.held disk.entry.now) (D.calls disk.entry.now) (D.faults disk.entry.now)
-                (D.held result.disk.now) (D.calls result.disk.now) (D.faults result.disk.now) result.records) }
-            ensures told { IfSome result.end (λ end. HasTold script.entry.now header.entry.now (D.held disk.entry.now) (T.heard told.entry.now) (T.heard result.told.now) end.order) }
+            requires { IsRunnable lent.now × (count ≡ lent.now.header.now.records) × (D.from disk.now ≡ 0)
+                × (end_of lent.now.header.now (header_len lent.now.header.now) lent.now.header.now.records ≤ D.len disk.now) × HasRooms lent.now.script.now.ranks rooms }
+            ensures run { IfSome result.end (RunsOn D.Disk lent.entry.now.script.now lent.entry.now.header.now disk.entry.now result.disk.now result.records) }
+            ensures told { IfSome result.end (λ end. HasTold lent.entry.now.script.now lent.entry.now.header.now (D.held disk.entry.now) (T.heard told.entry.now) (T.heard result.told.now) end.order) }
             ensures kept { result.end ≡ None → (result.disk.now ≡ disk.entry.now) × (result.records ≡ count) × (result.told.now ≡ told.entry.now) }
             ensures same_disk { result.disk.ghost_name ≡ disk.entry.ghost_name }
             ensures same_told { result.told.ghost_name ≡ told.entry.ghost_name }
-        {
-            run_in_scope(
-                scope, rt, alloc, disk, header, count, script, names, gate, told, rooms,
-            )
-        },
+        { run_in_scope(scope, lent, disk, count, told, rooms) },
     );
     take_back(back);
     take_back(ear);
@@ -221,27 +214,19 @@ fn make_rooms(alloc: Global, ranks: u32) -> Result<Rooms, Memory>
 /// Starts a thread for each rank, and does the run where all were started. Else those that were started are told to stop.
 fn run_in_scope<'s, 'd, 't, E, R: Threads + Wait + Sync, D: Disk, G: Gate, T: Told>(
     scope: &'s Scope<'s, E>,
-    rt: &'s R,
-    alloc: Global,
+    lent: &'s Lent<'s, R, G>,
     disk: &'d mut D,
-    header: &'s Header,
     records: u64,
-    script: &'s Script,
-    names: &'s Names,
-    gate: &'s G,
     told: &'t mut T,
     rooms: Rooms,
 ) -> Scoped<'d, 't, D, T>
-    requires sound { is_sound header.now ≡ true }
-    requires lawful { is_lawful script.now ≡ true }
-    requires names { IsIndexOf header.now names.now }
-    requires records { records ≡ header.now.records }
+    requires runnable { IsRunnable lent.now }
+    requires records { records ≡ lent.now.header.now.records }
     requires from { D.from disk.old ≡ 0 }
-    requires long { end_of header.now (header_len header.now) header.now.records ≤ D.len disk.old }
-    requires rooms { HasRooms script.now.ranks rooms }
-    ensures run { IfSome result.end (IsRun script.now header.now (D.held disk.old) (D.calls disk.old) (D.faults disk.old)
-        (D.held result.disk.now) (D.calls result.disk.now) (D.faults result.disk.now) result.records) }
-    ensures told { IfSome result.end (λ end. HasTold script.now header.now (D.held disk.old) (T.heard told.old) (T.heard result.told.now) end.order) }
+    requires long { end_of lent.now.header.now (header_len lent.now.header.now) lent.now.header.now.records ≤ D.len disk.old }
+    requires rooms { HasRooms lent.now.script.now.ranks rooms }
+    ensures run { IfSome result.end (RunsOn D.Disk lent.now.script.now lent.now.header.now disk.old result.disk.now result.records) }
+    ensures told { IfSome result.end (λ end. HasTold lent.now.script.now lent.now.header.now (D.held disk.old) (T.heard told.old) (T.heard result.told.now) end.order) }
     ensures kept { result.end ≡ None → (result.disk.now ≡ disk.old) × (result.records ≡ records) × (result.told.now ≡ told.old) }
     ensures same_disk { result.disk.ghost_name ≡ disk.entry.ghost_name }
     ensures same_told { result.told.ghost_name ≡ told.entry.ghost_name }
@@ -253,10 +238,8 @@ fn run_in_scope<'s, 'd, 't, E, R: Threads + Wait + Sync, D: Disk, G: Gate, T: To
         mut lines,
         ends,
     } = rooms;
-    if !start_all(
-        scope, rt, alloc, header, names, script, gate, senders, &mut ones, &mut lines,
-    ) {
-        stop_all(rt, ones);
+    if !start_all(scope, lent, senders, &mut ones, &mut lines) {
+        stop_all(lent.rt, ones);
         return Scoped {
             disk,
             records,
@@ -271,18 +254,7 @@ fn run_in_scope<'s, 'd, 't, E, R: Threads + Wait + Sync, D: Disk, G: Gate, T: To
         ends,
     };
     let mut records = records;
-    let end = run_started(
-        rt,
-        alloc,
-        disk,
-        header,
-        names.measures(header),
-        &mut records,
-        script,
-        gate,
-        told,
-        crew,
-    );
+    let end = run_started(lent, disk, &mut records, told, crew);
     Scoped {
         disk,
         records,
@@ -294,32 +266,25 @@ fn run_in_scope<'s, 'd, 't, E, R: Threads + Wait + Sync, D: Disk, G: Gate, T: To
 /// Starts a thread for each sender of the inbox, until one can't be started. Tells whether all were.
 fn start_all<'s, E, R: Threads + Wait + Sync, G: Gate>(
     scope: &'s Scope<'s, E>,
-    rt: &'s R,
-    alloc: Global,
-    header: &'s Header,
-    names: &'s Names,
-    script: &'s Script,
-    gate: &'s G,
+    lent: &'s Lent<'s, R, G>,
     senders: Vec<InPut<SentItem>>,
     ones: &mut Vec<Resident>,
     lines: &mut Vec<LinePut<OwnerItem>>,
 ) -> bool
-    requires sound { is_sound header.now ≡ true }
-    requires lawful { is_lawful script.now ≡ true }
-    requires names { IsIndexOf header.now names.now }
-    requires numbers { map (λ s. s.number) senders.items ≡ range_with_len 0 script.now.ranks }
+    requires runnable { IsRunnable lent.now }
+    requires numbers { map (λ s. s.number) senders.items ≡ range_with_len 0 lent.now.script.now.ranks }
     requires put { All (λ s. s.items ≡ []) senders.items }
     requires ones { ones.old.items ≡ [] }
     requires lines { lines.old.items ≡ [] }
     requires ones_room { length senders.items ≤ vec_capacity ones.old }
     requires lines_room { length senders.items ≤ vec_capacity lines.old }
-    ensures of { AreOf header.now script.now ones.new.items }
+    ensures of { AreOf lent.now.header.now lent.now.script.now ones.new.items }
     ensures residents { (inbox : Line (ℕ × RankItem)) → All (λ s. s.of ≡ inbox) senders.items → AreResidents inbox [] ones.new.items lines.new.items }
     ensures empty { All (λ line. line.items ≡ []) lines.new.items }
     ensures all { result ≡ true → length ones.new.items ≡ length senders.items }
 {
     for out in senders {
-        match start(scope, rt, alloc, header, names, script, gate, out) {
+        match start(scope, lent, out) {
             Some((one, line)) => {
                 ones.push_reserved(one);
                 lines.push_reserved(line);
@@ -354,34 +319,37 @@ fn tell_all<R: Wait>(rt: &R, ones: &mut [Resident])
 
 /// Lets the threads go, serves them, and ends the run by what they came to.
 fn run_started<R: Threads + Wait + Sync, D: Disk, G: Gate, T: Told>(
-    rt: &R,
-    alloc: Global,
+    lent: &Lent<R, G>,
     disk: &mut D,
-    header: &Header,
-    measures: &Measures,
     records: &mut u64,
-    script: &Script,
-    gate: &G,
     told: &mut T,
     crew: Crew,
 ) -> RunEnd
-    requires sound { is_sound header.now ≡ true }
-    requires measured { AreMeasures header.now measures.now }
-    requires lawful { is_lawful script.now ≡ true }
-    requires records { records.old ≡ header.now.records }
+    requires runnable { IsRunnable lent.now }
+    requires records { records.old ≡ lent.now.header.now.records }
     requires from { D.from disk.old ≡ 0 }
-    requires long { end_of header.now (header_len header.now) header.now.records ≤ D.len disk.old }
-    requires of { AreOf header.now script.now crew.ones.items }
+    requires long { end_of lent.now.header.now (header_len lent.now.header.now) lent.now.header.now.records ≤ D.len disk.old }
+    requires of { AreOf lent.now.header.now lent.now.script.now crew.ones.items }
     requires residents { AreResidents crew.inbox.of [] crew.ones.items crew.lines.items }
-    requires all { length crew.ones.items ≡ script.now.ranks }
+    requires all { length crew.ones.items ≡ lent.now.script.now.ranks }
     requires empty { All (λ line. line.items ≡ []) crew.lines.items }
     requires taken { crew.inbox.items ≡ [] }
-    requires senders { crew.inbox.senders ≡ script.now.ranks }
+    requires senders { crew.inbox.senders ≡ lent.now.script.now.ranks }
     requires none { crew.ends.items ≡ [] }
-    requires room { script.now.ranks ≤ vec_capacity crew.ends }
-    ensures run { IsRun script.now header.now (D.held disk.old) (D.calls disk.old) (D.faults disk.old) (D.held disk.new) (D.calls disk.new) (D.faults disk.new) records.new result }
-    ensures told { HasTold script.now header.now (D.held disk.old) (T.heard told.old) (T.heard told.new) result.order }
+    requires room { lent.now.script.now.ranks ≤ vec_capacity crew.ends }
+    ensures run { RunsOn D.Disk lent.now.script.now lent.now.header.now disk.old disk.new records.new result }
+    ensures told { HasTold lent.now.script.now lent.now.header.now (D.held disk.old) (T.heard told.old) (T.heard told.new) result.order }
 {
+    let Lent {
+        rt,
+        alloc,
+        gate,
+        header,
+        names,
+        script,
+    } = *lent;
+    let measures = names.measures(header);
+    let hints = &script.hints;
     let Crew {
         mut inbox,
         mut ones,
@@ -391,17 +359,7 @@ fn run_started<R: Threads + Wait + Sync, D: Disk, G: Gate, T: Told>(
     let mut back = LinePutList::from_vec(lines);
     tell_all(rt, &mut ones);
     let served = serve(
-        rt,
-        alloc,
-        disk,
-        header,
-        measures,
-        records,
-        &script.hints,
-        &mut inbox,
-        &mut back,
-        gate,
-        told,
+        rt, alloc, disk, header, measures, records, hints, &mut inbox, &mut back, gate, told,
     );
     join_all(rt, ones, back.into_vec(), inbox, &mut ends);
     end_run(alloc, disk, header, records, served, ends)

@@ -3,15 +3,15 @@ ghost use Rattle.std.specs.Prelude.{◌≡◌, ◌<◌, [], true, IfSome};
 ghost use Rattle.rank_core.specs.Indexed.{IsIndexOf};
 ghost use Rattle.serial_spec.specs.HeaderGrammar.{is_sound};
 ghost use Rattle.serial_spec.specs.Lawful.{is_lawful};
+ghost use Rattle.thread_run.specs.Lent.{IsRunnable};
 ghost use Rattle.thread_run.specs.Resident.{HasReturned, IsFresh, IsOf, IsResident};
 
 use crate::attending::attend;
+use crate::lent::Lent;
 use nc_base::{Header, OwnerItem, RankEnd, Script};
 use nc_outside::Gate;
-use rank_core::Names;
 use rank_items::SentItem;
 use ruled_line::{InPut, LinePut, LineTake, line};
-use std::alloc::Global;
 use std::snapshot::Snapshot;
 use std::sync::Wait;
 use std::thread::{Promise, PromisedHandle, Scope, Threads};
@@ -60,83 +60,85 @@ pub(crate) struct Resident {
 /// Starts a rank's thread, and makes the line of what goes back to it. None where it can't be started.
 pub(crate) fn start<'s, E, G: Gate, R: Threads + Wait + Sync>(
     scope: &'s Scope<'s, E>,
-    rt: &'s R,
-    alloc: Global,
-    header: &'s Header,
-    names: &'s Names,
-    script: &'s Script,
-    gate: &'s G,
+    lent: &'s Lent<'s, R, G>,
     out: InPut<SentItem>,
 ) -> Option<(Resident, LinePut<OwnerItem>)>
-    requires sound { is_sound header.now ≡ true }
-    requires lawful { is_lawful script.now ≡ true }
-    requires names { IsIndexOf header.now names.now }
-    requires number { out.number < script.now.ranks }
+    requires runnable { IsRunnable lent.now }
+    requires number { out.number < lent.now.script.now.ranks }
     requires put { out.items ≡ [] }
-    ensures of { IfSome result (λ pair. IsOf header.now script.now pair.0) }
+    ensures of { IfSome result (λ pair. IsOf lent.now.header.now lent.now.script.now pair.0) }
     ensures resident { IfSome result (λ pair. IsResident out.of out.number [] pair.0 pair.1) }
     ensures empty { IfSome result (λ pair. pair.1.items ≡ []) }
 {
-    let (go, word) = line::<Word>(alloc, 1).ok()?;
-    let (put, back) = line::<OwnerItem>(alloc, 1).ok()?;
+    let (go, word) = line::<Word>(lent.alloc, 1).ok()?;
+    let (put, back) = line::<OwnerItem>(lent.alloc, 1).ok()?;
     let ends = Ends { word, out, back };
-    let child = spawn(scope, rt, alloc, header, names, script, gate, ends)?;
+    let child = spawn(scope, lent, ends)?;
     Some((Resident { word: go, child }, put))
 }
 
 /// Starts a rank's thread with these ends.
 fn spawn<'s, E, G: Gate, R: Threads + Wait + Sync>(
     scope: &'s Scope<'s, E>,
-    rt: &'s R,
-    alloc: Global,
-    header: &'s Header,
-    names: &'s Names,
-    script: &'s Script,
-    gate: &'s G,
+    lent: &'s Lent<'s, R, G>,
     ends: Ends,
 ) -> Option<PromisedHandle<Returned, Part>>
-    requires sound { is_sound header.now ≡ true }
-    requires lawful { is_lawful script.now ≡ true }
-    requires names { IsIndexOf header.now names.now }
-    requires number { ends.out.number < script.now.ranks }
+    requires runnable { IsRunnable lent.now }
+    requires number { ends.out.number < lent.now.script.now.ranks }
     requires fresh { IsFresh ends }
-    ensures header { IfSome result (λ child. child.promise.header.value ≡ header.now) }
-    ensures script { IfSome result (λ child. child.promise.script.value ≡ script.now) }
+    ensures header { IfSome result (λ child. child.promise.header.value ≡ lent.now.header.now) }
+    ensures script { IfSome result (λ child. child.promise.script.value ≡ lent.now.script.now) }
     ensures ends { IfSome result (λ child. child.promise.ends.value ≡ ends) }
 {
     let part = Part {
-        header: Snapshot::of(header),
-        script: Snapshot::of(script),
+        header: Snapshot::of(lent.header),
+        script: Snapshot::of(lent.script),
         ends: Snapshot::of(&ends),
     };
+    let Lent {
+        rt,
+        alloc,
+        gate,
+        header,
+        names,
+        script,
+    } = *lent;
     let work = move || -> Returned
         requires { (is_sound header.now ≡ true) × (is_lawful script.now ≡ true) × IsIndexOf header.now names.now × (ends.out.number < script.now.ranks) × IsFresh ends }
-    { take_part(rt, alloc, header, names, script, gate, ends) };
+    {
+        let lent = Lent {
+            rt,
+            alloc,
+            gate,
+            header,
+            names,
+            script,
+        };
+        take_part(&lent, ends)
+    };
     scope.spawn_with(part, work).ok()
 }
 
 /// What a rank's thread runs.
-fn take_part<R: Wait, G: Gate>(
-    rt: &R,
-    alloc: Global,
-    header: &Header,
-    names: &Names,
-    script: &Script,
-    gate: &G,
-    ends: Ends,
-) -> Returned
-    requires sound { is_sound header.now ≡ true }
-    requires lawful { is_lawful script.now ≡ true }
-    requires names { IsIndexOf header.now names.now }
-    requires number { ends.out.number < script.now.ranks }
+fn take_part<R: Wait, G: Gate>(lent: &Lent<R, G>, ends: Ends) -> Returned
+    requires runnable { IsRunnable lent.now }
+    requires number { ends.out.number < lent.now.script.now.ranks }
     requires fresh { IsFresh ends }
-    ensures { HasReturned header.now script.now ends result }
+    ensures { HasReturned lent.now.header.now lent.now.script.now ends result }
 {
     let Ends {
         mut word,
         mut out,
         mut back,
     } = ends;
+    let Lent {
+        rt,
+        alloc,
+        gate,
+        header,
+        names,
+        script,
+    } = *lent;
     let end = match word.take(rt) {
         Word::Go => Some(attend(rt, alloc, header, names, script, &mut out, &mut back, gate)),
         Word::Stop => None,

@@ -11,17 +11,21 @@ ghost use Rattle.serial_spec.specs.Lawful.{are_lawful_hints};
 ghost use Rattle.serial_spec.specs.Layout.{end_of};
 ghost use Rattle.collective_round.specs.Rounds.{counted, setting};
 ghost use Rattle.turn_run.specs.Counts.{IsCount};
-ghost use Rattle.thread_run.specs.Halted.{of_fault, of_stranger, HasFinished, HasHalted, HasHaltCause, HasSeenAll};
-ghost use Rattle.thread_run.specs.Owned.{desk_calls, opening_standing, standing, AreSingle, IsSteady};
+ghost use Rattle.thread_run.specs.Halted.{of_fault, of_stranger, HasEndedBy, HasFinished, HasHaltedBy, HasHaltCause, HasSeenAll};
+ghost use Rattle.thread_run.specs.Lent.{AreSame, IsReadable};
+ghost use Rattle.thread_run.specs.Owned.{desk_calls, first_standing, standing, AreSingle, IsSteady};
 ghost use Rattle.thread_run.specs.Refused.{HasCutService};
 ghost use Rattle.thread_run.specs.Serving.{arrived, gained, opening, HasFailed, HasTaken, HasToldAlong, HavePut, IsDone, IsDoneSo};
 ghost use Rattle.thread_run.specs.Stopping.{HaveEnded};
 ghost use Rattle.var_layout.specs.Measures.{AreMeasures};
 
 use crate::desk::Desk;
+use crate::lent::Outlets;
 use crate::stopping::{Door, stop_arrival, stop_held, stop_rest};
+use collective_round::Dataset;
 use nc_base::{Header, Hints, MarkList, OwnerItem, ServeEnd, StepErr};
 use nc_outside::{Disk, Gate, Told};
+use piece_exchange::Tools;
 use rank_items::SentItem;
 use ruled_line::{InTake, LinePutList};
 use std::alloc::Global;
@@ -92,16 +96,49 @@ pub fn serve<R: Threads + Wait + Sync, D: Disk, G: Gate, T: Told>(
     ensures longer { D.len disk.old ≤ D.len disk.new }
     ensures later { D.faults disk.old ≤ D.faults disk.new }
 {
-    let mut door = Door::new();
-    let (order, halt) = open_desk(
-        rt, alloc, disk, header, measures, records, hints, &mut door, inbox, back, gate, told,
-    );
-    finish(rt, halt, &mut door, inbox, back, gate);
+    let tools = Tools { rt, alloc, gate };
+    let dataset = Dataset {
+        header,
+        measures,
+        hints,
+    };
+    let mut out = Outlets {
+        disk,
+        records,
+        told,
+        back,
+    };
+    let (order, halt) = serve_to_end(&tools, &dataset, &mut out, inbox);
     ServeEnd {
         order,
         fault: fault_of(halt),
         stranger: stranger_of(halt),
     }
+}
+
+/// Serves from a desk at which nothing arrived, and then stops what still comes.
+fn serve_to_end<R: Threads + Wait + Sync, D: Disk, G: Gate, T: Told>(
+    tools: &Tools<R, G>,
+    dataset: &Dataset,
+    out: &mut Outlets<D, T>,
+    inbox: &mut InTake<SentItem>,
+) -> (MarkList, Halt)
+    requires dataset { IsReadable dataset.now }
+    requires count { IsCount dataset.now.header.now (D.len out.old.disk.now) out.old.records.now }
+    requires from { D.from out.old.disk.now ≡ 0 }
+    requires lines { length out.old.back.now ≡ inbox.old.senders }
+    requires few { inbox.old.senders ≤ 64 }
+    ensures same { AreSame out.old out.new }
+    ensures outcome { HasEndedBy D.Disk T.Told dataset.now inbox.old inbox.new (first_standing D.Disk T.Told inbox.old.senders out.old) out.new result.0 result.1 }
+    ensures count { IsCount dataset.now.header.now (D.len out.new.disk.now) out.new.records.now }
+    ensures from { D.from out.new.disk.now ≡ 0 }
+    ensures longer { D.len out.old.disk.now ≤ D.len out.new.disk.now }
+    ensures cause { HasHaltCause (D.faults out.old.disk.now) (D.faults out.new.disk.now) result.1 }
+{
+    let mut door = Door::new();
+    let (order, halt) = open_desk(tools, dataset, out, &mut door, inbox);
+    finish(tools.rt, halt, &mut door, inbox, out.back, tools.gate);
+    (order, halt)
 }
 
 /// Takes what still comes, and stops each offer.
@@ -144,42 +181,29 @@ fn stranger_of(halt: Halt) -> Option<u32>
 
 /// Serves from a desk at which nothing arrived.
 fn open_desk<R: Threads + Wait + Sync, D: Disk, G: Gate, T: Told>(
-    rt: &R,
-    alloc: Global,
-    disk: &mut D,
-    header: &Header,
-    measures: &Measures,
-    records: &mut u64,
-    hints: &Hints,
+    tools: &Tools<R, G>,
+    dataset: &Dataset,
+    out: &mut Outlets<D, T>,
     door: &mut Door,
     inbox: &mut InTake<SentItem>,
-    back: &mut LinePutList<OwnerItem>,
-    gate: &G,
-    told: &mut T,
 ) -> (MarkList, Halt)
-    requires sound { is_sound header.now ≡ true }
-    requires measured { AreMeasures header.now measures.now }
-    requires hints { are_lawful_hints hints.now ≡ true }
-    requires count { IsCount header.now (D.len disk.old) records.old }
-    requires from { D.from disk.old ≡ 0 }
-    requires lines { length back.old ≡ inbox.old.senders }
+    requires dataset { IsReadable dataset.now }
+    requires count { IsCount dataset.now.header.now (D.len out.old.disk.now) out.old.records.now }
+    requires from { D.from out.old.disk.now ≡ 0 }
+    requires lines { length out.old.back.now ≡ inbox.old.senders }
     requires few { inbox.old.senders ≤ 64 }
     requires ended { HaveEnded door.old.ended [] }
-    ensures halted { HasHalted hints.now (setting header.now hints.now) inbox.old inbox.new door.new.ended
-        (opening_standing inbox.old.senders records.old (D.held disk.old) (D.calls disk.old) (T.heard told.old) back.old)
-        records.new (D.held disk.new) (D.calls disk.new) result.0 (T.heard told.new) back.new result.1 }
-    ensures count { IsCount header.now (D.len disk.new) records.new }
-    ensures from { D.from disk.new ≡ 0 }
-    ensures longer { D.len disk.old ≤ D.len disk.new }
-    ensures cause { HasHaltCause (D.faults disk.old) (D.faults disk.new) result.1 }
+    ensures same { AreSame out.old out.new }
+    ensures halted { HasHaltedBy D.Disk T.Told dataset.now inbox.old inbox.new door.new.ended (first_standing D.Disk T.Told inbox.old.senders out.old) out.new result.0 result.1 }
+    ensures count { IsCount dataset.now.header.now (D.len out.new.disk.now) out.new.records.now }
+    ensures from { D.from out.new.disk.now ≡ 0 }
+    ensures longer { D.len out.old.disk.now ≤ D.len out.new.disk.now }
+    ensures cause { HasHaltCause (D.faults out.old.disk.now) (D.faults out.new.disk.now) result.1 }
 {
-    match Desk::new(alloc, back.len(), *records) {
-        Err(_) => (MarkList::new(alloc), Halt::Fault(StepErr::Memory)),
+    match Desk::new(tools.alloc, out.back.len(), *out.records) {
+        Err(_) => (MarkList::new(tools.alloc), Halt::Fault(StepErr::Memory)),
         Ok(mut desk) => {
-            let halt = serve_all(
-                rt, alloc, disk, header, measures, records, hints, &mut desk, door, inbox, back,
-                gate, told,
-            );
+            let halt = serve_all(tools, dataset, out, &mut desk, door, inbox);
             (desk.order, halt)
         }
     }
@@ -187,50 +211,38 @@ fn open_desk<R: Threads + Wait + Sync, D: Disk, G: Gate, T: Told>(
 
 /// Does what arrives until each number has ended, or a fault or a strange arrival. Each offer that is held then has a stop.
 fn serve_all<R: Threads + Wait + Sync, D: Disk, G: Gate, T: Told>(
-    rt: &R,
-    alloc: Global,
-    disk: &mut D,
-    header: &Header,
-    measures: &Measures,
-    records: &mut u64,
-    hints: &Hints,
+    tools: &Tools<R, G>,
+    dataset: &Dataset,
+    out: &mut Outlets<D, T>,
     desk: &mut Desk,
     door: &mut Door,
     inbox: &mut InTake<SentItem>,
-    back: &mut LinePutList<OwnerItem>,
-    gate: &G,
-    told: &mut T,
 ) -> Halt
-    requires sound { is_sound header.now ≡ true }
-    requires measured { AreMeasures header.now measures.now }
-    requires hints { are_lawful_hints hints.now ≡ true }
-    requires from { D.from disk.old ≡ 0 }
-    requires lines { length back.old ≡ inbox.old.senders }
+    requires dataset { IsReadable dataset.now }
+    requires from { D.from out.old.disk.now ≡ 0 }
+    requires lines { length out.old.back.now ≡ inbox.old.senders }
     requires few { inbox.old.senders ≤ 64 }
     requires ended { HaveEnded door.old.ended [] }
-    requires steady { IsSteady header.now (D.len disk.old) (standing desk.old records.old (D.held disk.old) (D.calls disk.old) (T.heard told.old) back.old) }
-    ensures halted { HasHalted hints.now (setting header.now hints.now) inbox.old inbox.new door.new.ended
-        (standing desk.old records.old (D.held disk.old) (D.calls disk.old) (T.heard told.old) back.old)
-        records.new (D.held disk.new) (D.calls disk.new) desk.new.order (T.heard told.new) back.new result }
-    ensures count { IsCount header.now (D.len disk.new) records.new }
-    ensures from { D.from disk.new ≡ 0 }
-    ensures longer { D.len disk.old ≤ D.len disk.new }
-    ensures cause { HasHaltCause (D.faults disk.old) (D.faults disk.new) result }
+    requires steady { IsSteady dataset.now.header.now (D.len out.old.disk.now) (standing D.Disk T.Told desk.old out.old) }
+    ensures same { AreSame out.old out.new }
+    ensures halted { HasHaltedBy D.Disk T.Told dataset.now inbox.old inbox.new door.new.ended (standing D.Disk T.Told desk.old out.old) out.new desk.new.order result }
+    ensures count { IsCount dataset.now.header.now (D.len out.new.disk.now) out.new.records.now }
+    ensures from { D.from out.new.disk.now ≡ 0 }
+    ensures longer { D.len out.old.disk.now ≤ D.len out.new.disk.now }
+    ensures cause { HasHaltCause (D.faults out.old.disk.now) (D.faults out.new.disk.now) result }
 {
-    for _ in rt.forever() {
-        if door.all_ended(back.len()) {
-            stop_held(rt, back, &desk.seats);
+    for _ in tools.rt.forever() {
+        if door.all_ended(out.back.len()) {
+            stop_held(tools.rt, out.back, &desk.seats);
             return Halt::Ended;
         }
-        let (number, item) = door.take(rt, inbox, gate);
-        if desk.is_strange(header, measures, number, &item) {
-            stop_held(rt, back, &desk.seats);
-            stop_arrival(rt, back, number, &item);
+        let (number, item) = door.take(tools.rt, inbox, tools.gate);
+        if desk.is_strange(dataset.header, dataset.measures, number, &item) {
+            stop_held(tools.rt, out.back, &desk.seats);
+            stop_arrival(tools.rt, out.back, number, &item);
             return Halt::Stranger(number);
         }
-        let done = desk.arrive(
-            rt, alloc, disk, header, measures, records, hints, back, gate, told, number, item,
-        );
+        let done = desk.arrive(tools, dataset, out, number, item);
         if let Err(fault) = done {
             return Halt::Fault(fault);
         }

@@ -3,90 +3,90 @@ ghost use Rattle.std.specs.Prelude.{◌≡◌, ◌+◌, ◌≤◌, ◌<◌, ◌+
 ghost use Rattle.std.specs.List.{list_all};
 ghost use Rattle.nc_base.specs.declared.step.RankItem.TheVariants as item;
 ghost use Rattle.serial_spec.specs.Desk.{Seat, freed, holds, is_strange, offers_held, stops};
-ghost use Rattle.serial_spec.specs.HeaderGrammar.{is_sound};
-ghost use Rattle.serial_spec.specs.Lawful.{are_lawful_hints};
-ghost use Rattle.collective_round.specs.Rounds.{setting, HasStepCause};
+ghost use Rattle.collective_round.specs.Rounds.{HasStepCause};
 ghost use Rattle.rank_items.specs.Own.{HasOwnPuts};
 ghost use Rattle.turn_run.specs.Counts.{IsCount, IsFit};
+ghost use Rattle.thread_run.specs.Lent.{setting_of, AreSame, IsReadable};
 ghost use Rattle.thread_run.specs.Owned.{desk_of, replies, standing, Grows, HasDone, HoldSingle, IsAlone, IsSingle, IsSteady, IsTogether};
 ghost use Rattle.thread_run.specs.Refused.{IsRefusedAlone, IsRefusedArrival, IsRefusedTogether};
 ghost use Rattle.turn_run.specs.Steps.{batches_of, known_of};
 ghost use Rattle.thread_run.specs.Stopping.{held_stops, stop_each, stops_for};
-ghost use Rattle.var_layout.specs.Measures.{AreMeasures};
 
 use crate::desk::{Desk, all_hold, take_all};
-use crate::stopping::{stop_arrival, stop_each, stop_held};
+use crate::lent::Outlets;
+use crate::stopping::{stop_each, stop_held};
+use collective_round::Dataset;
 use nc_base::{
-    GotTable, Header, Hints, Job, Mark, Memory, Offer, OfferKind, OwnerItem, Pair, RankItem, Reply,
-    StepErr,
+    GotTable, Job, Mark, Memory, Offer, OfferKind, OwnerItem, Pair, RankItem, Reply, StepErr,
 };
 use nc_outside::{Disk, Gate, Told};
+use piece_exchange::Tools;
 use ruled_line::LinePutList;
 use std::alloc::Global;
 use std::sync::Wait;
 use std::thread::Threads;
 use turn_run::{meet_on_file, note_step, solo_reply};
-use var_layout::Measures;
+
+/// An offer that a number makes alone, at a call of it.
+#[derive(Drop)]
+pub(crate) struct Solo<'a> {
+    pub number: u32,
+    pub call: u32,
+    pub offer: &'a Offer,
+}
 
 impl Desk {
     /// Does what an arrival brings that is not strange. After an error each offer that is held, and the one that arrived, has a stop.
     pub(crate) fn arrive<R: Threads + Wait + Sync, D: Disk, G: Gate, T: Told>(
         &mut self,
-        rt: &R,
-        alloc: Global,
-        disk: &mut D,
-        header: &Header,
-        measures: &Measures,
-        records: &mut u64,
-        hints: &Hints,
-        back: &mut LinePutList<OwnerItem>,
-        gate: &G,
-        told: &mut T,
+        tools: &Tools<R, G>,
+        dataset: &Dataset,
+        out: &mut Outlets<D, T>,
         number: u32,
         item: RankItem,
     ) -> Result<(), StepErr>
-        requires sound { is_sound header.now ≡ true }
-        requires measured { AreMeasures header.now measures.now }
-        requires hints { are_lawful_hints hints.now ≡ true }
+        requires dataset { IsReadable dataset.now }
         requires number { number < length self.old.seats.items }
         requires own { HasOwnPuts item }
-        requires fit { (file : List ℕ) → is_strange (setting header.now hints.now) (desk_of self.old file records.old) (number, item) ≡ false }
-        requires steady { IsSteady header.now (D.len disk.old) (standing self.old records.old (D.held disk.old) (D.calls disk.old) (T.heard told.old) back.old) }
-        requires from { D.from disk.old ≡ 0 }
-        ensures done { OnOk result (HasDone hints.now (setting header.now hints.now) (number, item)
-            (standing self.old records.old (D.held disk.old) (D.calls disk.old) (T.heard told.old) back.old)
-            (standing self.new records.new (D.held disk.new) (D.calls disk.new) (T.heard told.new) back.new)) }
-        ensures steady { OnOk result (IsSteady header.now (D.len disk.new) (standing self.new records.new (D.held disk.new) (D.calls disk.new) (T.heard told.new) back.new)) }
+        requires fit { (file : List ℕ) → is_strange (setting_of dataset.now) (desk_of self.old file out.old.records.now) (number, item) ≡ false }
+        requires steady { IsSteady dataset.now.header.now (D.len out.old.disk.now) (standing D.Disk T.Told self.old out.old) }
+        requires from { D.from out.old.disk.now ≡ 0 }
+        ensures same { AreSame out.old out.new }
+        ensures done { OnOk result (HasDone dataset.now.hints.now (setting_of dataset.now) (number, item)
+            (standing D.Disk T.Told self.old out.old) (standing D.Disk T.Told self.new out.new)) }
+        ensures steady { OnOk result (IsSteady dataset.now.header.now (D.len out.new.disk.now) (standing D.Disk T.Told self.new out.new)) }
         ensures order { OnErr result (self.new.order ≡ self.old.order) }
-        ensures untold { OnErr result (T.heard told.new ≡ T.heard told.old) }
-        ensures stopped { OnErr result (Grows back.old (stops (desk_of self.old [] 0) ((number, item) ∷ [])) back.new) }
-        ensures refused { OnErr result (HoldSingle self.old.seats.items → IsSingle item → IsRefusedArrival (setting header.now hints.now) (number, item)
-            (standing self.old records.old (D.held disk.old) (D.calls disk.old) (T.heard told.old) back.old) (D.held disk.new) records.new) }
-        ensures count { IsCount header.now (D.len disk.new) records.new }
-        ensures from { D.from disk.new ≡ 0 }
-        ensures longer { D.len disk.old ≤ D.len disk.new }
-        ensures cause { HasStepCause (D.faults disk.old) (D.faults disk.new) result }
+        ensures untold { OnErr result (T.heard out.new.told.now ≡ T.heard out.old.told.now) }
+        ensures stopped { OnErr result (Grows out.old.back.now (stops (desk_of self.old [] 0) ((number, item) ∷ [])) out.new.back.now) }
+        ensures refused { OnErr result (HoldSingle self.old.seats.items → IsSingle item → IsRefusedArrival (setting_of dataset.now) (number, item)
+            (standing D.Disk T.Told self.old out.old) (D.held out.new.disk.now) out.new.records.now) }
+        ensures count { IsCount dataset.now.header.now (D.len out.new.disk.now) out.new.records.now }
+        ensures from { D.from out.new.disk.now ≡ 0 }
+        ensures longer { D.len out.old.disk.now ≤ D.len out.new.disk.now }
+        ensures cause { HasStepCause (D.faults out.old.disk.now) (D.faults out.new.disk.now) result }
     {
         match item {
             RankItem::Ended { memory } => {
                 if memory {
-                    stop_held(rt, back, &self.seats);
+                    stop_held(tools.rt, out.back, &self.seats);
                     return Err(StepErr::Memory);
                 }
                 self.seats[number as usize].end(memory);
                 Ok(())
             }
             RankItem::Offer(call, offer) => match offer.kind {
-                OfferKind::Solo => self.do_alone(
-                    rt, alloc, disk, header, measures, *records, hints, back, told, number, call,
-                    &offer,
-                ),
+                OfferKind::Solo => {
+                    let solo = Solo {
+                        number,
+                        call,
+                        offer: &offer,
+                    };
+                    self.do_alone(tools, dataset, out, &solo)
+                }
                 OfferKind::Meet(_) => {
                     self.seats[number as usize].hold(offer);
                     if all_hold(&self.seats) {
-                        self.do_together(
-                            rt, alloc, disk, header, measures, records, hints, back, gate, told,
-                        )
+                        self.do_together(tools, dataset, out)
                     } else {
                         Ok(())
                     }
@@ -96,142 +96,121 @@ impl Desk {
     }
 
     /// Does an offer of a number alone. After an error each offer that is held, and this one, has a stop.
-    fn do_alone<R: Wait, D: Disk, T: Told>(
+    fn do_alone<R: Wait, D: Disk, G, T: Told>(
         &mut self,
-        rt: &R,
-        alloc: Global,
-        disk: &mut D,
-        header: &Header,
-        measures: &Measures,
-        records: u64,
-        hints: &Hints,
-        back: &mut LinePutList<OwnerItem>,
-        told: &mut T,
-        number: u32,
-        call: u32,
-        offer: &Offer,
+        tools: &Tools<R, G>,
+        dataset: &Dataset,
+        out: &mut Outlets<D, T>,
+        solo: &Solo,
     ) -> Result<(), StepErr>
-        requires sound { is_sound header.now ≡ true }
-        requires measured { AreMeasures header.now measures.now }
-        requires hints { are_lawful_hints hints.now ≡ true }
-        requires number { number < length self.old.seats.items }
-        requires lines { length back.old ≡ length self.old.seats.items }
-        requires fit { IsFit header.now (D.len disk.old) offer.now }
-        requires known { offer.now.known ≤ self.old.reached }
-        requires from { D.from disk.old ≡ 0 }
+        requires dataset { IsReadable dataset.now }
+        requires number { solo.now.number < length self.old.seats.items }
+        requires lines { length out.old.back.now ≡ length self.old.seats.items }
+        requires fit { IsFit dataset.now.header.now (D.len out.old.disk.now) solo.now.offer.now }
+        requires known { solo.now.offer.now.known ≤ self.old.reached }
+        requires from { D.from out.old.disk.now ≡ 0 }
+        ensures same { AreSame out.old out.new }
+        ensures records { out.new.records.now ≡ out.old.records.now }
         ensures seats { self.new.seats ≡ self.old.seats }
-        ensures done { OnOk result (IsAlone hints.now (setting header.now hints.now) number call offer.now
-            (standing self.old records (D.held disk.old) (D.calls disk.old) (T.heard told.old) back.old)
-            (standing self.new records (D.held disk.new) (D.calls disk.new) (T.heard told.new) back.new)) }
-        ensures reached { OnOk result (IsCount header.now (D.len disk.old) self.old.reached → IsCount header.now (D.len disk.new) self.new.reached) }
+        ensures done { OnOk result (IsAlone dataset.now.hints.now (setting_of dataset.now) solo.now.number solo.now.call solo.now.offer.now
+            (standing D.Disk T.Told self.old out.old) (standing D.Disk T.Told self.new out.new)) }
+        ensures reached { OnOk result (IsCount dataset.now.header.now (D.len out.old.disk.now) self.old.reached → IsCount dataset.now.header.now (D.len out.new.disk.now) self.new.reached) }
         ensures more { OnOk result (self.old.reached ≤ self.new.reached) }
         ensures order { OnErr result (self.new.order ≡ self.old.order) }
-        ensures untold { OnErr result (T.heard told.new ≡ T.heard told.old) }
-        ensures stopped { OnErr result (Grows back.old (λ q. held_stops self.old.seats.items q ++ stops_for ((number, item.Offer call offer.now) ∷ []) q) back.new) }
-        ensures refused { OnErr result (IsRefusedAlone (setting header.now hints.now) number call offer.now
-            (standing self.old records (D.held disk.old) (D.calls disk.old) (T.heard told.old) back.old) (D.held disk.new) records) }
-        ensures from { D.from disk.new ≡ 0 }
-        ensures longer { D.len disk.old ≤ D.len disk.new }
-        ensures cause { HasStepCause (D.faults disk.old) (D.faults disk.new) result }
+        ensures untold { OnErr result (T.heard out.new.told.now ≡ T.heard out.old.told.now) }
+        ensures stopped { OnErr result (Grows out.old.back.now (λ q. held_stops self.old.seats.items q ++ stops_for ((solo.now.number, item.Offer solo.now.call solo.now.offer.now) ∷ []) q) out.new.back.now) }
+        ensures refused { OnErr result (IsRefusedAlone (setting_of dataset.now) solo.now.number solo.now.call solo.now.offer.now
+            (standing D.Disk T.Told self.old out.old) (D.held out.new.disk.now) out.new.records.now) }
+        ensures from { D.from out.new.disk.now ≡ 0 }
+        ensures longer { D.len out.old.disk.now ≤ D.len out.new.disk.now }
+        ensures cause { HasStepCause (D.faults out.old.disk.now) (D.faults out.new.disk.now) result }
     {
-        match self.reply_alone(
-            rt, alloc, disk, header, measures, records, hints, back, told, number, call, offer,
-        ) {
+        match self.reply_alone(tools, dataset, out, solo) {
             Ok(()) => Ok(()),
             Err(fault) => {
-                stop_held(rt, back, &self.seats);
-                back.put_on(rt, number as usize, OwnerItem::Stop);
+                stop_held(tools.rt, out.back, &self.seats);
+                out.back
+                    .put_on(tools.rt, solo.number as usize, OwnerItem::Stop);
                 Err(fault)
             }
         }
     }
 
     /// Does an offer of a number alone, and puts its reply.
-    fn reply_alone<R: Wait, D: Disk, T: Told>(
+    fn reply_alone<R: Wait, D: Disk, G, T: Told>(
         &mut self,
-        rt: &R,
-        alloc: Global,
-        disk: &mut D,
-        header: &Header,
-        measures: &Measures,
-        records: u64,
-        hints: &Hints,
-        back: &mut LinePutList<OwnerItem>,
-        told: &mut T,
-        number: u32,
-        call: u32,
-        offer: &Offer,
+        tools: &Tools<R, G>,
+        dataset: &Dataset,
+        out: &mut Outlets<D, T>,
+        solo: &Solo,
     ) -> Result<(), StepErr>
-        requires sound { is_sound header.now ≡ true }
-        requires measured { AreMeasures header.now measures.now }
-        requires hints { are_lawful_hints hints.now ≡ true }
-        requires number { number < length back.old }
-        requires fit { IsFit header.now (D.len disk.old) offer.now }
-        requires known { offer.now.known ≤ self.old.reached }
-        requires from { D.from disk.old ≡ 0 }
+        requires dataset { IsReadable dataset.now }
+        requires number { solo.now.number < length out.old.back.now }
+        requires fit { IsFit dataset.now.header.now (D.len out.old.disk.now) solo.now.offer.now }
+        requires known { solo.now.offer.now.known ≤ self.old.reached }
+        requires from { D.from out.old.disk.now ≡ 0 }
+        ensures same { AreSame out.old out.new }
+        ensures records { out.new.records.now ≡ out.old.records.now }
         ensures seats { self.new.seats ≡ self.old.seats }
-        ensures done { OnOk result (IsAlone hints.now (setting header.now hints.now) number call offer.now
-            (standing self.old records (D.held disk.old) (D.calls disk.old) (T.heard told.old) back.old)
-            (standing self.new records (D.held disk.new) (D.calls disk.new) (T.heard told.new) back.new)) }
-        ensures reached { OnOk result (IsCount header.now (D.len disk.old) self.old.reached → IsCount header.now (D.len disk.new) self.new.reached) }
+        ensures done { OnOk result (IsAlone dataset.now.hints.now (setting_of dataset.now) solo.now.number solo.now.call solo.now.offer.now
+            (standing D.Disk T.Told self.old out.old) (standing D.Disk T.Told self.new out.new)) }
+        ensures reached { OnOk result (IsCount dataset.now.header.now (D.len out.old.disk.now) self.old.reached → IsCount dataset.now.header.now (D.len out.new.disk.now) self.new.reached) }
         ensures more { OnOk result (self.old.reached ≤ self.new.reached) }
         ensures order { OnErr result (self.new.order ≡ self.old.order) }
-        ensures untold { OnErr result (T.heard told.new ≡ T.heard told.old) }
-        ensures lines { OnErr result (back.new ≡ back.old) }
-        ensures refused { OnErr result (IsRefusedAlone (setting header.now hints.now) number call offer.now
-            (standing self.old records (D.held disk.old) (D.calls disk.old) (T.heard told.old) back.old) (D.held disk.new) records) }
-        ensures from { D.from disk.new ≡ 0 }
-        ensures longer { D.len disk.old ≤ D.len disk.new }
-        ensures cause { HasStepCause (D.faults disk.old) (D.faults disk.new) result }
+        ensures untold { OnErr result (T.heard out.new.told.now ≡ T.heard out.old.told.now) }
+        ensures lines { OnErr result (out.new.back.now ≡ out.old.back.now) }
+        ensures refused { OnErr result (IsRefusedAlone (setting_of dataset.now) solo.now.number solo.now.call solo.now.offer.now
+            (standing D.Disk T.Told self.old out.old) (D.held out.new.disk.now) out.new.records.now) }
+        ensures from { D.from out.new.disk.now ≡ 0 }
+        ensures longer { D.len out.old.disk.now ≤ D.len out.new.disk.now }
+        ensures cause { HasStepCause (D.faults out.old.disk.now) (D.faults out.new.disk.now) result }
     {
-        let reply = solo_reply(alloc, disk, header, measures, hints, number, offer)?;
-        let mark = Mark::Solo(number, call);
-        note_step(rt, alloc, &mut self.order, told, mark, records)?;
+        let reply = solo_reply(tools.alloc, out.disk, dataset, solo.number, solo.offer)?;
+        let mark = Mark::Solo(solo.number, solo.call);
+        let records = *out.records;
+        note_step(
+            tools.rt,
+            tools.alloc,
+            &mut self.order,
+            out.told,
+            mark,
+            records,
+        )?;
         self.reached = self.reached.max(reply.records);
-        back.put_on(rt, number as usize, OwnerItem::Reply(reply));
+        out.back
+            .put_on(tools.rt, solo.number as usize, OwnerItem::Reply(reply));
         Ok(())
     }
 
     /// Does the meeting whose offers are held. After an error each of them has a stop.
     fn do_together<R: Threads + Wait + Sync, D: Disk, G: Gate, T: Told>(
         &mut self,
-        rt: &R,
-        alloc: Global,
-        disk: &mut D,
-        header: &Header,
-        measures: &Measures,
-        records: &mut u64,
-        hints: &Hints,
-        back: &mut LinePutList<OwnerItem>,
-        gate: &G,
-        told: &mut T,
+        tools: &Tools<R, G>,
+        dataset: &Dataset,
+        out: &mut Outlets<D, T>,
     ) -> Result<(), StepErr>
-        requires sound { is_sound header.now ≡ true }
-        requires measured { AreMeasures header.now measures.now }
-        requires hints { are_lawful_hints hints.now ≡ true }
+        requires dataset { IsReadable dataset.now }
         requires all { list_all holds self.old.seats.items ≡ true }
-        requires steady { IsSteady header.now (D.len disk.old) (standing self.old records.old (D.held disk.old) (D.calls disk.old) (T.heard told.old) back.old) }
-        requires from { D.from disk.old ≡ 0 }
-        ensures done { OnOk result (IsTogether hints.now (setting header.now hints.now)
-            (standing self.old records.old (D.held disk.old) (D.calls disk.old) (T.heard told.old) back.old)
-            (standing self.new records.new (D.held disk.new) (D.calls disk.new) (T.heard told.new) back.new)) }
-        ensures steady { OnOk result (IsSteady header.now (D.len disk.new) (standing self.new records.new (D.held disk.new) (D.calls disk.new) (T.heard told.new) back.new)) }
+        requires steady { IsSteady dataset.now.header.now (D.len out.old.disk.now) (standing D.Disk T.Told self.old out.old) }
+        requires from { D.from out.old.disk.now ≡ 0 }
+        ensures same { AreSame out.old out.new }
+        ensures done { OnOk result (IsTogether dataset.now.hints.now (setting_of dataset.now)
+            (standing D.Disk T.Told self.old out.old) (standing D.Disk T.Told self.new out.new)) }
+        ensures steady { OnOk result (IsSteady dataset.now.header.now (D.len out.new.disk.now) (standing D.Disk T.Told self.new out.new)) }
         ensures order { OnErr result (self.new.order ≡ self.old.order) }
-        ensures untold { OnErr result (T.heard told.new ≡ T.heard told.old) }
-        ensures stopped { OnErr result (Grows back.old stop_each back.new) }
-        ensures refused { OnErr result (HoldSingle self.old.seats.items → IsRefusedTogether (setting header.now hints.now)
-            (standing self.old records.old (D.held disk.old) (D.calls disk.old) (T.heard told.old) back.old) (D.held disk.new) records.new) }
-        ensures count { IsCount header.now (D.len disk.new) records.new }
-        ensures from { D.from disk.new ≡ 0 }
-        ensures longer { D.len disk.old ≤ D.len disk.new }
-        ensures cause { HasStepCause (D.faults disk.old) (D.faults disk.new) result }
+        ensures untold { OnErr result (T.heard out.new.told.now ≡ T.heard out.old.told.now) }
+        ensures stopped { OnErr result (Grows out.old.back.now stop_each out.new.back.now) }
+        ensures refused { OnErr result (HoldSingle self.old.seats.items → IsRefusedTogether (setting_of dataset.now)
+            (standing D.Disk T.Told self.old out.old) (D.held out.new.disk.now) out.new.records.now) }
+        ensures count { IsCount dataset.now.header.now (D.len out.new.disk.now) out.new.records.now }
+        ensures from { D.from out.new.disk.now ≡ 0 }
+        ensures longer { D.len out.old.disk.now ≤ D.len out.new.disk.now }
+        ensures cause { HasStepCause (D.faults out.old.disk.now) (D.faults out.new.disk.now) result }
     {
-        match self.reply_together(
-            rt, alloc, disk, header, measures, records, hints, back, gate, told,
-        ) {
+        match self.reply_together(tools, dataset, out) {
             Ok(()) => Ok(()),
             Err(fault) => {
-                stop_each(rt, back);
+                stop_each(tools.rt, out.back);
                 Err(fault)
             }
         }
@@ -252,47 +231,44 @@ impl Desk {
     /// Does the meeting whose offers are held, and puts their replies.
     fn reply_together<R: Threads + Wait + Sync, D: Disk, G: Gate, T: Told>(
         &mut self,
-        rt: &R,
-        alloc: Global,
-        disk: &mut D,
-        header: &Header,
-        measures: &Measures,
-        records: &mut u64,
-        hints: &Hints,
-        back: &mut LinePutList<OwnerItem>,
-        gate: &G,
-        told: &mut T,
+        tools: &Tools<R, G>,
+        dataset: &Dataset,
+        out: &mut Outlets<D, T>,
     ) -> Result<(), StepErr>
-        requires sound { is_sound header.now ≡ true }
-        requires measured { AreMeasures header.now measures.now }
-        requires hints { are_lawful_hints hints.now ≡ true }
+        requires dataset { IsReadable dataset.now }
         requires all { list_all holds self.old.seats.items ≡ true }
-        requires steady { IsSteady header.now (D.len disk.old) (standing self.old records.old (D.held disk.old) (D.calls disk.old) (T.heard told.old) back.old) }
-        requires from { D.from disk.old ≡ 0 }
-        ensures done { OnOk result (IsTogether hints.now (setting header.now hints.now)
-            (standing self.old records.old (D.held disk.old) (D.calls disk.old) (T.heard told.old) back.old)
-            (standing self.new records.new (D.held disk.new) (D.calls disk.new) (T.heard told.new) back.new)) }
-        ensures steady { OnOk result (IsSteady header.now (D.len disk.new) (standing self.new records.new (D.held disk.new) (D.calls disk.new) (T.heard told.new) back.new)) }
+        requires steady { IsSteady dataset.now.header.now (D.len out.old.disk.now) (standing D.Disk T.Told self.old out.old) }
+        requires from { D.from out.old.disk.now ≡ 0 }
+        ensures same { AreSame out.old out.new }
+        ensures done { OnOk result (IsTogether dataset.now.hints.now (setting_of dataset.now)
+            (standing D.Disk T.Told self.old out.old) (standing D.Disk T.Told self.new out.new)) }
+        ensures steady { OnOk result (IsSteady dataset.now.header.now (D.len out.new.disk.now) (standing D.Disk T.Told self.new out.new)) }
         ensures order { OnErr result (self.new.order ≡ self.old.order) }
-        ensures untold { OnErr result (T.heard told.new ≡ T.heard told.old) }
-        ensures lines { OnErr result (back.new ≡ back.old) }
-        ensures refused { OnErr result (HoldSingle self.old.seats.items → IsRefusedTogether (setting header.now hints.now)
-            (standing self.old records.old (D.held disk.old) (D.calls disk.old) (T.heard told.old) back.old) (D.held disk.new) records.new) }
-        ensures count { IsCount header.now (D.len disk.new) records.new }
-        ensures from { D.from disk.new ≡ 0 }
-        ensures longer { D.len disk.old ≤ D.len disk.new }
-        ensures cause { HasStepCause (D.faults disk.old) (D.faults disk.new) result }
+        ensures untold { OnErr result (T.heard out.new.told.now ≡ T.heard out.old.told.now) }
+        ensures lines { OnErr result (out.new.back.now ≡ out.old.back.now) }
+        ensures refused { OnErr result (HoldSingle self.old.seats.items → IsRefusedTogether (setting_of dataset.now)
+            (standing D.Disk T.Told self.old out.old) (D.held out.new.disk.now) out.new.records.now) }
+        ensures count { IsCount dataset.now.header.now (D.len out.new.disk.now) out.new.records.now }
+        ensures from { D.from out.new.disk.now ≡ 0 }
+        ensures longer { D.len out.old.disk.now ≤ D.len out.new.disk.now }
+        ensures cause { HasStepCause (D.faults out.old.disk.now) (D.faults out.new.disk.now) result }
     {
-        let (job, known) = self.take_job(alloc)?;
-        let (pair, table) = meet_on_file(
-            rt, alloc, disk, header, measures, records, hints, gate, &job, known,
-        )?;
+        let (job, known) = self.take_job(tools.alloc)?;
+        let (pair, table) = meet_on_file(tools, out.disk, dataset, out.records, &job, known)?;
         let met = next_number(self.met)?;
         let mark = Mark::Meet(self.met);
-        note_step(rt, alloc, &mut self.order, told, mark, *records)?;
+        let records = *out.records;
+        note_step(
+            tools.rt,
+            tools.alloc,
+            &mut self.order,
+            out.told,
+            mark,
+            records,
+        )?;
         self.met = met;
-        self.reached = self.reached.max(*records);
-        reply_all(rt, back, pair, *records, table);
+        self.reached = self.reached.max(records);
+        reply_all(tools.rt, out.back, pair, records, table);
         Ok(())
     }
 }

@@ -21,11 +21,12 @@ ghost use Rattle.turn_run.specs.Setups.{all_calls_on, ended_on, stage_at, EndsOn
 ghost use Rattle.var_layout.specs.Measures.{AreMeasures};
 
 use crate::closing::{answers_of, close, pending_of};
-use crate::lent::{Lent, Progress, Setup, Tools};
+use crate::lent::{Lent, Progress, Setup};
 use crate::meeting::meet;
 use crate::seats::Seat;
 use nc_base::{AnswerTable, Header, MarkList, Memory, RunEnd, Script, SizeList, StepErr};
 use nc_outside::{Deaf, Disk, Gate, Told};
+use piece_exchange::Tools;
 use rank_core::Names;
 use std::alloc::Global;
 use std::sync::Wait;

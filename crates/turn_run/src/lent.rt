@@ -1,23 +1,7 @@
 // What the steps of a run are lent.
-use nc_base::{Header, Hints, MarkList, Script};
-use std::alloc::Global;
+use nc_base::{Header, MarkList, Script};
+use piece_exchange::Tools;
 use var_layout::Measures;
-
-/// What a step is done with: the runtime, the allocator and the gate of the threads.
-#[derive(Drop)]
-pub struct Tools<'a, R, G> {
-    pub rt: &'a R,
-    pub alloc: Global,
-    pub gate: &'a G,
-}
-
-/// A dataset as its steps are lent it: the header, what the header implies, and the hints.
-#[derive(Clone, Copy, Drop)]
-pub struct Dataset<'a> {
-    pub header: &'a Header,
-    pub measures: &'a Measures,
-    pub hints: &'a Hints,
-}
 
 /// A script, and the dataset that it runs on: the header, and what the header implies.
 #[derive(Clone, Copy, Drop)]

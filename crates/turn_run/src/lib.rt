@@ -11,7 +11,6 @@ mod seats;
 mod solo;
 
 pub use in_turn::{run_in_turn, run_in_turn_told, stopped};
-pub use lent::{Dataset, Tools};
 pub use meeting::{add_offer, meet_on_file};
 pub use noting::note_step;
 pub use seats::{Seat, own_calls};

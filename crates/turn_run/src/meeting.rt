@@ -23,15 +23,16 @@ ghost use Rattle.turn_run.specs.Steps.{batches_of, held_offers, known_of, met, m
 ghost use Rattle.turn_run.specs.Setups.{all_at_next, setting_in, stage_at, AllSayUpTo, HasLedOn, HasToldOn, IsCutOff};
 ghost use Rattle.var_layout.specs.Measures.{AreMeasures};
 
-use crate::lent::{Dataset, Lent, Progress, Tools};
+use crate::lent::{Lent, Progress};
 use crate::noting::note_step;
 use crate::seats::Seat;
 use crate::solo::told_pair;
-use collective_round::{get_all, put_all, raise_records};
+use collective_round::{Dataset, get_all, put_all, raise_records};
 use nc_base::{
     Batch, BatchList, GotTable, Job, Mark, MeetKind, Memory, Offer, OfferKind, Pair, Reply, StepErr,
 };
 use nc_outside::{Disk, Gate, Told};
+use piece_exchange::Tools;
 use std::alloc::Global;
 use std::sync::Wait;
 use std::thread::Threads;
@@ -185,28 +186,9 @@ pub fn meet_on_file<R: Threads + Wait + Sync, D: Disk, G: Gate>(
     ensures cause { HasStepCause (D.faults disk.old) (D.faults disk.new) result }
 {
     let _size = disk.size();
-    let end = put_all(
-        tools.rt,
-        tools.alloc,
-        disk,
-        dataset.header,
-        dataset.measures,
-        records,
-        job,
-        dataset.hints,
-        tools.gate,
-    )?;
+    let end = put_all(tools, disk, dataset, records, job)?;
     raise_records(tools.alloc, disk, dataset.header, records, known)?;
-    let table = get_all(
-        tools.rt,
-        tools.alloc,
-        disk,
-        dataset.header,
-        dataset.measures,
-        job,
-        dataset.hints,
-        tools.gate,
-    )?;
+    let table = get_all(tools, disk, dataset, job)?;
     Ok((told_pair(end), table))
 }
 

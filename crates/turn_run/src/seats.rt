@@ -20,13 +20,15 @@ ghost use Rattle.turn_run.specs.Seated.{asking, between, calls_of, going_of, Ask
 ghost use Rattle.turn_run.specs.Stages.{IsGrownBy};
 ghost use Rattle.turn_run.specs.Setups.{at_next, HasGoneOn, HasSaidUpTo, IsCutAt, TellsOf};
 
-use crate::lent::{Dataset, Lent, Progress, Setup, Tools};
+use crate::lent::{Lent, Progress, Setup};
 use crate::noting::note_step;
 use crate::solo::solo_reply;
+use collective_round::Dataset;
 use nc_base::{
     AnswerList, Call, Header, Mark, Memory, Offer, OfferKind, Reply, Script, StepErr, Want,
 };
 use nc_outside::{Disk, Gate, Point, Told};
+use piece_exchange::Tools;
 use rank_core::{Names, Rank};
 use std::alloc::Global;
 use std::sync::Wait;

@@ -16,8 +16,7 @@ ghost use Rattle.turn_run.specs.Counts.{IsCount, IsFit};
 ghost use Rattle.turn_run.specs.Steps.{needed_after};
 ghost use Rattle.var_layout.specs.Measures.{AreMeasures};
 
-use crate::lent::Dataset;
-use collective_round::{PutEnd, get_solo, put_solo, records_needed_by};
+use collective_round::{Dataset, PutEnd, get_solo, put_solo, records_needed_by};
 use nc_base::{Header, Offer, Pair, Reply, StepErr};
 use nc_outside::Disk;
 use std::alloc::Global;
@@ -50,16 +49,11 @@ pub fn solo_reply<D: Disk>(
     ensures cause { HasStepCause (D.faults disk.old) (D.faults disk.new) result }
 {
     let _size = disk.size();
-    let Dataset {
-        header,
-        measures,
-        hints,
-    } = *dataset;
-    let end = put_solo(alloc, disk, header, measures, number, &offer.batch, hints)?;
-    let got = get_solo(alloc, disk, header, measures, &offer.batch, hints)?;
+    let end = put_solo(alloc, disk, dataset, number, &offer.batch)?;
+    let got = get_solo(alloc, disk, dataset, &offer.batch)?;
     Ok(Reply {
         pair: told_pair(end),
-        records: records_known(header, offer, end),
+        records: records_known(dataset.header, offer, end),
         got,
     })
 }

@@ -11,9 +11,10 @@ use Rattle.nc_base.specs.declared.request.Region.{Region}
 use Rattle.serial_spec.specs.ExternalForm.{size_of}
 use Rattle.serial_spec.specs.Layout.{product, recsize, is_record}
 use Rattle.serial_spec.specs.Place.{place}
-use Rattle.vara_extents.specs.declared.walk.Extents.{Extents}
+use Rattle.vara_extents.specs.declared.walk.Run.{Run}
+use Rattle.vara_extents.specs.declared.walk.Runs.{Runs}
 use Rattle.vara_extents.specs.Joined.{element_extents, extents_of, joined, joined_to}
-use Rattle.vara_extents.specs.Left.{extents_from, extents_left, IsReady}
+use Rattle.vara_extents.specs.Left.{extents_from, run_place, AreReady, IsRunOf}
 use Rattle.vara_extents.specs.Numbered.{index_of, AreRuns}
 use Rattle.vara_extents.proofs.AcceptedLaws.{passed}
 use Rattle.vara_extents.proofs.NumberLaws.{length-element_extents, run_is}
@@ -28,53 +29,62 @@ pub record IsInside (header : Header) (v : Var) (g : Region) (run k : ℕ) : Typ
   pub low : place header v (index_of g (k * run)) + run * size_of v.kind ≤ 2 ^ 62
   pub wide : is_record header v ≡ true → 1 ≤ recsize header
 
-inside_of : (e : Extents) (k run total : ℕ) → IsReady e → AreRuns (λ k. place e.header.now e.var.now (index_of e.region.now k)) (size_of e.var.now.kind) run total
-    → total ≡ product e.region.now.count → total ≡ e.runs * run → k < e.runs → IsInside e.header.now e.var.now e.region.now run k
-inside_of e k zero total h r same is l = let some = r.some in absurd (omega arith)
-inside_of e k (suc m) total h r same is l =
-    let rows = mul-le (k + 1) (suc m) e.runs (suc m) (omega arith) (omega arith) in
+inside_of : (r : Runs) (k run total : ℕ) → AreReady r → AreRuns (λ k. place r.header.now r.var.now (index_of r.region.now k)) (size_of r.var.now.kind) run total
+    → total ≡ product r.region.now.count → total ≡ r.count * run → k < r.count → IsInside r.header.now r.var.now r.region.now run k
+inside_of r k zero total h runs same is l = let some = runs.some in absurd (omega arith)
+inside_of r k (suc m) total h runs same is l =
+    let rows = mul-le (k + 1) (suc m) r.count (suc m) (omega arith) (omega arith) in
     let last : k * suc m + m < total = omega arith in
     let ok = h.accepted.2 in
-    let small = accepted_small e.header.now e.var.now e.region.now (passed e.header.now e.var.now e.region.now ok.0 ok.1 (accepted_var e.header.now h.accepted.0 e.var.now e.region.now h.accepted.1 ok)).large in
-    let end = accepted_place e.header.now h.accepted.0 e.var.now e.region.now (k * suc m + m) h.sound h.accepted.1 ok (omega arith) in
-    let at = r.follow k m (omega arith) last in
+    let small = accepted_small r.header.now r.var.now r.region.now (passed r.header.now r.var.now r.region.now ok.0 ok.1 (accepted_var r.header.now h.accepted.0 r.var.now r.region.now h.accepted.1 ok)).large in
+    let end = accepted_place r.header.now h.accepted.0 r.var.now r.region.now (k * suc m + m) h.sound h.accepted.1 ok (omega arith) in
+    let at = runs.follow k m (omega arith) last in
     let low = end.low in
-    let first = accepted_place e.header.now h.accepted.0 e.var.now e.region.now (k * suc m) h.sound h.accepted.1 ok (omega arith) in
+    let first = accepted_place r.header.now h.accepted.0 r.var.now r.region.now (k * suc m) h.sound h.accepted.1 ok (omega arith) in
     record {
       number = omega arith;
       small = small.elements;
       placed = first;
       low = omega (arith, at, low);
-      wide = λ is. wide_records e.header.now h.accepted.0 e.var.now (index_of e.region.now (k * suc m)) h.accepted.1 is first.element;
+      wide = λ is. wide_records r.header.now h.accepted.0 r.var.now (index_of r.region.now (k * suc m)) h.accepted.1 is first.element;
     }
 
-pub inside : (e : Extents) (k : ℕ) → IsReady e → k < e.runs → IsInside e.header.now e.var.now e.region.now e.run k
-inside e k h l = inside_of e k e.run (product e.region.now.count) h h.follow refl h.runs l
+pub inside : (r : Runs) (k : ℕ) → AreReady r → k < r.count → IsInside r.header.now r.var.now r.region.now r.elements k
+inside r k h l = inside_of r k r.elements (product r.region.now.count) h h.follow refl h.total l
 
 -- the run and the extents after it
-pub first_run : (e : Extents) (k at len : ℕ) → IsReady e → k < e.runs → at ≡ place e.header.now e.var.now (index_of e.region.now (k * e.run)) → len ≡ e.run * size_of e.var.now.kind
-    → extents_from e k ≡ joined_to (record { at = at; len = len }) (extents_from e (k + 1))
-first_run e k at len h l is long =
-    run_is e.header.now e.var.now e.region.now e.run (product e.region.now.count) k h.follow refl (inside e k h l).number
-    ∙ (λ i. joined_to (record { at = sym is i; len = sym long i }) (joined (drop (next i) (element_extents e.header.now e.var.now e.region.now))))
+pub first_run : (r : Runs) (k at len : ℕ) → AreReady r → k < r.count → at ≡ run_place r k → len ≡ r.elements * size_of r.var.now.kind
+    → extents_from r k ≡ joined_to (record { at = at; len = len }) (extents_from r (k + 1))
+first_run r k at len h l is long =
+    run_is r.header.now r.var.now r.region.now r.elements (product r.region.now.count) k h.follow refl (inside r k h l).number
+    ∙ (λ i. joined_to (record { at = sym is i; len = sym long i }) (joined (drop (next i) (element_extents r.header.now r.var.now r.region.now))))
   where
-    next : k * e.run + e.run ≡ (k + 1) * e.run
+    next : k * r.elements + r.elements ≡ (k + 1) * r.elements
     next = omega arith
 
+-- the same of a run on the way, which ends within the file
+pub placed_run : (r : Runs) (run next : Run) (len : ℕ) → AreReady r → IsRunOf r run → run.number < r.count → len ≡ r.elements * size_of r.var.now.kind → next.number ≡ run.number + 1
+    → (extents_from r run.number ≡ joined_to (record { at = run.at; len = len }) (extents_from r next.number)) × (run.at + len ≤ 2 ^ 62)
+placed_run r run next len h placed l long after =
+    let at = placed.at l in (
+      first_run r run.number run.at len h l at long ∙ ap (λ (k : ℕ). joined_to (record { at = run.at; len = len }) (extents_from r k)) (sym after),
+      omega (arith, at, long, (inside r run.number h l).low),
+    )
+
 -- nothing is left after the last run
-pub none_left : (e : Extents) (k : ℕ) → IsReady e → e.runs ≤ k → extents_from e k ≡ []
-none_left e k h l =
-    let long = length-element_extents e.header.now e.var.now e.region.now in
-    let rows = mul-le e.runs e.run k e.run l (omega arith) in
-    ap joined (drop_all (k * e.run) (element_extents e.header.now e.var.now e.region.now) (omega (arith, long, h.runs, rows)))
+pub none_left : (r : Runs) (k : ℕ) → AreReady r → r.count ≤ k → extents_from r k ≡ []
+none_left r k h l =
+    let long = length-element_extents r.header.now r.var.now r.region.now in
+    let rows = mul-le r.count r.elements k r.elements l (omega arith) in
+    ap joined (drop_all (k * r.elements) (element_extents r.header.now r.var.now r.region.now) (omega (arith, long, h.total, rows)))
 
 -- ---- a walk that begins
 
-pub all_left : (e : Extents) → e.given ≡ 0 → extents_left e ≡ extents_of e.header.now e.var.now e.region.now
-all_left e h =
-    let same = ap (λ (n : ℕ). n * e.run) h in
-    let none : e.given * e.run ≡ 0 = omega arith in
-    ap (λ (k : ℕ). joined (drop k (element_extents e.header.now e.var.now e.region.now))) none
+pub all_left : (r : Runs) (k : ℕ) → k ≡ 0 → extents_from r k ≡ extents_of r.header.now r.var.now r.region.now
+all_left r k h =
+    let same = ap (λ (n : ℕ). n * r.elements) h in
+    let none : k * r.elements ≡ 0 = omega arith in
+    ap (λ (k : ℕ). joined (drop k (element_extents r.header.now r.var.now r.region.now))) none
 
 pub whole_runs : (f : ℕ → ℕ) (size run total : ℕ) → AreRuns f size run total → total ≡ total / run * run
 whole_runs f size run total h =

@@ -1,9 +1,10 @@
 // The extents of a region, one after another.
 ghost use Rattle.std.specs.Prelude.{◌≡◌, ℕ, ◌+◌, ◌*◌, ◌<◌, ◌≤◌, ◌^◌, ◌∷◌, length, slice_get, true, IfSome};
+ghost use Rattle.serial_spec.specs.ExternalForm as external;
 ghost use Rattle.serial_spec.specs.HeaderGrammar.{is_sound};
 ghost use Rattle.vara_extents.specs.Accepted.{IsAccepted};
 ghost use Rattle.vara_extents.specs.Joined.{joined_to, extents_of};
-ghost use Rattle.vara_extents.specs.Left.{extents_from, extents_left, IsReady};
+ghost use Rattle.vara_extents.specs.Left.{extents_from, extents_left, AreReady, IsRunOf, IsReady};
 
 use crate::needs::{element_count, variable_at};
 use crate::runs::{place_of, run_of};
@@ -11,27 +12,120 @@ use nc_base::{Extent, Header, Region, Var};
 use type_external::size_of;
 use var_layout::Measures;
 
+/// The elements of a region as runs, one after another: the elements of a run follow one another in the file.
+#[derive(Clone, Copy, Drop)]
+struct Runs<'a> {
+    header: &'a Header,
+    var: &'a Var,
+    region: &'a Region,
+    /// The bytes from a record to the next one.
+    recsize: u64,
+    /// How many elements a run has.
+    elements: u64,
+    /// How many runs there are.
+    count: u64,
+}
+
+/// A run on the way.
+#[derive(Clone, Copy, Drop)]
+struct Run {
+    /// How many runs stand before it.
+    number: u64,
+    /// Its first byte, where there is such a run.
+    at: u64,
+}
+
+impl<'a> Runs<'a> {
+    ghost use Rattle.std.specs.Prelude.{◌≡◌, ◌*◌, ◌<◌, ◌≤◌, ◌+◌, IfSome, slice_get, true};
+    ghost use Rattle.serial_spec.specs.ExternalForm as external;
+    ghost use Rattle.serial_spec.specs.HeaderGrammar.{is_sound};
+    ghost use Rattle.var_layout.specs.Measures.{AreMeasures};
+    ghost use Rattle.vara_extents.specs.Accepted.{IsAccepted};
+    ghost use Rattle.vara_extents.specs.Joined.{extents_of};
+    ghost use Rattle.vara_extents.specs.Left.{extents_from, AreReady, IsRunOf};
+
+    /// The runs of a region of the variable at this place of the header's list, as long as can be.
+    fn new(header: &'a Header, measures: &Measures, var: usize, region: &'a Region) -> Runs<'a>
+        requires sound { is_sound header.now ≡ true }
+        requires measured { AreMeasures header.now measures.now }
+        requires accepted { IsAccepted header.now var region.now }
+        ensures extents { IfSome (slice_get header.now.vars var) (λ v. extents_from result 0 ≡ extents_of header.now v region.now) }
+        ensures ready { AreReady result }
+    {
+        let var = variable_at(header, var);
+        let recsize = measures.recsize(header);
+        let elements = element_count(region.count.as_slice());
+        let run = if elements == 0 {
+            1
+        } else {
+            run_of(header, var, region, recsize)
+        };
+        Runs {
+            header,
+            var,
+            region,
+            recsize,
+            elements: run,
+            count: elements / run,
+        }
+    }
+
+    /// The run with this number; behind the last one, no run.
+    fn run(&self, number: u64) -> Run
+        requires ready { AreReady self.now }
+        requires there { number ≤ self.now.count }
+        ensures placed { IsRunOf self.now result }
+        ensures number { result.number ≡ number }
+    {
+        let at = if number < self.count {
+            place_of(
+                self.header,
+                self.var,
+                self.region,
+                self.recsize,
+                number * self.elements,
+            )
+        } else {
+            0
+        };
+        Run { number, at }
+    }
+
+    /// The run after this one.
+    fn after(&self, run: Run) -> Run
+        requires ready { AreReady self.now }
+        requires there { run.number < self.now.count }
+        requires placed { IsRunOf self.now run }
+        ensures placed { IsRunOf self.now result }
+        ensures number { result.number ≡ run.number + 1 }
+    {
+        self.run(run.number + 1)
+    }
+
+    /// The bytes of a run.
+    fn bytes(&self) -> u64
+        requires ready { AreReady self.now }
+        requires some { 1 ≤ self.now.count }
+        ensures { result ≡ self.now.elements * external.size_of self.now.var.now.kind }
+    {
+        self.elements * size_of(self.var.kind)
+    }
+}
+
 /// The bytes of a region's elements in row-major order, as extents of the file: neighbours in file and order are joined,
 /// and none is empty. It takes no memory.
 #[derive(Clone, Copy, Drop)]
 pub struct Extents<'a> {
-    header: &'a Header,
-    var: &'a Var,
-    region: &'a Region,
-    // The bytes from a record to the next one.
-    recsize: u64,
-    // How many elements follow one another at least, from each multiple of it on.
-    run: u64,
-    // How many runs of so many elements there are, and how many of them are given.
-    runs: u64,
-    given: u64,
+    runs: Runs<'a>,
+    // The first run that is not given.
+    next: Run,
 }
 
-/// An extent, and how many runs are given with it.
+/// An extent, and the first run that isn't given with it.
 #[derive(Clone, Copy)]
 struct Taken {
     extent: Extent,
-    runs: u64,
+    next: Run,
 }
 
 impl<'a> Extents<'a> {
@@ -40,7 +134,7 @@ impl<'a> Extents<'a> {
     ghost use Rattle.var_layout.specs.Measures.{AreMeasures};
     ghost use Rattle.vara_extents.specs.Accepted.{IsAccepted};
     ghost use Rattle.vara_extents.specs.Joined.{joined_to, extents_of};
-    ghost use Rattle.vara_extents.specs.Left.{extents_from, extents_left, IsReady};
+    ghost use Rattle.vara_extents.specs.Left.{extents_from, extents_left, IsRunOf, IsReady};
 
     /// The extents of a region of the variable at this place of the header's list. `measures` are the header's.
     pub fn new(
@@ -55,63 +149,32 @@ impl<'a> Extents<'a> {
         ensures extents { IfSome (slice_get header.now.vars var) (λ v. extents_left result ≡ extents_of header.now v region.now) }
         ensures ready { IsReady result }
     {
-        let var = variable_at(header, var);
-        let recsize = measures.recsize(header);
-        let elements = element_count(region.count.as_slice());
-        let run = if elements == 0 {
-            1
-        } else {
-            run_of(header, var, region, recsize)
-        };
-        Extents {
-            header,
-            var,
-            region,
-            recsize,
-            run,
-            runs: elements / run,
-            given: 0,
-        }
-    }
-
-    /// The bytes of the run with this number.
-    fn run_at(&self, number: u64) -> Extent
-        requires ready { IsReady self.now }
-        requires there { number < self.now.runs }
-        ensures first { extents_from self.now number ≡ joined_to result (extents_from self.now (number + 1)) }
-        ensures low { result.at + result.len ≤ 2 ^ 62 }
-    {
-        Extent {
-            at: place_of(
-                self.header,
-                self.var,
-                self.region,
-                self.recsize,
-                number * self.run,
-            ),
-            len: self.run * size_of(self.var.kind),
-        }
+        let runs = Runs::new(header, measures, var, region);
+        let next = runs.run(0);
+        Extents { runs, next }
     }
 
     /// The next extent: the next run, and those after it that follow one another in the file.
     fn front(&self) -> Taken
         requires ready { IsReady self.now }
-        requires there { self.now.given < self.now.runs }
-        ensures extent { extents_left self.now ≡ result.extent ∷ extents_from self.now result.runs }
-        ensures runs { result.runs ≤ self.now.runs }
+        requires there { self.now.next.number < self.now.runs.count }
+        ensures extent { extents_left self.now ≡ result.extent ∷ extents_from self.now.runs result.next.number }
+        ensures next { IsRunOf self.now.runs result.next }
     {
-        let mut extent = self.run_at(self.given);
-        for runs in self.given + 1..self.runs {
-            let run = self.run_at(runs);
-            if run.at != extent.at + extent.len {
-                return Taken { extent, runs };
+        let bytes = self.runs.bytes();
+        let mut extent = Extent {
+            at: self.next.at,
+            len: bytes,
+        };
+        let mut next = self.runs.after(self.next);
+        for number in self.next.number + 1..self.runs.count {
+            if next.at != extent.at + extent.len {
+                return Taken { extent, next };
             }
-            extent.len += run.len;
+            extent.len += bytes;
+            next = self.runs.after(next);
         }
-        Taken {
-            extent,
-            runs: self.runs,
-        }
+        Taken { extent, next }
     }
 }
 
@@ -128,11 +191,11 @@ impl<'a> Iterator for Extents<'a> {
     ghost remaining = { item_count extents_left };
 
     fn next(&mut self) -> Option<Extent> {
-        if self.given >= self.runs {
+        if self.next.number >= self.runs.count {
             return None;
         }
         let front = self.front();
-        self.given = front.runs;
+        self.next = front.next;
         Some(front.extent)
     }
 }

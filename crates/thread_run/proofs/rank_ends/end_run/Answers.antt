@@ -1,5 +1,5 @@
 -- The ranks' ends, as a list that is lent.
-use Rattle.std.proofs.Common.{◌≡◌, List, sym, subst, None, true, ap, Err, map}
+use Rattle.std.proofs.Common.{◌≡◌, List, sym, subst, None, true, ap, Err}
 use Rattle.nc_base.specs.declared.step.StepErr.{StepErr}
 use Rattle.nc_base.specs.declared.run.RankEnd.{RankEnd}
 use Rattle.serial_spec.specs.HeaderGrammar.{is_sound}

@@ -16,7 +16,7 @@ use Rattle.thread_run.proofs.ThreadSettles.{AreTold, residents_told, told_all}
 use Rattle.thread_run.proofs.rank_threads.run_started.Goals as goal
 
 pub serve-served-requires-clause-hints : goal.serve-served-requires-clause-hints
-serve-served-requires-clause-hints g c κs within = lawful_hints c.args.script.now c.requires.lawful
+serve-served-requires-clause-hints g c κs within = lawful_hints c.args.lent.now.script.now c.requires.runnable.lawful
 
 pub join_all-requires-clause-residents : goal.join_all-requires-clause-residents
 join_all-requires-clause-residents g c =
@@ -45,16 +45,16 @@ end_run-requires-clause-known g c κs within =
     let settled : AreSettled c.serve-served.new.inbox.items now back ends =
     subst (λ (v : List (End OwnerItem)). AreSettled c.serve-served.new.inbox.items now v ends) c.into_vec.ensures
     (subst (λ (v : List Resident). AreSettled c.serve-served.new.inbox.items v c.into_vec.result.items ends) ones_now c.join_all.ensures) in
-    let script = c.args.script.now in
-    let header = c.args.header.now in
+    let script = c.args.lent.now.script.now in
+    let header = c.args.lent.now.header.now in
     let arrivals = arrived c.args.crew.inbox c.serve-served.new.inbox in
     let given = gained lines back in
-    let all = told_all script header c.args.crew.inbox c.serve-served.new.inbox c.args.crew.ones.items now lines back ends c.requires.lawful c.requires.taken c.requires.senders c.requires.all empty c.requires.of told long
+    let all = told_all script header c.args.crew.inbox c.serve-served.new.inbox c.args.crew.ones.items now lines back ends c.requires.runnable.lawful c.requires.taken c.requires.senders c.requires.all empty c.requires.of told long
     residents c.serve-served.ensures.taken c.serve-served.ensures.put settled in
     let owner = owner_of script header arrivals given (g.D.Disk.held c.args.disk.now) (g.D.Disk.calls c.args.disk.now) (g.D.Disk.faults c.args.disk.now)
     (g.D.Disk.held c.serve-served.new.disk) (g.D.Disk.calls c.serve-served.new.disk) (g.D.Disk.faults c.serve-served.new.disk) c.serve-served.new.records c.serve-served.result
     c.args.crew.inbox.senders c.requires.senders c.serve-served.ensures.done c.serve-served.ensures.bytes c.serve-served.ensures.calls c.serve-served.ensures.failed c.serve-served.ensures.cause c.serve-served.ensures.later in
-    λ none whole. known_sound script header arrivals given ends c.requires.sound c.requires.lawful all c.serve-served.result (owner.done none) whole
+    λ none whole. known_sound script header arrivals given ends c.requires.runnable.sound c.requires.runnable.lawful all c.serve-served.result (owner.done none) whole
 
 pub returns-clause-run : goal.returns-clause-run
 returns-clause-run g c =
@@ -70,16 +70,16 @@ returns-clause-run g c =
     let settled : AreSettled c.serve-served.new.inbox.items now back ends =
     subst (λ (v : List (End OwnerItem)). AreSettled c.serve-served.new.inbox.items now v ends) c.into_vec.ensures
     (subst (λ (v : List Resident). AreSettled c.serve-served.new.inbox.items v c.into_vec.result.items ends) ones_now c.join_all.ensures) in
-    let script = c.args.script.now in
-    let header = c.args.header.now in
+    let script = c.args.lent.now.script.now in
+    let header = c.args.lent.now.header.now in
     let arrivals = arrived c.args.crew.inbox c.serve-served.new.inbox in
     let given = gained lines back in
-    let all = told_all script header c.args.crew.inbox c.serve-served.new.inbox c.args.crew.ones.items now lines back ends c.requires.lawful c.requires.taken c.requires.senders c.requires.all empty c.requires.of told long
+    let all = told_all script header c.args.crew.inbox c.serve-served.new.inbox c.args.crew.ones.items now lines back ends c.requires.runnable.lawful c.requires.taken c.requires.senders c.requires.all empty c.requires.of told long
     residents c.serve-served.ensures.taken c.serve-served.ensures.put settled in
     let owner = owner_of script header arrivals given (g.D.Disk.held c.args.disk.now) (g.D.Disk.calls c.args.disk.now) (g.D.Disk.faults c.args.disk.now)
     (g.D.Disk.held c.serve-served.new.disk) (g.D.Disk.calls c.serve-served.new.disk) (g.D.Disk.faults c.serve-served.new.disk) c.serve-served.new.records c.serve-served.result
     c.args.crew.inbox.senders c.requires.senders c.serve-served.ensures.done c.serve-served.ensures.bytes c.serve-served.ensures.calls c.serve-served.ensures.failed c.serve-served.ensures.cause c.serve-served.ensures.later in
-    run_all script header arrivals given ends c.requires.sound c.requires.lawful all (g.D.Disk.held c.args.disk.now) (g.D.Disk.calls c.args.disk.now) (g.D.Disk.faults c.args.disk.now)
+    run_all script header arrivals given ends c.requires.runnable.sound c.requires.runnable.lawful all (g.D.Disk.held c.args.disk.now) (g.D.Disk.calls c.args.disk.now) (g.D.Disk.faults c.args.disk.now)
     (g.D.Disk.held c.serve-served.new.disk) (g.D.Disk.calls c.serve-served.new.disk) (g.D.Disk.faults c.serve-served.new.disk) c.serve-served.new.records c.serve-served.result
     (g.D.Disk.held c.end_run.new.disk) (g.D.Disk.calls c.end_run.new.disk) (g.D.Disk.faults c.end_run.new.disk) c.end_run.new.records c.end_run.result owner
     (record {
@@ -93,7 +93,7 @@ returns-clause-run g c =
       cause = c.end_run.ensures.cause;
       later = c.end_run.ensures.later;
     })
-    (run_cut script header arrivals given ends c.requires.sound c.requires.lawful all (g.D.Disk.held c.args.disk.now) (g.D.Disk.held c.serve-served.new.disk) c.serve-served.new.records c.serve-served.result
+    (run_cut script header arrivals given ends c.requires.runnable.sound c.requires.runnable.lawful all (g.D.Disk.held c.args.disk.now) (g.D.Disk.held c.serve-served.new.disk) c.serve-served.new.records c.serve-served.result
     (g.D.Disk.held c.end_run.new.disk) c.end_run.new.records c.end_run.result c.args.crew.inbox.senders c.requires.senders c.serve-served.ensures.done c.serve-served.ensures.bytes c.serve-served.ensures.cut
     (λ e is. record {
       order = c.end_run.ensures.order;
@@ -117,12 +117,12 @@ returns-clause-told g c =
     let settled : AreSettled c.serve-served.new.inbox.items now back ends =
     subst (λ (v : List (End OwnerItem)). AreSettled c.serve-served.new.inbox.items now v ends) c.into_vec.ensures
     (subst (λ (v : List Resident). AreSettled c.serve-served.new.inbox.items v c.into_vec.result.items ends) ones_now c.join_all.ensures) in
-    let script = c.args.script.now in
-    let header = c.args.header.now in
+    let script = c.args.lent.now.script.now in
+    let header = c.args.lent.now.header.now in
     let arrivals = arrived c.args.crew.inbox c.serve-served.new.inbox in
     let given = gained lines back in
-    let all = told_all script header c.args.crew.inbox c.serve-served.new.inbox c.args.crew.ones.items now lines back ends c.requires.lawful c.requires.taken c.requires.senders c.requires.all empty c.requires.of told long
+    let all = told_all script header c.args.crew.inbox c.serve-served.new.inbox c.args.crew.ones.items now lines back ends c.requires.runnable.lawful c.requires.taken c.requires.senders c.requires.all empty c.requires.of told long
     residents c.serve-served.ensures.taken c.serve-served.ensures.put settled in
-    run_told script header arrivals given ends c.requires.sound c.requires.lawful all (g.D.Disk.held c.serve-served.new.disk) c.serve-served.new.records c.serve-served.result
+    run_told script header arrivals given ends c.requires.runnable.sound c.requires.runnable.lawful all (g.D.Disk.held c.serve-served.new.disk) c.serve-served.new.records c.serve-served.result
     (g.T.Told.heard c.args.told.now) (g.T.Told.heard c.serve-served.new.told) (g.D.Disk.held c.args.disk.now) c.args.crew.inbox.senders c.requires.senders
     c.serve-served.ensures.told c.serve-served.ensures.done c.serve-served.ensures.bytes c.serve-served.ensures.cut c.end_run.result.order c.end_run.ensures.order

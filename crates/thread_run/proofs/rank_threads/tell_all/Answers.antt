@@ -1,5 +1,5 @@
 -- One thread more was told.
-use Rattle.std.proofs.Common.{◌≡◌, refl, sym, ◌∙◌, get_or, length-set, arith}
+use Rattle.std.proofs.Common.{refl, sym, ◌∙◌, get_or, length-set, arith}
 use Rattle.thread_run.specs.Resident.{IsToldToGo}
 use Rattle.turn_run.proofs.ListLaws.{get_long}
 use Rattle.turn_run.proofs.MeetLists.{each_more, left_more, read_at}

@@ -1,8 +1,7 @@
 -- One thread more was joined.
-use Rattle.std.proofs.Common.{◌≡◌, ◌<◌, ◌≤◌, ◌∷◌, ◌++◌, [], ℕ, List, Some, refl, sym, ◌∙◌, ap, subst, inl, inr, length, map, vec_capacity, rules, arith}
-use Rattle.std.proofs.lemmas.List.{append-nil, map-append, length-map}
+use Rattle.std.proofs.Common.{◌≡◌, ◌<◌, ◌++◌, refl, sym, ◌∙◌, ap, length, map, rules}
 use Rattle.turn_run.proofs.ListLaws.{get_long}
-use Rattle.thread_run.proofs.ThreadStarts.{both_long, get_mapped, own_number, snoc_append}
+use Rattle.thread_run.proofs.ThreadStarts.{both_long, get_mapped, own_number}
 use Rattle.thread_run.proofs.ThreadJoins.{map_snoc, none_left, of_either, settled_first, settled_push}
 use Rattle.thread_run.proofs.returned.join_all.Goals as goal
 

@@ -1,5 +1,5 @@
 -- The threads so far were joined, and the inbox is as it was.
-use Rattle.std.proofs.Common.{◌≡◌, ◌++◌, ◌<◌, ℕ, Some, map, length, vec_capacity}
+use Rattle.std.proofs.Common.{◌≡◌, ◌++◌, ℕ, Some, map, length, vec_capacity}
 use Rattle.std.specs.Prelude.{slice_get}
 use Rattle.nc_base.specs.declared.run.RankEnd.{RankEnd}
 use Rattle.nc_base.specs.declared.step.OwnerItem.{OwnerItem}

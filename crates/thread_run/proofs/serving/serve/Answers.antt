@@ -1,99 +1,104 @@
 -- What the ends tell, from where it stopped and what came after.
-use Rattle.std.proofs.Common.{ℕ, ◌≤◌, sym, ◌∙◌, subst}
+use Rattle.std.proofs.Common.{◌≡◌, ℕ, sym, ◌∙◌, subst, rules}
+use Rattle.nc_outside.specs.Cause.{Rose}
 use Rattle.collective_round.specs.Rounds.{setting}
 use Rattle.turn_run.specs.Counts.{IsCount}
-use Rattle.thread_run.specs.Owned.{opening_standing}
-use Rattle.thread_run.proofs.EndLaws.{end_bytes, end_calls, end_cut, end_done, end_failed, end_put, end_taken, end_told, halted_lines, outcome, seen_all}
+use Rattle.thread_run.proofs.EndLaws.{end_bytes, end_calls, end_cut, end_done, end_failed, end_put, end_taken, end_told, outcome_given}
 use Rattle.thread_run.proofs.serving.serve.Goals as goal
 
-pub open_desk-order-requires-clause-count : goal.open_desk-order-requires-clause-count
-open_desk-order-requires-clause-count g c κs within =
+pub serve_to_end-order-requires-clause-count : goal.serve_to_end-order-requires-clause-count
+serve_to_end-order-requires-clause-count g c κs within =
     subst (λ (n : ℕ). IsCount c.args.header.now (g.D.Disk.len c.args.disk.now) n) (sym c.requires.records) (record { sound = c.requires.sound; long = c.requires.long })
-
-pub finish-requires-clause-few : goal.finish-requires-clause-few
-finish-requires-clause-few g c κs within = subst (λ (n : ℕ). n ≤ 64) (sym c.open_desk-order.ensures.halted.taken.senders) c.requires.few
-
-pub finish-requires-clause-lines : goal.finish-requires-clause-lines
-finish-requires-clause-lines g c κs within =
-    halted_lines c.args.hints.now (setting c.args.header.now c.args.hints.now) c.args.inbox.now c.open_desk-order.new.inbox c.open_desk-order.new.door.ended
-    (opening_standing c.args.inbox.now.senders c.args.records.now (g.D.Disk.held c.args.disk.now) (g.D.Disk.calls c.args.disk.now) (g.T.Told.heard c.args.told.now) c.args.back.now)
-    c.open_desk-order.new.records (g.D.Disk.held c.open_desk-order.new.disk) (g.D.Disk.calls c.open_desk-order.new.disk) c.open_desk-order.result.0 (g.T.Told.heard c.open_desk-order.new.told) c.open_desk-order.new.back c.open_desk-order.result.1 c.open_desk-order.ensures.halted c.requires.lines
-
-pub finish-requires-clause-ended : goal.finish-requires-clause-ended
-finish-requires-clause-ended g c κs within =
-    seen_all c.args.inbox.now.senders c.open_desk-order.new.inbox.senders c.open_desk-order.new.door.ended c.open_desk-order.result.1 (sym c.open_desk-order.ensures.halted.taken.senders) c.open_desk-order.ensures.halted.seen
 
 pub returns-clause-taken : goal.returns-clause-taken
 returns-clause-taken g c =
-    end_taken c.args.hints.now (setting c.args.header.now c.args.hints.now) c.args.inbox.now c.finish.new.inbox c.finish.new.door.ended c.args.records.now (g.D.Disk.held c.args.disk.now) (g.D.Disk.calls c.args.disk.now) (g.T.Told.heard c.args.told.now) c.args.back.now
-    c.open_desk-order.new.records (g.D.Disk.held c.open_desk-order.new.disk) (g.D.Disk.calls c.open_desk-order.new.disk) c.open_desk-order.result.0 (g.T.Told.heard c.open_desk-order.new.told) c.finish.new.back c.open_desk-order.result.1
-    (outcome c.args.hints.now (setting c.args.header.now c.args.hints.now) c.args.inbox.now c.open_desk-order.new.inbox c.finish.new.inbox c.open_desk-order.new.door.ended c.finish.new.door.ended
-    (opening_standing c.args.inbox.now.senders c.args.records.now (g.D.Disk.held c.args.disk.now) (g.D.Disk.calls c.args.disk.now) (g.T.Told.heard c.args.told.now) c.args.back.now)
-    c.open_desk-order.new.records (g.D.Disk.held c.open_desk-order.new.disk) (g.D.Disk.calls c.open_desk-order.new.disk) c.open_desk-order.result.0 (g.T.Told.heard c.open_desk-order.new.told) c.open_desk-order.new.back c.finish.new.back c.open_desk-order.result.1 c.open_desk-order.ensures.halted c.finish.ensures)
+    let disk : c.disk-1.given.0 ≡ c.serve_to_end-order.new.out.disk.now = search rules in
+    let records : c.records-1.given.0 ≡ c.serve_to_end-order.new.out.records.now = search rules in
+    let told : c.told-1.given.0 ≡ c.serve_to_end-order.new.out.told.now = search rules in
+    let back : c.back-1.given.0 ≡ c.serve_to_end-order.new.out.back.now = search rules in
+    end_taken c.args.hints.now (setting c.args.header.now c.args.hints.now) c.args.inbox.now c.serve_to_end-order.new.inbox c.serve_to_end-order.ensures.outcome.0 c.args.records.now (g.D.Disk.held c.args.disk.now) (g.D.Disk.calls c.args.disk.now) (g.T.Told.heard c.args.told.now) c.args.back.now
+    c.records-1.given.0 (g.D.Disk.held c.disk-1.given.0) (g.D.Disk.calls c.disk-1.given.0) c.serve_to_end-order.result.0 (g.T.Told.heard c.told-1.given.0) c.back-1.given.0 c.serve_to_end-order.result.1
+    (outcome_given g.D.Disk g.T.Told _ _ _ _ _ _ c.serve_to_end-order.new.out _ _ c.disk-1.given.0 c.records-1.given.0 c.told-1.given.0 c.back-1.given.0 disk records told back c.serve_to_end-order.ensures.outcome.1)
     c.args.header.now.records c.requires.records c.requires.lines
 
 pub returns-clause-put : goal.returns-clause-put
 returns-clause-put g c =
-    end_put c.args.hints.now (setting c.args.header.now c.args.hints.now) c.args.inbox.now c.finish.new.inbox c.finish.new.door.ended c.args.records.now (g.D.Disk.held c.args.disk.now) (g.D.Disk.calls c.args.disk.now) (g.T.Told.heard c.args.told.now) c.args.back.now
-    c.open_desk-order.new.records (g.D.Disk.held c.open_desk-order.new.disk) (g.D.Disk.calls c.open_desk-order.new.disk) c.open_desk-order.result.0 (g.T.Told.heard c.open_desk-order.new.told) c.finish.new.back c.open_desk-order.result.1
-    (outcome c.args.hints.now (setting c.args.header.now c.args.hints.now) c.args.inbox.now c.open_desk-order.new.inbox c.finish.new.inbox c.open_desk-order.new.door.ended c.finish.new.door.ended
-    (opening_standing c.args.inbox.now.senders c.args.records.now (g.D.Disk.held c.args.disk.now) (g.D.Disk.calls c.args.disk.now) (g.T.Told.heard c.args.told.now) c.args.back.now)
-    c.open_desk-order.new.records (g.D.Disk.held c.open_desk-order.new.disk) (g.D.Disk.calls c.open_desk-order.new.disk) c.open_desk-order.result.0 (g.T.Told.heard c.open_desk-order.new.told) c.open_desk-order.new.back c.finish.new.back c.open_desk-order.result.1 c.open_desk-order.ensures.halted c.finish.ensures)
+    let disk : c.disk-1.given.0 ≡ c.serve_to_end-order.new.out.disk.now = search rules in
+    let records : c.records-1.given.0 ≡ c.serve_to_end-order.new.out.records.now = search rules in
+    let told : c.told-1.given.0 ≡ c.serve_to_end-order.new.out.told.now = search rules in
+    let back : c.back-1.given.0 ≡ c.serve_to_end-order.new.out.back.now = search rules in
+    end_put c.args.hints.now (setting c.args.header.now c.args.hints.now) c.args.inbox.now c.serve_to_end-order.new.inbox c.serve_to_end-order.ensures.outcome.0 c.args.records.now (g.D.Disk.held c.args.disk.now) (g.D.Disk.calls c.args.disk.now) (g.T.Told.heard c.args.told.now) c.args.back.now
+    c.records-1.given.0 (g.D.Disk.held c.disk-1.given.0) (g.D.Disk.calls c.disk-1.given.0) c.serve_to_end-order.result.0 (g.T.Told.heard c.told-1.given.0) c.back-1.given.0 c.serve_to_end-order.result.1
+    (outcome_given g.D.Disk g.T.Told _ _ _ _ _ _ c.serve_to_end-order.new.out _ _ c.disk-1.given.0 c.records-1.given.0 c.told-1.given.0 c.back-1.given.0 disk records told back c.serve_to_end-order.ensures.outcome.1)
     c.args.header.now.records c.requires.records c.requires.lines
 
 pub returns-clause-told : goal.returns-clause-told
 returns-clause-told g c =
-    end_told c.args.hints.now (setting c.args.header.now c.args.hints.now) c.args.inbox.now c.finish.new.inbox c.finish.new.door.ended c.args.records.now (g.D.Disk.held c.args.disk.now) (g.D.Disk.calls c.args.disk.now) (g.T.Told.heard c.args.told.now) c.args.back.now
-    c.open_desk-order.new.records (g.D.Disk.held c.open_desk-order.new.disk) (g.D.Disk.calls c.open_desk-order.new.disk) c.open_desk-order.result.0 (g.T.Told.heard c.open_desk-order.new.told) c.finish.new.back c.open_desk-order.result.1
-    (outcome c.args.hints.now (setting c.args.header.now c.args.hints.now) c.args.inbox.now c.open_desk-order.new.inbox c.finish.new.inbox c.open_desk-order.new.door.ended c.finish.new.door.ended
-    (opening_standing c.args.inbox.now.senders c.args.records.now (g.D.Disk.held c.args.disk.now) (g.D.Disk.calls c.args.disk.now) (g.T.Told.heard c.args.told.now) c.args.back.now)
-    c.open_desk-order.new.records (g.D.Disk.held c.open_desk-order.new.disk) (g.D.Disk.calls c.open_desk-order.new.disk) c.open_desk-order.result.0 (g.T.Told.heard c.open_desk-order.new.told) c.open_desk-order.new.back c.finish.new.back c.open_desk-order.result.1 c.open_desk-order.ensures.halted c.finish.ensures)
+    let disk : c.disk-1.given.0 ≡ c.serve_to_end-order.new.out.disk.now = search rules in
+    let records : c.records-1.given.0 ≡ c.serve_to_end-order.new.out.records.now = search rules in
+    let told : c.told-1.given.0 ≡ c.serve_to_end-order.new.out.told.now = search rules in
+    let back : c.back-1.given.0 ≡ c.serve_to_end-order.new.out.back.now = search rules in
+    end_told c.args.hints.now (setting c.args.header.now c.args.hints.now) c.args.inbox.now c.serve_to_end-order.new.inbox c.serve_to_end-order.ensures.outcome.0 c.args.records.now (g.D.Disk.held c.args.disk.now) (g.D.Disk.calls c.args.disk.now) (g.T.Told.heard c.args.told.now) c.args.back.now
+    c.records-1.given.0 (g.D.Disk.held c.disk-1.given.0) (g.D.Disk.calls c.disk-1.given.0) c.serve_to_end-order.result.0 (g.T.Told.heard c.told-1.given.0) c.back-1.given.0 c.serve_to_end-order.result.1
+    (outcome_given g.D.Disk g.T.Told _ _ _ _ _ _ c.serve_to_end-order.new.out _ _ c.disk-1.given.0 c.records-1.given.0 c.told-1.given.0 c.back-1.given.0 disk records told back c.serve_to_end-order.ensures.outcome.1)
     c.args.header.now.records c.requires.records c.requires.lines
 
 pub returns-clause-done : goal.returns-clause-done
 returns-clause-done g c =
-    end_done c.args.hints.now (setting c.args.header.now c.args.hints.now) c.args.inbox.now c.finish.new.inbox c.finish.new.door.ended c.args.records.now (g.D.Disk.held c.args.disk.now) (g.D.Disk.calls c.args.disk.now) (g.T.Told.heard c.args.told.now) c.args.back.now
-    c.open_desk-order.new.records (g.D.Disk.held c.open_desk-order.new.disk) (g.D.Disk.calls c.open_desk-order.new.disk) c.open_desk-order.result.0 (g.T.Told.heard c.open_desk-order.new.told) c.finish.new.back c.open_desk-order.result.1
-    (outcome c.args.hints.now (setting c.args.header.now c.args.hints.now) c.args.inbox.now c.open_desk-order.new.inbox c.finish.new.inbox c.open_desk-order.new.door.ended c.finish.new.door.ended
-    (opening_standing c.args.inbox.now.senders c.args.records.now (g.D.Disk.held c.args.disk.now) (g.D.Disk.calls c.args.disk.now) (g.T.Told.heard c.args.told.now) c.args.back.now)
-    c.open_desk-order.new.records (g.D.Disk.held c.open_desk-order.new.disk) (g.D.Disk.calls c.open_desk-order.new.disk) c.open_desk-order.result.0 (g.T.Told.heard c.open_desk-order.new.told) c.open_desk-order.new.back c.finish.new.back c.open_desk-order.result.1 c.open_desk-order.ensures.halted c.finish.ensures)
+    let disk : c.disk-1.given.0 ≡ c.serve_to_end-order.new.out.disk.now = search rules in
+    let records : c.records-1.given.0 ≡ c.serve_to_end-order.new.out.records.now = search rules in
+    let told : c.told-1.given.0 ≡ c.serve_to_end-order.new.out.told.now = search rules in
+    let back : c.back-1.given.0 ≡ c.serve_to_end-order.new.out.back.now = search rules in
+    end_done c.args.hints.now (setting c.args.header.now c.args.hints.now) c.args.inbox.now c.serve_to_end-order.new.inbox c.serve_to_end-order.ensures.outcome.0 c.args.records.now (g.D.Disk.held c.args.disk.now) (g.D.Disk.calls c.args.disk.now) (g.T.Told.heard c.args.told.now) c.args.back.now
+    c.records-1.given.0 (g.D.Disk.held c.disk-1.given.0) (g.D.Disk.calls c.disk-1.given.0) c.serve_to_end-order.result.0 (g.T.Told.heard c.told-1.given.0) c.back-1.given.0 c.serve_to_end-order.result.1
+    (outcome_given g.D.Disk g.T.Told _ _ _ _ _ _ c.serve_to_end-order.new.out _ _ c.disk-1.given.0 c.records-1.given.0 c.told-1.given.0 c.back-1.given.0 disk records told back c.serve_to_end-order.ensures.outcome.1)
     c.args.header.now.records c.requires.records c.requires.lines c.fault_of.result c.stranger_of.result c.fault_of.ensures c.stranger_of.ensures
 
 pub returns-clause-bytes : goal.returns-clause-bytes
 returns-clause-bytes g c =
-    end_bytes c.args.hints.now (setting c.args.header.now c.args.hints.now) c.args.inbox.now c.finish.new.inbox c.finish.new.door.ended c.args.records.now (g.D.Disk.held c.args.disk.now) (g.D.Disk.calls c.args.disk.now) (g.T.Told.heard c.args.told.now) c.args.back.now
-    c.open_desk-order.new.records (g.D.Disk.held c.open_desk-order.new.disk) (g.D.Disk.calls c.open_desk-order.new.disk) c.open_desk-order.result.0 (g.T.Told.heard c.open_desk-order.new.told) c.finish.new.back c.open_desk-order.result.1
-    (outcome c.args.hints.now (setting c.args.header.now c.args.hints.now) c.args.inbox.now c.open_desk-order.new.inbox c.finish.new.inbox c.open_desk-order.new.door.ended c.finish.new.door.ended
-    (opening_standing c.args.inbox.now.senders c.args.records.now (g.D.Disk.held c.args.disk.now) (g.D.Disk.calls c.args.disk.now) (g.T.Told.heard c.args.told.now) c.args.back.now)
-    c.open_desk-order.new.records (g.D.Disk.held c.open_desk-order.new.disk) (g.D.Disk.calls c.open_desk-order.new.disk) c.open_desk-order.result.0 (g.T.Told.heard c.open_desk-order.new.told) c.open_desk-order.new.back c.finish.new.back c.open_desk-order.result.1 c.open_desk-order.ensures.halted c.finish.ensures)
+    let disk : c.disk-1.given.0 ≡ c.serve_to_end-order.new.out.disk.now = search rules in
+    let records : c.records-1.given.0 ≡ c.serve_to_end-order.new.out.records.now = search rules in
+    let told : c.told-1.given.0 ≡ c.serve_to_end-order.new.out.told.now = search rules in
+    let back : c.back-1.given.0 ≡ c.serve_to_end-order.new.out.back.now = search rules in
+    end_bytes c.args.hints.now (setting c.args.header.now c.args.hints.now) c.args.inbox.now c.serve_to_end-order.new.inbox c.serve_to_end-order.ensures.outcome.0 c.args.records.now (g.D.Disk.held c.args.disk.now) (g.D.Disk.calls c.args.disk.now) (g.T.Told.heard c.args.told.now) c.args.back.now
+    c.records-1.given.0 (g.D.Disk.held c.disk-1.given.0) (g.D.Disk.calls c.disk-1.given.0) c.serve_to_end-order.result.0 (g.T.Told.heard c.told-1.given.0) c.back-1.given.0 c.serve_to_end-order.result.1
+    (outcome_given g.D.Disk g.T.Told _ _ _ _ _ _ c.serve_to_end-order.new.out _ _ c.disk-1.given.0 c.records-1.given.0 c.told-1.given.0 c.back-1.given.0 disk records told back c.serve_to_end-order.ensures.outcome.1)
     c.args.header.now.records c.requires.records c.requires.lines c.fault_of.result c.fault_of.ensures
 
 pub returns-clause-calls : goal.returns-clause-calls
 returns-clause-calls g c =
-    end_calls c.args.hints.now (setting c.args.header.now c.args.hints.now) c.args.inbox.now c.finish.new.inbox c.finish.new.door.ended c.args.records.now (g.D.Disk.held c.args.disk.now) (g.D.Disk.calls c.args.disk.now) (g.T.Told.heard c.args.told.now) c.args.back.now
-    c.open_desk-order.new.records (g.D.Disk.held c.open_desk-order.new.disk) (g.D.Disk.calls c.open_desk-order.new.disk) c.open_desk-order.result.0 (g.T.Told.heard c.open_desk-order.new.told) c.finish.new.back c.open_desk-order.result.1
-    (outcome c.args.hints.now (setting c.args.header.now c.args.hints.now) c.args.inbox.now c.open_desk-order.new.inbox c.finish.new.inbox c.open_desk-order.new.door.ended c.finish.new.door.ended
-    (opening_standing c.args.inbox.now.senders c.args.records.now (g.D.Disk.held c.args.disk.now) (g.D.Disk.calls c.args.disk.now) (g.T.Told.heard c.args.told.now) c.args.back.now)
-    c.open_desk-order.new.records (g.D.Disk.held c.open_desk-order.new.disk) (g.D.Disk.calls c.open_desk-order.new.disk) c.open_desk-order.result.0 (g.T.Told.heard c.open_desk-order.new.told) c.open_desk-order.new.back c.finish.new.back c.open_desk-order.result.1 c.open_desk-order.ensures.halted c.finish.ensures)
+    let disk : c.disk-1.given.0 ≡ c.serve_to_end-order.new.out.disk.now = search rules in
+    let records : c.records-1.given.0 ≡ c.serve_to_end-order.new.out.records.now = search rules in
+    let told : c.told-1.given.0 ≡ c.serve_to_end-order.new.out.told.now = search rules in
+    let back : c.back-1.given.0 ≡ c.serve_to_end-order.new.out.back.now = search rules in
+    end_calls c.args.hints.now (setting c.args.header.now c.args.hints.now) c.args.inbox.now c.serve_to_end-order.new.inbox c.serve_to_end-order.ensures.outcome.0 c.args.records.now (g.D.Disk.held c.args.disk.now) (g.D.Disk.calls c.args.disk.now) (g.T.Told.heard c.args.told.now) c.args.back.now
+    c.records-1.given.0 (g.D.Disk.held c.disk-1.given.0) (g.D.Disk.calls c.disk-1.given.0) c.serve_to_end-order.result.0 (g.T.Told.heard c.told-1.given.0) c.back-1.given.0 c.serve_to_end-order.result.1
+    (outcome_given g.D.Disk g.T.Told _ _ _ _ _ _ c.serve_to_end-order.new.out _ _ c.disk-1.given.0 c.records-1.given.0 c.told-1.given.0 c.back-1.given.0 disk records told back c.serve_to_end-order.ensures.outcome.1)
     c.args.header.now.records c.requires.records c.requires.lines c.fault_of.result c.fault_of.ensures
 
 pub returns-clause-failed : goal.returns-clause-failed
 returns-clause-failed g c = λ e.
-    end_failed c.args.hints.now (setting c.args.header.now c.args.hints.now) c.args.inbox.now c.finish.new.inbox c.finish.new.door.ended c.args.records.now (g.D.Disk.held c.args.disk.now) (g.D.Disk.calls c.args.disk.now) (g.T.Told.heard c.args.told.now) c.args.back.now
-    c.open_desk-order.new.records (g.D.Disk.held c.open_desk-order.new.disk) (g.D.Disk.calls c.open_desk-order.new.disk) c.open_desk-order.result.0 (g.T.Told.heard c.open_desk-order.new.told) c.finish.new.back c.open_desk-order.result.1
-    (outcome c.args.hints.now (setting c.args.header.now c.args.hints.now) c.args.inbox.now c.open_desk-order.new.inbox c.finish.new.inbox c.open_desk-order.new.door.ended c.finish.new.door.ended
-    (opening_standing c.args.inbox.now.senders c.args.records.now (g.D.Disk.held c.args.disk.now) (g.D.Disk.calls c.args.disk.now) (g.T.Told.heard c.args.told.now) c.args.back.now)
-    c.open_desk-order.new.records (g.D.Disk.held c.open_desk-order.new.disk) (g.D.Disk.calls c.open_desk-order.new.disk) c.open_desk-order.result.0 (g.T.Told.heard c.open_desk-order.new.told) c.open_desk-order.new.back c.finish.new.back c.open_desk-order.result.1 c.open_desk-order.ensures.halted c.finish.ensures)
+    let disk : c.disk-1.given.0 ≡ c.serve_to_end-order.new.out.disk.now = search rules in
+    let records : c.records-1.given.0 ≡ c.serve_to_end-order.new.out.records.now = search rules in
+    let told : c.told-1.given.0 ≡ c.serve_to_end-order.new.out.told.now = search rules in
+    let back : c.back-1.given.0 ≡ c.serve_to_end-order.new.out.back.now = search rules in
+    end_failed c.args.hints.now (setting c.args.header.now c.args.hints.now) c.args.inbox.now c.serve_to_end-order.new.inbox c.serve_to_end-order.ensures.outcome.0 c.args.records.now (g.D.Disk.held c.args.disk.now) (g.D.Disk.calls c.args.disk.now) (g.T.Told.heard c.args.told.now) c.args.back.now
+    c.records-1.given.0 (g.D.Disk.held c.disk-1.given.0) (g.D.Disk.calls c.disk-1.given.0) c.serve_to_end-order.result.0 (g.T.Told.heard c.told-1.given.0) c.back-1.given.0 c.serve_to_end-order.result.1
+    (outcome_given g.D.Disk g.T.Told _ _ _ _ _ _ c.serve_to_end-order.new.out _ _ c.disk-1.given.0 c.records-1.given.0 c.told-1.given.0 c.back-1.given.0 disk records told back c.serve_to_end-order.ensures.outcome.1)
     c.args.header.now.records c.requires.records c.requires.lines c.fault_of.result c.stranger_of.result e c.fault_of.ensures c.stranger_of.ensures
 
 pub returns-clause-cut : goal.returns-clause-cut
 returns-clause-cut g c = λ e.
-    end_cut c.args.hints.now (setting c.args.header.now c.args.hints.now) c.args.inbox.now c.finish.new.inbox c.finish.new.door.ended c.args.records.now (g.D.Disk.held c.args.disk.now) (g.D.Disk.calls c.args.disk.now) (g.T.Told.heard c.args.told.now) c.args.back.now
-    c.open_desk-order.new.records (g.D.Disk.held c.open_desk-order.new.disk) (g.D.Disk.calls c.open_desk-order.new.disk) c.open_desk-order.result.0 (g.T.Told.heard c.open_desk-order.new.told) c.finish.new.back c.open_desk-order.result.1
-    (outcome c.args.hints.now (setting c.args.header.now c.args.hints.now) c.args.inbox.now c.open_desk-order.new.inbox c.finish.new.inbox c.open_desk-order.new.door.ended c.finish.new.door.ended
-    (opening_standing c.args.inbox.now.senders c.args.records.now (g.D.Disk.held c.args.disk.now) (g.D.Disk.calls c.args.disk.now) (g.T.Told.heard c.args.told.now) c.args.back.now)
-    c.open_desk-order.new.records (g.D.Disk.held c.open_desk-order.new.disk) (g.D.Disk.calls c.open_desk-order.new.disk) c.open_desk-order.result.0 (g.T.Told.heard c.open_desk-order.new.told) c.open_desk-order.new.back c.finish.new.back c.open_desk-order.result.1 c.open_desk-order.ensures.halted c.finish.ensures)
+    let disk : c.disk-1.given.0 ≡ c.serve_to_end-order.new.out.disk.now = search rules in
+    let records : c.records-1.given.0 ≡ c.serve_to_end-order.new.out.records.now = search rules in
+    let told : c.told-1.given.0 ≡ c.serve_to_end-order.new.out.told.now = search rules in
+    let back : c.back-1.given.0 ≡ c.serve_to_end-order.new.out.back.now = search rules in
+    end_cut c.args.hints.now (setting c.args.header.now c.args.hints.now) c.args.inbox.now c.serve_to_end-order.new.inbox c.serve_to_end-order.ensures.outcome.0 c.args.records.now (g.D.Disk.held c.args.disk.now) (g.D.Disk.calls c.args.disk.now) (g.T.Told.heard c.args.told.now) c.args.back.now
+    c.records-1.given.0 (g.D.Disk.held c.disk-1.given.0) (g.D.Disk.calls c.disk-1.given.0) c.serve_to_end-order.result.0 (g.T.Told.heard c.told-1.given.0) c.back-1.given.0 c.serve_to_end-order.result.1
+    (outcome_given g.D.Disk g.T.Told _ _ _ _ _ _ c.serve_to_end-order.new.out _ _ c.disk-1.given.0 c.records-1.given.0 c.told-1.given.0 c.back-1.given.0 disk records told back c.serve_to_end-order.ensures.outcome.1)
     c.args.header.now.records c.requires.records c.requires.lines c.fault_of.result e c.fault_of.ensures
 
 pub returns-clause-cause : goal.returns-clause-cause
-returns-clause-cause g c = λ e. c.open_desk-order.ensures.cause.failed (sym c.fault_of.ensures ∙ e)
+returns-clause-cause g c = λ e.
+    let disk : c.disk-1.given.0 ≡ c.serve_to_end-order.new.out.disk.now = search rules in
+    subst (λ x. Rose (g.D.Disk.faults c.args.disk.now) (g.D.Disk.faults x)) (sym disk) (c.serve_to_end-order.ensures.cause.failed (sym c.fault_of.ensures ∙ e))

@@ -1,7 +1,6 @@
 -- One more reply is put.
-use Rattle.std.proofs.Common.{◌≡◌, ◌∙◌, ◌∷◌, [], sym, ap, arith, length, List, ℕ, Option, None, Some}
+use Rattle.std.proofs.Common.{◌∙◌, ◌∷◌, [], sym, ap, arith, length, List, ℕ, Option, None, Some}
 use Rattle.std.proofs.lemmas.List.{length-set}
-use Rattle.nc_base.specs.declared.step.OwnerItem.{OwnerItem}
 use Rattle.nc_base.specs.declared.step.OwnerItem.TheVariants.{Reply}
 use Rattle.thread_run.specs.Owned.{replies}
 use Rattle.turn_run.specs.Seated.{reply_of}

@@ -1,5 +1,4 @@
 -- The lines so far have their stops.
-use Rattle.std.proofs.Common.{◌≡◌, length}
 use Rattle.thread_run.specs.Owned.{Grows}
 use Rattle.thread_run.specs.Stopping.{stop_each}
 use Rattle.thread_run.proofs.PutLaws.{below}

@@ -1,6 +1,5 @@
 -- One more number has its stop.
-use Rattle.std.proofs.Common.{◌∙◌, ap, arith, get_or}
-use Rattle.std.specs.Prelude.{slice_get}
+use Rattle.std.proofs.Common.{ap, arith}
 use Rattle.serial_spec.specs.Desk.{stop_held}
 use Rattle.thread_run.specs.Stopping.{held_stops}
 use Rattle.turn_run.proofs.ListLaws.{get_read}

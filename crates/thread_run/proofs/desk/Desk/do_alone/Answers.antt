@@ -7,6 +7,6 @@ use Rattle.thread_run.proofs.desk.Desk.do_alone.Goals as goal
 
 pub returns-in-Err-clause-stopped : goal.returns-in-Err-clause-stopped
 returns-in-Err-clause-stopped g c =
-    alone_stopped c.args.number c.args.call c.args.offer.now c.args.self.now.seats.items c.deref.result.now c.args.back.now c.reply_alone.new.back c.stop_held.new.back c.put_on.new.self c.in-Err.ensures.lines
+    alone_stopped c.args.solo.now.number c.args.solo.now.call c.args.solo.now.offer.now c.args.self.now.seats.items c.deref.result.now c.args.out.now.back.now c.reply_alone.new.out.back.now c.stop_held.new.back c.put_on.new.self c.in-Err.ensures.lines
     (c.deref.ensures.value ∙ ap (λ v. v.items) c.in-Err.ensures.seats) c.stop_held.ensures
-    (one_put c.stop_held.new.back c.put_on.new.self c.args.number Stop c.put_on.ensures.here c.put_on.ensures.others c.put_on.ensures.len)
+    (one_put c.stop_held.new.back c.put_on.new.self c.args.solo.now.number Stop c.put_on.ensures.here c.put_on.ensures.others c.put_on.ensures.len)

@@ -1,26 +1,45 @@
 -- A run that begins at the end is joined, and one that does not is left.
-use Rattle.std.proofs.Common.{◌+◌, ◌∷◌, List, sym, ap, ◌∙◌, arith}
+use Rattle.std.proofs.Common.{◌+◌, ◌∷◌, List, ℕ, sym, ap, ◌∙◌, arith}
 use Rattle.nc_base.specs.declared.plan.Extent.{Extent}
 use Rattle.vara_extents.specs.Joined.{joined_to}
 use Rattle.vara_extents.specs.Left.{extents_from}
-use Rattle.vara_extents.proofs.JoinLaws.{join_far, join_two}
-use Rattle.vara_extents.proofs.WalkLaws.{none_left}
+use Rattle.vara_extents.proofs.JoinLaws.{extent, join_far, join_two}
+use Rattle.vara_extents.proofs.WalkLaws.{none_left, placed_run}
 use Rattle.vara_extents.proofs.walk.Extents.front.Goals as goal
 
-pub loop-runs-preserved : goal.loop-runs-preserved
-loop-runs-preserved c = record {
-  left = c.loop-runs.invariant.left ∙ ap (λ (es : List Extent). joined_to c.loop-runs.extent es) c.run_at-run.ensures.first
-      ∙ join_two c.loop-runs.extent c.run_at-run.result (extents_from c.args.self.now (c.loop-runs.runs + 1)) c.if-run-extent.false;
-  low = omega (arith, c.run_at-run.ensures.low, c.if-run-extent.false);
-}
+pub loop-number-init : goal.loop-number-init
+loop-number-init c =
+    let first = placed_run c.args.self.now.runs c.args.self.now.next c.after-next.result c.bytes-bytes.result c.requires.ready.runs c.requires.ready.next c.requires.there c.bytes-bytes.ensures c.after-next.ensures.number in
+    record { left = first.0; low = first.1; placed = c.after-next.ensures.placed; number = c.after-next.ensures.number }
 
-pub returns-then-run-extent-clause-extent : goal.returns-then-run-extent-clause-extent
-returns-then-run-extent-clause-extent c =
-    c.loop-runs.invariant.left ∙ ap (λ (es : List Extent). joined_to c.loop-runs.extent es) c.run_at-run.ensures.first
-    ∙ join_far c.loop-runs.extent c.run_at-run.result (extents_from c.args.self.now (c.loop-runs.runs + 1)) c.if-run-extent.true
-    ∙ ap (λ (es : List Extent). c.loop-runs.extent ∷ es) (sym c.run_at-run.ensures.first)
+pub overflow_add-extent-in-loop-number : goal.overflow_add-extent-in-loop-number
+overflow_add-extent-in-loop-number c =
+    let run = placed_run c.args.self.now.runs c.loop-number.next (record { number = c.loop-number.next.number + 1; at = 0 }) c.bytes-bytes.result c.requires.ready.runs c.loop-number.invariant.placed
+    (omega (arith, c.loop-number.invariant.number, c.loop-number-test.true)) c.bytes-bytes.ensures (λ i. c.loop-number.next.number + 1) in
+    omega (arith, run.1, c.loop-number.invariant.low)
+
+pub loop-number-preserved : goal.loop-number-preserved
+loop-number-preserved c =
+    let run = placed_run c.args.self.now.runs c.loop-number.next c.after-next-in-loop-number.result c.bytes-bytes.result c.requires.ready.runs c.loop-number.invariant.placed
+    (omega (arith, c.loop-number.invariant.number, c.loop-number-test.true)) c.bytes-bytes.ensures c.after-next-in-loop-number.ensures.number in
+    record {
+      left = c.loop-number.invariant.left ∙ ap (λ (es : List Extent). joined_to c.loop-number.extent es) run.0
+          ∙ join_two c.loop-number.extent (extent c.loop-number.next.at c.bytes-bytes.result) (extents_from c.args.self.now.runs c.after-next-in-loop-number.result.number) c.if-next-extent.false;
+      low = omega (arith, run.1, c.if-next-extent.false);
+      placed = c.after-next-in-loop-number.ensures.placed;
+      number = omega (arith, c.after-next-in-loop-number.ensures.number, c.loop-number.invariant.number);
+    }
+
+pub returns-then-next-extent-clause-extent : goal.returns-then-next-extent-clause-extent
+returns-then-next-extent-clause-extent c =
+    let run = placed_run c.args.self.now.runs c.loop-number.next (record { number = c.loop-number.next.number + 1; at = 0 }) c.bytes-bytes.result c.requires.ready.runs c.loop-number.invariant.placed
+    (omega (arith, c.loop-number.invariant.number, c.loop-number-test.true)) c.bytes-bytes.ensures (λ i. c.loop-number.next.number + 1) in
+    c.loop-number.invariant.left ∙ ap (λ (es : List Extent). joined_to c.loop-number.extent es) run.0
+    ∙ join_far c.loop-number.extent (extent c.loop-number.next.at c.bytes-bytes.result) (extents_from c.args.self.now.runs (c.loop-number.next.number + 1)) c.if-next-extent.true
+    ∙ ap (λ (es : List Extent). c.loop-number.extent ∷ es) (sym run.0)
 
 pub returns-clause-extent : goal.returns-clause-extent
 returns-clause-extent c =
-    c.loop-runs.invariant.left ∙ ap (λ (es : List Extent). joined_to c.loop-runs.extent es) (none_left c.args.self.now c.loop-runs.runs c.requires.ready c.loop-runs-test.false)
-    ∙ ap (λ (es : List Extent). c.loop-runs.extent ∷ es) (sym (none_left c.args.self.now c.args.self.now.runs c.requires.ready (omega arith)))
+    let none = none_left c.args.self.now.runs c.loop-number.next.number c.requires.ready.runs (omega (arith, c.loop-number.invariant.number, c.loop-number-test.false)) in
+    c.loop-number.invariant.left ∙ ap (λ (es : List Extent). joined_to c.loop-number.extent es) none
+    ∙ ap (λ (es : List Extent). c.loop-number.extent ∷ es) (sym none)

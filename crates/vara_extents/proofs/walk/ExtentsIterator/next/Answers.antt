@@ -5,7 +5,7 @@ use Rattle.vara_extents.proofs.walk.ExtentsIterator.next.Goals as goal
 
 pub returns-then-self-clause-steps : goal.returns-then-self-clause-steps
 returns-then-self-clause-steps c =
-    let none = none_left c.args.self.now c.args.self.now.given c.requires c.if-self.true in
+    let none = none_left c.args.self.now.runs c.args.self.now.next.number c.requires.runs c.if-self.true in
     (none, none)
 
 pub returns-clause-steps : goal.returns-clause-steps
@@ -14,11 +14,4 @@ returns-clause-steps c = c.front-front.ensures.extent
 pub returns-clause-goes : goal.returns-clause-goes
 returns-clause-goes c =
     goes_on extents_left IsReady _ _ c.front-front.result.extent c.front-front.ensures.extent
-    (record {
-      sound = c.requires.sound;
-      accepted = c.requires.accepted;
-      recsize = c.requires.recsize;
-      follow = c.requires.follow;
-      runs = c.requires.runs;
-      given = c.front-front.ensures.runs;
-    })
+    (record { runs = c.requires.runs; next = c.front-front.ensures.next })

@@ -1,0 +1,44 @@
+-- What a run lends to its steps. (own)
+--     setting_of dataset       what a step goes by
+--     IsReadable dataset       a sound header with its measures, and lawful hints
+--     AreSame old now          outlets that still lend the same
+--     IsRunnable lent          a sound header with an index of its names, and a lawful script
+--     RunsOn disk .. end       what came of a run on a disk
+use Rattle.std.specs.Prelude.{◌≡◌, ℕ, true}
+use Rattle.nc_base.specs.declared.header.Header.{Header}
+use Rattle.nc_base.specs.declared.run.RunEnd.{RunEnd}
+use Rattle.nc_base.specs.declared.script.Script.{Script}
+use Rattle.nc_outside.specs.declared.disk.Disk.{Ghosts as DiskGhosts}
+use Rattle.serial_spec.specs.FileStep.{Setting}
+use Rattle.serial_spec.specs.HeaderGrammar.{is_sound}
+use Rattle.serial_spec.specs.Lawful.{are_lawful_hints, is_lawful}
+use Rattle.collective_round.specs.Rounds.{setting}
+use Rattle.rank_core.specs.Indexed.{IsIndexOf}
+use Rattle.turn_run.specs.Run.{IsRun}
+use Rattle.var_layout.specs.Measures.{AreMeasures}
+use Rattle.collective_round.specs.declared.lent.Dataset.{Dataset}
+use Rattle.thread_run.specs.declared.lent.Lent.{Lent}
+use Rattle.thread_run.specs.declared.lent.Outlets.{Outlets}
+
+abbrev pub setting_of : Dataset → Setting
+setting_of dataset = setting dataset.header.now dataset.hints.now
+
+pub record IsReadable (dataset : Dataset) : Type 0 where
+  pub sound : is_sound dataset.header.now ≡ true
+  pub measured : AreMeasures dataset.header.now dataset.measures.now
+  pub hints : are_lawful_hints dataset.hints.now ≡ true
+
+pub record AreSame {D T : Type 0} (old now : Outlets D T) : Type 0 where
+  pub disk : now.disk.ghost_name ≡ old.disk.ghost_name
+  pub records : now.records.ghost_name ≡ old.records.ghost_name
+  pub told : now.told.ghost_name ≡ old.told.ghost_name
+  pub back : now.back.ghost_name ≡ old.back.ghost_name
+
+pub record IsRunnable {R G : Type 0} (lent : Lent R G) : Type 0 where
+  pub sound : is_sound lent.header.now ≡ true
+  pub lawful : is_lawful lent.script.now ≡ true
+  pub names : IsIndexOf lent.header.now lent.names.now
+
+abbrev pub RunsOn : {D : Type 0} → DiskGhosts D → Script → Header → D → D → ℕ → RunEnd → Type 0
+RunsOn disk script header old now records end =
+    IsRun script header (disk.held old) (disk.calls old) (disk.faults old) (disk.held now) (disk.calls now) (disk.faults now) records end
