@@ -108,10 +108,10 @@ pub record GoUp (r : Runs) (row : ℕ) : Type 0 where
 pub steps_up : (r : Runs) (row : ℕ) → AreReady r → 2 ≤ r.count → 2 ≤ row
     → ((weights : List ℕ) → length weights ≡ length r.region.now.count → HaveRows (λ k. weighted weights (coordinates_of r.region.now.count k)) r.elements row (product r.region.now.count))
     → GoUp r row
-steps_up r row h some long rows = by_rows (rows_of r.header.now r.var.now r.region.now r.elements row shape.starts shape.counts shape.strides rows)
+steps_up r row h some long rows =
+    let shape = accepted r.header.now r.var.now r.region.now h.accepted.2.0 h.accepted.2.1 (accepted_var r.header.now h.accepted.0 r.var.now r.region.now h.accepted.1 h.accepted.2) in
+    by_rows (rows_of r.header.now r.var.now r.region.now r.elements row shape.starts shape.counts shape.strides rows)
   where
-    shape = accepted r.header.now r.var.now r.region.now h.accepted.2.0 h.accepted.2.1 (accepted_var r.header.now h.accepted.0 r.var.now r.region.now h.accepted.1 h.accepted.2)
-
     stepped : (step : ℕ) → AreRuns (run_place r) step row r.count → GoUp r row
     stepped step a =
         let most = rows_low a.parts.0 a.parts.1 in

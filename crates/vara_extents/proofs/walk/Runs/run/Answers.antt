@@ -13,7 +13,7 @@ pub returns-clause-placed : goal.returns-clause-placed
 returns-clause-placed c =
     let at : c.args.number < c.args.self.now.count → c.if-number-self.at ≡ run_place c.args.self.now c.args.number =
     elim c.if-number-self.branch [
-      | then-number-self w ↦ λ l. w.at-is ∙ w.place.ensures.place
+      | then-number-self w ↦ λ l. w.at-is ∙ w.place-at.ensures.place
       | else-number-self w ↦ λ l. absurd (omega (arith, l, w.if-number-self.false))
     ] in
     record {
