@@ -1,5 +1,5 @@
 -- Rows of runs: in one dimension the places of runs go up by equal steps.
-use Rattle.std.proofs.Common.{◌≡◌, ℕ, zero, suc, ◌+◌, ◌-◌, ◌*◌, ◌/◌, ◌%◌, ◌<◌, ◌≤◌, ◌⊎◌, inl, inr, refl, sym, ap, subst, ◌∙◌, List, [], ◌∷◌, length, get_or, Bool, true, false, arith}
+use Rattle.std.proofs.Common.{◌≡◌, ℕ, zero, suc, ◌+◌, ◌*◌, ◌/◌, ◌%◌, ◌<◌, ◌≤◌, inl, inr, refl, sym, ap, subst, ◌∙◌, List, [], ◌∷◌, length, get_or, Bool, true, false, arith}
 use Rattle.std.specs.Prelude.{slice_get}
 use Rattle.std.proofs.lemmas.List.{length-map}
 use Rattle.std.proofs.lemmas.Nat.{div-mul-add, mod-mul-add, div-add-mod', mod_below, mul-le}
@@ -12,7 +12,7 @@ use Rattle.serial_spec.specs.Layout.{product, length_of, recsize, is_record, sta
 use Rattle.serial_spec.specs.Place.{place}
 use Rattle.serial_spec.specs.Place as spec
 use Rattle.serial_spec.specs.Request.{index_at}
-use Rattle.vara_extents.specs.Numbered.{coordinates_of, index_of, lengths_of, row_of, weighted, AreRuns, HaveRows}
+use Rattle.vara_extents.specs.Numbered.{coordinates_of, index_of, lengths_of, weighted, AreRuns, HaveRows}
 use Rattle.vara_extents.proofs.RowSteps.{rest, rest_is, fixed_is, record_place_is, record_row, same_rests, split}
 use Rattle.vara_extents.proofs.RunLaws.{kept, same_runs}
 
@@ -30,11 +30,16 @@ single f step total = record { some = omega arith; parts = (total, omega arith);
 pub row_here : (f : ℕ → ℕ) (n weight run total : ℕ) → 1 ≤ n → 1 ≤ run → total ≡ run
     → HaveRows (λ k. k / total * weight + f (k % total)) run n (n * total)
 row_here f n weight run total some one same =
-    inr (n, ap (λ (m : ℕ). n * m) same, weight, record {
-      some = some;
-      parts = (1, omega arith);
-      follow = λ q i l below. at (q * n + i) ∙ omega (arith, at (q * n));
-    })
+    inr (
+      n,
+      ap (λ (m : ℕ). n * m) same,
+      weight,
+      record {
+        some = some;
+        parts = (1, omega arith);
+        follow = λ q i l below. at (q * n + i) ∙ omega (arith, at (q * n));
+      },
+    )
   where
     at : (q : ℕ) → q * run / total * weight + f (q * run % total) ≡ q * weight + f 0
     at q =
@@ -46,8 +51,12 @@ pub row_inside : (f : ℕ → ℕ) (n weight run row total : ℕ) → 1 ≤ run 
     → HaveRows (λ k. k / total * weight + f (k % total)) run row (n * total)
 row_inside f n weight run row total one some (inl h) = inl h
 row_inside f n weight run row total one some (inr h) =
-    inr (n * h.0, omega (arith, ap (λ (x : ℕ). n * x) h.1), h.2,
-    same_runs _ (λ q. q * run / total * weight + f (q * run % total)) h.2 row (n * h.0) (λ q. same q) (kept (λ q. f (q * run)) n 0 1 weight h.2 row h.0 h.3))
+    inr (
+      n * h.0,
+      omega (arith, ap (λ (x : ℕ). n * x) h.1),
+      h.2,
+      same_runs _ (λ q. q * run / total * weight + f (q * run % total)) h.2 row (n * h.0) (λ q. same q) (kept (λ q. f (q * run)) n 0 1 weight h.2 row h.0 h.3),
+    )
   where
     blocks : (m : ℕ) → total ≡ m * run → 1 ≤ m
     blocks zero e = absurd (omega arith)
@@ -92,11 +101,16 @@ rows_inside (n ∷ counts) (w ∷ weights) run row a some one h l =
 -- the same from a base on
 pub rows_from : (f g : ℕ → ℕ) (base run row total : ℕ) → ((k : ℕ) → base + f k ≡ g k) → HaveRows f run row total → HaveRows g run row total
 rows_from f g base run row total same (inl h) = inl h
-rows_from f g base run row total same (inr h) = inr (h.0, h.1, h.2, record {
-  some = h.3.some;
-  parts = h.3.parts;
-  follow = λ q i l below. sym (same ((q * row + i) * run)) ∙ omega (arith, h.3.follow q i l below, same (q * row * run));
-})
+rows_from f g base run row total same (inr h) = inr (
+  h.0,
+  h.1,
+  h.2,
+  record {
+    some = h.3.some;
+    parts = h.3.parts;
+    follow = λ q i l below. sym (same ((q * row + i) * run)) ∙ omega (arith, h.3.follow q i l below, same (q * row * run));
+  },
+)
 
 abbrev weights_of : ℕ → List ℕ → List ℕ → List ℕ
 weights_of size (n ∷ lengths) (t ∷ strides) = t * product lengths * size ∷ weights_of size lengths strides

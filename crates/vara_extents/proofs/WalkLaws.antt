@@ -1,5 +1,5 @@
 -- The extents that are left, one run after another.
-use Rattle.std.proofs.Common.{◌≡◌, ℕ, zero, suc, ◌+◌, ◌*◌, ◌/◌, ◌^◌, ◌<◌, ◌≤◌, refl, sym, ap, ◌∙◌, List, [], ◌∷◌, length, drop, true, Some, ◌-◌, ◌%◌, ◌⊎◌, inl, inr, subst, arith}
+use Rattle.std.proofs.Common.{◌≡◌, ℕ, zero, suc, ◌+◌, ◌*◌, ◌/◌, ◌^◌, ◌<◌, ◌≤◌, refl, sym, ap, ◌∙◌, List, [], ◌∷◌, length, drop, true, Some, ◌-◌, ◌%◌, inl, inr, subst, arith}
 use Rattle.std.specs.Iterator.{MakesProgress, item_count}
 use Rattle.std.proofs.lemmas.List.{drop_all}
 use Rattle.std.proofs.lemmas.Nat.{div-add-mod', mod_below, mul-le}
@@ -137,9 +137,10 @@ steps_up r row h some long rows =
 pub placed_run : (r : Runs) (run next : Run) (len : ℕ) → AreReady r → IsRunOf r run → run.number < r.count → len ≡ r.elements * size_of r.var.now.kind → next.number ≡ run.number + 1
     → (extents_from r run.number ≡ joined_to (record { at = run.at; len = len }) (extents_from r next.number)) × (run.at + len ≤ 2 ^ 62)
 placed_run r run next len h placed l long after =
-    let at = run_here r run placed l in
-    (first_run r run.number run.at len h l at long ∙ ap (λ (k : ℕ). joined_to (record { at = run.at; len = len }) (extents_from r k)) (sym after),
-     omega (arith, at, long, (inside r run.number h l).low))
+    let at = run_here r run placed l in (
+      first_run r run.number run.at len h l at long ∙ ap (λ (k : ℕ). joined_to (record { at = run.at; len = len }) (extents_from r k)) (sym after),
+      omega (arith, at, long, (inside r run.number h l).low),
+    )
 
 -- nothing is left after the last run
 pub none_left : (r : Runs) (k : ℕ) → AreReady r → r.count ≤ k → extents_from r k ≡ []

@@ -236,7 +236,9 @@ pub(crate) fn row_of_runs(counts: &[u64], run: u64) -> u64
     requires run { 1 ≤ run }
     ensures { (weights : List ℕ) → length weights ≡ length counts.now → HaveRows (λ k. weighted weights (coordinates_of counts.now k)) run result (product counts.now) }
 {
-    let [count, counts @ ..] = counts else { return 1 };
+    let [count, counts @ ..] = counts else {
+        return 1
+    };
     if element_count(counts) == run {
         *count
     } else {

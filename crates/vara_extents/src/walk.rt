@@ -60,12 +60,7 @@ impl<'a> Runs<'a> {
     ghost use Rattle.vara_extents.specs.Numbered.{AreRuns};
 
     /// The runs of a region of the variable at this place of the header's list, as long as can be, and each in a row of its own.
-    fn alone(
-        header: &'a Header,
-        measures: &Measures,
-        var: usize,
-        region: &'a Region,
-    ) -> Runs<'a>
+    fn alone(header: &'a Header, measures: &Measures, var: usize, region: &'a Region) -> Runs<'a>
         requires sound { is_sound header.now ≡ true }
         requires measured { AreMeasures header.now measures.now }
         requires accepted { IsAccepted header.now var region.now }
@@ -92,12 +87,7 @@ impl<'a> Runs<'a> {
     }
 
     /// The same in rows as long as can be.
-    fn new(
-        header: &'a Header,
-        measures: &Measures,
-        var: usize,
-        region: &'a Region,
-    ) -> Runs<'a>
+    fn new(header: &'a Header, measures: &Measures, var: usize, region: &'a Region) -> Runs<'a>
         requires sound { is_sound header.now ≡ true }
         requires measured { AreMeasures header.now measures.now }
         requires accepted { IsAccepted header.now var region.now }

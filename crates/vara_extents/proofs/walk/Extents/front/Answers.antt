@@ -1,5 +1,5 @@
 -- A run that begins at the end is joined, and one that does not is left.
-use Rattle.std.proofs.Common.{◌+◌, ◌∷◌, List, ℕ, sym, ap, ◌∙◌, arith}
+use Rattle.std.proofs.Common.{◌+◌, ◌∷◌, List, sym, ap, ◌∙◌, arith}
 use Rattle.nc_base.specs.declared.plan.Extent.{Extent}
 use Rattle.vara_extents.specs.Joined.{joined_to}
 use Rattle.vara_extents.specs.Left.{extents_from}

@@ -1,6 +1,5 @@
 -- The next run of a row is a step farther.
-use Rattle.std.proofs.Common.{◌+◌, ℕ, ap, arith}
-use Rattle.vara_extents.specs.Left.{run_place}
+use Rattle.std.proofs.Common.{arith}
 use Rattle.vara_extents.proofs.WalkLaws.{inside, run_here, next_in_row}
 use Rattle.vara_extents.proofs.walk.Runs.after.Goals as goal
 

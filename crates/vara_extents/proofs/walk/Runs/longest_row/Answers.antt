@@ -1,5 +1,5 @@
 -- A row's step is the difference of its first two places.
-use Rattle.std.proofs.Common.{◌≡◌, ◌-◌, ℕ, List, length, ap, sym, subst, ◌∙◌, arith}
+use Rattle.std.proofs.Common.{◌≡◌, ◌-◌, ℕ, List, length, ap, sym, subst, arith}
 use Rattle.serial_spec.specs.Layout.{product}
 use Rattle.vara_extents.specs.Left.{run_place}
 use Rattle.vara_extents.specs.Numbered.{coordinates_of, weighted, AreRuns, HaveRows}
