@@ -76,12 +76,13 @@ fn make_calls<R: Wait, G: Gate>(
     ensures stood { (put : List RankItem) × (taken : List OwnerItem) × (out.new.items ≡ out.old.items ++ put) × (back.new.items ≡ back.old.items ++ taken)
         × HasStood header.now (calls_of script.now out.old.number) put taken seat.new result }
 {
+    let rt = tools.rt;
     let number = out.number();
     let calls = own_calls(script, number);
     seat.go_on(tools, header, script, number, calls)?;
     'offers: while let Some(offer) = seat.held.take() {
-        out.put(tools.rt, SentItem::offer(seat.answers.len() as u32, offer));
-        let reply = match back.take(tools.rt) {
+        out.put(rt, SentItem::offer(seat.answers.len() as u32, offer));
+        let reply = match back.take(rt) {
             OwnerItem::Reply(reply) => reply,
             OwnerItem::Stop => return Ok(RankStop::Stopped),
         };

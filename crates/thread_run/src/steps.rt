@@ -253,22 +253,16 @@ impl Desk {
         ensures longer { D.len out.old.disk.now ≤ D.len out.new.disk.now }
         ensures cause { HasStepCause (D.faults out.old.disk.now) (D.faults out.new.disk.now) result }
     {
-        let (job, known) = self.take_job(tools.alloc)?;
+        let Tools { rt, alloc, gate: _ } = *tools;
+        let (job, known) = self.take_job(alloc)?;
         let (pair, table) = meet_on_file(tools, out.disk, dataset, out.records, &job, known)?;
         let met = next_number(self.met)?;
         let mark = Mark::Meet(self.met);
         let records = *out.records;
-        note_step(
-            tools.rt,
-            tools.alloc,
-            &mut self.order,
-            out.told,
-            mark,
-            records,
-        )?;
+        note_step(rt, alloc, &mut self.order, out.told, mark, records)?;
         self.met = met;
         self.reached = self.reached.max(records);
-        reply_all(tools.rt, out.back, pair, records, table);
+        reply_all(rt, out.back, pair, records, table);
         Ok(())
     }
 }

@@ -6,6 +6,7 @@ pub mod NumberLaws
 pub mod OnceLaws
 pub mod PartLaws
 pub mod PlaceLaws
+pub mod RowLaws
 pub mod RowSteps
 pub mod RunLaws
 pub mod SweepLaws

@@ -25,7 +25,7 @@ rest xs = take (length xs - 1) (drop 1 xs)
 pub rest_is : (x : ℕ) (xs : List ℕ) → rest (x ∷ xs) ≡ xs
 rest_is x xs = take_rest (x ∷ xs) 1
 
-split : (xs : List ℕ) → 1 ≤ length xs → xs ≡ get_or xs 0 0 ∷ rest xs
+pub split : (xs : List ℕ) → 1 ≤ length xs → xs ≡ get_or xs 0 0 ∷ rest xs
 split [] h = absurd (omega arith)
 split (x ∷ xs) h = ap (λ (ys : List ℕ). x ∷ ys) (sym (rest_is x xs))
 
@@ -179,12 +179,12 @@ fixed_is header v g number e =
     ap (λ (ls : List ℕ). v.begin + row ls (index_of g number) * size_of v.kind) (sym (fixed_lengths (lengths_of header v.dims) e)) ∙ sym (place_fixed header v (index_of g number) e)
 
 -- the record of an element and its place in the record
-record RecordRow (header : Header) (dims starts counts strides : List ℕ) (number : ℕ) : Type 0 where
-  record_is : record_of (index_at starts strides (coordinates_of counts number)) ≡ get_or starts 0 0 + number / product (rest counts) * get_or strides 0 0
-  index_is : within_record (index_at starts strides (coordinates_of counts number)) ≡ index_at (rest starts) (rest strides) (coordinates_of (rest counts) (number % product (rest counts)))
-  lengths_are : without_record (lengths_of header dims) ≡ lengths_of header (rest dims)
+pub record RecordRow (header : Header) (dims starts counts strides : List ℕ) (number : ℕ) : Type 0 where
+  pub record_is : record_of (index_at starts strides (coordinates_of counts number)) ≡ get_or starts 0 0 + number / product (rest counts) * get_or strides 0 0
+  pub index_is : within_record (index_at starts strides (coordinates_of counts number)) ≡ index_at (rest starts) (rest strides) (coordinates_of (rest counts) (number % product (rest counts)))
+  pub lengths_are : without_record (lengths_of header dims) ≡ lengths_of header (rest dims)
 
-record_row : (header : Header) (dims starts counts strides : List ℕ) (number : ℕ) → starts_with_zero (lengths_of header dims) ≡ true
+pub record_row : (header : Header) (dims starts counts strides : List ℕ) (number : ℕ) → starts_with_zero (lengths_of header dims) ≡ true
     → 1 ≤ length dims → 1 ≤ length starts → 1 ≤ length counts → 1 ≤ length strides → RecordRow header dims starts counts strides number
 record_row header [] starts counts strides number e a b c d = absurd (omega arith)
 record_row header (id ∷ dims) [] counts strides number e a b c d = absurd (omega arith)
@@ -197,7 +197,7 @@ record_row header (id ∷ dims) (s ∷ starts) (n ∷ counts) (t ∷ strides) nu
 }
 
 -- the place by the record and by the row
-record_place_is : (header : Header) (v : Var) (g : Region) (number : ℕ) → is_record header v ≡ true → RecordRow header v.dims g.start g.count g.stride number
+pub record_place_is : (header : Header) (v : Var) (g : Region) (number : ℕ) → is_record header v ≡ true → RecordRow header v.dims g.start g.count g.stride number
     → v.begin + (get_or g.start 0 0 + number / product (rest g.count) * get_or g.stride 0 0) * recsize header
     + row_of header (rest v.dims) (rest g.start) (rest g.count) (rest g.stride) (number % product (rest g.count)) * size_of v.kind ≡ place header v (index_of g number)
 record_place_is header v g number e r =
@@ -289,7 +289,7 @@ inner_bytes : (header : Header) (v : Var) (g : Region) (run : ℕ) → length (r
     → AreRuns (λ k. v.begin + row_of header (rest v.dims) (rest g.start) (rest g.count) (rest g.stride) k * size_of v.kind) (size_of v.kind) run (product (rest g.count))
 inner_bytes header v g run l h = sized (row_of header (rest v.dims) (rest g.start) (rest g.count) (rest g.stride)) v.begin (size_of v.kind) run (product (rest g.count)) (h (rest g.start) l)
 
-same_rests : (xs ys : List ℕ) → length xs ≡ length ys → length (rest xs) ≡ length (rest ys)
+pub same_rests : (xs ys : List ℕ) → length xs ≡ length ys → length (rest xs) ≡ length (rest ys)
 same_rests [] [] h = refl
 same_rests [] (y ∷ ys) h = absurd (omega arith)
 same_rests (x ∷ xs) [] h = absurd (omega arith)

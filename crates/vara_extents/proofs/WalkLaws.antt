@@ -1,8 +1,8 @@
 -- The extents that are left, one run after another.
-use Rattle.std.proofs.Common.{◌≡◌, ℕ, zero, suc, ◌+◌, ◌*◌, ◌/◌, ◌^◌, ◌<◌, ◌≤◌, refl, sym, ap, ◌∙◌, List, [], ◌∷◌, length, drop, true, Some, arith}
+use Rattle.std.proofs.Common.{◌≡◌, ℕ, zero, suc, ◌+◌, ◌*◌, ◌/◌, ◌^◌, ◌<◌, ◌≤◌, refl, sym, ap, ◌∙◌, List, [], ◌∷◌, length, drop, true, Some, ◌-◌, ◌%◌, inl, inr, subst, arith}
 use Rattle.std.specs.Iterator.{MakesProgress, item_count}
 use Rattle.std.proofs.lemmas.List.{drop_all}
-use Rattle.std.proofs.lemmas.Nat.{mul-le}
+use Rattle.std.proofs.lemmas.Nat.{div-add-mod', mod_below, mul-le}
 use Rattle.std.proofs.Math.Nat.{mul-div_cancel}
 use Rattle.nc_base.specs.declared.header.Header.{Header}
 use Rattle.nc_base.specs.declared.header.Var.{Var}
@@ -15,7 +15,9 @@ use Rattle.vara_extents.specs.declared.walk.Run.{Run}
 use Rattle.vara_extents.specs.declared.walk.Runs.{Runs}
 use Rattle.vara_extents.specs.Joined.{element_extents, extents_of, joined, joined_to}
 use Rattle.vara_extents.specs.Left.{extents_from, run_place, AreReady, IsRunOf}
-use Rattle.vara_extents.specs.Numbered.{index_of, AreRuns}
+use Rattle.serial_spec.proofs.AcceptLaws.{accepted}
+use Rattle.vara_extents.specs.Numbered.{coordinates_of, index_of, weighted, AreRuns, HaveRows}
+use Rattle.vara_extents.proofs.RowLaws.{rows_of}
 use Rattle.vara_extents.proofs.AcceptedLaws.{passed}
 use Rattle.vara_extents.proofs.NumberLaws.{length-element_extents, run_is}
 use Rattle.vara_extents.proofs.PlaceLaws.{IsPlaced, accepted_place, accepted_small, accepted_var, wide_records}
@@ -62,11 +64,80 @@ first_run r k at len h l is long =
     next : k * r.elements + r.elements ≡ (k + 1) * r.elements
     next = omega arith
 
--- the same of a run on the way, which ends within the file
+-- ---- rows
+
+-- those from a run on, in its row
+pub in_row : (r : Runs) (number at : ℕ) → AreReady r → (number < r.count → at ≡ run_place r number)
+    → (i : ℕ) → i ≤ r.row.runs - 1 - number % r.row.runs → number + i < r.count → at + i * r.row.step ≡ run_place r (number + i)
+in_row r number at h is i l below =
+    let n = r.row.runs in
+    let whole = div-add-mod' number n in
+    let low = mod_below number n h.rows.some in
+    let here : number / n * n + number % n ≡ number = whole in
+    let there : number / n * n + (number % n + i) ≡ number + i = omega (arith, whole) in
+    let one = h.rows.follow (number / n) (number % n + i) (omega (arith, low, l)) (omega (arith, whole, below)) in
+    let two = h.rows.follow (number / n) (number % n) low (omega (arith, whole, below)) in
+    let first = ap (λ (k : ℕ). run_place r k) here in
+    let last = ap (λ (k : ℕ). run_place r k) there in
+    let begin = is (omega arith) in
+    omega (arith, one, two, first, last, begin)
+
+pub run_here : (r : Runs) (run : Run) → IsRunOf r run → run.number < r.count → run.at ≡ run_place r run.number
+run_here r run placed l =
+    let own = placed.at 0 (omega arith) (omega arith) in
+    let same : run.number + 0 ≡ run.number = omega arith in
+    let at = ap (λ (k : ℕ). run_place r k) same in
+    omega (arith, own, at)
+
+pub next_in_row : (r : Runs) (run : Run) → IsRunOf r run → run.number < r.count → (run.left ≡ 0 → ⊥)
+    → IsRunOf r (record { number = run.number + 1; at = run.at + r.row.step; left = run.left - 1 })
+next_in_row r run placed l some = record {
+  within = omega arith;
+  at = λ i m below.
+      let same : run.number + (i + 1) ≡ run.number + 1 + i = omega arith in
+      let own = placed.at (i + 1) (omega arith) (omega arith) in
+      let at = ap (λ (k : ℕ). run_place r k) same in
+      omega (arith, own, at);
+}
+
+-- a row's step is from its first run to its second one
+pub record GoUp (r : Runs) (row : ℕ) : Type 0 where
+  pub up : run_place r 0 ≤ run_place r 1
+  pub rows : AreRuns (run_place r) (run_place r 1 - run_place r 0) row r.count
+
+pub steps_up : (r : Runs) (row : ℕ) → AreReady r → 2 ≤ r.count → 2 ≤ row
+    → ((weights : List ℕ) → length weights ≡ length r.region.now.count → HaveRows (λ k. weighted weights (coordinates_of r.region.now.count k)) r.elements row (product r.region.now.count))
+    → GoUp r row
+steps_up r row h some long rows =
+    let shape = accepted r.header.now r.var.now r.region.now h.accepted.2.0 h.accepted.2.1 (accepted_var r.header.now h.accepted.0 r.var.now r.region.now h.accepted.1 h.accepted.2) in
+    by_rows (rows_of r.header.now r.var.now r.region.now r.elements row shape.starts shape.counts shape.strides rows)
+  where
+    stepped : (step : ℕ) → AreRuns (run_place r) step row r.count → GoUp r row
+    stepped step a =
+        let most = rows_low a.parts.0 a.parts.1 in
+        let own = a.follow 0 1 (omega (arith, long)) (omega (arith, most, long)) in
+        let one : 0 * row + 1 ≡ 1 = omega arith in
+        let none : 0 * row ≡ 0 = omega arith in
+        let second = ap (λ (k : ℕ). run_place r k) one in
+        let first = ap (λ (k : ℕ). run_place r k) none in
+        let is : step ≡ run_place r 1 - run_place r 0 = omega (arith, own, second, first) in
+        record { up = omega (arith, own, second, first); rows = subst (λ (n : ℕ). AreRuns (run_place r) n row r.count) is a }
+      where
+        rows_low : (m : ℕ) → r.count ≡ m * row → row ≤ r.count
+        rows_low zero e = absurd (omega (arith, some, e))
+        rows_low (suc m) e = omega arith
+
+    by_rows : HaveRows (λ k. place r.header.now r.var.now (index_of r.region.now k)) r.elements row (product r.region.now.count) → GoUp r row
+    by_rows (inl e) = absurd (omega (arith, e, long))
+    by_rows (inr a) = stepped a.2 (subst (λ (m : ℕ). AreRuns (run_place r) a.2 row m) (sym (mul-div_cancel a.0 h.follow.some) ∙ ap (λ (n : ℕ). n / r.elements) (sym a.1 ∙ h.total) ∙ mul-div_cancel r.count h.follow.some) a.3)
+
+-- ---- a run on the way
+
+-- the run and the extents after it, and that it ends within the file
 pub placed_run : (r : Runs) (run next : Run) (len : ℕ) → AreReady r → IsRunOf r run → run.number < r.count → len ≡ r.elements * size_of r.var.now.kind → next.number ≡ run.number + 1
     → (extents_from r run.number ≡ joined_to (record { at = run.at; len = len }) (extents_from r next.number)) × (run.at + len ≤ 2 ^ 62)
 placed_run r run next len h placed l long after =
-    let at = placed.at l in (
+    let at = run_here r run placed l in (
       first_run r run.number run.at len h l at long ∙ ap (λ (k : ℕ). joined_to (record { at = run.at; len = len }) (extents_from r k)) (sym after),
       omega (arith, at, long, (inside r run.number h l).low),
     )

@@ -3,9 +3,9 @@
 --     extents_left e        those that it has still to give
 --     run_place r k         the first byte of run k
 --     AreReady r            what holds of the runs of a region
---     IsRunOf r run        one of them, where it lies, or none behind the last one
+--     IsRunOf r run         one of them, where it lies with those after it in its row; behind the last one, none
 --     IsReady e             what holds of the iterator at every moment
-use Rattle.std.specs.Prelude.{◌≡◌, ℕ, ◌*◌, ◌<◌, ◌≤◌, List, drop, true, Some, slice_get}
+use Rattle.std.specs.Prelude.{◌≡◌, ℕ, ◌+◌, ◌*◌, ◌^◌, ◌<◌, ◌≤◌, List, drop, true, Some, slice_get}
 use Rattle.nc_base.specs.declared.plan.Extent.{Extent}
 use Rattle.serial_spec.specs.ExternalForm.{size_of}
 use Rattle.serial_spec.specs.HeaderGrammar.{is_sound}
@@ -33,10 +33,12 @@ pub record AreReady (r : Runs) : Type 0 where
   pub recsize : r.recsize ≡ recsize r.header.now
   pub follow : AreRuns (λ k. place r.header.now r.var.now (index_of r.region.now k)) (size_of r.var.now.kind) r.elements (product r.region.now.count)
   pub total : product r.region.now.count ≡ r.count * r.elements
+  pub rows : AreRuns (run_place r) r.row.step r.row.runs r.count
+  pub low : r.row.step ≤ 2 ^ 62
 
 pub record IsRunOf (r : Runs) (run : Run) : Type 0 where
   pub within : run.number ≤ r.count
-  pub at : run.number < r.count → run.at ≡ run_place r run.number
+  pub at : (i : ℕ) → i ≤ run.left → run.number + i < r.count → run.at + i * r.row.step ≡ run_place r (run.number + i)
 
 pub record IsReady (e : Extents) : Type 0 where
   pub runs : AreReady e.runs

@@ -4,7 +4,9 @@
 --     lengths_of header ids          the lengths of dimensions
 --     row_of header ids .. k         how many indices of the dimensions stand before that of element k
 --     AreRuns place size run total   elements that follow one another in runs
-use Rattle.std.specs.Prelude.{◌≡◌, ℕ, ◌+◌, ◌*◌, ◌/◌, ◌%◌, ◌<◌, ◌≤◌, List, [], ◌∷◌, map, slice_get}
+--     HaveRows place run row total   runs that stand in rows
+--     weighted weights coordinates   the sum of the coordinates by their weights
+use Rattle.std.specs.Prelude.{◌≡◌, ℕ, ◌+◌, ◌*◌, ◌/◌, ◌%◌, ◌<◌, ◌≤◌, ◌⊎◌, List, [], ◌∷◌, map, slice_get}
 use Rattle.nc_base.specs.declared.header.Header.{Header}
 use Rattle.nc_base.specs.declared.request.Region.{Region}
 use Rattle.serial_spec.specs.Layout.{length_of, product}
@@ -29,3 +31,11 @@ pub record AreRuns (place : ℕ → ℕ) (size run total : ℕ) : Type 0 where
   pub some : 1 ≤ run
   pub parts : (m : ℕ) × (total ≡ m * run)
   pub follow : (q i : ℕ) → i < run → q * run + i < total → place (q * run + i) ≡ place (q * run) + i * size
+
+-- So many runs are a row, in which their places go up by equal steps; or each is a row of its own.
+abbrev pub HaveRows : (ℕ → ℕ) → ℕ → ℕ → ℕ → Type 0
+HaveRows place run row total = (row ≡ 1) ⊎ ((m : ℕ) × (total ≡ m * run) × (step : ℕ) × AreRuns (λ q. place (q * run)) step row m)
+
+abbrev pub weighted : List ℕ → List ℕ → ℕ
+weighted (w ∷ weights) (x ∷ coordinates) = x * w + weighted weights coordinates
+weighted _ _ = 0

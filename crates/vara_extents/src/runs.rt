@@ -6,7 +6,7 @@ ghost use Rattle.serial_spec.specs.Layout.{product};
 ghost use Rattle.serial_spec.specs.Place as spec;
 ghost use Rattle.serial_spec.specs.Place.{IsIndex, IsElement};
 ghost use Rattle.serial_spec.specs.Request.{index_at};
-ghost use Rattle.vara_extents.specs.Numbered.{coordinates_of, index_of, lengths_of, row_of, AreRuns};
+ghost use Rattle.vara_extents.specs.Numbered.{coordinates_of, index_of, lengths_of, row_of, weighted, AreRuns, HaveRows};
 
 use crate::needs::element_count;
 use nc_base::{Header, Region, Var};
@@ -226,4 +226,22 @@ pub(crate) fn run_of(header: &Header, var: &Var, region: &Region, recsize: u64) 
     let ids = var.dims.as_slice();
     let counts = region.count.as_slice();
     inner_run(header, ids, counts, region.stride.as_slice()).elements
+}
+
+/// How many runs of so many elements stand in a row: those that differ in the innermost dimension that has several. Their places go
+/// up by equal steps.
+pub(crate) fn row_of_runs(counts: &[u64], run: u64) -> u64
+    requires some { 1 ≤ product counts.now }
+    requires small { product counts.now ≤ 2 ^ 20 }
+    requires run { 1 ≤ run }
+    ensures { (weights : List ℕ) → length weights ≡ length counts.now → HaveRows (λ k. weighted weights (coordinates_of counts.now k)) run result (product counts.now) }
+{
+    let [count, counts @ ..] = counts else {
+        return 1
+    };
+    if element_count(counts) == run {
+        *count
+    } else {
+        row_of_runs(counts, run)
+    }
 }

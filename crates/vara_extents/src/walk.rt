@@ -4,10 +4,11 @@ ghost use Rattle.serial_spec.specs.ExternalForm as external;
 ghost use Rattle.serial_spec.specs.HeaderGrammar.{is_sound};
 ghost use Rattle.vara_extents.specs.Accepted.{IsAccepted};
 ghost use Rattle.vara_extents.specs.Joined.{joined_to, extents_of};
-ghost use Rattle.vara_extents.specs.Left.{extents_from, extents_left, AreReady, IsRunOf, IsReady};
+ghost use Rattle.vara_extents.specs.Left.{extents_from, extents_left, run_place, AreReady, IsRunOf, IsReady};
+ghost use Rattle.vara_extents.specs.Numbered.{AreRuns};
 
 use crate::needs::{element_count, variable_at};
-use crate::runs::{place_of, run_of};
+use crate::runs::{place_of, row_of_runs, run_of};
 use nc_base::{Extent, Header, Region, Var};
 use type_external::size_of;
 use var_layout::Measures;
@@ -24,6 +25,17 @@ struct Runs<'a> {
     elements: u64,
     /// How many runs there are.
     count: u64,
+    /// The rows in which they stand.
+    row: Row,
+}
+
+/// Runs that lie equally far apart.
+#[derive(Clone, Copy, Drop)]
+struct Row {
+    /// How many they are.
+    runs: u64,
+    /// The bytes from the first byte of one to that of the next one.
+    step: u64,
 }
 
 /// A run on the way.
@@ -33,19 +45,22 @@ struct Run {
     number: u64,
     /// Its first byte, where there is such a run.
     at: u64,
+    /// How many runs come after it in its row.
+    left: u64,
 }
 
 impl<'a> Runs<'a> {
-    ghost use Rattle.std.specs.Prelude.{◌≡◌, ◌*◌, ◌<◌, ◌≤◌, ◌+◌, IfSome, slice_get, true};
+    ghost use Rattle.std.specs.Prelude.{◌≡◌, ◌*◌, ◌<◌, ◌≤◌, ◌+◌, ◌^◌, IfSome, slice_get, true};
     ghost use Rattle.serial_spec.specs.ExternalForm as external;
     ghost use Rattle.serial_spec.specs.HeaderGrammar.{is_sound};
     ghost use Rattle.var_layout.specs.Measures.{AreMeasures};
     ghost use Rattle.vara_extents.specs.Accepted.{IsAccepted};
     ghost use Rattle.vara_extents.specs.Joined.{extents_of};
-    ghost use Rattle.vara_extents.specs.Left.{extents_from, AreReady, IsRunOf};
+    ghost use Rattle.vara_extents.specs.Left.{extents_from, run_place, AreReady, IsRunOf};
+    ghost use Rattle.vara_extents.specs.Numbered.{AreRuns};
 
-    /// The runs of a region of the variable at this place of the header's list, as long as can be.
-    fn new(header: &'a Header, measures: &Measures, var: usize, region: &'a Region) -> Runs<'a>
+    /// The runs of a region of the variable at this place of the header's list, as long as can be, and each in a row of its own.
+    fn alone(header: &'a Header, measures: &Measures, var: usize, region: &'a Region) -> Runs<'a>
         requires sound { is_sound header.now ≡ true }
         requires measured { AreMeasures header.now measures.now }
         requires accepted { IsAccepted header.now var region.now }
@@ -67,7 +82,58 @@ impl<'a> Runs<'a> {
             recsize,
             elements: run,
             count: elements / run,
+            row: Row { runs: 1, step: 0 },
         }
+    }
+
+    /// The same in rows as long as can be.
+    fn new(header: &'a Header, measures: &Measures, var: usize, region: &'a Region) -> Runs<'a>
+        requires sound { is_sound header.now ≡ true }
+        requires measured { AreMeasures header.now measures.now }
+        requires accepted { IsAccepted header.now var region.now }
+        ensures extents { IfSome (slice_get header.now.vars var) (λ v. extents_from result 0 ≡ extents_of header.now v region.now) }
+        ensures ready { AreReady result }
+    {
+        let runs = Runs::alone(header, measures, var, region);
+        let row = runs.longest_row();
+        Runs { row, ..runs }
+    }
+
+    /// The rows in which the runs stand.
+    fn longest_row(&self) -> Row
+        requires ready { AreReady self.now }
+        ensures rows { AreRuns (run_place self.now) result.step result.runs self.now.count }
+        ensures low { result.step ≤ 2 ^ 62 }
+    {
+        if self.count < 2 {
+            return Row { runs: 1, step: 0 };
+        }
+        let runs = row_of_runs(self.region.count.as_slice(), self.elements);
+        if runs < 2 {
+            return Row { runs: 1, step: 0 };
+        }
+        let first = self.place(0);
+        let second = self.place(1);
+        Row {
+            runs,
+            step: second - first,
+        }
+    }
+
+    /// The first byte of the run with this number.
+    fn place(&self, number: u64) -> u64
+        requires ready { AreReady self.now }
+        requires there { number < self.now.count }
+        ensures place { result ≡ run_place self.now number }
+        ensures low { result ≤ 2 ^ 62 }
+    {
+        place_of(
+            self.header,
+            self.var,
+            self.region,
+            self.recsize,
+            number * self.elements,
+        )
     }
 
     /// The run with this number; behind the last one, no run.
@@ -78,17 +144,12 @@ impl<'a> Runs<'a> {
         ensures number { result.number ≡ number }
     {
         let at = if number < self.count {
-            place_of(
-                self.header,
-                self.var,
-                self.region,
-                self.recsize,
-                number * self.elements,
-            )
+            self.place(number)
         } else {
             0
         };
-        Run { number, at }
+        let left = self.row.runs - 1 - number % self.row.runs;
+        Run { number, at, left }
     }
 
     /// The run after this one.
@@ -99,7 +160,15 @@ impl<'a> Runs<'a> {
         ensures placed { IsRunOf self.now result }
         ensures number { result.number ≡ run.number + 1 }
     {
-        self.run(run.number + 1)
+        let number = run.number + 1;
+        if run.left == 0 {
+            return self.run(number);
+        }
+        Run {
+            number,
+            at: run.at + self.row.step,
+            left: run.left - 1,
+        }
     }
 
     /// The bytes of a run.

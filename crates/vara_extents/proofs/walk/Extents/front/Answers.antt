@@ -1,5 +1,5 @@
 -- A run that begins at the end is joined, and one that does not is left.
-use Rattle.std.proofs.Common.{◌+◌, ◌∷◌, List, ℕ, sym, ap, ◌∙◌, arith}
+use Rattle.std.proofs.Common.{◌+◌, ◌∷◌, List, sym, ap, ◌∙◌, arith}
 use Rattle.nc_base.specs.declared.plan.Extent.{Extent}
 use Rattle.vara_extents.specs.Joined.{joined_to}
 use Rattle.vara_extents.specs.Left.{extents_from}
@@ -14,7 +14,7 @@ loop-number-init c =
 
 pub overflow_add-extent-in-loop-number : goal.overflow_add-extent-in-loop-number
 overflow_add-extent-in-loop-number c =
-    let run = placed_run c.args.self.now.runs c.loop-number.next (record { number = c.loop-number.next.number + 1; at = 0 }) c.bytes-bytes.result c.requires.ready.runs c.loop-number.invariant.placed
+    let run = placed_run c.args.self.now.runs c.loop-number.next (record { number = c.loop-number.next.number + 1; at = 0; left = 0 }) c.bytes-bytes.result c.requires.ready.runs c.loop-number.invariant.placed
     (omega (arith, c.loop-number.invariant.number, c.loop-number-test.true)) c.bytes-bytes.ensures (λ i. c.loop-number.next.number + 1) in
     omega (arith, run.1, c.loop-number.invariant.low)
 
@@ -32,7 +32,7 @@ loop-number-preserved c =
 
 pub returns-then-next-extent-clause-extent : goal.returns-then-next-extent-clause-extent
 returns-then-next-extent-clause-extent c =
-    let run = placed_run c.args.self.now.runs c.loop-number.next (record { number = c.loop-number.next.number + 1; at = 0 }) c.bytes-bytes.result c.requires.ready.runs c.loop-number.invariant.placed
+    let run = placed_run c.args.self.now.runs c.loop-number.next (record { number = c.loop-number.next.number + 1; at = 0; left = 0 }) c.bytes-bytes.result c.requires.ready.runs c.loop-number.invariant.placed
     (omega (arith, c.loop-number.invariant.number, c.loop-number-test.true)) c.bytes-bytes.ensures (λ i. c.loop-number.next.number + 1) in
     c.loop-number.invariant.left ∙ ap (λ (es : List Extent). joined_to c.loop-number.extent es) run.0
     ∙ join_far c.loop-number.extent (extent c.loop-number.next.at c.bytes-bytes.result) (extents_from c.args.self.now.runs (c.loop-number.next.number + 1)) c.if-next-extent.true

@@ -1,15 +1,22 @@
-use Rattle.std.proofs.Common.{arith}
-use Rattle.vara_extents.proofs.WalkLaws.{inside}
+-- The runs of a row go up by equal steps.
+use Rattle.std.proofs.Common.{◌≡◌, ◌<◌, ◌∙◌, arith}
+use Rattle.std.proofs.lemmas.Nat.{mod_below}
+use Rattle.vara_extents.specs.Left.{run_place}
+use Rattle.vara_extents.proofs.WalkLaws.{in_row}
 use Rattle.vara_extents.proofs.walk.Runs.run.Goals as goal
+use Rattle.vara_extents.proofs.walk.Runs.run.Goals.{then-number-self, else-number-self}
 
-pub place_of-at-requires-clause-wide : goal.place_of-at-requires-clause-wide
-place_of-at-requires-clause-wide c = λ e. omega (arith, c.requires.ready.recsize, (inside c.args.self.now c.args.number c.requires.ready c.if-number-self.true).wide e)
+pub overflow_sub-left : goal.overflow_sub-left
+overflow_sub-left c = omega (arith, mod_below c.args.number c.args.self.now.row.runs c.requires.ready.rows.some)
 
-pub place_of-at-requires-clause-valid : goal.place_of-at-requires-clause-valid
-place_of-at-requires-clause-valid c = (inside c.args.self.now c.args.number c.requires.ready c.if-number-self.true).placed.element
-
-pub place_of-at-requires-clause-small : goal.place_of-at-requires-clause-small
-place_of-at-requires-clause-small c = (inside c.args.self.now c.args.number c.requires.ready c.if-number-self.true).small
-
-pub place_of-at-requires-clause-below : goal.place_of-at-requires-clause-below
-place_of-at-requires-clause-below c = omega (arith, (inside c.args.self.now c.args.number c.requires.ready c.if-number-self.true).placed.low)
+pub returns-clause-placed : goal.returns-clause-placed
+returns-clause-placed c =
+    let at : c.args.number < c.args.self.now.count → c.if-number-self.at ≡ run_place c.args.self.now c.args.number =
+    elim c.if-number-self.branch [
+      | then-number-self w ↦ λ l. w.at-is ∙ w.place-at.ensures.place
+      | else-number-self w ↦ λ l. absurd (omega (arith, l, w.if-number-self.false))
+    ] in
+    record {
+      within = c.requires.there;
+      at = in_row c.args.self.now c.args.number c.if-number-self.at c.requires.ready at;
+    }
