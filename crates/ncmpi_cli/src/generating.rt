@@ -14,12 +14,12 @@ ghost use Rattle.dataset_start.specs.Opening.{IsNotReady, IsReady};
 ghost use Rattle.dataset_start.specs.Stops.{IsOfDataset, line_of_status, status_of};
 
 use crate::ending::{give, tell};
-use crate::tools::Tools;
 use crate::top::Outcome;
 use dataset_start::{Begun, Stop, make_ready};
 use generated_run::{make_script, summary_text};
 use nc_base::{MarkList, ReadingTable, RunEnd, StepErr};
 use nc_outside::{Disk, Gate, Sink};
+use piece_exchange::Tools;
 use rank_meeting::run_ranks;
 use std::alloc::Global;
 use std::sync::Wait;

@@ -5,7 +5,6 @@ mod ending;
 mod generating;
 mod offsets;
 mod running;
-mod tools;
 mod top;
 mod watcher;
 mod watcher_lines;

@@ -18,12 +18,12 @@ ghost use Rattle.dataset_start.specs.Stops.{line_of_status};
 ghost use Rattle.ncmpi_cli.specs.Watching.{AreReadings};
 
 use crate::ending::{finish, tell};
-use crate::tools::Tools;
 use crate::top::Outcome;
 use crate::watching::{Seen, WatchedRun, watch_ranks};
 use dataset_start::{Begun, Stop, begin};
 use nc_base::{Header, MarkList, ReadingTable, Script, SizeList, StepErr};
 use nc_outside::{Disk, Gate, Sink, Source};
+use piece_exchange::Tools;
 use rank_meeting::run_ranks;
 use std::sync::Wait;
 use std::thread::Threads;

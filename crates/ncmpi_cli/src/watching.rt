@@ -11,10 +11,10 @@ ghost use Rattle.turn_run.specs.Telling.{HasTold};
 ghost use Rattle.ncmpi_cli.specs.Watching.{AreReadings, seen_counts};
 ghost use Rattle.ncmpi_cli.specs.BeforeRun.{IsMade};
 
-use crate::tools::Tools;
 use crate::watcher::{Watched, numbers_of, read_beside};
 use nc_base::{Header, MarkList, Memory, ReadingTable, RunEnd, Script, SizeList, StepErr};
 use nc_outside::{Disk, Gate};
+use piece_exchange::Tools;
 use rank_meeting::run_ranks_told;
 use run_watch::{Board, ToldList, View, watch};
 use std::alloc::Global;
