@@ -201,8 +201,7 @@ fn get_in_scope<'s, E, R: Threads + Wait + Sync, D: Disk + 's, G: Gate>(
         rest,
         mut back,
     } = crew;
-    let lent = lenders.lend_first(tools, plan, domains);
-    if !rest.is_empty() || lent.is_err() {
+    if !rest.is_empty() || lenders.lend_first(tools, plan, domains).is_err() {
         stop_all(tools.rt, plan, seats, &mut back);
         give_back(rest, &mut back);
         return untouched(back, table);
