@@ -7,7 +7,7 @@ ghost use Rattle.script_spec.specs.Generator.{has_counts};
 use crate::tests::{Left, NO_MEMORY, joined, program};
 use cdf_header::decode;
 use generated_run::{make_script, summary_text};
-use nc_base::{MarkList, OverlapRule, Script};
+use nc_base::{MarkList, OverlapRule, RunEnd, Script, SizeList};
 use serial_eval::legal;
 use serial_run::{SerialEnd, serial_run};
 use std::alloc::Global;
@@ -48,9 +48,13 @@ fn again<R: Abort>(rt: &R, alloc: Global, size: u32, run: &Left, order: MarkList
         begun.as_slice(),
         order.as_slice(),
     ).expect(rt, NO_MEMORY);
-    let text = summary_text(alloc, 0, size, &script, &header, &order, &answers).expect(
-        rt, NO_MEMORY,
-    );
+    let end = RunEnd {
+        order,
+        answers,
+        pending: SizeList::new(alloc),
+        fault: None,
+    };
+    let text = summary_text(alloc, 0, size, &script, &header, &end).expect(rt, NO_MEMORY);
     let lines = text
         .as_slice()
         .strip_suffix(b"records 0\nfile 160\n")
