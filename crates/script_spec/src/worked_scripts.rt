@@ -60,6 +60,15 @@ pub fn worked_limits()
     ensures differ { fault_of (within_lines (2 ^ 20 + 1) (Err (record { line = 8; kind = kind.Mismatch 0 0 1 }))) ≡ fault_at 1048577 (kind.Limit limit.Lines) }
 {}
 
+/// Texts that are not UTF-8: a byte that begins no character, a second byte that can't follow, a character that is cut off. The line is that
+/// of the first byte that is no part of a text.
+pub fn worked_bytes()
+    ensures no_first { script_fault (text_line (codes "create 1") ++ 0xFF ∷ []) ≡ fault_at 2 kind.NotUtf8 }
+    ensures no_second { script_fault (10 ∷ 0xED ∷ 0xA0 ∷ 0x80 ∷ []) ≡ fault_at 2 kind.NotUtf8 }
+    ensures cut_off { script_fault (codes "# " ++ 0xC3 ∷ 0xA9 ∷ 10 ∷ 35 ∷ 0xC3 ∷ 10 ∷ []) ≡ fault_at 2 kind.NotUtf8 }
+    ensures text { script_fault (codes "# " ++ 0xC3 ∷ 0xA9 ∷ 10 ∷ []) ≡ fault_at 1 kind.NoHead }
+{}
+
 /// Where a word is looked at, and what it is then.
 pub fn worked_readings()
     ensures long_rank { fault_of (script_of_utf8 (start_lines ++ text_line (codes "data") ++ text_line (codes "0000000000000000000000000 buffer_detach") ++ text_line (codes "end")))
