@@ -7,7 +7,10 @@ use Rattle.std.proofs.lemmas.Bool.{leb-true}
 use Rattle.list_laws.proofs.Truth.{and_first, and_second}
 use Rattle.nc_base.specs.declared.header.Header.{Header}
 use Rattle.nc_base.specs.declared.errors.HeaderErr.{HeaderErr}
-use Rattle.serial_spec.specs.HeaderGrammar.{Spells, HasFault, canon, header_len, field_fault, first_check, is_writable, is_sound}
+use Rattle.serial_spec.specs.HeaderBytes.{canon, header_len}
+use Rattle.serial_spec.specs.HeaderGrammar.{Spells}
+use Rattle.serial_spec.specs.HeaderFaults.{HasFault, field_fault, first_check}
+use Rattle.serial_spec.specs.SoundHeaders.{is_writable, is_sound}
 use Rattle.serial_spec.proofs.SpellingLaws.{canon_spelled}
 use Rattle.serial_spec.proofs.FaultLaws.{fault_only}
 use Rattle.serial_spec.proofs.OnceLaws.{spells_once}

@@ -7,7 +7,7 @@ use Rattle.std.proofs.Math.Nat.{mul-le-mul_left}
 use Rattle.nc_base.specs.declared.header.Header.{Header}
 use Rattle.nc_base.specs.declared.header.Var.{Var}
 use Rattle.serial_spec.specs.Layout.{inner_lengths, length_of, product, without_record}
-use Rattle.serial_spec.specs.HeaderGrammar.{is_record_id, record_later}
+use Rattle.serial_spec.specs.HeaderFaults.{is_record_id, record_later}
 
 pub product-pos : (ns : List ℕ) → AllByRecursion (λ n. 1 ≤ n) ns → 1 ≤ product ns
 product-pos [] h = omega arith

@@ -12,7 +12,7 @@ use Rattle.nc_base.specs.declared.header.Var.{Var}
 use Rattle.serial_spec.specs.ExternalForm.{size_of}
 use Rattle.serial_spec.specs.Layout.{product, inner_lengths, slab, recsize, sharing_with, sharing_from, sharing}
 use Rattle.serial_spec.specs.Layout as layout
-use Rattle.serial_spec.specs.HeaderGrammar.{record_later}
+use Rattle.serial_spec.specs.HeaderFaults.{record_later}
 use Rattle.cdf_header.specs.declared.spans.Span.{Span}
 use Rattle.cdf_header.specs.Spans.{span_of, spans_of, partner, shared_pair, AreSpans}
 use Rattle.cdf_header.proofs.Products.{inner-pos, product-pos}

@@ -20,7 +20,8 @@ use Rattle.nc_outside.specs.Told.{after, BothTold}
 use Rattle.serial_spec.specs.ExternalForm.{size_of}
 use Rattle.serial_spec.specs.File.{at, longer, written}
 use Rattle.serial_spec.specs.FileStep.{Setting, Counted, end_for, put_some, put_post, after_puts, raised, told}
-use Rattle.serial_spec.specs.HeaderGrammar.{count, count_width, header_len, is_sound}
+use Rattle.serial_spec.specs.HeaderBytes.{count, count_width, header_len}
+use Rattle.serial_spec.specs.SoundHeaders.{is_sound}
 use Rattle.serial_spec.specs.Place.{place, IsElementBelow}
 use Rattle.serial_spec.specs.Records.{needed_by, records_of, with_records}
 use Rattle.serial_spec.specs.RegionCheck.{check_some}

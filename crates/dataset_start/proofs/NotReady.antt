@@ -8,7 +8,7 @@ use Rattle.nc_base.specs.declared.script.Script as script_type
 use Rattle.nc_outside.specs.DiskState.{PartlyWritten}
 use Rattle.nc_outside.specs.Told.{after, BothTold}
 use Rattle.serial_spec.specs.File.{at, longer, written}
-use Rattle.serial_spec.specs.HeaderGrammar.{canon, header_len}
+use Rattle.serial_spec.specs.HeaderBytes.{canon, header_len}
 use Rattle.serial_spec.specs.Layout.{end_of}
 use Rattle.serial_spec.specs.SerialEnd.{start}
 use Rattle.serial_spec.specs.Redefinition.{redefined}

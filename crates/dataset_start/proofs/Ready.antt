@@ -14,7 +14,9 @@ use Rattle.nc_outside.proofs.ToldLaws.{after-after, after-same}
 use Rattle.serial_spec.specs.DeviceCalls.{grow_to, head_load, move_calls, opening_calls, redefining_calls, zero_calls}
 use Rattle.serial_spec.specs.File.{longer}
 use Rattle.serial_spec.specs.Fill.{filled}
-use Rattle.serial_spec.specs.HeaderGrammar.{canon, HasFault, header_len, is_sound}
+use Rattle.serial_spec.specs.HeaderBytes.{canon, header_len}
+use Rattle.serial_spec.specs.HeaderFaults.{HasFault}
+use Rattle.serial_spec.specs.SoundHeaders.{is_sound}
 use Rattle.serial_spec.specs.Layout.{end_of}
 use Rattle.serial_spec.specs.Redefinition.{brought, layout_fault, redefined, redefined_fault, redefined_header}
 use Rattle.serial_spec.specs.SerialEnd.{start}

@@ -7,7 +7,7 @@ use Rattle.nc_base.specs.declared.header.Var.{Var}
 use Rattle.nc_base.specs.declared.script.Extra.{Extra}
 use Rattle.serial_spec.specs.ExternalForm.{size_of}
 use Rattle.serial_spec.specs.File.{longer, read, written}
-use Rattle.serial_spec.specs.HeaderGrammar.{canon, header_len}
+use Rattle.serial_spec.specs.HeaderBytes.{canon, header_len}
 use Rattle.serial_spec.specs.Layout.{end_of}
 use Rattle.serial_spec.specs.Place.{place}
 use Rattle.serial_spec.specs.Redefinition.{all_indices, moved, redefined, redefined_header, with_extra}

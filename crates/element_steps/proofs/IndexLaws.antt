@@ -14,7 +14,7 @@ use Rattle.serial_spec.specs.Place.{row, place, record_of, within_record, HasRec
 use Rattle.serial_spec.specs.Request.{index_at}
 use Rattle.serial_spec.proofs.ApartLaws.{index_fixed, index_record}
 use Rattle.var_layout.proofs.ElementPlaces.{product_pos, place_fixed, place_record, row_below_bytes}
-use Rattle.serial_spec.specs.HeaderGrammar.{is_sound}
+use Rattle.serial_spec.specs.SoundHeaders.{is_sound}
 use Rattle.vara_extents.specs.Accepted.{IsAccepted}
 use Rattle.vara_extents.specs.Numbered.{coordinates_of, index_of}
 use Rattle.vara_extents.proofs.PlaceLaws.{accepted_place, wide_records}

@@ -16,7 +16,8 @@ use Rattle.nc_outside.specs.Told.{after, BothTold}
 use Rattle.serial_spec.specs.ExternalForm.{size_of, width_of, code_of, ext}
 use Rattle.serial_spec.specs.File.{at, written}
 use Rattle.serial_spec.specs.Fill.{default_fill, fill_bytes, fill_var, filled, is_fill_value}
-use Rattle.serial_spec.specs.HeaderGrammar.{header_len, is_sound}
+use Rattle.serial_spec.specs.HeaderBytes.{header_len}
+use Rattle.serial_spec.specs.SoundHeaders.{is_sound}
 use Rattle.serial_spec.specs.Layout.{end_of, fixed_variables, is_record, meet, records_meet, share, sharing_from, sharing_with, slab}
 use Rattle.serial_spec.proofs.ApartLaws.{none_shared, none_with}
 use Rattle.serial_spec.proofs.FileLaws.{length-written_inside, get_or-written_below, get_or-written_within, get_or-written_above}

@@ -1,6 +1,7 @@
 // Where the variables of a dataset lie.
 ghost use Rattle.std.specs.Prelude.{◌≡◌, ◌+◌, ◌<◌, ◌^◌, ◌++◌, ◌∷◌, IfOk, OnOk, codes, decimal, filter, flat_map, map, true};
-ghost use Rattle.serial_spec.specs.HeaderGrammar.{header_len, is_sound};
+ghost use Rattle.serial_spec.specs.HeaderBytes.{header_len};
+ghost use Rattle.serial_spec.specs.SoundHeaders.{is_sound};
 ghost use Rattle.serial_spec.specs.Layout.{slab};
 ghost use Rattle.script_spec.specs.Shown.{dim_name};
 ghost use Rattle.script_spec.specs.Texts.{dim_line, extent_of, in_brackets, offsets_text, text_line, var_lines};

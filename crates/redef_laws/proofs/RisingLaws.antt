@@ -12,7 +12,8 @@ use Rattle.list_laws.proofs.Truth.{and_first}
 use Rattle.nc_base.specs.declared.header.Header.{Header}
 use Rattle.nc_base.specs.declared.header.Var.{Var}
 use Rattle.serial_spec.specs.DeviceCalls.{Slab, highest_first, slabs, slabs_of, stores, zero_calls}
-use Rattle.serial_spec.specs.HeaderGrammar.{header_len, is_sound}
+use Rattle.serial_spec.specs.HeaderBytes.{header_len}
+use Rattle.serial_spec.specs.SoundHeaders.{is_sound}
 use Rattle.serial_spec.specs.Layout.{is_record, recsize, slab, share}
 use Rattle.serial_spec.proofs.ApartLaws.{none_shared, slab_fits}
 use Rattle.serial_spec.specs.Redefinition.{is_redefinable}

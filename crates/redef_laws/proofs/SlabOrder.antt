@@ -6,7 +6,8 @@ use Rattle.std.specs.Prelude.{slice_get}
 use Rattle.nc_base.specs.declared.header.Header.{Header}
 use Rattle.nc_base.specs.declared.header.Var.{Var}
 use Rattle.serial_spec.specs.DeviceCalls.{Slab, slabs}
-use Rattle.serial_spec.specs.HeaderGrammar.{is_sound, header_len}
+use Rattle.serial_spec.specs.HeaderBytes.{header_len}
+use Rattle.serial_spec.specs.SoundHeaders.{is_sound}
 use Rattle.serial_spec.specs.Layout.{is_record, slab, recsize}
 use Rattle.serial_spec.proofs.ApartLaws.{slab_fits}
 use Rattle.serial_spec.proofs.CellLaws.{same_number}

@@ -7,7 +7,7 @@ use borrow.Author.Tests.{eqb-true}
 use Rattle.nc_base.specs.declared.header.Header.{Header}
 use Rattle.serial_spec.specs.DeviceCalls.{Slab, slabs}
 use Rattle.serial_spec.specs.File.{at, longer}
-use Rattle.serial_spec.specs.HeaderGrammar.{canon, header_len}
+use Rattle.serial_spec.specs.HeaderBytes.{canon, header_len}
 use Rattle.serial_spec.proofs.FileLaws.{at-longer, at-written_after, length-written_inside, written-inside}
 use Rattle.overlay_laws.specs.Entries.{In}
 use Rattle.redef_laws.specs.Rising.{changes, gaps, rising, IsRisen}

@@ -11,7 +11,7 @@ use Rattle.redef_laws.specs.Rising.{changes, gaps, rising}
 use Rattle.redef_laws.specs.Shifted.{new_end, IsMoved}
 use Rattle.serial_spec.specs.DeviceCalls.{Slab}
 use Rattle.serial_spec.specs.File.{at, longer, written}
-use Rattle.serial_spec.specs.HeaderGrammar.{canon, header_len}
+use Rattle.serial_spec.specs.HeaderBytes.{canon, header_len}
 use Rattle.serial_spec.specs.Redefinition.{redefined}
 use Rattle.serial_spec.specs.Torn.{IsLengthened, IsTornRedefinition}
 use Rattle.serial_spec.proofs.FileLaws.{at-longer, at-written_after, get_or-written_within, length-written_inside}

@@ -9,7 +9,8 @@ use Rattle.list_laws.proofs.Truth.{and_first, and_second}
 use Rattle.nc_base.specs.declared.errors.ScriptKind.TheVariants as kind
 use Rattle.nc_base.specs.declared.header.NcType.{NcType}
 use Rattle.serial_spec.specs.Limits.{file_limit}
-use Rattle.serial_spec.specs.HeaderGrammar.{fits_count, is_type, number_of, last_type}
+use Rattle.serial_spec.specs.HeaderBytes.{number_of, last_type}
+use Rattle.serial_spec.specs.SoundHeaders.{fits_count, is_type}
 use Rattle.script_spec.specs.Texts.{type_word}
 use Rattle.script_spec.specs.ScriptWords.{Word, below, natural_of, size_of_text, is_name, starts_name, in_name}
 use Rattle.script_spec.specs.ScriptSteps.{name, name_of_text}

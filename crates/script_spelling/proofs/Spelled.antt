@@ -9,7 +9,7 @@ use Rattle.nc_base.specs.declared.errors.ScriptKind.TheVariants as kind
 use Rattle.nc_base.specs.declared.request.Call.{Call}
 use Rattle.nc_base.specs.declared.script.Script.{Script}
 use Rattle.script_spec.specs.ScriptWords.{Word, Plain, Line, is_word, size_of_text, text_lines, significant}
-use Rattle.serial_spec.specs.HeaderGrammar.{is_version}
+use Rattle.serial_spec.specs.HeaderBytes.{is_version}
 use Rattle.script_spec.specs.ScriptSteps.{reads_as, whole}
 use Rattle.script_spec.specs.ScriptDefinitions.{hint_in, Known, nothing_known}
 use Rattle.script_spec.specs.ScriptCalls.{Called}

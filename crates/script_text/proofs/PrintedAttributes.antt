@@ -13,7 +13,7 @@ use Rattle.nc_base.specs.declared.request.Values.{Values}
 use Rattle.nc_base.specs.declared.request.Values.TheVariants.{Numbers, Text, Bits}
 use Rattle.serial_spec.specs.ExternalForm as class
 use Rattle.serial_spec.specs.ExternalForm.{Class, class_of, width_of, size_of, ext, val, fits}
-use Rattle.serial_spec.specs.HeaderGrammar.{number_of, last_type}
+use Rattle.serial_spec.specs.HeaderBytes.{number_of, last_type}
 use Rattle.serial_spec.specs.Lawful.{most_values}
 use Rattle.serial_spec.specs.Request.{count_of, number_in, code_in, gathered}
 use Rattle.serial_spec.proofs.ValueLaws.{val-ext}

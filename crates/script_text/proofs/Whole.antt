@@ -15,7 +15,7 @@ use Rattle.nc_base.specs.declared.script.Hints.{Hints}
 use Rattle.nc_base.specs.declared.script.Extra.{Extra}
 use Rattle.nc_base.specs.declared.script.Script.{Script}
 use Rattle.nc_base.specs.declared.request.Call.{Call}
-use Rattle.serial_spec.specs.HeaderGrammar.{is_version}
+use Rattle.serial_spec.specs.HeaderBytes.{is_version}
 use Rattle.serial_spec.specs.History.{kinds}
 use Rattle.serial_spec.specs.Lawful.{most_values}
 use Rattle.script_spec.specs.Texts.{line}

@@ -11,7 +11,8 @@ use Rattle.serial_spec.specs.File.{at, read, written}
 use Rattle.serial_spec.specs.ExternalForm.{size_of}
 use Rattle.serial_spec.specs.Layout.{lengths, end_of}
 use Rattle.serial_spec.specs.Place.{place, row, IsIndex, IsElementBelow, AreApart}
-use Rattle.serial_spec.specs.HeaderGrammar.{canon, header_len, is_sound}
+use Rattle.serial_spec.specs.HeaderBytes.{canon, header_len}
+use Rattle.serial_spec.specs.SoundHeaders.{is_sound}
 use Rattle.serial_spec.specs.RegionCheck.{known_lengths}
 use Rattle.serial_spec.specs.Redefinition.{all_indices, moved, redefined, Moves, KeepsVars, IsRedefined}
 use Rattle.serial_spec.specs.Said.{said_at, byte_or, Cell, write_cells, said_by}

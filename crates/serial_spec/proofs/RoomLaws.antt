@@ -13,7 +13,8 @@ use Rattle.nc_base.specs.declared.errors.HeaderErr.TheVariants as fault
 use Rattle.serial_spec.specs.ExternalForm.{size_of}
 use Rattle.serial_spec.specs.Layout.{greatest, length_of, lengths, starts_with_zero, without_record, is_record, slab, vsize, recsize, last_share, record_slabs, end_of_var, end_of}
 use Rattle.serial_spec.specs.Place.{place, record_of, within_record, HasRecord, IsIndex, IsElementBelow}
-use Rattle.serial_spec.specs.HeaderGrammar.{is_sound, first_check, first_with, fault_if, two_record_dims, record_later, is_record_id}
+use Rattle.serial_spec.specs.HeaderFaults.{first_check, first_with, fault_if, two_record_dims, record_later, is_record_id}
+use Rattle.serial_spec.specs.SoundHeaders.{is_sound}
 use Rattle.serial_spec.specs.RegionCheck.{known_lengths}
 use Rattle.serial_spec.proofs.ApartLaws.{span_fixed, span_record}
 use Rattle.serial_spec.proofs.ElementLaws.{get_map}

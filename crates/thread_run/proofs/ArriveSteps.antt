@@ -22,7 +22,7 @@ use Rattle.ruled_line.specs.Ends.{End}
 use Rattle.serial_spec.specs.Desk.{Desk, Event, Seat, at_offer, differs, does_meeting, does_solo, event, holds, is_strange, keeps, kind_held, meets_if, offers_held, stop_held, stops}
 use Rattle.serial_spec.specs.DeviceCalls.{meeting_calls, solo_calls}
 use Rattle.serial_spec.specs.FileStep.{Setting}
-use Rattle.serial_spec.specs.HeaderGrammar.{is_sound}
+use Rattle.serial_spec.specs.SoundHeaders.{is_sound}
 use Rattle.serial_spec.specs.History.{Arrival, kind_of_meeting}
 use Rattle.collective_round.specs.Rounds.{counted}
 use Rattle.rank_items.specs.Own.{HasOwnElements, HasOwnPuts}

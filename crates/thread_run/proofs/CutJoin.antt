@@ -30,7 +30,7 @@ use Rattle.serial_spec.specs.Desk.{Desk, Event, Seat, at_offer, does_meeting, do
 use Rattle.serial_spec.specs.FileStep.{Setting, Counted, meeting, puts_of, solo}
 use Rattle.serial_spec.specs.History.{Arrival, is_offer}
 use Rattle.serial_spec.specs.Limits.{record_limit}
-use Rattle.serial_spec.specs.HeaderGrammar.{is_sound}
+use Rattle.serial_spec.specs.SoundHeaders.{is_sound}
 use Rattle.serial_spec.specs.Joined.{opening_desk, run_of}
 use Rattle.serial_spec.specs.RankSide.{end_by, fits_offer, offered_by, rank_end, waiting, waiting_end}
 use Rattle.serial_spec.specs.SerialEnd.{Going, advance, after_mark, first_going, hears, offers_of, setting_of}

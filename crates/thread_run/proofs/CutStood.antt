@@ -27,7 +27,7 @@ use Rattle.overlay_laws.proofs.SaidLaws.{same_file}
 use Rattle.serial_spec.specs.Desk.{Desk, Event, Seat, at_offer, event, holds, is_strange, meets_if, offers_at, offers_held, offers_met, own_items, step_offers}
 use Rattle.serial_spec.specs.File.{at}
 use Rattle.serial_spec.specs.FileStep.{Setting, Counted, after_puts, puts_of, told}
-use Rattle.serial_spec.specs.HeaderGrammar.{count_width}
+use Rattle.serial_spec.specs.HeaderBytes.{count_width}
 use Rattle.serial_spec.specs.History.{Arrival, IsLegal}
 use Rattle.serial_spec.specs.RankSide.{fits_offer, offered, offered_by, waiting}
 use Rattle.serial_spec.specs.SerialEnd.{Going, advance, after_mark, closed, first_going, hears, offers_of, solo_of}

@@ -22,7 +22,7 @@ use Rattle.nc_base.specs.declared.step.RankItem.TheVariants as item
 use Rattle.overlay_laws.specs.Entries.{In}
 use Rattle.serial_spec.specs.ExternalForm.{size_of}
 use Rattle.serial_spec.specs.FileStep.{Setting}
-use Rattle.serial_spec.specs.HeaderGrammar.{is_sound}
+use Rattle.serial_spec.specs.SoundHeaders.{is_sound}
 use Rattle.serial_spec.specs.History.{is_offer, kind_of_meeting, meeting_kind, offer_of, option_then}
 use Rattle.serial_spec.specs.Layout.{product}
 use Rattle.serial_spec.specs.RegionCheck.{check, is_ok_code}

@@ -16,7 +16,7 @@ use Rattle.nc_outside.specs.Told.{after, with_end}
 use Rattle.serial_spec.specs.Desk.{Desk, Ending, first_desk, free_seat, served}
 use Rattle.serial_spec.specs.DeviceCalls.{run_calls, store_records}
 use Rattle.serial_spec.specs.FileStep.{raised}
-use Rattle.serial_spec.specs.HeaderGrammar.{is_sound}
+use Rattle.serial_spec.specs.SoundHeaders.{is_sound}
 use Rattle.serial_spec.specs.History.{Arrival, IsLegal}
 use Rattle.serial_spec.specs.Joined.{opening_desk, run_of}
 use Rattle.serial_spec.specs.Lawful.{is_lawful}

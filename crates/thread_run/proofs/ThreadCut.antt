@@ -27,7 +27,8 @@ use Rattle.nc_base.specs.declared.step.StepErr.TheVariants as fault
 use Rattle.nc_outside.specs.Told.{BothTold}
 use Rattle.serial_spec.specs.Desk.{Desk, Seat, event, first_desk, free_seat, given_along, is_strange, offers_in, own_items, owed, served, stop_held, stops}
 use Rattle.serial_spec.specs.FileStep.{Setting, Counted, raised}
-use Rattle.serial_spec.specs.HeaderGrammar.{count_width, is_sound}
+use Rattle.serial_spec.specs.HeaderBytes.{count_width}
+use Rattle.serial_spec.specs.SoundHeaders.{is_sound}
 use Rattle.serial_spec.specs.History.{Arrival, IsLegal, is_offer}
 use Rattle.serial_spec.specs.Joined.{opening_desk, run_of}
 use Rattle.serial_spec.specs.Lawful.{is_lawful}

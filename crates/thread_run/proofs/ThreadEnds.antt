@@ -4,7 +4,7 @@ use Rattle.std.proofs.lemmas.Bool.Decides.{nat_tests}
 use Rattle.std.specs.Prelude.{slice_index_or, nat_lt, OnOk}
 use Rattle.nc_base.specs.declared.header.Header.{Header}
 use Rattle.nc_base.specs.declared.run.RankEnd.{RankEnd}
-use Rattle.serial_spec.specs.HeaderGrammar.{is_sound}
+use Rattle.serial_spec.specs.SoundHeaders.{is_sound}
 use Rattle.thread_run.specs.Threads.{most_known_of}
 
 one_more : (ends : List RankEnd) (i : ℕ) (end : RankEnd) → i < length ends → end ≡ slice_index_or ends i end → most_known_of (take (suc i) ends) ≡ max (most_known_of (take i ends)) end.known

@@ -21,7 +21,8 @@ use Rattle.nc_base.specs.declared.step.RankItem.TheVariants as item
 use Rattle.serial_spec.specs.Desk.{Desk, Event, Seat, at_item, at_offer, event, holds, meets_if, needed_now, offers_held, refused, served, strange_offer}
 use Rattle.serial_spec.specs.ExternalForm.{size_of}
 use Rattle.serial_spec.specs.FileStep.{Counted, Setting, needs, puts_of, told}
-use Rattle.serial_spec.specs.HeaderGrammar.{header_len, is_sound}
+use Rattle.serial_spec.specs.HeaderBytes.{header_len}
+use Rattle.serial_spec.specs.SoundHeaders.{is_sound}
 use Rattle.serial_spec.specs.History.{Arrival}
 use Rattle.serial_spec.specs.Layout.{end_of, greatest, product}
 use Rattle.serial_spec.specs.Limits.{record_limit}

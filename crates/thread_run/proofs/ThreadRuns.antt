@@ -12,7 +12,7 @@ use Rattle.nc_base.specs.declared.step.OwnerItem.{OwnerItem}
 use Rattle.serial_spec.specs.Desk.{Desk, first_desk, free_seat, owed, served}
 use Rattle.serial_spec.specs.DeviceCalls.{run_calls, store_records}
 use Rattle.serial_spec.specs.FileStep.{Counted, raised}
-use Rattle.serial_spec.specs.HeaderGrammar.{is_sound}
+use Rattle.serial_spec.specs.SoundHeaders.{is_sound}
 use Rattle.serial_spec.specs.History.{Arrival, IsLegal}
 use Rattle.serial_spec.specs.Joined.{IsJoined, back_of, close_by, opening_desk, rank_ends, run_of}
 use Rattle.serial_spec.specs.Lawful.{is_lawful}

@@ -10,7 +10,7 @@ use Rattle.nc_base.specs.declared.step.OwnerItem.{OwnerItem}
 use Rattle.nc_base.specs.declared.step.StepErr.{StepErr}
 use Rattle.nc_outside.specs.Told.{with_end}
 use Rattle.serial_spec.specs.Desk.{Desk}
-use Rattle.serial_spec.specs.HeaderGrammar.{is_sound}
+use Rattle.serial_spec.specs.SoundHeaders.{is_sound}
 use Rattle.serial_spec.specs.History.{Arrival}
 use Rattle.serial_spec.specs.Joined.{opening_desk}
 use Rattle.serial_spec.specs.Lawful.{is_lawful}

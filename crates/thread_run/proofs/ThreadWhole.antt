@@ -12,7 +12,8 @@ use Rattle.nc_base.specs.declared.step.OfferKind.TheVariants as offer
 use Rattle.serial_spec.specs.Desk.{Desk, Seat, free_seat, own_items, owed, served}
 use Rattle.serial_spec.specs.DeviceCalls.{run_calls, store_records}
 use Rattle.serial_spec.specs.FileStep.{Counted, Setting}
-use Rattle.serial_spec.specs.HeaderGrammar.{header_len, is_sound}
+use Rattle.serial_spec.specs.HeaderBytes.{header_len}
+use Rattle.serial_spec.specs.SoundHeaders.{is_sound}
 use Rattle.serial_spec.specs.History.{Arrival}
 use Rattle.serial_spec.specs.Joined.{IsJoined, back_of, opening_desk, rank_ends, run_of}
 use Rattle.serial_spec.specs.Lawful.{is_lawful}

@@ -16,7 +16,7 @@ use Rattle.nc_outside.specs.Told.{after, BothTold}
 use Rattle.serial_spec.specs.Desk.{needed_now}
 use Rattle.serial_spec.specs.File.{at}
 use Rattle.serial_spec.specs.FileStep.{Setting, Counted, after_puts, meeting, puts_of, raised, told}
-use Rattle.serial_spec.specs.HeaderGrammar.{count, count_width}
+use Rattle.serial_spec.specs.HeaderBytes.{count, count_width}
 use Rattle.serial_spec.specs.Records.{with_records}
 use Rattle.serial_spec.specs.SharedByte.{Puts, covered}
 use Rattle.serial_spec.specs.Torn.{IsTorn, IsLeft}

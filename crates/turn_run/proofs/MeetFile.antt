@@ -12,7 +12,7 @@ use Rattle.nc_outside.specs.Told.{after, with_end}
 use Rattle.serial_spec.specs.Desk.{needed_now}
 use Rattle.serial_spec.specs.DeviceCalls.{collective_windows, get_bytes, loads, put_calls, store_records}
 use Rattle.serial_spec.specs.FileStep.{Counted, Setting, after_puts, end_for, needs, raised, told}
-use Rattle.serial_spec.specs.HeaderGrammar.{is_sound}
+use Rattle.serial_spec.specs.SoundHeaders.{is_sound}
 use Rattle.serial_spec.specs.Records.{with_records}
 use Rattle.serial_spec.specs.SharedByte.{Puts}
 use Rattle.collective_round.specs.Rounds.{after_round, counted, gets_in, puts_in, ArePuts}

@@ -12,7 +12,8 @@ use Rattle.nc_base.specs.declared.step.Offer.{Offer}
 use Rattle.overlay_laws.specs.Entries.{In}
 use Rattle.serial_spec.specs.Desk.{needed_now}
 use Rattle.serial_spec.specs.FileStep.{Setting, end_for, needs, puts_of, told}
-use Rattle.serial_spec.specs.HeaderGrammar.{header_len, is_sound}
+use Rattle.serial_spec.specs.HeaderBytes.{header_len}
+use Rattle.serial_spec.specs.SoundHeaders.{is_sound}
 use Rattle.serial_spec.specs.Layout.{end_of, greatest, lengths, product, starts_with_zero}
 use Rattle.serial_spec.specs.Records.{needed, records_of_some}
 use Rattle.serial_spec.specs.RegionCheck.{bad_edge, bound, check_some, some_edge}

@@ -4,7 +4,7 @@ use Rattle.std.specs.Prelude.{◌==◌}
 use Rattle.std.proofs.lemmas.Bool.Decides.{nat_tests}
 use Rattle.nc_base.specs.declared.header.Header.{Header}
 use Rattle.nc_base.specs.declared.header.Var.{Var}
-use Rattle.serial_spec.specs.HeaderGrammar.{header_len}
+use Rattle.serial_spec.specs.HeaderBytes.{header_len}
 use Rattle.serial_spec.specs.Layout.{greatest, is_record, vsize, last_share, recsize, record_size, record_variables, slab, end_of, end_of_var}
 use Rattle.var_layout.specs.Capped.{capped}
 use Rattle.var_layout.specs.Measures.{first_end, record_end}

@@ -13,7 +13,8 @@ use Rattle.nc_base.specs.declared.step.Mark.{Mark}
 use Rattle.nc_base.specs.declared.step.Mark.TheVariants.{Meet, Solo}
 use Rattle.serial_spec.specs.File.{read, written}
 use Rattle.serial_spec.specs.FileStep.{after_puts, Counted, known_by, needs, puts_of, raised, Setting, told}
-use Rattle.serial_spec.specs.HeaderGrammar.{count, count_width, is_sound}
+use Rattle.serial_spec.specs.HeaderBytes.{count, count_width}
+use Rattle.serial_spec.specs.SoundHeaders.{is_sound}
 use Rattle.serial_spec.specs.History.{is_of_rank_below, IsLegal}
 use Rattle.serial_spec.specs.Lawful.{is_lawful}
 use Rattle.serial_spec.specs.Layout.{greatest}

@@ -28,13 +28,15 @@ use Rattle.serial_spec.specs.ExternalForm.{size_of}
 use Rattle.serial_spec.specs.File.{at, longer, read, written}
 use Rattle.serial_spec.specs.FileStep.{Counted, end_for, meeting, puts_of, Setting, told}
 use Rattle.serial_spec.specs.Fill.{box_indices, fill_bytes, fill_var, filled, share_begin, shifted}
-use Rattle.serial_spec.specs.HeaderGrammar.{canon, header_len, is_sound}
+use Rattle.serial_spec.specs.HeaderBytes.{canon, header_len}
+use Rattle.serial_spec.specs.SoundHeaders.{is_sound}
 use Rattle.serial_spec.specs.Layout.{fixed_variables, inner_lengths, is_record, product}
 use Rattle.serial_spec.specs.Limits.{most_elements}
 use Rattle.serial_spec.specs.Lists.{In}
 use Rattle.serial_spec.specs.Place.{AreApart, HasRecord, IsElement, IsIndex, place, row, within_record}
-use Rattle.serial_spec.specs.RankMachine as machine
-use Rattle.serial_spec.specs.RankMachine.{box_post, box_region, code_of_look, fills, is_record_past, look_record, posts_of}
+use Rattle.serial_spec.specs.Looking as looks
+use Rattle.serial_spec.specs.Looking.{box_post, box_region, fills, is_record_past, look_record}
+use Rattle.serial_spec.specs.RankMachine.{code_of_look, posts_of}
 use Rattle.serial_spec.specs.Request.{cells, coordinates, elements, index_at}
 use Rattle.serial_spec.specs.Said.{byte_or, Cell, said_at, said_by, write_cells}
 use Rattle.serial_spec.specs.SerialEnd.{serial, setting_of, start}
@@ -331,17 +333,17 @@ pub record_puts : (header : Header) (k number r ranks : ℕ) (v : Var) → code_
 record_puts header k number r ranks v e =
     by (is_record header v) (nat_lt most_elements (share_begin (product (inner_lengths header v)) (r + 1) ranks - share_begin (product (inner_lengths header v)) r ranks) || is_record_past header number) e
   where
-    by : (a b : Bool) → code_of_look (elim a as (λ z. machine.Look) [
-      | false ↦ machine.Refused code.ENotRec
-      | true ↦ elim b as (λ z. machine.Look) [
-        | true ↦ machine.Refused code.ETooLarge
+    by : (a b : Bool) → code_of_look (elim a as (λ z. looks.Look) [
+      | false ↦ looks.Refused code.ENotRec
+      | true ↦ elim b as (λ z. looks.Look) [
+        | true ↦ looks.Refused code.ETooLarge
         | false ↦ fills k v number (share_boxes (inner_lengths header v) r ranks)
       ]
     ]) ≡ code.Ok
-        → posts_of (elim a as (λ z. machine.Look) [
-          | false ↦ machine.Refused code.ENotRec
-          | true ↦ elim b as (λ z. machine.Look) [
-            | true ↦ machine.Refused code.ETooLarge
+        → posts_of (elim a as (λ z. looks.Look) [
+          | false ↦ looks.Refused code.ENotRec
+          | true ↦ elim b as (λ z. looks.Look) [
+            | true ↦ looks.Refused code.ETooLarge
             | false ↦ fills k v number (share_boxes (inner_lengths header v) r ranks)
           ]
         ]) ≡ filling header k v number ranks r

@@ -20,7 +20,7 @@ use Rattle.nc_base.specs.declared.step.Mark.TheVariants.{Meet, Solo}
 use Rattle.nc_base.specs.declared.step.Offer.{Offer}
 use Rattle.serial_spec.specs.DeviceCalls.{calls_from, collective_windows, domain_size, domains, first_of, get_bytes, gets_of, grow_to, hull_len, in_order, is_empty, last_of, loads, mark_calls, meeting_calls, not_empty, overlays, put_calls, run_calls, sieved, sieving_windows, solo_calls, store_records, windows}
 use Rattle.serial_spec.specs.FileStep.{Counted, Setting, end_for, meeting, puts_of, told}
-use Rattle.serial_spec.specs.HeaderGrammar.{count_width}
+use Rattle.serial_spec.specs.HeaderBytes.{count_width}
 use Rattle.serial_spec.specs.Lawful.{is_lawful}
 use Rattle.serial_spec.specs.Lists.{In}
 use Rattle.serial_spec.specs.Records.{needed_by}

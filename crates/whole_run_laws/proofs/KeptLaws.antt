@@ -12,7 +12,7 @@ use Rattle.nc_base.specs.declared.step.Mark.TheVariants.{Meet, Solo}
 use Rattle.nc_base.specs.declared.step.Offer.{Offer}
 use Rattle.serial_spec.specs.File.{at, longer, written}
 use Rattle.serial_spec.specs.Fill.{filled}
-use Rattle.serial_spec.specs.HeaderGrammar.{canon, count}
+use Rattle.serial_spec.specs.HeaderBytes.{canon, count}
 use Rattle.serial_spec.specs.Layout.{greatest}
 use Rattle.serial_spec.specs.Records.{needed_by, with_records}
 use Rattle.serial_spec.specs.Said.{Cell, said_at, byte_or, write_cells}

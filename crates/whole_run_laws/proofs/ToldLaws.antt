@@ -36,7 +36,8 @@ use Rattle.serial_spec.specs.History.{is_of_rank_below, IsLegal}
 use Rattle.serial_spec.specs.Lawful.{is_lawful}
 use Rattle.serial_spec.specs.Layout.{greatest}
 use Rattle.serial_spec.specs.Lists.{In}
-use Rattle.serial_spec.specs.RankMachine.{Asks, Empty, hear_open, Look, look, Open, post_after, posts, Rank, Refused, step, values_of_post}
+use Rattle.serial_spec.specs.Looking.{Asks, Empty, Look, look, Refused}
+use Rattle.serial_spec.specs.RankMachine.{hear_open, Open, post_after, posts, Rank, step, values_of_post}
 use Rattle.serial_spec.specs.Records.{with_records}
 use Rattle.serial_spec.specs.SerialEnd.{advance, after_mark, after_meeting, after_solo, first_state, go, Going, hears, offers_of, rank_offer, serial_from, setting_of, state_after}
 use Rattle.serial_spec.specs.SharedByte.{holdings, IsSharedPair, IsUnshared, Puts, shared_pair}

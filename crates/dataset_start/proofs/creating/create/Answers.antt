@@ -4,7 +4,7 @@ use Rattle.nc_outside.specs.Told.{after}
 use Rattle.serial_spec.specs.File.{longer, written}
 use Rattle.serial_spec.specs.Layout.{end_of}
 use Rattle.nc_base.specs.declared.header.Header.{Header}
-use Rattle.serial_spec.specs.HeaderGrammar.{canon, header_len}
+use Rattle.serial_spec.specs.HeaderBytes.{canon, header_len}
 use Rattle.var_layout.proofs.ElementPlaces.{sound_end}
 use Rattle.dataset_start.proofs.Created.{created, front_fits}
 use Rattle.dataset_start.proofs.NotReady.{grow_refused, head_refused, not_started, on_err, start_refused}

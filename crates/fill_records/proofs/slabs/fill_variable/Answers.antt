@@ -7,7 +7,7 @@ use Rattle.nc_outside.specs.Told.{after, with_end, BothTold}
 use Rattle.overlay_laws.specs.Changes.{IsBetween}
 use Rattle.serial_spec.specs.File.{written}
 use Rattle.serial_spec.specs.Fill.{fill_bytes}
-use Rattle.serial_spec.specs.HeaderGrammar.{header_len}
+use Rattle.serial_spec.specs.HeaderBytes.{header_len}
 use Rattle.serial_spec.specs.Layout.{is_record, slab}
 use Rattle.var_layout.proofs.ElementPlaces.{sound_end}
 use Rattle.var_layout.proofs.Soundness.{if_there}

@@ -2,7 +2,7 @@
 use Rattle.std.proofs.Common.{◌≡◌, ◌∙◌, ◌-◌, ◌≤◌, refl, subst, ap, length, List, ℕ, arith}
 use Rattle.std.proofs.lemmas.Result.{on_err_weaker, on_ok_weaker}
 use Rattle.serial_spec.specs.DeviceCalls.{Slab}
-use Rattle.serial_spec.specs.HeaderGrammar.{header_len}
+use Rattle.serial_spec.specs.HeaderBytes.{header_len}
 use Rattle.overlay_laws.specs.Entries.{In}
 use Rattle.redef_laws.specs.Rising.{gaps, rising}
 use Rattle.redef_laws.specs.Shifted.{new_end}

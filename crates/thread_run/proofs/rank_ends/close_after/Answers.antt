@@ -1,8 +1,7 @@
 -- Nothing went wrong before.
-use Rattle.std.proofs.Common.{◌≡◌, ℕ, sym, subst, None, true, rules}
-use Rattle.serial_spec.specs.HeaderGrammar.{is_sound}
+use Rattle.std.proofs.Common.{◌≡◌, ℕ, sym, subst, None, true, rules, ◌∙◌, ap, Some}
+use Rattle.serial_spec.specs.SoundHeaders.{is_sound}
 use Rattle.thread_run.proofs.ThreadEnds.{on_ok}
-use Rattle.std.proofs.Common.{◌∙◌, ap, Some}
 use Rattle.nc_base.specs.declared.step.StepErr.{StepErr}
 use Rattle.nc_base.specs.declared.step.StepErr.TheVariants as fault
 use Rattle.thread_run.proofs.EndedLaws.{ended_before, ended_err, ended_memory, err_is}
