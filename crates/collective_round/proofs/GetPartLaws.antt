@@ -15,7 +15,8 @@ use Rattle.piece_exchange.specs.Put.{PartState}
 use Rattle.piece_exchange.specs.Turns.{Told}
 use Rattle.serial_spec.specs.File.{read}
 use Rattle.collective_round.specs.Parts.{parts_of, with_parts, Adjoin, Follow}
-use Rattle.collective_round.proofs.PartLaws.{each_weaker, flat_flat, follow_again, on_states, part_bytes, whole_calls, whole_kept, whole_place, IsInPlace}
+use Rattle.collective_round.proofs.PartDomains.{each_weaker, on_states, part_bytes}
+use Rattle.collective_round.proofs.PartLaws.{flat_flat, follow_again, whole_calls, whole_kept, whole_place, IsInPlace}
 use Rattle.collective_round.proofs.PartSplits.{next_begin}
 use Rattle.collective_round.proofs.PutPartLaws.{AreSplit}
 

@@ -25,7 +25,8 @@ use Rattle.script_spelling.specs.Spelling.{SpellsHead, version_of_lines, Section
 use Rattle.script_spelling.proofs.WordsRead.{word_is}
 use Rattle.script_spelling.proofs.CallsRead.{plain_word}
 use Rattle.script_spelling.proofs.CallLinesRead.{words_of, from_none, CallsRead, calls_read}
-use Rattle.script_spelling.proofs.KnownRead.{flag, Part, Grown, lines_version, DefinitionsRead, definitions_read}
+use Rattle.script_spelling.proofs.TakenLines.{flag, Part, Grown}
+use Rattle.script_spelling.proofs.KnownRead.{lines_version, DefinitionsRead, definitions_read}
 
 -- ---- the head
 

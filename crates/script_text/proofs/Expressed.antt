@@ -32,7 +32,8 @@ use Rattle.script_text.proofs.DefinedLines.{line_of_dim, line_of_var, line_of_at
 use Rattle.script_text.proofs.KnownLines.{hint_tokens, HintsFit}
 use Rattle.script_text.proofs.ExpressedDefinitions.{defined_of, header_told, no_attributes}
 use Rattle.script_text.proofs.ExpressedCalls.{chains_told, all_counted}
-use Rattle.script_text.proofs.Whole.{Whole, all_lines, before_data, create_again, fill_lines, from_data, from_drafted, script_with, version_head, whole_from, whole_again, whole_long}
+use Rattle.script_text.proofs.ScriptLines.{all_lines, before_data, fill_lines, from_data, script_with}
+use Rattle.script_text.proofs.Whole.{Whole, create_again, from_drafted, version_head, whole_from, whole_again, whole_long}
 
 -- ---- ranks and hints
 

@@ -36,14 +36,14 @@ use Rattle.serial_spec.specs.Torn.{IsLeft, IsTorn, OwnerStoodAt, StoodAt, bytes_
 use Rattle.serial_spec.specs.Torn.OwnerStoodAt.{at_arrival, between_arrivals}
 use Rattle.serial_spec.specs.Torn.StoodAt.{in_step, in_close, between}
 use Rattle.collective_round.specs.Rounds.{counted}
-use Rattle.collective_round.proofs.TornLaws.{after_grows, raised_grows, torn_by, torn_sides, AreSides}
+use Rattle.collective_round.proofs.TornFiles.{after_grows, raised_grows, torn_by, torn_sides, AreSides}
 use Rattle.run_laws.proofs.StandingLaws.{solo_goes}
 use Rattle.join_laws.specs.Begun.{HasOffered, IsBeginning}
 use Rattle.join_laws.proofs.ListLaws.{get_beside}
 use Rattle.join_laws.proofs.StreamLaws.{waiting_misfit, waiting_reply}
 use Rattle.join_laws.proofs.StepLaws.{meeting_is, same_offers, solo_of_is}
 use Rattle.thread_run.specs.Owned.{AreSingle, IsSingleOffer}
-use Rattle.thread_run.proofs.CutJoin.{Stands, fits_now, held_keeps, own_offer}
+use Rattle.thread_run.proofs.CutSteps.{Stands, fits_now, held_keeps, own_offer}
 use Rattle.join_laws.proofs.StrangeLaws.{event_is, strange_alone}
 use Rattle.join_laws.proofs.EventLaws.{own_here, own_other}
 use Rattle.thread_run.proofs.DeskRuns.{seat_held}

@@ -22,7 +22,7 @@ use Rattle.serial_spec.specs.SharedByte.{Puts, covered}
 use Rattle.serial_spec.specs.Torn.{IsLeft, IsTorn, OwnerStoodAt}
 use Rattle.serial_spec.specs.Torn.OwnerStoodAt.{at_arrival, between_arrivals}
 use Rattle.collective_round.specs.Rounds.{counted, puts_in}
-use Rattle.collective_round.proofs.TornLaws.{torn_by, torn_wider}
+use Rattle.collective_round.proofs.TornFiles.{torn_by, torn_wider}
 use Rattle.turn_run.specs.Steps.{batches_of, known_of, met, IsOneRise}
 use Rattle.turn_run.proofs.CutMeet.{met_count, met_done, met_torn}
 use Rattle.join_laws.proofs.StrangeLaws.{event_is}

@@ -35,7 +35,7 @@ use Rattle.join_laws.proofs.JoinLaws.{Stands, join, owed_on, served_on, stranger
 use Rattle.join_laws.proofs.ListLaws.{get_beside}
 use Rattle.join_laws.proofs.StepLaws.{same_offers}
 use Rattle.join_laws.proofs.StrangeLaws.{event_is, not_ended, strange_alone}
-use Rattle.join_laws.proofs.StreamLaws.{Lasting, Sits, offered_now, seat_held}
+use Rattle.join_laws.proofs.SeatTurns.{Lasting, Sits, offered_now, seat_held}
 use Rattle.join_laws.proofs.TurnLaws.{seated_after}
 use Rattle.thread_run.specs.Owned.{AreSingle, IsSingle, calls_at, calls_at_offer, calls_if, desk_calls, event_calls, IsSingleOffer}
 use Rattle.join_laws.proofs.QuietLaws.{IsQuiet, quiet_step}

@@ -36,7 +36,7 @@ use Rattle.join_laws.proofs.EventLaws.{get_set}
 use Rattle.join_laws.proofs.JoinLaws.{Stands, served_on, fold_two}
 use Rattle.join_laws.proofs.ListLaws.{get_beside}
 use Rattle.join_laws.proofs.StepLaws.{offer_at, offers_long}
-use Rattle.join_laws.proofs.StreamLaws.{Lasting, seat_held}
+use Rattle.join_laws.proofs.SeatTurns.{Lasting, seat_held}
 use Rattle.join_laws.proofs.TieLaws.{one_held}
 use Rattle.thread_run.proofs.ThreadCalls.{Onward, onward}
 

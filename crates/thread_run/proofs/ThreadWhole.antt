@@ -28,7 +28,8 @@ use Rattle.join_laws.proofs.CountLaws.{sound_small}
 use Rattle.join_laws.proofs.GoodLaws.{Good, good_first, lasting}
 use Rattle.join_laws.proofs.JoinLaws.{Joins, Stands, join}
 use Rattle.join_laws.proofs.ListLaws.{get_beside}
-use Rattle.join_laws.proofs.StreamLaws.{Sits, closes, seat_end}
+use Rattle.join_laws.proofs.StreamLaws.{closes, seat_end}
+use Rattle.join_laws.proofs.SeatTurns.{Sits}
 use Rattle.join_laws.proofs.TurnLaws.{Seated}
 use Rattle.join_laws.proofs.WholeLaws.{get_replicate, lawful_agrees, get_map as from_map, none_first}
 use Rattle.thread_run.specs.Owned.{AreSingle, desk_calls}

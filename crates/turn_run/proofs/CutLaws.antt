@@ -19,7 +19,7 @@ use Rattle.serial_spec.specs.SerialEnd.{Going}
 use Rattle.serial_spec.specs.SharedByte.{covered}
 use Rattle.serial_spec.specs.Torn.{IsTorn, IsLeft}
 use Rattle.collective_round.specs.Rounds.{counted}
-use Rattle.collective_round.proofs.TornLaws.{torn_wider}
+use Rattle.collective_round.proofs.TornFiles.{torn_wider}
 use Rattle.nc_base.specs.declared.header.Header.{Header}
 use Rattle.nc_base.specs.declared.step.DiskCall.{DiskCall}
 use Rattle.serial_spec.specs.Lawful.{is_lawful}

@@ -24,7 +24,8 @@ use Rattle.serial_spec.proofs.FileLaws.{at-written_before}
 use Rattle.serial_spec.proofs.KeepLaws.{after_keeps}
 use Rattle.overlay_laws.proofs.SaidLaws.{same_file}
 use Rattle.collective_round.specs.Rounds.{after_round, counted, puts_in}
-use Rattle.collective_round.proofs.TornLaws.{after_grows, counted_past, raised_grows, round_grows, torn_by, torn_sides}
+use Rattle.collective_round.proofs.TornFiles.{after_grows, counted_past, raised_grows, torn_by, torn_sides}
+use Rattle.collective_round.proofs.TornLaws.{round_grows}
 use Rattle.collective_round.proofs.ResultSteps.{told_as}
 use Rattle.nc_base.specs.declared.header.Header.{Header}
 use Rattle.nc_base.specs.declared.script.Script.{Script}

@@ -25,7 +25,7 @@ use Rattle.serial_spec.specs.SharedByte.{covered}
 use Rattle.serial_spec.specs.Torn.{IsTorn, IsLeft, StoodAt, IsCutRun, HasAnswers, HasAnswersOfEach, bytes_of_mark}
 use Rattle.serial_spec.specs.Torn.StoodAt.{in_step as stood_step, in_close as stood_close, between as stood_between}
 use Rattle.collective_round.specs.Rounds.{as_setting, counted}
-use Rattle.collective_round.proofs.TornLaws.{raised_grows, torn_by}
+use Rattle.collective_round.proofs.TornFiles.{raised_grows, torn_by}
 use Rattle.run_laws.proofs.LawfulLaws.{ranks_lawful}
 use Rattle.run_laws.specs.Standing.{close_by}
 use Rattle.join_laws.proofs.Completing.{completed}

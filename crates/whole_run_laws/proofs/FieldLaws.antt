@@ -26,7 +26,7 @@ use Rattle.serial_spec.proofs.SaidLaws.{at-written_inside}
 use Rattle.var_layout.proofs.WrittenLengths.{canon_len}
 use Rattle.whole_run_laws.specs.Completed.{is_held, puts_at, puts_met}
 use Rattle.whole_run_laws.proofs.Courses.{AreAlong, first_along, mark_along, steps}
-use Rattle.whole_run_laws.proofs.FilledLaws.{read_all, read_kept}
+use Rattle.whole_run_laws.proofs.FilledFile.{read_all, read_kept}
 use Rattle.whole_run_laws.proofs.PastLaws.{AllFit, AllPast, first_fits, mark_fit, mark_past}
 use Rattle.whole_run_laws.proofs.ToldLaws.{offered_alone}
 

@@ -33,7 +33,7 @@ use Rattle.run_laws.proofs.StandingLaws.{comes_to_meeting}
 use Rattle.whole_run_laws.specs.Completed.{puts_at, puts_met}
 use Rattle.whole_run_laws.specs.Filling.{AllFill, filling, Fills, share_boxes}
 use Rattle.whole_run_laws.proofs.Courses.{AreAlong, meets, offer_met, offers_met_long}
-use Rattle.whole_run_laws.proofs.FilledLaws.{record_puts, record_reads}
+use Rattle.whole_run_laws.proofs.FilledRecord.{record_puts, record_reads}
 use Rattle.whole_run_laws.proofs.Hints.{some_rank}
 use Rattle.whole_run_laws.proofs.ToldLaws.{along_at}
 

@@ -1,6 +1,6 @@
 -- The part's bytes go into the blob of the entry's slot.
 use Rattle.std.proofs.Common.{◌+◌}
-use Rattle.data_sieving.proofs.GetSteps.{collected_entry}
+use Rattle.data_sieving.proofs.CollectedSteps.{collected_entry}
 use Rattle.data_sieving.proofs.get.collect_entry.Goals as goal
 
 pub returns : goal.returns

@@ -12,7 +12,7 @@ use Rattle.data_sieving.proofs.PastSteps.{past_twice}
 use Rattle.data_sieving.proofs.WindowSteps.{goes_on}
 use Rattle.data_sieving.proofs.CallSteps.{none_begun}
 use Rattle.data_sieving.proofs.ReachSteps.{begun_in, hull_low, hull_high, hull_end, begun_ends, begun_filled}
-use Rattle.data_sieving.proofs.GetSteps.{as_long_twice, fit_as_long, got_none, got_more, got_all}
+use Rattle.data_sieving.proofs.CollectedSteps.{as_long_twice, fit_as_long, got_none, got_more, got_all}
 use Rattle.data_sieving.proofs.LoopSteps.{all_left, none_carried, walk_begin, walk_ready, calls_begin, loads_more, calls_end}
 use Rattle.data_sieving.proofs.get.get_windows.Goals as goal
 
