@@ -82,7 +82,7 @@ fold_least a (j ∷ ks) =
 
 -- ---- without repetition
 
-NoRepeat : List Key → Type 0
+pub NoRepeat : List Key → Type 0
 NoRepeat [] = Unit {0}
 NoRepeat (k ∷ ks) = (list_any (λ l. same_key l k) ks ≡ false) × NoRepeat ks
 
@@ -160,11 +160,11 @@ least_key_is (k ∷ ks) j h =
     )
 
 -- the two least of some keys without repetition
-record AreLeast (ks : List Key) (first second : Key) : Type 0 where
-  has_first : In ks first
-  has_second : In ks second
-  in_order : key_below first second ≡ true
-  others : (a : Key) → In ks a → (a ≡ first) ⊎ (a ≡ second) ⊎ (key_below second a ≡ true)
+pub record AreLeast (ks : List Key) (first second : Key) : Type 0 where
+  pub has_first : In ks first
+  pub has_second : In ks second
+  pub in_order : key_below first second ≡ true
+  pub others : (a : Key) → In ks a → (a ≡ first) ⊎ (a ≡ second) ⊎ (key_below second a ≡ true)
 
 -- one of two different keys is not the first
 one_other : (ks : List Key) (a b f : Key) → In ks a → In ks b → same_key b a ≡ false → (k : Key) × In ks k × (same_key k f ≡ false)
