@@ -8,7 +8,7 @@ use Rattle.std.proofs.lemmas.List.{length-drop, length-replicate, drop-drop}
 use Rattle.std.proofs.lemmas.Nat.{from_be_bytes-to_be_bytes_4, from_be_bytes-to_be_bytes_8}
 use Rattle.std.proofs.lemmas.Bool.{ltb-true, eqb-true, eq-eqb, le-ltb, leb-true}
 use Rattle.serial_spec.proofs.LengthLaws.{width_long}
-use Rattle.list_laws.proofs.Truth.{and_first, and_second}
+use Rattle.list_laws.proofs.Truth.{and_first, and_second, all_three}
 use Rattle.nc_base.specs.declared.header.Header.{Header}
 use Rattle.nc_base.specs.declared.header.Dim.{Dim}
 use Rattle.nc_base.specs.declared.header.Attr.{Attr}
@@ -299,9 +299,6 @@ var_walk h v is few asks rest a =
     (begin_walk version v.begin rest (and_second _ _ is))
 
 -- ---- a header
-
-all_three : (s t u : Bool) → s ≡ true → t ≡ true → u ≡ true → (s && t && u) ≡ true
-all_three s t u h k l = rw (h, k, l) refl
 
 both_tests : {A : Type 0} (p q : A → Bool) (xs : List A) → list_all p xs ≡ true → list_all q xs ≡ true → list_all (λ x. p x && q x) xs ≡ true
 both_tests p q [] h k = refl

@@ -1,85 +1,41 @@
 -- A torn file: each byte outside of the count's field that is old or new, and what a longer or a later write leaves of it.
 use Rattle.overlay_laws.proofs.Members.{each_in}
 use Rattle.list_laws.proofs.Truth.{and_first, and_second, no_false, or_first_false, or_second_false}
-use Rattle.std.proofs.lemmas.Bool.{leb-true, le-leb, lt-ltb}
-use Rattle.std.proofs.Common.{◌≡◌, ℕ, ◌+◌, ◌-◌, ◌<◌, ◌≤◌, refl, sym, ap, subst, ◌∙◌, inl, inr, ◌⊎◌, List, [], ◌∷◌, length, take, drop, Bool, true, false, cond, ◌||◌, ◌&&◌, max, Option, Some, None, length-append, arith}
+use Rattle.std.proofs.lemmas.Bool.{leb-true, le-leb, lt-ltb, or_right}
+use Rattle.std.proofs.Common.{◌≡◌, ℕ, ◌+◌, ◌-◌, ◌<◌, ◌≤◌, refl, sym, ap, subst, ◌∙◌, inl, inr, ◌⊎◌, List, [], ◌∷◌, length, Bool, true, false, ◌||◌, ◌&&◌, max, Option, Some, None, arith}
 use Rattle.std.proofs.lemmas.Grind.{common_steps}
 use Rattle.std.proofs.lemmas.Bool.Decides.{nat_tests}
-use Rattle.std.proofs.lemmas.List.{length-replicate}
-use Rattle.std.specs.Prelude.{fold, map, nat_lt, nat_le, ◌==◌, slice_get, replicate}
+use Rattle.std.specs.Prelude.{map, nat_lt, nat_le, ◌==◌, slice_get}
 use Rattle.std.specs.List.{list_any, range_with_len}
 use Rattle.std.specs.Int.{byte_len}
 use borrow.Author.Tests.{ltb-true, ltb-false}
 use Rattle.nc_base.specs.declared.header.Header.{Header}
 use Rattle.nc_base.specs.declared.header.Var.{Var}
 use Rattle.nc_base.specs.declared.plan.Post.{Post}
-use Rattle.nc_base.specs.declared.answer.Pair.{Pair}
 use Rattle.nc_base.specs.declared.request.Direction.{Direction}
 use Rattle.nc_outside.specs.DiskState.{PartlyWritten}
 use Rattle.serial_spec.specs.ExternalForm.{size_of}
-use Rattle.serial_spec.specs.File.{at, longer, written}
-use Rattle.serial_spec.specs.FileStep.{Setting, Counted, end_for, put_some, put_post, after_puts, raised}
+use Rattle.serial_spec.specs.File.{at, longer}
+use Rattle.serial_spec.specs.FileStep.{Setting, end_for, after_puts}
 use Rattle.serial_spec.specs.HeaderBytes.{count, count_width, header_len}
 use Rattle.serial_spec.specs.SoundHeaders.{is_sound}
 use Rattle.serial_spec.specs.Place.{place, IsElementBelow}
 use Rattle.serial_spec.specs.Records.{needed_by, records_of, with_records}
 use Rattle.serial_spec.specs.RegionCheck.{check_some}
-use Rattle.serial_spec.specs.Request.{cells, places, elements}
+use Rattle.serial_spec.specs.Request.{places, elements}
 use Rattle.nc_base.specs.declared.answer.Code.TheVariants as code
 use Rattle.serial_spec.specs.SharedByte.{Puts, bytes_of, bytes_of_some, covered}
 use Rattle.serial_spec.specs.Torn.{IsTorn, may_change}
 use Rattle.serial_spec.proofs.AcceptLaws.{accepted_elements}
 use Rattle.serial_spec.proofs.ApartLaws.{elements_past_header}
-use Rattle.serial_spec.proofs.FileLaws.{at-longer, at-written_before, at-written_after}
+use Rattle.serial_spec.proofs.FileLaws.{at-longer, at-written_before, at-written_after, longer_long}
 use Rattle.var_layout.proofs.WrittenLengths.{canon_len}
 use Rattle.overlay_laws.specs.Changes.{IsBetween}
 use Rattle.overlay_laws.specs.Entries.{In}
 use Rattle.overlay_laws.proofs.HullLaws.{any_in, flat_in, range_low}
 use Rattle.collective_round.specs.Rounds.{ArePuts}
 use Rattle.serial_spec.proofs.KeepLaws.{after_keeps, count_long as length-count}
-
--- ---- no step makes a file shorter
-
-pub written_grows : (file b : List ℕ) (x : ℕ) → length file ≤ length (written file x b)
-written_grows file b x = grind (arith, common_steps)
-
-cells_grow : (size : ℕ) (ps bytes file : List ℕ) → length file ≤ length (fold (λ f cell. written f cell.0 cell.1) file (cells size ps bytes))
-cells_grow size [] bytes file = omega arith
-cells_grow size (p ∷ ps) bytes file =
-    let one = written_grows file (take size bytes) p in
-    let rest = cells_grow size ps (drop size bytes) (written file p (take size bytes)) in
-    omega arith
-
-post_grows : (s : Setting) (v : Option Var) (post : Post) (file : List ℕ) → length file ≤ length (put_some s v post file)
-post_grows s None post file = omega arith
-post_grows s (Some v) post file = cells_grow (size_of v.kind) (places s.header v post.region) post.bytes file
-
-puts_grow : (s : Setting) (puts : Puts) (file : List ℕ) → length file ≤ length (fold (put_post s) file puts)
-puts_grow s [] file = omega arith
-puts_grow s (p ∷ puts) file =
-    let one = post_grows s (slice_get s.header.vars p.1.var) p.1 file in
-    let rest = puts_grow s puts (put_post s file p) in
-    omega arith
-
-pub longer_most : (file : List ℕ) (n : ℕ) → length (longer file n) ≡ max (length file) n
-longer_most file n = omega (arith, length-append file (replicate (n - length file) 0), length-replicate {A = ℕ} (n - length file) 0)
-
-pub after_long : (s : Setting) (puts : Puts) (file : List ℕ) → max (length file) (end_for s (needed_by s.header puts)) ≤ length (after_puts s puts None file)
-after_long s puts file =
-    let long = longer_most file (end_for s (needed_by s.header puts)) in
-    let more = puts_grow s puts (longer file (end_for s (needed_by s.header puts))) in
-    omega arith
-
-pub after_grows : (s : Setting) (puts : Puts) (pair : Option Pair) (file : List ℕ) → length file ≤ length (after_puts s puts pair file)
-after_grows s puts (Some p) file = omega arith
-after_grows s puts None file = let l = after_long s puts file in omega arith
-
-pub raised_grows : (s : Setting) (c : Counted) (n : ℕ) → length c.file ≤ length (raised s c n).file
-raised_grows s c n = by_test (nat_lt c.records n)
-  where
-    by_test : (t : Bool) → length c.file ≤ length (cond t (record { file = with_records s.header.version c.file n; records = n }) c).file
-    by_test false = omega arith
-    by_test true = written_grows c.file (count s.header.version n) 4
+use Rattle.serial_spec.proofs.GrowLaws.{written_grows, after_long}
 
 -- ---- the field of the count
 
@@ -152,7 +108,7 @@ torn_still bytes field old new h = record { long = omega arith; short = h; chang
 -- zeros were added
 pub torn_grown : (bytes : List ℕ) (field m : ℕ) (old new : List ℕ) → length (longer old m) ≤ length new → IsTorn bytes field old new (longer old m)
 torn_grown bytes field m old new h = record {
-  long = (let l = longer_most old m in omega arith);
+  long = (let l = longer_long old m in omega arith);
   short = h;
   changed = λ x l k. inl (at-longer old m x);
   kept = λ x l k. at-longer old m x;
@@ -167,7 +123,7 @@ torn_laid s puts n old left is b =
     (λ x e h. by_kept x e (b.each x))
   where
     made : length left ≡ max (length old) (end_for s n)
-    made = b.len ∙ longer_most old (end_for s n)
+    made = b.len ∙ longer_long old (end_for s n)
 
     whole : max (length old) (end_for s n) ≤ length (after_puts s puts None old)
     whole = let l = after_long s puts old in subst (λ (k : ℕ). max (length old) (end_for s k) ≤ length (after_puts s puts None old)) (sym is) l
@@ -201,10 +157,6 @@ not_field field x h = by_tests (nat_le 4 x) refl (nat_lt x (4 + field)) refl h
 
 in_field : (field x : ℕ) → 4 ≤ x → x < 4 + field → (nat_le 4 x && nat_lt x (4 + field)) ≡ true
 in_field field x l h = λ i. (le-leb 4 x l i && lt-ltb x (4 + field) h i)
-
-or_right : (a b : Bool) → b ≡ true → (a || b) ≡ true
-or_right true b h = refl
-or_right false b h = h
 
 pub torn_sides : (bytes : List ℕ) (field : ℕ) (old new left : List ℕ) → IsTorn bytes field old new left → AreSides bytes field old new left
 torn_sides bytes field old new left t = record {

@@ -19,8 +19,10 @@ use Rattle.collective_round.specs.Rounds.{ArePuts, after_round, counted}
 use Rattle.collective_round.proofs.PutLaws.{laid_round}
 use Rattle.collective_round.proofs.StepLaws.{round_by}
 use Rattle.collective_round.proofs.ResultSteps.{told_as}
-use Rattle.collective_round.proofs.TornFiles.{longer_most, after_long, after_grows, raised_grows, covered_past, torn_by, torn_still, torn_grown, torn_laid, torn_wider, counted_past, torn_counted, torn_after, torn_stored}
+use Rattle.collective_round.proofs.TornFiles.{covered_past, torn_by, torn_still, torn_grown, torn_laid, torn_wider, counted_past, torn_counted, torn_after, torn_stored}
 use Rattle.serial_spec.proofs.KeepLaws.{after_keeps}
+use Rattle.serial_spec.proofs.FileLaws.{longer_long}
+use Rattle.serial_spec.proofs.GrowLaws.{after_long, after_grows, raised_grows}
 
 -- ---- a step, on a disk that may tell its bytes
 
@@ -45,7 +47,7 @@ grown_torn s puts n m (Some old) now is h = (
   longer old m,
   h.0,
   torn_grown (covered s.header puts) 0 m old (after_puts s puts None old)
-      (let l = longer_most old m in
+      (let l = longer_long old m in
       let w = after_long s puts old in
       let end : end_for s n ≡ end_for s (needed_by s.header puts) = ap (λ (k : ℕ). end_for s k) is in
       let low = h.1 in

@@ -9,9 +9,9 @@ use Rattle.overlay_laws.specs.Lines.{extents, EndBelow}
 use Rattle.overlay_laws.proofs.HullLaws.{in_left}
 use Rattle.data_sieving.specs.Sieving.{AreFilled, LieOn}
 use Rattle.data_sieving.specs.Serving.{IsPast, AreLeft, AreBegun, IsNext}
-use Rattle.data_sieving.proofs.CoveredBytes.{in_extents}
 use Rattle.data_sieving.proofs.PastSteps.{past_in, past_found}
 use Rattle.data_sieving.proofs.SplitSteps.{extents_left}
+use Rattle.overlay_laws.proofs.EntryLaws.{in_extents}
 
 pub begun_in : (place stop : ℕ) (list left begun : List Owned) (o : Owned) → IsPast place list left → AreBegun stop left begun → In begun o → In list o
 begun_in place stop list left begun o p b m =

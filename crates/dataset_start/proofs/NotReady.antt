@@ -1,7 +1,5 @@
 -- A dataset that was not made ready.
-use Rattle.std.proofs.Common.{◌≡◌, ℕ, ◌≤◌, ◌==◌, max, ◌⊎◌, inl, inr, refl, sym, ◌∙◌, ap, subst, List, [], length, Bool, true, false, Option, Some, None, arith}
-use Rattle.std.specs.Prelude.{Result, Ok, Err, OnErr}
-use Rattle.std.proofs.lemmas.Grind.{common_steps}
+use Rattle.std.proofs.Common.{◌≡◌, ℕ, ◌≤◌, ◌==◌, ◌⊎◌, inl, inr, refl, sym, ◌∙◌, ap, subst, List, [], length, Bool, true, false, Option, Some, None, arith}
 use Rattle.nc_base.specs.declared.header.Header as head
 use Rattle.nc_base.specs.declared.script.Extra.{Extra}
 use Rattle.nc_base.specs.declared.script.Script as script_type
@@ -13,7 +11,7 @@ use Rattle.serial_spec.specs.Layout.{end_of}
 use Rattle.serial_spec.specs.SerialEnd.{start}
 use Rattle.serial_spec.specs.Redefinition.{redefined}
 use Rattle.serial_spec.specs.Torn.{IsBegun, IsLengthened, IsTornCreation, IsTornRedefinition}
-use Rattle.serial_spec.proofs.FileLaws.{at-longer}
+use Rattle.serial_spec.proofs.FileLaws.{at-longer, longer_long}
 use Rattle.overlay_laws.specs.Changes.{IsBetween}
 use Rattle.fill_records.proofs.TornLaws.{filled_long}
 use Rattle.redef_laws.specs.Applied.{IsApplied}
@@ -23,21 +21,7 @@ use Rattle.dataset_start.specs.Dataset.{created_header, header_of_run, AreHeader
 use Rattle.dataset_start.specs.Opening.{filled_if, IsCutRedefinition, IsNotReady, IsOpened, IsPartlyOpened, IsPartlyRedefined}
 use Rattle.dataset_start.proofs.Created.{front-of-zeros}
 use Rattle.dataset_start.proofs.Ready.{begun, false-true, header-changed, header-kept, start-created}
-
-pub on_err : {T E P : Type 0} (r : Result T E) → P → OnErr r P
-on_err (Ok x) p = tt
-on_err (Err e) p = p
-
-pub err_as : {T E P Q : Type 0} (r : Result T E) → (P → Q) → OnErr r P → OnErr r Q
-err_as (Ok x) f p = tt
-err_as (Err e) f p = f p
-
-told_as : {A : Type 0} (R S : A → A → Type 0) (held now : Option A) → ((old left : A) → R old left → S old left) → BothTold R held now → BothTold S held now
-told_as R S None now f b = b
-told_as R S (Some old) now f b = (b.0, b.1, f old b.0 b.2)
-
-longer_long : (file : List ℕ) (n : ℕ) → length (longer file n) ≡ max (length file) n
-longer_long file n = grind (arith, common_steps)
+use Rattle.nc_outside.proofs.ToldLaws.{told_as}
 
 -- ---- a dataset that is created
 

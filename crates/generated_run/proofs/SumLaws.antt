@@ -24,9 +24,6 @@ product_push : (ns : List ℕ) (n : ℕ) → product (ns ++ n ∷ []) ≡ produc
 product_push [] n = omega arith
 product_push (m ∷ ns) n = ap (λ (p : ℕ). m * p) (product_push ns n) ∙ omega arith
 
-pub product_more : (ns : List ℕ) (i d : ℕ) → i < length ns → product (take (i + 1) ns) ≡ product (take i ns) * get_or ns i d
-product_more ns i d h = ap (λ (ms : List ℕ). product ms) (take_more ns i d h) ∙ product_push (take i ns) (get_or ns i d)
-
 -- ---- over what an iterator yields
 
 pub next_summed : {A : Type 0} (f : A → ℕ) (now part next : ℕ) (all : List A) (n m : ℕ) (x : A) → n < length all → x ≡ get_or all n x → m ≡ n + 1

@@ -5,3 +5,5 @@ pub mod Each
 pub mod Maps
 pub mod Ranges
 pub mod Numbers
+pub mod Results
+pub mod Appends

@@ -1,6 +1,6 @@
 -- Lists that are mapped, searched or filtered.
-use Rattle.std.proofs.Common.{◌≡◌, ◌≤◌, refl, sym, ◌∙◌, ap, List, [], ◌∷◌, length, map, Bool, true, false, cond, not, ◌||◌, Some, arith}
-use Rattle.std.specs.Prelude.{filter}
+use Rattle.std.proofs.Common.{◌≡◌, ◌≤◌, refl, sym, ◌∙◌, ap, List, [], ◌∷◌, length, map, Bool, true, false, cond, not, ◌||◌, Some, arith, ℕ, zero, suc}
+use Rattle.std.specs.Prelude.{filter, slice_get}
 use Rattle.std.specs.List.{list_any, position, prefix_len, find}
 use Rattle.std.proofs.lemmas.List.{length-map}
 
@@ -34,3 +34,8 @@ found_passes {A} p (y ∷ ys) x e = by_test (found_passes p ys x) (p y) refl e
     by_test : (find p ys ≡ Some x → p x ≡ true) → (t : Bool) → p y ≡ t → cond t (Some y) (find p ys) ≡ Some x → p x ≡ true
     by_test later true h g = let same : y ≡ x = cc in ap p (sym same) ∙ h
     by_test later false h g = later g
+
+pub entry_map : {A B : Type 0} (f : A → B) (xs : List A) (k : ℕ) (x : A) → slice_get xs k ≡ Some x → slice_get (map f xs) k ≡ Some (f x)
+entry_map f [] k x h = cc
+entry_map f (y ∷ xs) zero x h = let e : y ≡ x = cc in ap (λ z. Some (f z)) e
+entry_map f (y ∷ xs) (suc k) x h = entry_map f xs k x h

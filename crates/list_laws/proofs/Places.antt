@@ -1,5 +1,5 @@
 -- The entries of a list by their places.
-use Rattle.std.proofs.Common.{◌≡◌, ℕ, zero, suc, ◌<◌, ◌≤◌, refl, ap, List, [], ◌∷◌, length, take, set, Some, arith, Bool, subst, nat_lt, position}
+use Rattle.std.proofs.Common.{◌≡◌, ℕ, zero, suc, ◌<◌, ◌≤◌, refl, ap, List, [], ◌∷◌, length, take, set, Some, arith, Bool, subst, nat_lt, position, drop}
 use Rattle.std.specs.List.{position_or_len}
 use Rattle.std.proofs.lemmas.Bool.{ltb-true}
 use Rattle.std.proofs.lemmas.Option.{cond_some}
@@ -32,3 +32,11 @@ pub position_below : {A : Type 0} (p : A → Bool) (xs : List A) (n : ℕ) → p
 position_below p xs n e =
     let k = cond_some (nat_lt (position_or_len p xs) (length xs)) (position_or_len p xs) n e in
     subst (λ (m : ℕ). m < length xs) k.1 (ltb-true _ _ k.0)
+
+pub drop_at : {A : Type 0} (xs : List A) (k : ℕ) (x : A) → slice_get xs k ≡ Some x → drop k xs ≡ x ∷ drop (suc k) xs
+drop_at [] k x h = cc
+drop_at (y ∷ xs) zero x h = let same : y ≡ x = cc in ap (λ z. z ∷ xs) same
+drop_at (y ∷ xs) (suc k) x h = drop_at xs k x h
+
+pub first_same : {X : Type 0} (x y : X) (xs ys : List X) → x ∷ xs ≡ y ∷ ys → x ≡ y
+first_same x y xs ys e = cc

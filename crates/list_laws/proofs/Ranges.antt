@@ -1,8 +1,9 @@
 -- Numbers one after another.
-use Rattle.std.proofs.Common.{◌≡◌, ℕ, zero, suc, ◌+◌, ◌*◌, ◌∙◌, ap, List, ◌∷◌, ◌++◌, length, arith}
+use Rattle.std.proofs.Common.{◌≡◌, ℕ, zero, suc, ◌+◌, ◌*◌, ◌∙◌, ap, List, ◌∷◌, ◌++◌, length, arith, [], ◌-◌}
 use Rattle.std.specs.Prelude.{flat_map}
 use Rattle.std.specs.List.{range_with_len}
 use Rattle.std.proofs.lemmas.List.{length-append}
+use Rattle.std.proofs.lemmas.List.FromFn.{length-range_with_len}
 
 pub range_append : (a m n : ℕ) → range_with_len a (m + n) ≡ range_with_len a m ++ range_with_len (a + m) n
 range_append a zero n =
@@ -21,4 +22,16 @@ pieces_long f m h a (suc n) =
     let one : length (f a) ≡ m = h a in
     let rest : length (flat_map f (range_with_len (a + 1) n)) ≡ n * m = pieces_long f m h (a + 1) n in
     let whole = length-append (f a) (flat_map f (range_with_len (a + 1) n)) in
+    omega arith
+
+pub range_push : (a k b : ℕ) → a + k ≡ b → range_with_len a (suc k) ≡ range_with_len a k ++ b ∷ []
+range_push a zero b e = ap (λ (x : ℕ). x ∷ []) (omega arith)
+range_push a (suc k) b e = ap (λ (xs : List ℕ). a ∷ xs) (range_push (a + 1) k b (omega arith))
+
+pub spans_long : (size : ℕ) (xs : List ℕ) → length (flat_map (λ x. range_with_len x size) xs) ≡ length xs * size
+spans_long size [] = omega arith
+spans_long size (x ∷ xs) =
+    let rest = spans_long size xs in
+    let both = length-append (range_with_len x size) (flat_map (λ x. range_with_len x size) xs) in
+    let first = length-range_with_len x size in
     omega arith

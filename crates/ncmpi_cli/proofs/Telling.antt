@@ -1,10 +1,9 @@
 -- What the top call tells, by how a run ended.
-use Rattle.std.proofs.Common.{◌≡◌, ℕ, ◌≤◌, Bool, true, false, List, Option, Some, None, option_map, inl, inr, ◌⊎◌, refl, sym, ap, subst, ◌∙◌, arith}
+use Rattle.std.proofs.Common.{◌≡◌, ℕ, Bool, true, false, List, Option, Some, None, option_map, inl, inr, ◌⊎◌, refl, sym, ap, subst, ◌∙◌, arith}
 use Rattle.std.specs.Prelude.{IfSome, IsSomeAnd, Result, is_some}
 use Rattle.nc_base.specs.declared.errors.LayoutErr.{LayoutErr}
 use Rattle.nc_base.specs.declared.errors.ScriptErr.{ScriptErr}
 use Rattle.nc_base.specs.declared.script.Script.{Script}
-use Rattle.nc_outside.specs.Cause.{Rose}
 use Rattle.script_spec.specs.ScriptGrammar.{fault_of, Reads}
 use Rattle.script_spec.specs.Texts.{script_line}
 use Rattle.serial_spec.specs.Redefinition.{layout_fault}
@@ -182,7 +181,3 @@ pub not_unread : {Q : Type 0} (left : Option (List ℕ)) (script : Script) → A
 not_unread None script a r = absurd r
 not_unread (Some text) script a r =
     absurd (false-true (is_some (refusal text)) (ap (λ (o : Option (List ℕ)). is_some o) (not_refused text script a)) r)
-
--- a count that rose later rose
-pub rose_later : (before middle now : ℕ) → before ≤ middle → Rose middle now → Rose before now
-rose_later before middle now h r = omega (arith, h, r)

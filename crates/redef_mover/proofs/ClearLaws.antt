@@ -4,11 +4,9 @@ use Rattle.std.specs.Prelude.{flat_map, replicate}
 use Rattle.std.proofs.lemmas.Grind.{flat_map-append, fold-append}
 use Rattle.std.specs.List.{range_with_len}
 use Rattle.std.proofs.Math.ListN.{drop_of_length-le}
-use Rattle.std.proofs.lemmas.List.{drop_more, length-replicate, map-append, take-replicate}
+use Rattle.std.proofs.lemmas.List.{drop_more, length-replicate, take-replicate}
 use Rattle.overlay_laws.proofs.SaidLaws.{same_file}
-use Rattle.list_laws.proofs.Ranges.{range_append}
 use Rattle.nc_base.specs.declared.step.DiskCall.{DiskCall}
-use Rattle.nc_base.specs.declared.step.DiskCall.TheVariants.{Store}
 use Rattle.serial_spec.specs.DeviceCalls.{Slab, stores}
 use Rattle.serial_spec.specs.File.{at, written}
 use Rattle.serial_spec.proofs.FileLaws.{at-written_before, at-written_after, length-written_inside}
@@ -21,7 +19,7 @@ use Rattle.redef_mover.specs.declared.slabs.Slabs.{Slabs}
 use Rattle.redef_mover.specs.Moves.{all_cleared, behind, cleared, further, gap_calls, gaps_before, listed, slab_of, slabs_at, AreClearable, AreSpaced}
 use Rattle.redef_mover.proofs.MovesLaws.{map_id, no_further}
 use Rattle.redef_mover.proofs.SlabLaws.{below_or}
-use Rattle.redef_mover.proofs.WindowLaws.{count_is, windows_of}
+use Rattle.overlay_laws.proofs.WindowCounts.{windows_of, count_is, stores_before}
 
 -- ---- one gap
 
@@ -83,18 +81,6 @@ window_cleared file bytes x len z j n place from h l k b f e =
     ∙ both_cleared file x (min len (j * z)) n (min len ((j + 1) * z)) (omega arith) (omega arith)
 
 -- ---- the stores so far
-
-abbrev pub stores_before : ℕ → ℕ → ℕ → ℕ → List DiskCall
-stores_before z x len j = map (λ i. Store (x + i * z) (min z (len - i * z))) (range_with_len 0 j)
-
-pub stores_more : (z x len j place n : ℕ) (bytes : List ℕ) → place ≡ x + j * z → n ≡ min z (len - j * z) → length bytes ≡ n
-    → stores_before z x len j ++ Store place (length bytes) ∷ [] ≡ stores_before z x len (j + 1)
-stores_more z x len j place n bytes e k long =
-    let first : j ≡ 0 + j = omega arith in
-    (λ t. stores_before z x len j ++ Store (e t) ((long ∙ k) t) ∷ [])
-    ∙ ap (λ (i : ℕ). stores_before z x len j ++ Store (x + i * z) (min z (len - i * z)) ∷ []) first
-    ∙ sym (map-append (λ i. Store (x + i * z) (min z (len - i * z))) (range_with_len 0 j) (range_with_len (0 + j) 1))
-    ∙ ap (λ js. map (λ i. Store (x + i * z) (min z (len - i * z))) js) (sym (range_append 0 j 1))
 
 pub all_stored : (z x len j count : ℕ) → 0 < z → j ≡ count → count ≡ windows_of z len → stores_before z x len j ≡ stores z x len
 all_stored z x len j count h e k = ap (λ (i : ℕ). stores_before z x len i) (e ∙ k ∙ count_is z len h)

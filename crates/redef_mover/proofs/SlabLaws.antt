@@ -1,13 +1,12 @@
 -- The bytes of a file in which a slab was moved.
-use Rattle.std.proofs.Common.{◌≡◌, ℕ, ◌+◌, ◌-◌, ◌<◌, ◌≤◌, ◌⊎◌, inl, inr, refl, sym, ◌∙◌, ap, List, [], ◌++◌, length, take, drop, Bool, true, false, arith}
+use Rattle.std.proofs.Common.{◌≡◌, ℕ, ◌+◌, ◌-◌, ◌<◌, ◌≤◌, ◌⊎◌, inl, inr, refl, sym, ◌∙◌, ap, List, length, Bool, true, false, arith}
 use Rattle.std.specs.Prelude.{nat_lt}
-use Rattle.std.proofs.lemmas.List.{append-nil, take-append-drop}
 use borrow.Author.Tests.{ltb-true, ltb-false}
 use Rattle.overlay_laws.proofs.SaidLaws.{same_file}
 use Rattle.serial_spec.specs.DeviceCalls.{Slab}
 use Rattle.serial_spec.specs.File.{at, read, written}
 use Rattle.serial_spec.proofs.CellLaws.{read_long, read_at}
-use Rattle.serial_spec.proofs.FileLaws.{at-written_before, at-written_after, length-written_inside, written-inside}
+use Rattle.serial_spec.proofs.FileLaws.{at-written_before, at-written_after, length-written_inside, write_none}
 use Rattle.serial_spec.proofs.SaidLaws.{at-written_inside}
 use Rattle.redef_mover.specs.Moves.{slab_moved}
 
@@ -17,15 +16,6 @@ below_or a b = by_test (nat_lt a b) refl
     by_test : (t : Bool) → nat_lt a b ≡ t → (a < b) ⊎ (b ≤ a)
     by_test true e = inl (ltb-true _ _ e)
     by_test false e = inr (ltb-false _ _ e)
-
--- ---- a write
-
-pub write_none : (file : List ℕ) (place : ℕ) → place ≤ length file → written file place [] ≡ file
-write_none file place h =
-    let same : place + 0 ≡ place = omega arith in
-    written-inside file place [] (omega arith)
-    ∙ (λ t. append-nil (take place file) t ++ drop (same t) file)
-    ∙ take-append-drop place file
 
 -- ---- one slab
 

@@ -5,7 +5,7 @@ use borrow.Author.Tests.{not-false, leb-false, ltb-false}
 use Rattle.std.proofs.lemmas.Bool.{and_parts}
 use Rattle.std.proofs.lemmas.List.{length-map}
 use Rattle.std.proofs.lemmas.Option.{cond_some}
-use Rattle.list_laws.proofs.Optional.{none_of_test}
+use Rattle.list_laws.proofs.Optional.{none_of_test, not_some}
 use Rattle.script_spec.proofs.TextLaws.{faultless_some}
 use Rattle.nc_base.specs.declared.errors.ScriptKind.TheVariants as kind
 use Rattle.nc_base.specs.declared.errors.LimitName.TheVariants as limit
@@ -30,10 +30,6 @@ two_words first one ws a e1 e2 = ap (λ (xs : List Word). Plain first ∷ xs) e1
 three_words : (first one two : List ℕ) (ws a b : List Word) → ws ≡ Plain one ∷ a → a ≡ Plain two ∷ b → b ≡ [] → Plain first ∷ ws ≡ Plain first ∷ Plain one ∷ Plain two ∷ []
 three_words first one two ws a b e1 e2 e3 = ap (λ (xs : List Word). Plain first ∷ xs) e1 ∙ ap (λ (xs : List Word). Plain first ∷ Plain one ∷ xs) (e2 ∙ ap (λ (xs : List Word). Plain two ∷ xs) e3)
 
-no_value : {A : Type 0} (o : Option A) → is_some o ≡ false → o ≡ None
-no_value None h = refl
-no_value (Some x) h = absurd (cc)
-
 -- ---- ranks and hints
 
 pub ranks_said : (version : ℕ) (ranks : Option ℕ) (ws : List Word) (n : ℕ) → ranks_line ranks ws ≡ Ok n → Says version (Plain (codes "ranks") ∷ ws) (RanksAre n) × (ranks ≡ None)
@@ -42,7 +38,7 @@ ranks_said version ranks ws n h =
     let b = went (reads_as (number_within 1 64 1) kind.BadNumber ws) _ n a.rest in
     let w = word_is (number_within 1 64 1) kind.BadNumber ws b.value refl b.first in
     let end = whole_value b.value n b.rest in
-    ((w.word, two_words (codes "ranks") w.word ws b.value.1 w.are end.1, w.says ∙ ap (λ (x : ℕ). Some x) end.0), no_value ranks (not_refused _ _ a.value a.first))
+    ((w.word, two_words (codes "ranks") w.word ws b.value.1 w.are end.1, w.says ∙ ap (λ (x : ℕ). Some x) end.0), not_some ranks (not_refused _ _ a.value a.first))
 
 hint_word : (f : HintForm) (ws : List Word) (r : ℕ × List Word) → hint_value_of f (34 ∷ []) ≡ None → hint_value f ws ≡ Ok r → WordRead (hint_value_of f) ws r
 hint_word (Within low high unit) ws r none h = let w = word_is (number_within low high unit) kind.BadNumber ws r none h in record { word = w.word; are = w.are; says = w.says }
@@ -69,7 +65,7 @@ hint_said version hints ws r h =
     let v = hint_word (hint_form a.value.0) a.value.1 c.value (no_quote hint_forms a.value.0 refl) c.first in
     subst (HintSaid version hints (Plain (codes "hint") ∷ ws)) (same_ok (a.value.0, c.value.0) r d.rest) (record {
       says = (n.word, v.word, three_words (codes "hint") n.word v.word ws a.value.1 c.value.1 n.are v.are (is_end c.value.1 d.value d.first), n.says, v.says);
-      free = no_value (hint_in a.value.0 hints) (not_refused _ _ b.value b.first);
+      free = not_some (hint_in a.value.0 hints) (not_refused _ _ b.value b.first);
     })
 
 -- ---- dimensions

@@ -16,10 +16,11 @@ use Rattle.script_spec.specs.ScriptDefinitions.{HintForm, Within, Either, hint_f
 use Rattle.script_text.proofs.Steps.{went, go_on, same_ok, not_refused, passed, read_word, word_read, whole_value}
 use Rattle.script_text.proofs.Lexing.{is_plain, is_good}
 use Rattle.script_text.proofs.Lines.{all_more}
-use Rattle.script_text.proofs.Numerals.{below_bound, below_again, size_bound, size_again, size_plain, decimal_word, brackets_again, parts_again, bracketed_plain, is_item, name_item, name_plain}
+use Rattle.script_text.proofs.Numerals.{below_bound, below_again, size_again, size_plain, decimal_word, brackets_again, parts_again, bracketed_plain, is_item, name_item, name_plain}
 use Rattle.script_text.proofs.PrintedValues.{not_letters}
 use Rattle.script_text.proofs.PrintedRegions.{name_read, name_again}
 use Rattle.script_text.proofs.PrintedAttributes.{type_read, type_word_again}
+use Rattle.script_spec.proofs.NumeralLaws.{size_read}
 
 -- ---- hints
 
@@ -138,7 +139,7 @@ length_is version w n h = by (bytes_eq w (codes "unlimited")) h
     by_zero m true e s low k = absurd (cc)
     by_zero m false e s low k =
         let same : m ≡ n = cc in
-        inr (subst (λ x. ((x == 0) ≡ false) × (x < length_limit version) × (x < 2 ^ 63)) same (e, low, size_bound w m s))
+        inr (subst (λ x. ((x == 0) ≡ false) × (x < length_limit version) × (x < 2 ^ 63)) same (e, low, size_read w m s))
 
     by_size : (o : Option ℕ) → below (length_limit version) (size_of_text w) ≡ o → length_by o ≡ Some n → (n ≡ 0) ⊎ (((n == 0) ≡ false) × (n < length_limit version) × (n < 2 ^ 63))
     by_size None e k = absurd (cc)

@@ -1,5 +1,5 @@
 -- A lawful script, test by test: what it has of ranks, calls and hints.
-use Rattle.std.proofs.Common.{◌≡◌, ◌≤◌, length, map, true}
+use Rattle.std.proofs.Common.{◌≡◌, ◌≤◌, length, map, true, ℕ, ◌-◌}
 use Rattle.std.specs.Prelude.{nat_le, sum, ◌==◌}
 use Rattle.std.specs.List.{enumerate_from, list_all}
 use Rattle.std.proofs.lemmas.Bool.{leb-true}
@@ -45,3 +45,6 @@ some_rank script h = leb-true 1 script.ranks (and_first (nat_le 1 script.ranks) 
 
 pub lawful_hints : (script : Script) → is_lawful script ≡ true → are_lawful_hints script.hints ≡ true
 lawful_hints script h = (tests_of script h).hints
+
+pub within_is : (low high n : ℕ) → is_within low high n ≡ true → (low ≤ n) × (n ≤ high)
+within_is low high n h = (leb-true low n (and_first (nat_le low n) (nat_le n high) h), leb-true n high (and_second (nat_le low n) (nat_le n high) h))

@@ -17,7 +17,7 @@ use Rattle.serial_spec.specs.HeaderFaults.{first_check, first_with, fault_if, tw
 use Rattle.serial_spec.specs.SoundHeaders.{is_sound}
 use Rattle.serial_spec.specs.RegionCheck.{known_lengths}
 use Rattle.serial_spec.proofs.ApartLaws.{span_fixed, span_record}
-use Rattle.serial_spec.proofs.ElementLaws.{get_map}
+use Rattle.list_laws.proofs.Maps.{entry_map}
 
 -- ---- the end of a file
 
@@ -28,7 +28,7 @@ greatest_holds (m ∷ ns) (suc k) n h = let l = greatest_holds ns k n h in omega
 
 pub end_holds : (header : Header) (first n k : ℕ) (v : Var) → slice_get header.vars k ≡ Some v → end_of_var header n v ≤ end_of header first n
 end_holds header first n k v h =
-    let l = greatest_holds (map (λ w. end_of_var header n w) header.vars) k (end_of_var header n v) (get_map (λ w. end_of_var header n w) header.vars k v h) in
+    let l = greatest_holds (map (λ w. end_of_var header n w) header.vars) k (end_of_var header n v) (entry_map (λ w. end_of_var header n w) header.vars k v h) in
     omega arith
 
 pub slab_below : (header : Header) (v : Var) → slab header v ≤ vsize header v

@@ -26,17 +26,16 @@ use Rattle.overlay_laws.specs.Entries.{In}
 use Rattle.overlay_laws.proofs.SaidLaws.{same_file}
 use Rattle.serial_spec.specs.Desk.{Desk, Event, Seat, at_offer, event, holds, is_strange, meets_if, offers_at, offers_held, offers_met, own_items, step_offers}
 use Rattle.serial_spec.specs.File.{at}
-use Rattle.serial_spec.specs.FileStep.{Setting, Counted, after_puts, puts_of, told}
+use Rattle.serial_spec.specs.FileStep.{Setting, Counted, puts_of}
 use Rattle.serial_spec.specs.HeaderBytes.{count_width}
 use Rattle.serial_spec.specs.History.{Arrival, IsLegal}
 use Rattle.serial_spec.specs.RankSide.{fits_offer, offered, offered_by, waiting}
-use Rattle.serial_spec.specs.SerialEnd.{Going, advance, after_mark, closed, first_going, hears, offers_of, solo_of}
+use Rattle.serial_spec.specs.SerialEnd.{Going, advance, after_mark, closed, first_going, hears, offers_of}
 use Rattle.serial_spec.specs.SharedByte.{Puts, covered}
 use Rattle.serial_spec.specs.Torn.{IsLeft, IsTorn, OwnerStoodAt, StoodAt, bytes_of_mark}
 use Rattle.serial_spec.specs.Torn.OwnerStoodAt.{at_arrival, between_arrivals}
 use Rattle.serial_spec.specs.Torn.StoodAt.{in_step, in_close, between}
-use Rattle.collective_round.specs.Rounds.{counted}
-use Rattle.collective_round.proofs.TornFiles.{after_grows, raised_grows, torn_by, torn_sides, AreSides}
+use Rattle.collective_round.proofs.TornFiles.{torn_sides, AreSides, torn_still}
 use Rattle.run_laws.proofs.StandingLaws.{solo_goes}
 use Rattle.join_laws.specs.Begun.{HasOffered, IsBeginning}
 use Rattle.join_laws.proofs.ListLaws.{get_beside}
@@ -48,6 +47,7 @@ use Rattle.join_laws.proofs.StrangeLaws.{event_is, strange_alone}
 use Rattle.join_laws.proofs.EventLaws.{own_here, own_other}
 use Rattle.thread_run.proofs.DeskRuns.{seat_held}
 use Rattle.thread_run.proofs.ThreadCalls.{single_go}
+use Rattle.serial_spec.proofs.GrowLaws.{raised_grows, mark_grows}
 
 -- ---- the step that an arrival brings
 
@@ -122,29 +122,6 @@ brings s d goings r (item.Offer c o) others x g given end a b fit t = by_kind o.
 
 -- ---- nothing was done
 
--- each step, and the close, leaves a file that is as long at least
-grows : (s : Setting) (state : Counted × List Going) (m : Mark) → length state.0.file ≤ length (after_mark s state m).0.file
-grows s state (Meet k) =
-    let offers = offers_of (map (advance s.header) state.1) in
-    let puts = flat_map puts_of (enumerate_from 0 offers) in
-    both (length state.0.file) _ _ (after_grows s puts (told s puts) state.0.file) (raised_grows s (counted (after_puts s puts (told s puts) state.0.file) state.0.records) _)
-  where
-    both : (n k l : ℕ) → n ≤ k → k ≤ l → n ≤ l
-    both n k l h j = omega arith
-grows s state (Solo r c) = by_rank (slice_get state.1 r)
-  where
-    by_offer : (p : Going × Option Offer) → length state.0.file ≤ length (solo_of s r state.0 p).0.file
-    by_offer (h, None) = omega arith
-    by_offer (h, Some o) = after_grows s (puts_of (r, o)) (told s (puts_of (r, o))) state.0.file
-
-    by_rank : (m : Option Going) → length state.0.file
-        ≤ length (elim m as (λ m. Counted × List Going) [ None ↦ (state.0, state.1) | Some h ↦ let done = solo_of s r state.0 (advance s.header h) in (done.0, set state.1 r done.1) ]).0.file
-    by_rank None = omega arith
-    by_rank (Some h) = by_offer (advance s.header h)
-
-torn_none : (bytes : List ℕ) (field : ℕ) (old new : List ℕ) → length old ≤ length new → IsTorn bytes field old new old
-torn_none bytes field old new l = torn_by bytes field old new old (omega arith) l (λ x h. inl refl) (λ x h j k. inl refl) (λ x h k. refl)
-
 -- what is torn between a file and itself is that file
 torn_same : (bytes : List ℕ) (field : ℕ) (old new left : List ℕ) → new ≡ old → IsTorn bytes field old new left → left ≡ old
 torn_same bytes field old new left e t =
@@ -182,13 +159,13 @@ stood_still script s e state order left records (later, legal) l k = by_later la
   where
     here : (new : Counted) (bytes : List ℕ) → length state.0.file ≤ length new.file → IsLeft s.header bytes state.0 new left records
     here new bytes g =
-        (subst (λ (f : List ℕ). IsTorn bytes (byte_len (count_width s.header.version)) state.0.file new.file f) (sym l) (torn_none bytes (byte_len (count_width s.header.version)) state.0.file new.file g), inl k)
+        (subst (λ (f : List ℕ). IsTorn bytes (byte_len (count_width s.header.version)) state.0.file new.file f) (sym l) (torn_still bytes (byte_len (count_width s.header.version)) state.0.file new.file g), inl k)
 
     by_later : (ms : List Mark) → IsLegal script (order ++ ms) → StoodAt script s e state order left records
     by_later [] h =
         in_close (subst (λ (ms : List Mark). IsLegal script ms) (append-nil order) h)
         (here (record { file = (closed s state).bytes; records = (closed s state).records }) [] (raised_grows s state.0 _))
-    by_later (m ∷ ms) h = in_step m ms h (here (after_mark s state m).0 (bytes_of_mark s state.1 m) (grows s state m))
+    by_later (m ∷ ms) h = in_step m ms h (here (after_mark s state m).0 (bytes_of_mark s state.1 m) (mark_grows s state m))
 
 -- ---- where the owner stood
 

@@ -30,15 +30,18 @@ use Rattle.thread_run.specs.Stopping.{stops_for}
 use Rattle.thread_run.specs.declared.lent.Outlets.{Outlets}
 use Rattle.thread_run.specs.declared.serving.Halt.{Halt}
 use Rattle.thread_run.specs.declared.serving.Halt.TheVariants as halt
-use Rattle.thread_run.proofs.AlikeLaws.{alike_by, alike_long, lines_twice}
+use Rattle.thread_run.proofs.AlikeLaws.{alike_by, lines_twice}
 use Rattle.thread_run.proofs.DeskRuns.{goes_on, GoesOn}
-use Rattle.turn_run.proofs.ListLaws.{get_replicate, get_there}
+use Rattle.turn_run.proofs.ListLaws.{get_replicate}
 use Rattle.thread_run.proofs.RefusedSteps.{stood_later}
-use Rattle.turn_run.proofs.MeetSolo.{told_at}
 use Rattle.join_laws.proofs.TieLaws.{one_if, owed_count}
 use Rattle.join_laws.proofs.OwnerAlikeLaws.{alike_same, alike_two}
-use Rattle.thread_run.proofs.StopLaws.{filter_joined, own_joined}
+use Rattle.thread_run.proofs.StopLaws.{filter_joined}
 use Rattle.thread_run.proofs.GainedLaws.{gained_is, have_put, arrived_is, StoppedAt, stopped_at, left_at}
+use Rattle.list_laws.proofs.Optional.{if_some_at}
+use Rattle.list_laws.proofs.Places.{entry_below}
+use Rattle.join_laws.proofs.BegunLaws.{own_two}
+use Rattle.thread_run.proofs.ThreadLists.{alike_long}
 
 -- ---- the clauses
 
@@ -149,7 +152,7 @@ module _ (hints : Hints) (s : Setting) (old now : Receiver RankItem) (left : Lis
 
   offers_long : (q : ℕ) (xs ys : List Arrival) → offers_in (own_items q (xs ++ ys)) ≡ offers_in (own_items q xs) + offers_in (own_items q ys)
   offers_long q xs ys =
-      ap (λ (items : List RankItem). offers_in items) (own_joined q xs ys) ∙ ap (λ (items : List RankItem). length items) (filter_joined (own_items q xs) (own_items q ys))
+      ap (λ (items : List RankItem). offers_in items) (own_two q xs ys) ∙ ap (λ (items : List RankItem). length items) (filter_joined (own_items q xs) (own_items q ys))
       ∙ length-append (filter is_offer (own_items q xs)) (filter is_offer (own_items q ys))
 
   numbers_front : (k : ℕ) (xs ys : List Arrival) → list_all (λ (a : Arrival). nat_lt a.0 k) (xs ++ ys) ≡ true → list_all (λ (a : Arrival). nat_lt a.0 k) xs ≡ true
@@ -170,7 +173,7 @@ module _ (hints : Hints) (s : Setting) (old now : Receiver RankItem) (left : Lis
   one_item_each : (senders : ℕ) → before.seats ≡ replicate senders free_seat → length before.lines ≡ senders → senders ≡ old.senders → (q : ℕ) → q < length before.lines
       → length (gained before.lines lines q) ≡ offers_in (own_items q (o.first ++ o.last))
   one_item_each senders seats long same q l =
-      let seat = get_there before.seats q (seats_long q l) in
+      let seat = entry_below before.seats q (seats_long q l) in
       let free : seat.0.held ≡ None = ap (λ (x : Seat). x.held) (get_replicate senders q free_seat seat.0 (ap (λ (ss : List Seat). slice_get ss q) (sym seats) ∙ seat.1)) in
       let count = owed_count s (desk_at before []) o.first q seat.0 numbers seat.1 in
       let none = held_none seat.0.held free in
@@ -253,7 +256,7 @@ module _ (hints : Hints) (s : Setting) (old now : Receiver RankItem) (left : Lis
   out_stood e is free alone file there =
       let fault = subst (λ (k : Halt). IsHaltAt s o.middle o.later n held made k) is o.halted in
       let told = (told_so (Some file) there).told in
-      let at = told_at (λ (f : List ℕ). (bytes : List ℕ) × (held ≡ Some bytes) × OwnerStoodAt s e (desk_at o.middle f) o.later bytes n) o.middle.told
+      let at = if_some_at (λ (f : List ℕ). (bytes : List ℕ) × (held ≡ Some bytes) × OwnerStoodAt s e (desk_at o.middle f) o.later bytes n) o.middle.told
       (served s (desk_at before file) o.first).desk.state.file told (fault (o.run.moved.single (free, single_first alone)) single_later) in (
         at.0,
         at.1,

@@ -22,14 +22,14 @@ use Rattle.thread_run.specs.declared.serving.Halt.{Halt}
 use Rattle.thread_run.specs.declared.serving.Halt.TheVariants as halt
 use Rattle.thread_run.proofs.AlikeLaws.{lines_as, lines_twice}
 use Rattle.thread_run.proofs.DeskRuns.{calls_stop, stops_at}
-use Rattle.turn_run.proofs.ListLaws.{get_there}
 use Rattle.thread_run.proofs.StopLaws.{stops_joined}
+use Rattle.list_laws.proofs.Places.{entry_below}
 
 -- ---- what ends gained
 
 pub gained_is : (old now : List (End OwnerItem)) (more : ℕ → List OwnerItem) (q : ℕ) → Grows old more now → q < length old → gained old now q ≡ more q
 gained_is old now more q g l =
-    let end = get_there old q l in
+    let end = entry_below old q l in
     (λ i. more_on (end.1 i) (g.each q end.0 end.1 i)) ∙ drop-append_seam end.0.items (more q)
 
 pub have_put : (old now : List (End OwnerItem)) (more : ℕ → List OwnerItem) → Grows old more now → HavePut old now

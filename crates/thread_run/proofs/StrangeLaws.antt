@@ -2,10 +2,10 @@
 use Rattle.std.proofs.Common.{◌≡◌, ℕ, zero, suc, ◌+◌, ◌*◌, ◌^◌, ◌<◌, ◌≤◌, refl, sym, ◌∙◌, ap, inl, inr, List, [], ◌∷◌, length, map, set, Bool, true, false, not, ◌&&◌, ◌||◌, Option, Some, None, arith}
 use Rattle.std.specs.Prelude.{slice_get, is_some, nat_le, nat_lt, ◌==◌, IfSome}
 use Rattle.std.specs.List.{list_all, list_any}
-use Rattle.std.proofs.lemmas.Bool.{or_parts}
+use Rattle.std.proofs.lemmas.Bool.{or_parts, and_right}
 use Rattle.std.proofs.lemmas.Bool.Decides.{nat_tests}
 use Rattle.std.proofs.lemmas.Option.{same_Some}
-use Rattle.list_laws.proofs.Truth.{and_first, and_second}
+use Rattle.list_laws.proofs.Truth.{and_first, and_second, or_false}
 use Rattle.nc_base.specs.declared.answer.Code.TheVariants as code
 use Rattle.nc_base.specs.declared.header.Header.{Header}
 use Rattle.nc_base.specs.declared.header.Var.{Var}
@@ -93,17 +93,9 @@ stays x e = ap (λ (m : Option Bool). left_by x.held m) e ∙ by x.held
     by None = refl
     by (Some o) = refl
 
-or_false : (a : Bool) → (a || false) ≡ a
-or_false true = refl
-or_false false = refl
-
 and_true : (a b : Bool) → b ≡ true → (a && b) ≡ a
 and_true true b e = e
 and_true false b e = refl
-
-and_false : (a b : Bool) → b ≡ false → (a && b) ≡ false
-and_false true b e = e
-and_false false b e = refl
 
 -- behind an end, an offer and a meeting's offer
 ended_leaves : (seats : List Seat) (r : ℕ) (x : Seat) (memory : Bool) → slice_get seats r ≡ Some x → x.ended ≡ None
@@ -129,7 +121,7 @@ ended_leaves seats r x memory e f =
 meeting_leaves : (s : Setting) (d : Desk) (r : ℕ) (x : Seat) (o : Offer) → slice_get d.seats r ≡ Some x → x.ended ≡ None → (there : slice_get (set d.seats r (seat_held x o)) r ≡ Some (seat_held x o))
     → (t : Bool) → list_all holds (set d.seats r (seat_held x o)) ≡ t → left_behind (meets_if s d (set d.seats r (seat_held x o)) t).desk.seats ≡ list_any has_left d.seats
 meeting_leaves s d r x o e f there true h =
-    and_false (list_any has_left (map freed (set d.seats r (seat_held x o)))) (list_any holds (map freed (set d.seats r (seat_held x o)))) (none_held (set d.seats r (seat_held x o)))
+    and_right (list_any has_left (map freed (set d.seats r (seat_held x o)))) (list_any holds (map freed (set d.seats r (seat_held x o)))) (none_held (set d.seats r (seat_held x o)))
     ∙ sym (none_left (set d.seats r (seat_held x o)) h) ∙ any_set has_left d.seats r x (seat_held x o) e (stays x f) ∙ or_false (list_any has_left d.seats)
 meeting_leaves s d r x o e f there false h =
     and_true (list_any has_left (set d.seats r (seat_held x o))) (list_any holds (set d.seats r (seat_held x o))) (any_there holds (set d.seats r (seat_held x o)) r (seat_held x o) there refl)

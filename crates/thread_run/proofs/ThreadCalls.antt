@@ -39,6 +39,7 @@ use Rattle.join_laws.proofs.SeatTurns.{Lasting, Sits, offered_now, seat_held}
 use Rattle.join_laws.proofs.TurnLaws.{seated_after}
 use Rattle.thread_run.specs.Owned.{AreSingle, IsSingle, calls_at, calls_at_offer, calls_if, desk_calls, event_calls, IsSingleOffer}
 use Rattle.join_laws.proofs.QuietLaws.{IsQuiet, quiet_step}
+use Rattle.thread_run.proofs.DeskRuns.{calls_on}
 
 -- ---- one arrival
 
@@ -159,10 +160,6 @@ module _ (hints : Hints) (s : Setting) (d : Desk) (goings : List Going) (r : ℕ
       → calls_at hints s d r i (Some x) ≡ calls_so_far hints s (d.state, goings) (at_item s d r x i).marks
   item_is (item.Ended memory) f = refl
   item_is (item.Offer c o) f = offer_is c o o.kind (f c o refl)
-
-calls_on : (hints : Hints) (s : Setting) (d : Desk) (a : Arrival) (rest : List Arrival) → is_strange s d a ≡ false
-    → desk_calls hints s d (a ∷ rest) ≡ event_calls hints s d a ++ desk_calls hints s (event s d a).desk rest
-calls_on hints s d a rest e = rw (e, desk_calls) refl
 
 -- the owner's device calls are those of the serial run, without the close
 pub calls_along : (hints : Hints) (s : Setting) (Good : ℕ → Going → Type 0) (lasting : Lasting s.header Good) (ks : List MeetKind) (d : Desk) (goings : List Going) (arrivals : List Arrival)

@@ -23,10 +23,6 @@ known_more ends i end before now l e f h =
     let next : suc i ≡ i + 1 = omega arith in
     h ∙ ap (λ (n : ℕ). max n end.known) f ∙ sym (one_more ends i end l e) ∙ ap (λ (n : ℕ). most_known_of (take n ends)) next
 
-pub on_ok : {T E : Type 0} {P : Type 0} (r : Result T E) → P → OnOk r P
-on_ok (Ok x) p = p
-on_ok (Err e) p = tt
-
 -- the greater of two counts that a header can have
 pub raised_sound : {T E : Type 0} (result : Result T E) (header : Header) (before known now : ℕ) → is_sound (record header { records = before }) ≡ true
     → is_sound (record header { records = known }) ≡ true → OnOk result (now ≡ max before known) → OnOk result (is_sound (record header { records = now }) ≡ true)

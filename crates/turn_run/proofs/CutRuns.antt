@@ -25,7 +25,7 @@ use Rattle.serial_spec.specs.SharedByte.{covered}
 use Rattle.serial_spec.specs.Torn.{IsTorn, IsLeft, StoodAt, IsCutRun, HasAnswers, HasAnswersOfEach, bytes_of_mark}
 use Rattle.serial_spec.specs.Torn.StoodAt.{in_step as stood_step, in_close as stood_close, between as stood_between}
 use Rattle.collective_round.specs.Rounds.{as_setting, counted}
-use Rattle.collective_round.proofs.TornFiles.{raised_grows, torn_by}
+use Rattle.collective_round.proofs.TornFiles.{torn_by}
 use Rattle.run_laws.proofs.LawfulLaws.{ranks_lawful}
 use Rattle.run_laws.specs.Standing.{close_by}
 use Rattle.join_laws.proofs.Completing.{completed}
@@ -39,10 +39,12 @@ use Rattle.turn_run.specs.Said.{all_between, HaveAnswers}
 use Rattle.turn_run.specs.Steps.{first_seat, most_known}
 use Rattle.turn_run.specs.declared.seats.Seat.{Seat}
 use Rattle.turn_run.proofs.CutMeet.{raised_kept}
-use Rattle.turn_run.proofs.ListLaws.{get_map, get_map_none, get_mapped, map_map}
+use Rattle.turn_run.proofs.ListLaws.{get_map_none, get_mapped}
 use Rattle.turn_run.proofs.StageLaws.{gone_up, mark_up, marks_up}
 use Rattle.turn_run.proofs.TurnEnds.{AreOver, map_ended}
 use Rattle.turn_run.proofs.TurnRuns.{first_goings, first_stage, none_begun}
+use Rattle.list_laws.proofs.Maps.{entry_map, map_map}
+use Rattle.serial_spec.proofs.GrowLaws.{raised_grows}
 
 abbrev Ends : Script → Setting → StepErr → Option (List ℕ) → ℕ → List Arrived → List Mark → Option (List ℕ) → ℕ → Type 0
 Ends script s e held records ranks order left count =
@@ -144,7 +146,7 @@ bytes_up s goings (Solo r n) = by_rank (slice_get goings r) refl
         ap (λ (m : Option Arrived). some (elim m [ None ↦ None | Some a ↦ a.1 ])) (get_map_none (advance s.header) goings r e)
         ∙ sym (ap (λ (m : Option Going). some (elim m [ None ↦ None | Some g ↦ (advance s.header g).1 ])) e)
     by_rank (Some g) e =
-        ap (λ (m : Option Arrived). some (elim m [ None ↦ None | Some a ↦ a.1 ])) (get_map (advance s.header) goings r g e)
+        ap (λ (m : Option Arrived). some (elim m [ None ↦ None | Some a ↦ a.1 ])) (entry_map (advance s.header) goings r g e)
         ∙ sym (ap (λ (m : Option Going). some (elim m [ None ↦ None | Some g ↦ (advance s.header g).1 ])) e)
 
 closed_up : (s : Setting) (c : Counted) (goings : List Going)

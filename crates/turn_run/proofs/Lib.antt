@@ -3,7 +3,6 @@ pub mod ListLaws
 pub mod StageLaws
 pub mod CountLaws
 pub mod SeatLaws
-pub mod HintLaws
 pub mod AloneLaws
 pub mod MeetPosts
 pub mod MeetSolo

@@ -1,18 +1,14 @@
 -- A list whose elements are changed one after another.
-use Rattle.std.proofs.Common.{◌≡◌, ℕ, zero, suc, ◌+◌, ◌<◌, ◌≤◌, refl, sym, ◌∙◌, ap, subst, List, [], ◌∷◌, ◌++◌, length, set, take, get_or, Bool, true, false, Some, arith}
+use Rattle.std.proofs.Common.{◌≡◌, ℕ, ◌+◌, ◌<◌, ◌≤◌, refl, sym, ◌∙◌, ap, subst, List, [], ◌∷◌, ◌++◌, set, take, Bool, true, false, Some, arith}
 use Rattle.std.proofs.lemmas.Bool.Decides.{nat_tests}
 use Rattle.std.proofs.lemmas.List.{take_more}
 use Rattle.std.specs.Prelude.{slice_get, nat_lt}
-use Rattle.turn_run.proofs.ListLaws.{get_long, get_set, get_set_other}
-use Rattle.std.proofs.lemmas.Option.{same_Some}
-
-pub got_or : {X : Type 0} (xs : List X) (i : ℕ) (x d : X) → slice_get xs i ≡ Some x → get_or xs i d ≡ x
-got_or [] i x d e = absurd cc
-got_or (z ∷ xs) zero x d e = same_Some z x e
-got_or (z ∷ xs) (suc i) x d e = got_or xs i x d e
+use Rattle.turn_run.proofs.ListLaws.{get_set_other}
+use Rattle.std.proofs.lemmas.Option.{same_Some, slice_get_within, get_or_from_slice_get}
+use Rattle.list_laws.proofs.Places.{entry_set}
 
 pub take_next : {X : Type 0} (xs : List X) (i : ℕ) (x : X) → slice_get xs i ≡ Some x → take (i + 1) xs ≡ take i xs ++ x ∷ []
-take_next xs i x e = take_more xs i x (get_long xs i x e) ∙ ap (λ (y : _). take i xs ++ y ∷ []) (got_or xs i x x e)
+take_next xs i x e = take_more xs i x (slice_get_within xs i x e) ∙ ap (λ (y : _). take i xs ++ y ∷ []) (get_or_from_slice_get xs i x x e)
 
 pub left_more : {X : Type 0} (old now : List X) (i : ℕ) (y : X) → ((r : ℕ) → i ≤ r → slice_get now r ≡ slice_get old r) → (r : ℕ) → i + 1 ≤ r
     → slice_get (set now i y) r ≡ slice_get old r
@@ -26,7 +22,7 @@ each_more {X} P old now i x y e f p each r a b l g h = by_order (nat_lt r i) ref
     at : r ≡ i → P r a b
     at s =
         let first : x ≡ a = same_Some x a (sym e ∙ ap (slice_get old) (sym s) ∙ g) in
-        let second : y ≡ b = same_Some y b (sym (get_set now i x y f) ∙ ap (slice_get (set now i y)) (sym s) ∙ h) in
+        let second : y ≡ b = same_Some y b (sym (entry_set now i x y f) ∙ ap (slice_get (set now i y)) (sym s) ∙ h) in
         subst (λ (k : ℕ). P k a b) (sym s) (subst (λ (c : X). P i c b) first (subst (λ (d : X). P i x d) second p))
 
     by_order : (t : Bool) → nat_lt r i ≡ t → P r a b
@@ -34,8 +30,3 @@ each_more {X} P old now i x y e f p each r a b l g h = by_order (nat_lt r i) ref
         let below : r < i = grind (arith, nat_tests) in
         each r a b below g (sym (get_set_other now i r y (λ s. absurd (omega arith))) ∙ h)
     by_order false t = at (grind (arith, nat_tests))
-
-pub read_at : {X : Type 0} (xs : List X) (i : ℕ) (d : X) → i < length xs → slice_get xs i ≡ Some (get_or xs i d)
-read_at [] i d l = absurd (omega arith)
-read_at (z ∷ xs) zero d l = refl
-read_at (z ∷ xs) (suc i) d l = read_at xs i d (omega arith)

@@ -32,11 +32,13 @@ use Rattle.run_laws.specs.Arrivals.{calls_over, step_to, Arrived, Stand, all_cal
 use Rattle.turn_run.specs.Stages.{arrived_all, stage, HasLed, IsLed, Leads}
 use Rattle.turn_run.specs.Steps.{first_seat, most_known}
 use Rattle.turn_run.specs.declared.seats.Seat.{Seat}
-use Rattle.turn_run.proofs.ListLaws.{get_long, get_replicate}
-use Rattle.turn_run.proofs.StageLaws.{calls_are, ended_twice, first_ranks, gone_up, serial_is}
+use Rattle.turn_run.proofs.ListLaws.{get_replicate}
+use Rattle.turn_run.proofs.StageLaws.{calls_are, first_ranks, gone_up, serial_is}
 use Rattle.turn_run.proofs.TurnEnds.{are_over, map_ended, AreOver}
 use Rattle.turn_run.proofs.TurnSteps.{calls_there}
-use Rattle.turn_run.proofs.MeetFile.{raised_records}
+use Rattle.std.proofs.lemmas.Option.{slice_get_within}
+use Rattle.serial_spec.proofs.CountLaws.{raised_records}
+use Rattle.nc_outside.proofs.ToldLaws.{with_end-with_end}
 
 -- ---- before the first step
 
@@ -71,7 +73,7 @@ first_seats script header len records seats lawful sound e l s =
     each : (r : ℕ) (seat : Seat) → slice_get (replicate script.ranks (first_seat header records)) r ≡ Some seat → IsSeat script header [] r seat
     each r seat f =
         let same : first_seat header records ≡ seat = sym (get_replicate script.ranks r (first_seat header records) seat f) in
-        let long = get_long (replicate script.ranks (first_seat header records)) r seat f in
+        let long = slice_get_within (replicate script.ranks (first_seat header records)) r seat f in
         let all = length-replicate script.ranks (first_seat header records) in
         subst (λ (x : Seat). IsSeat script header [] r x) same (record {
           of_header = refl;
@@ -164,7 +166,7 @@ led_closed script header order calls made later left held count records from sea
       pending = sym (map_ended (λ (rank : machine.Rank) (answers : List Answer). machine.pending rank) header script.calls seats long over)
           ∙ sym (ap (λ (e : End). e.pending) last);
       calls = r.calls ∙ ap (λ (m : Option (List DiskCall)). with_end m (store_records s (nat_lt count records))) led.calls
-          ∙ ended_twice calls (calls_over script.hints s stand order) (store_records s (nat_lt count records))
+          ∙ with_end-with_end calls (calls_over script.hints s stand order) (store_records s (nat_lt count records))
           ∙ (λ i. with_end calls (calls_over script.hints s stand order ++ store_records s (nat_lt (before i) (records_are i))));
     }
 

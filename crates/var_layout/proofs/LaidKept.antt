@@ -11,7 +11,7 @@ use Rattle.serial_spec.specs.Layout.{placed, begins, begin_of}
 use Rattle.serial_spec.specs.HeaderBytes.{header_len, variable}
 use Rattle.serial_spec.specs.SoundHeaders.{counts_are_small}
 use Rattle.var_layout.proofs.WrittenLengths.{list_len, variable_len, canon_len}
-use Rattle.var_layout.proofs.CreatedFiles.{at_begin, in_place}
+use Rattle.var_layout.proofs.CreatedFiles.{at_begin, in_place, length-placed}
 
 -- ---- what does not look at the begins
 
@@ -48,10 +48,6 @@ placed_sum_front f same header align first n (v ∷ vs) (suc k) =
     ∙ ap (λ (m : ℕ). m + sum_by f (take k (placed header align first (suc n) vs))) (same v (begin_of header align first n v))
     ∙ ap (λ (m : ℕ). f v + m) (placed_sum_front f same header align first (suc n) vs k)
     ∙ sym (sum_by-cons f v (take k vs))
-
-length-placed : (header : Header) (align : Align) (first n : ℕ) (vs : List Var) → length (placed header align first n vs) ≡ length vs
-length-placed header align first n [] = refl
-length-placed header align first n (v ∷ vs) = ap (λ (m : ℕ). suc m) (length-placed header align first (suc n) vs)
 
 -- the length of the header
 pub laid_len : (header : Header) (align : Align) (first : ℕ) → header_len (begins header align first) ≡ header_len header

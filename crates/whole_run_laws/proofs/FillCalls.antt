@@ -34,8 +34,8 @@ use Rattle.whole_run_laws.specs.Completed.{puts_at, puts_met}
 use Rattle.whole_run_laws.specs.Filling.{AllFill, filling, Fills, share_boxes}
 use Rattle.whole_run_laws.proofs.Courses.{AreAlong, meets, offer_met, offers_met_long}
 use Rattle.whole_run_laws.proofs.FilledRecord.{record_puts, record_reads}
-use Rattle.whole_run_laws.proofs.Hints.{some_rank}
 use Rattle.whole_run_laws.proofs.ToldLaws.{along_at}
+use Rattle.serial_spec.proofs.LawfulTests.{some_rank}
 
 -- a filling by name is that of the variable
 look_is : (header : Header) (name : List ℕ) (k number r ranks : ℕ) (v : Var) → find_var header name ≡ Some k → slice_get header.vars k ≡ Some v

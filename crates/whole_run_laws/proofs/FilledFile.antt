@@ -33,9 +33,9 @@ use Rattle.serial_spec.proofs.ElementLaws.{coordinates_at}
 use Rattle.serial_spec.proofs.RowLaws.{row_once}
 use Rattle.serial_spec.proofs.SaidLaws.{cells_said, said_append, said_below, said_inside, said_past}
 use Rattle.var_layout.proofs.WrittenLengths.{canon_len}
-use Rattle.rank_core.proofs.FillLookLaws.{found_long}
 use Rattle.whole_run_laws.specs.Completed.{completed_puts, IsBesideCount, is_held}
 use Rattle.whole_run_laws.proofs.KeptLaws.{end_kept}
+use Rattle.serial_spec.proofs.ValueLaws.{found_long}
 
 -- ---- cells of which each is another one's or apart from it
 

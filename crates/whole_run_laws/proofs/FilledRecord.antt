@@ -44,6 +44,7 @@ use Rattle.whole_run_laws.specs.Completed.{completed, puts_met, unless_told}
 use Rattle.whole_run_laws.specs.Filling.{AllFill, filling, share_boxes}
 use Rattle.whole_run_laws.proofs.KeptLaws.{meeting_said}
 use Rattle.whole_run_laws.proofs.FilledFile.{IsThatOrApart, read_all, cell_of, fill_long, cells_apart, record_element, index_in, in_index, same_or_not, past_count}
+use Rattle.rank_core.proofs.FillLookLaws.{posts_filled}
 
 -- ---- the shares of all ranks
 
@@ -107,10 +108,6 @@ module _ (lengths : List ℕ) (ranks : ℕ) (some : 0 < ranks) where
 
 pub shares_all : (lengths : List ℕ) (ranks : ℕ) → 0 < ranks → flat_map (λ r. flat_map box_indices (share_boxes lengths r ranks)) (range_with_len 0 ranks) ≡ coordinates lengths
 shares_all lengths ranks some = shares_cover lengths ranks some
-
-posts_filled : (k : ℕ) (v : Var) (number : ℕ) (parts : List Part) → posts_of (fills k v number parts) ≡ map (box_post k v number) parts
-posts_filled k v number [] = refl
-posts_filled k v number (p ∷ parts) = refl
 
 pub record_puts : (header : Header) (k number r ranks : ℕ) (v : Var) → code_of_look (look_record header k number r ranks v) ≡ code.Ok
     → posts_of (look_record header k number r ranks v) ≡ filling header k v number ranks r

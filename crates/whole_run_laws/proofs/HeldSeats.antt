@@ -10,16 +10,16 @@ use Rattle.std.specs.List.{list_all, list_any, range_with_len, cons_option}
 use Rattle.std.specs.Option.{option_or}
 use Rattle.list_laws.proofs.Places.{entry_below, entry_set, entry_set_other}
 use Rattle.list_laws.proofs.Truth.{equal_itself}
-use Rattle.nc_base.specs.declared.answer.Pair.{Pair}
 use Rattle.nc_base.specs.declared.step.MeetKind.{MeetKind}
 use Rattle.nc_base.specs.declared.step.Offer.{Offer}
 use Rattle.nc_base.specs.declared.step.RankItem.{RankItem}
 use Rattle.serial_spec.specs.Desk.{Desk, differs, Event, holds, kind_held, left_behind, left_by, needed_now, offers_held, Seat}
 use Rattle.serial_spec.specs.Desk as desk
-use Rattle.serial_spec.specs.FileStep.{needs, Setting, told}
+use Rattle.serial_spec.specs.FileStep.{Setting}
 use Rattle.serial_spec.specs.History.{Arrival, is_from, kind_of_meeting, option_then}
 use Rattle.serial_spec.specs.SharedByte.{Puts}
 use Rattle.whole_run_laws.specs.Strangers.{are_left_behind, brought, ends, has_fewer, has_left, kind_waiting, last, meeting_offers, puts_brought, waiting, waits}
+use Rattle.serial_spec.proofs.CountLaws.{no_need}
 
 -- ---- what numbers brought, with one arrival more
 
@@ -185,16 +185,9 @@ pub record Next (s : Setting) (ranks : ℕ) (before : List Arrival) (d : Desk) (
   pub kept : Kept ranks (before ++ (r, i) ∷ []) e.desk
   pub reached : e.desk.reached ≡ max d.reached (needed_now s (puts_brought ranks before (r, i)))
 
-none_needed : (s : Setting) → needed_now s [] ≡ 0
-none_needed s = by (told s [])
-  where
-    by : (pair : Option Pair) → needs s [] pair ≡ 0
-    by None = refl
-    by (Some p) = refl
-
 pub nothing_reached : (s : Setting) (n : ℕ) (puts : Puts) → puts ≡ [] → n ≡ max n (needed_now s puts)
 nothing_reached s n puts e =
-    let none : needed_now s puts ≡ 0 = ap (λ (ps : Puts). needed_now s ps) e ∙ none_needed s in
+    let none : needed_now s puts ≡ 0 = ap (λ (ps : Puts). needed_now s ps) e ∙ no_need s in
     zero_max n (needed_now s puts) none
   where
     zero_max : (n m : ℕ) → m ≡ 0 → n ≡ max n m

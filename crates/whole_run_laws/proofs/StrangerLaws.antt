@@ -27,9 +27,10 @@ use Rattle.join_laws.proofs.StrangeLaws.{event_is, strange_alone, freed_none as 
 use Rattle.join_laws.proofs.WholeLaws.{get_replicate, get_map as mapped_from}
 use Rattle.join_laws.proofs.DoneLaws.{all_holds as all_hold, holds_one as one_held}
 use Rattle.whole_run_laws.specs.Completed.{puts_met}
-use Rattle.whole_run_laws.proofs.Courses.{mapped_at, set_cases}
+use Rattle.whole_run_laws.proofs.Courses.{set_cases}
 use Rattle.whole_run_laws.proofs.HeldSeats.{one_or_none, brought_here, brought_other, brought_none, last_here, one_if, Kept, Next, nothing_reached, Free, free_set, not_all, some_holds, held_all}
 use Rattle.whole_run_laws.specs.Strangers.{are_left_behind, end_of_item, ends, first_stranger, first_stranger_from, is_strange_after, last, meeting_offer, meeting_offers, puts_brought, puts_complete, waits}
+use Rattle.list_laws.proofs.Maps.{entry_map}
 
 -- ---- an end
 
@@ -185,7 +186,7 @@ module _ (s : Setting) (ranks : ℕ) (before : List Arrival) (d : Desk) (kept : 
           long = length-map (set d.seats r (held_seat x o)) freed ∙ length-set d.seats r (held_seat x o) ∙ kept.long;
           number = r;
           free = freed (held_seat x o);
-          at_free = mapped_at freed (set d.seats r (held_seat x o)) r (held_seat x o) there;
+          at_free = entry_map freed (set d.seats r (held_seat x o)) r (held_seat x o) there;
           is_free = refl;
           count = λ q y g.
               let z = mapped_from freed (set d.seats r (held_seat x o)) q y g in

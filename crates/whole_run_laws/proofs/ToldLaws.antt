@@ -1,6 +1,5 @@
 -- What a step tells its ranks, and that a step with a pair changes nothing.
-use Rattle.std.proofs.Common.{◌≡◌, ℕ, suc, ◌+◌, ◌<◌, refl, sym, ◌∙◌, ap, subst, List, [], ◌∷◌, ◌++◌, length, map, set, max, Bool, true, false, cond, Option, Some, None, arith}
-use Rattle.std.proofs.lemmas.List.{length-map}
+use Rattle.std.proofs.Common.{◌≡◌, ℕ, suc, ◌+◌, ◌<◌, refl, sym, ◌∙◌, ap, subst, List, [], ◌∷◌, ◌++◌, map, set, max, Bool, true, false, cond, Option, Some, None, arith}
 use Rattle.std.proofs.lemmas.Option.{slice_get_within, same_Some}
 use Rattle.std.proofs.lemmas.Bool.Decides.{nat_tests}
 use Rattle.std.specs.Prelude.{flat_map, slice_get, nat_lt}
@@ -55,9 +54,6 @@ abbrev pub IsLastTold : List Answer → Option Pair → Type 0
 IsLastTold answers pair = (earlier : List Answer) × (last : Answer) × (answers ≡ earlier ++ last ∷ []) × (last.pair ≡ pair)
 
 -- ---- one step
-
-pub replies_each : (s : Setting) (offers : List Offer) (c : Counted) → length (meeting s offers c).1 ≡ length offers
-replies_each s offers c = length-map offers _
 
 reply_told : (s : Setting) (offers : List Offer) (c : Counted) (q : ℕ) (y : Reply) → slice_get (meeting s offers c).1 q ≡ Some y → y.pair ≡ told s (puts_met offers)
 reply_told s offers c q y e =

@@ -5,7 +5,6 @@ use Rattle.serial_spec.specs.DeviceCalls.{loads}
 use Rattle.nc_outside.specs.Told.{with_end}
 use Rattle.nc_base.specs.declared.step.DiskCall.{DiskCall}
 use Rattle.overlay_laws.specs.Changes.{IsBegun}
-use Rattle.aggregator_rounds.proofs.RoundLaws.{on_err}
 use Rattle.data_sieving.specs.Sieving.{windows_of}
 use Rattle.data_sieving.specs.Serving.{entries_in, entries_left, HasDone, IsNext, windows_from}
 use Rattle.data_sieving.proofs.PastSteps.{past_twice}
@@ -15,6 +14,7 @@ use Rattle.data_sieving.proofs.ReachSteps.{begun_in, hull_low, hull_high, hull_e
 use Rattle.data_sieving.proofs.CollectedSteps.{as_long_twice, fit_as_long, got_none, got_more, got_all}
 use Rattle.data_sieving.proofs.LoopSteps.{all_left, none_carried, walk_begin, walk_ready, calls_begin, loads_more, calls_end}
 use Rattle.data_sieving.proofs.get.get_windows.Goals as goal
+use Rattle.list_laws.proofs.Results.{on_err}
 
 pub windows-init : goal.windows-init
 windows-init g c = record {

@@ -7,8 +7,9 @@ use Rattle.nc_base.specs.declared.header.Header.{Header}
 use Rattle.serial_spec.specs.HeaderBytes.{canon, header_len}
 use Rattle.var_layout.proofs.ElementPlaces.{sound_end}
 use Rattle.dataset_start.proofs.Created.{created, front_fits}
-use Rattle.dataset_start.proofs.NotReady.{grow_refused, head_refused, not_started, on_err, start_refused}
+use Rattle.dataset_start.proofs.NotReady.{grow_refused, head_refused, not_started, start_refused}
 use Rattle.dataset_start.proofs.creating.create.Goals as goal
+use Rattle.list_laws.proofs.Results.{on_err}
 
 pub end_of-end-requires-clause-sound : goal.end_of-end-requires-clause-sound
 end_of-end-requires-clause-sound g c = writable_is_sound c.args.header.now c.requires.writable

@@ -2,10 +2,12 @@ use Rattle.std.proofs.Common.{ap, ◌∙◌}
 use Rattle.std.specs.Prelude.{IfSome}
 use Rattle.dataset_start.specs.Dataset.{TellsDataset}
 use Rattle.dataset_start.specs.Stops.{line_of}
-use Rattle.dataset_start.proofs.NotReady.{err_as, lengthen_refused, not_opened, on_err, redefine_refused}
+use Rattle.dataset_start.proofs.NotReady.{lengthen_refused, not_opened, redefine_refused}
 use Rattle.dataset_start.proofs.Ready.{bad-header, bad-redefinition, false-true, no_extras, ready-kept, redefined-ready, redefined_long, some_extras}
 use Rattle.dataset_start.proofs.Untold.{disk-untold, redefinition-leaves}
 use Rattle.dataset_start.proofs.opening.open.Goals as goal
+use Rattle.list_laws.proofs.Results.{on_err}
+use Rattle.std.proofs.lemmas.Result.{on_err_weaker}
 
 pub returns-in_err-old-clause-bad : goal.returns-in_err-old-clause-bad
 returns-in_err-old-clause-bad g c =
@@ -54,7 +56,7 @@ returns-in_err-lengthen-clause-refused g c =
 
 pub returns-else-is_empty-clause-refused : goal.returns-else-is_empty-clause-refused
 returns-else-is_empty-clause-refused g c =
-    err_as c.redefine.result
+    on_err_weaker c.redefine.result
     (redefine_refused c.args.script.now c.in_ok-old.old (g.D.Disk.held c.args.disk.now) (g.D.Disk.held c.read_header.new.disk) (g.D.Disk.held c.redefine.new.disk) c.requires.opened
     (some_extras c.args.script.now (λ none. false-true _ c.if-is_empty.false (c.is_empty.ensures.1 none))) c.in_ok-old.ensures.opened c.in_ok-old.ensures.held)
     c.redefine.ensures.torn

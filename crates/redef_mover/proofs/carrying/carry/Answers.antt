@@ -8,12 +8,13 @@ use Rattle.redef_laws.specs.Rising.{gaps, rising}
 use Rattle.redef_laws.specs.Shifted.{new_end}
 use Rattle.redef_mover.specs.Moves.{listed}
 use Rattle.redef_mover.proofs.CallsLaws.{carry_called}
-use Rattle.redef_mover.proofs.CutLaws.{not_begun, on_err, on_way_cleared, on_way_end, on_way_grown, on_way_headed, on_way_moved, room_grown, room_kept}
+use Rattle.redef_mover.proofs.CutLaws.{not_begun, on_way_cleared, on_way_end, on_way_grown, on_way_headed, on_way_moved, room_grown, room_kept}
 use Rattle.redef_mover.specs.Kept.{IsBeside, IsUnmoved}
 use Rattle.redef_mover.proofs.CarryLaws.{carriable_spaced}
 use Rattle.redef_mover.proofs.ListedLaws.{risen_up}
 use Rattle.redef_mover.proofs.ToldSteps.{when_ok}
 use Rattle.redef_mover.proofs.carrying.carry.Goals as goal
+use Rattle.list_laws.proofs.Results.{on_err}
 
 pub move_all-requires-clause-slabs : goal.move_all-requires-clause-slabs
 move_all-requires-clause-slabs g c κs within =

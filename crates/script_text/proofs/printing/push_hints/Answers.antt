@@ -1,9 +1,9 @@
 use Rattle.std.proofs.Common.{List, ℕ, ◌++◌, cond, codes, decimal, ap, ◌∙◌}
 use Rattle.script_spec.specs.Shown.{rule_word}
-use Rattle.printed_text.proofs.Appends.{then_append}
 use Rattle.script_text.specs.Printing.{shown_hint}
 use Rattle.script_text.proofs.PrintingLaws.{ten_parts}
 use Rattle.script_text.proofs.printing.push_hints.Goals as goal
+use Rattle.list_laws.proofs.Appends.{then_append}
 
 pub returns : goal.returns
 returns c =

@@ -1,7 +1,7 @@
 use Rattle.std.proofs.Common.{List, ℕ, ◌++◌, codes, decimal}
-use Rattle.printed_text.proofs.Appends.{then_append}
 use Rattle.script_text.specs.Printing.{shown_hint}
 use Rattle.script_text.proofs.printing.push_layout_hints.Goals as goal
+use Rattle.list_laws.proofs.Appends.{then_append}
 
 pub returns : goal.returns
 returns c =
