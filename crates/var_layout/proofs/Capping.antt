@@ -38,11 +38,6 @@ capped_times a b s e =
     ∙ capped_product b a
     ∙ ap (λ (n : ℕ). capped n) (mul_comm b a)
 
--- where a record variable ends that begins at a, after n records of size s and with a share of w
-pub capped_end : (a n s w b r t e : ℕ) → s ≡ capped r → b ≡ capped (a + capped (n * s)) → t ≡ capped w → e ≡ capped (b + t)
-    → e ≡ capped (a + n * r + w)
-capped_end a n s w b r t e f g h k = let whole = capped_times n r s f in omega arith
-
 greatest-push : (xs : List ℕ) (y : ℕ) → greatest (xs ++ y ∷ []) ≡ max (greatest xs) y
 greatest-push [] y = omega arith
 greatest-push (x ∷ xs) y = let rest = greatest-push xs y in omega arith

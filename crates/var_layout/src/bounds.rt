@@ -11,8 +11,9 @@ use crate::record::{is_lone, record_share, record_size};
 use crate::sizes::{is_record, vsize_of};
 use nc_base::{FILE_LIMIT, Header, Var};
 
-/// Whether the variable keeps its bound, where the variables before it add `before` to a record.
-fn keeps_bound(header: &Header, lone: bool, size: u64, before: u64, var: &Var) -> bool
+/// Whether the variable keeps its bound, as by `measure`, where the variables before it add `before` to a record. The other
+/// two are those of `is_lone` and `recsize_of`, which a caller takes once for all variables.
+pub fn keeps_bound(header: &Header, lone: bool, size: u64, before: u64, var: &Var) -> bool
     requires lone { lone ≡ (length (layout.record_slabs header.now) == 1) }
     requires size { size ≡ capped (layout.recsize header.now) }
     ensures { (n : ℕ) → before ≡ capped n → result ≡ faults.keeps_bound header.now n var.now }

@@ -40,8 +40,8 @@ fn is_large(header: &Header, var: &Var) -> bool
     header.version != 5 && CLASSIC_VSIZE_MAX < vsize_of(header, var)
 }
 
-/// The first variable whose vsize the version can't store.
-fn first_large(header: &Header) -> Option<usize>
+/// The first variable whose vsize the version can't store: one above 2^31 - 4 in CDF-1 and CDF-2.
+pub fn first_large(header: &Header) -> Option<usize>
     ensures { result ≡ position (is_large_var header.now) header.now.vars }
 {
     header

@@ -22,14 +22,14 @@ fn record_count(header: &Header) -> usize
 
 /// Whether a header has one record variable alone. That one is not padded.
 #[tactic(auto, using(crate::proofs::Soundness::slab_count))]
-pub(crate) fn is_lone(header: &Header) -> bool
+pub fn is_lone(header: &Header) -> bool
     ensures { result ≡ (length (layout.record_slabs header.now) == 1) }
 {
     record_count(header) == 1
 }
 
-/// What a variable adds to a record, at a multiple of 4.
-pub(crate) fn record_share(header: &Header, var: &Var) -> u64
+/// What a variable adds to a record, at a multiple of 4, or 2^62 where it is more; 0 for a fixed variable.
+pub fn record_share(header: &Header, var: &Var) -> u64
     ensures { result ≡ capped (layout.record_share header.now var.now) }
 {
     if is_record(header, var) {
