@@ -1,5 +1,5 @@
 -- Parts that are one disk again: where they are, their calls, parts that were only read, and the count of faults.
-use Rattle.std.proofs.Common.{◌≡◌, ℕ, ◌+◌, ◌-◌, ◌^◌, ◌<◌, ◌≤◌, min, inl, inr, refl, sym, ◌∙◌, ap, subst, List, [], ◌∷◌, ◌++◌, length, take, drop, map, Option, Some, None, append_assoc, arith}
+use Rattle.std.proofs.Common.{◌≡◌, ℕ, ◌+◌, ◌-◌, ◌^◌, ◌≤◌, min, inl, inr, refl, sym, ◌∙◌, ap, subst, List, [], ◌∷◌, ◌++◌, length, take, drop, map, Option, Some, None, append_assoc, arith}
 use Rattle.std.proofs.lemmas.List.{append-nil, take_all}
 use Rattle.std.proofs.lemmas.Grind.{flat_map-append}
 use Rattle.std.specs.Prelude.{flat_map, zip, IfSome}
@@ -153,9 +153,6 @@ parts_rejoined disk front domains told line room f =
     }
 
 -- ---- the count of faults
-
-pub joined_later : (disk : PartState) (parts : List PartState) → disk.faults < 2 ^ 64 → disk.faults ≤ (with_parts disk parts).faults
-joined_later disk parts h = joined_at_least disk.faults disk parts h (omega arith)
 
 rose_from : (before : ℕ) (disk front : PartState) (domains : List Extent) (news : List PartState) → min before (2 ^ 64 - 1) ≤ front.faults
     → SomeZip (λ old new. Rose old.faults new.faults) (parts_of disk domains) news → Rose before (with_parts front news).faults

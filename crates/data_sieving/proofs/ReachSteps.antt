@@ -55,14 +55,6 @@ hull_end left place size w begun stop l n =
     let some = n.hull.some in
     omega arith
 
--- a window begins below 2 ^ 62, and what was served before it ends there
-pub place_below : (left : List Owned) (place size : ℕ) (w : Window) (begun : List Owned) (stop : ℕ) → AreLeft left place size
-    → IsNext left place size w begun stop → place < 2 ^ 62
-place_below left place size w begun stop l n =
-    let end = hull_end left place size w begun stop l n in
-    let low = n.from in
-    omega arith
-
 -- ---- their bytes
 
 pub found_left : (source : Source) (a b : List Owned) → AreFound source (a ++ b) → AreFound source a

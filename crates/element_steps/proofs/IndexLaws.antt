@@ -58,15 +58,6 @@ index_step starts counts strides number inner a b c below few e =
 
 -- ---- none left
 
-pub no_starts : (starts strides c : List ℕ) → length starts < 1 → index_at starts strides c ≡ []
-no_starts [] strides c h = refl
-no_starts (s ∷ starts) strides c h = absurd (omega arith)
-
-pub no_strides : (starts strides c : List ℕ) → length strides < 1 → index_at starts strides c ≡ []
-no_strides [] strides c h = refl
-no_strides (s ∷ starts) [] c h = refl
-no_strides (s ∷ starts) (t ∷ strides) c h = absurd (omega arith)
-
 pub no_counts : (starts counts strides : List ℕ) (number : ℕ) → length counts < 1 → index_at starts strides (coordinates_of counts number) ≡ []
 no_counts [] counts strides number h = refl
 no_counts (s ∷ starts) [] [] number h = refl

@@ -25,10 +25,6 @@ use Rattle.serial_spec.proofs.ValueLaws.{found_long}
 
 -- ---- files
 
--- nothing was written
-pub between_still : (old whole : List ℕ) → IsBetween old whole old
-between_still old whole = record { len = refl; each = λ x. inl refl }
-
 -- a change more that was cut off, from one file between to another
 pub between_next : (old whole mid next left : List ℕ) → IsBetween old whole mid → IsBetween old whole next → IsBetween mid next left → IsBetween old whole left
 between_next old whole mid next left a b c = record { len = c.len ∙ a.len; each = λ x. by_next x (c.each x) }
@@ -65,10 +61,6 @@ some_written value file begin n len h room = record {
     by_low x (inr l) = by_high x l (cases_lt x (begin + n))
 
 -- ---- files that may be told
-
-pub none_changed : (held : Option (List ℕ)) (whole : List ℕ → List ℕ) → BothTold (λ old left. IsBetween old (whole old) left) held held
-none_changed None whole = refl
-none_changed (Some file) whole = (file, refl, between_still file (whole file))
 
 -- a change more was cut off
 pub change_refused : (held mid now : Option (List ℕ)) (f g whole : List ℕ → List ℕ) → mid ≡ after f held

@@ -1,5 +1,5 @@
 -- Sums and products that go on by one item.
-use Rattle.std.proofs.Common.{◌≡◌, ℕ, ◌+◌, ◌*◌, ◌%◌, ◌^◌, ◌<◌, ◌≤◌, List, [], ◌∷◌, ◌++◌, length, map, sum, take, get_or, fold, sym, ap, ◌∙◌, arith}
+use Rattle.std.proofs.Common.{◌≡◌, ℕ, ◌+◌, ◌*◌, ◌%◌, ◌^◌, ◌<◌, ◌≤◌, List, length, map, sum, take, get_or, fold, sym, ap, ◌∙◌, arith}
 use Rattle.std.specs.Prelude.{ℤ, pos, ◌+ℤ◌, ◌*ℤ◌}
 use Rattle.std.proofs.lemmas.List.{take_all, take_more}
 use Rattle.std.proofs.lemmas.List.Sums.{fold-append, fold_push, sum_by-append, sum_by_push}
@@ -11,7 +11,6 @@ use Rattle.nc_base.proofs.BitLaws as bit
 use Rattle.nc_base.proofs.BitLaws.{bit_steps_more}
 use Rattle.nc_base.proofs.RunLaws as number
 use Rattle.nc_base.proofs.RunLaws.{steps_more}
-use Rattle.serial_spec.specs.Layout.{product}
 use Rattle.script_laws.proofs.ListLaws.{sum_more}
 
 pub mapped_more : {A : Type 0} (f : A → ℕ) (xs : List A) (i : ℕ) (d : A) → i < length xs → sum (map f (take (i + 1) xs)) ≡ sum (map f (take i xs)) + f (get_or xs i d)
@@ -19,10 +18,6 @@ mapped_more {A} f xs i d h = ap (λ (ys : List A). sum (map f ys)) (take_more xs
 
 pub plain_more : (ns : List ℕ) (i d : ℕ) → i < length ns → sum (take (i + 1) ns) ≡ sum (take i ns) + get_or ns i d
 plain_more ns i d h = ap (λ (ms : List ℕ). sum ms) (take_more ns i d h) ∙ sum_by_push (λ n. n) (take i ns) (get_or ns i d)
-
-product_push : (ns : List ℕ) (n : ℕ) → product (ns ++ n ∷ []) ≡ product ns * n
-product_push [] n = omega arith
-product_push (m ∷ ns) n = ap (λ (p : ℕ). m * p) (product_push ns n) ∙ omega arith
 
 -- ---- over what an iterator yields
 

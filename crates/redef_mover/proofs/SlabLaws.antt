@@ -4,9 +4,9 @@ use Rattle.std.specs.Prelude.{nat_lt}
 use borrow.Author.Tests.{ltb-true, ltb-false}
 use Rattle.overlay_laws.proofs.SaidLaws.{same_file}
 use Rattle.serial_spec.specs.DeviceCalls.{Slab}
-use Rattle.serial_spec.specs.File.{at, read, written}
+use Rattle.serial_spec.specs.File.{at, read}
 use Rattle.serial_spec.proofs.CellLaws.{read_long, read_at}
-use Rattle.serial_spec.proofs.FileLaws.{at-written_before, at-written_after, length-written_inside, write_none}
+use Rattle.serial_spec.proofs.FileLaws.{at-written_before, at-written_after, length-written_inside}
 use Rattle.serial_spec.proofs.SaidLaws.{at-written_inside}
 use Rattle.redef_mover.specs.Moves.{slab_moved}
 
@@ -36,9 +36,6 @@ pub moved_inside : (file : List ℕ) (s : Slab) (x : ℕ) → s.to ≤ x → x <
 moved_inside file s x h k =
     let bytes = read_long file s.from s.len in
     at-written_inside file (read file s.from s.len) s.to x h (omega arith) ∙ read_at file s.from s.len (x - s.to) (omega arith)
-
-pub moved_none : (file : List ℕ) (s : Slab) → s.len ≡ 0 → s.to ≤ length file → slab_moved file s ≡ file
-moved_none file s e h = ap (λ (n : ℕ). written file s.to (read file s.from n)) e ∙ write_none file s.to h
 
 -- a slab that stays
 pub moved_nowhere : (file : List ℕ) (s : Slab) → s.from ≡ s.to → s.to + s.len ≤ length file → slab_moved file s ≡ file

@@ -17,9 +17,9 @@ use Rattle.serial_spec.specs.Desk.{free_seat, is_strange, stop_held, stops, Seat
 use Rattle.serial_spec.specs.FileStep.{Setting}
 use Rattle.serial_spec.specs.History.{Arrival}
 use Rattle.turn_run.specs.Counts.{IsCount}
-use Rattle.thread_run.specs.Halted.{HasFinished, HasHaltCause, HasHalted, HasSeenAll, HasServed, IsNoMore}
+use Rattle.thread_run.specs.Halted.{HasFinished, HasHaltCause, HasHalted, HasSeenAll, HasServed}
 use Rattle.thread_run.specs.Owned.{desk_at, opening_standing, standing_at, Grows, HasDone, IsSteady, Standing}
-use Rattle.thread_run.specs.Stopping.{held_stops, stops_for, AllHaveEnded, HaveEnded, HasMetAll, IsMore}
+use Rattle.thread_run.specs.Stopping.{held_stops, stops_for, AllHaveEnded, HaveEnded, IsMore}
 use Rattle.thread_run.specs.declared.desk.Desk.{Desk as Held}
 use Rattle.thread_run.specs.declared.serving.Halt.{Halt}
 use Rattle.thread_run.specs.declared.serving.Halt.TheVariants as halt
@@ -174,14 +174,3 @@ pub opened_is : (d : Held) (senders k n : ℕ) (held : Option (List ℕ)) (made 
     → k ≡ senders → d.met ≡ 0 → d.reached ≡ n → d.order ≡ [] → standing_at d n held made heard lines ≡ opening_standing senders n held made heard lines
 opened_is d senders k n held made heard lines seats count met reached order =
     λ i. record { seats = (seats ∙ ap (λ (j : ℕ). replicate j free_seat) count) i; met = met i; reached = reached i; records = n; told = held; calls = made; order = order i; heard = heard; lines = lines }
-
-pub finish_rest : (old now : Receiver RankItem) (before after : List (End OwnerItem)) (flags left : List Bool) (h : Halt) → ((more : List Arrival) → IsNoMore more h) → HasMetAll old now before after flags left
-    → HasFinished old now before after flags left h
-finish_rest old now before after flags left h any m = record {
-  more = m.met.more;
-  taken = m.met.taken;
-  stopped = m.met.stopped;
-  noted = m.met.noted;
-  all = m.all;
-  last = any m.met.more;
-}

@@ -27,7 +27,7 @@ pub record Service (s : Setting) (d : Desk) (ranks : ℕ) (arrivals : List Arriv
   pub order_is : order ≡ (served s d first).marks
   pub gives : (q : ℕ) → q < ranks → (k : ℕ) × (given q ≡ given_along s d first q ++ replicate k Stop)
 
-pub service_cut : (s : Setting) (d : Desk) (ranks n : ℕ) (e : StepErr) (arrivals : List Arrival) (given : ℕ → List OwnerItem) (order : List Mark) (held : Option (List ℕ)) → ranks ≡ length d.seats
+unfoldable pub service_cut : (s : Setting) (d : Desk) (ranks n : ℕ) (e : StepErr) (arrivals : List Arrival) (given : ℕ → List OwnerItem) (order : List Mark) (held : Option (List ℕ)) → ranks ≡ length d.seats
     → HasCutService s e d arrivals order held n given → Service s d ranks arrivals given order
 service_cut s d ranks n e arrivals given order held long h = record {
   first = h.first;

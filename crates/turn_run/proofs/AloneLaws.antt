@@ -136,9 +136,6 @@ grown_then r before now later first second = record {
   own = all_joined (is_solo_of r) first.more second.more first.own second.own;
 }
 
-pub grown_none : (r : ℕ) (before now : List Mark) → now ≡ before → IsGrownBy r before now
-grown_none r before now e = record { more = []; grown = e ∙ sym (append-nil before); own = refl }
-
 pub grown_one : (r n : ℕ) (before now : List Mark) → now ≡ before ++ Solo r n ∷ [] → IsGrownBy r before now
 grown_one r n before now e = record { more = Solo r n ∷ []; grown = e; own = one_of r n }
 

@@ -3,7 +3,7 @@ use Rattle.std.proofs.Common.{◌≡◌, ℕ, zero, suc, ◌+◌, ◌-◌, ◌<�
 use Rattle.std.specs.Prelude.{filter, sum_by, nat_lt, nat_le, ◌==◌, slice_get}
 use Rattle.std.specs.Option.{option_or}
 use Rattle.std.proofs.lemmas.Bool.Decides.{nat_tests}
-use Rattle.std.proofs.lemmas.List.{take_all, length-map}
+use Rattle.std.proofs.lemmas.List.{length-map}
 use Rattle.std.proofs.lemmas.Option.{slice_get_read}
 use Rattle.serial_spec.proofs.RoomLaws.{slab_below}
 use Rattle.nc_base.specs.declared.header.Header.{Header}
@@ -13,7 +13,7 @@ use Rattle.serial_spec.specs.Layout.{slab, vsize, is_record, recsize, record_siz
 use Rattle.var_layout.specs.Begins.{HasPlace}
 use Rattle.var_layout.proofs.Soundness.{recsize_shared}
 use Rattle.var_layout.proofs.CreatedFiles.{in_place}
-use Rattle.var_layout.proofs.LaidPlaces.{Lies, lies_at, fixed_grows, records_before, records_grow, fixed_at, record_at, first_low, header_low}
+use Rattle.var_layout.proofs.LaidPlaces.{Lies, lies_at, fixed_grows, all_records, records_before, records_grow, fixed_at, record_at, first_low, header_low}
 
 -- ---- no two variables share a byte
 
@@ -93,10 +93,6 @@ recsize_of_two header h =
 
 pub get_there : (header : Header) (k : ℕ) (v : Var) → Lies header k v → slice_get header.vars k ≡ Some v
 get_there header k v lies = slice_get_read header.vars (length header.vars) k v refl lies.within lies.there
-
-all_records : (header : Header) → records_before header (length header.vars) ≡ sum_by (λ v. vsize header v) (record_variables header header.vars)
-unfolding records_before
-all_records header = ap (λ vs. sum_by (λ v. vsize header v) (record_variables header vs)) (take_all (length header.vars) header.vars (omega arith))
 
 laid_apart : (header : Header) (align : Align) (len first : ℕ) → 0 < align.var → HasPlace header align len first → (i j : ℕ) (v w : Var) → i < j → Lies header i v → Lies header j w
     → (t u : Bool) → is_record header v ≡ t → is_record header w ≡ u

@@ -97,6 +97,10 @@ records_grow header k m d l h =
     let e = ap (λ (n : ℕ). records_before header n) (let z : k + (m - k) ≡ m = omega arith in z) in
     omega arith
 
+pub all_records : (header : Header) → records_before header (length header.vars) ≡ sum_by (λ v. vsize header v) (record_variables header header.vars)
+unfolding records_before
+all_records header = ap (λ vs. sum_by (λ v. vsize header v) (record_variables header vs)) (take_all (length header.vars) header.vars (omega arith))
+
 -- a fixed variable ends where the next one may begin, a record variable where the next record variable begins
 pub record FixedAt (header : Header) (align : Align) (first k begin : ℕ) (v : Var) : Type 0 where
   pub low : fixed_end header align first k ≤ begin

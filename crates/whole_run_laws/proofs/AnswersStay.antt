@@ -57,9 +57,6 @@ heard_begins : (header : Header) (g : Going) (y : Reply) → BeginsWith g.answer
 heard_begins header g y =
     begins_then g.answers (advance header g).0.answers _ (go_begins header g.calls g.rank g.answers) ((hear_open header (advance header g).0.rank y (advance header g).0.rank.«open»).1 ∷ [], refl)
 
-answers_from : (goings : List Going) (q : ℕ) (g : Going) → slice_get goings q ≡ Some g → answers_of (slice_get goings q) ≡ g.answers
-answers_from goings q g e = ap answers_of e
-
 mark_begins : (s : Setting) (ranks r : ℕ) (m : Mark) (rest : List Mark) (c : Counted) (goings : List Going) → is_of_rank_below ranks m ≡ true
     → AreAlong ranks (m ∷ rest) goings → (b : Going) → slice_get goings r ≡ Some b → (g : Going) × ((slice_get (after_mark s (c, goings) m).1 r ≡ Some g) × BeginsWith b.answers g.answers)
 mark_begins s ranks r (Meet j) rest c goings known a b e =
