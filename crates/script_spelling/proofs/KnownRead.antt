@@ -14,7 +14,8 @@ use Rattle.nc_base.specs.declared.header.Var.{Var}
 use Rattle.nc_base.specs.declared.script.Extra.TheVariants as extra
 use Rattle.script_spec.specs.ScriptWords.{Word, Plain, Quoted, Broken, Line}
 use Rattle.script_spec.specs.ScriptSteps.{◌>>=◌, refuse_if, or_fault, reads_as, ended}
-use Rattle.script_spec.specs.ScriptDefinitions.{is_among, dim_ids, hint_forms, hint_in, hint_line, ranks_line, dim_line, var_head, var_line, var_names, owner_of_text, owner_name, owner_place, Title, same_title, attribute, Defined, with_dim, with_var, with_title, with_attr, with_attr_at, att_line, dim_definition, var_definition, fill_line, definition, added_shape, Added, dim_addition, var_addition, att_addition, addition, Known, definition_or_addition, known_after}
+use Rattle.script_spec.specs.HintTable.{hint_table, hint_in}
+use Rattle.script_spec.specs.ScriptDefinitions.{is_among, dim_ids, hint_line, ranks_line, dim_line, var_head, var_line, var_names, owner_of_text, owner_name, owner_place, Title, same_title, attribute, Defined, with_dim, with_var, with_title, with_attr, with_attr_at, att_line, dim_definition, var_definition, fill_line, definition, added_shape, Added, dim_addition, var_addition, att_addition, addition, Known, definition_or_addition, known_after}
 use Rattle.script_spec.specs.ScriptGrammar.{at_line, data_line, definition_step, definitions}
 use Rattle.script_text.proofs.Steps.{went, same_ok, not_refused, is_end, whole_value}
 use Rattle.script_text.proofs.Places.{Later, bytes_same, more_ids, place_cases}
@@ -117,7 +118,7 @@ hint_taken opened version k ws next fine h =
     let v = a.value.1 in
     let hints = slice_set k.hints i (Some v) in
     let said = hint_said version k.hints ws a.value a.first in
-    let low : i < length k.hints = omega (arith, fine.long, position_below (λ f. bytes_eq said.says.0 f.0) hint_forms i said.says.3) in
+    let low : i < length k.hints = omega (arith, fine.long, position_below (λ row. bytes_eq said.says.0 row.word) hint_table i said.says.3) in
     subst (Taken opened version k (Plain (codes "hint") ∷ ws)) (same_ok (record k { hints = hints }) next a.rest) (record {
       statement = HintIs i v;
       says = said.says;
