@@ -7,7 +7,8 @@ use Rattle.nc_base.specs.declared.errors.ScriptKind.TheVariants as kind
 use Rattle.nc_base.specs.declared.errors.ScriptErr.{ScriptErr}
 use Rattle.script_spec.specs.ScriptWords.{Word, Plain, Quoted, Broken, Line}
 use Rattle.script_spec.specs.ScriptSteps.{◌>>=◌, or_fault}
-use Rattle.script_spec.specs.ScriptDefinitions.{hint_in, hint_line, ranks_line, definition, addition, Known, definition_or_addition, known_after}
+use Rattle.script_spec.specs.HintTable.{hint_in}
+use Rattle.script_spec.specs.ScriptDefinitions.{hint_line, ranks_line, definition, addition, Known, definition_or_addition, known_after}
 use Rattle.script_spec.specs.ScriptGrammar.{at_line, data_line, definition_step, definitions}
 use Rattle.script_text.proofs.Steps.{went, same_ok, whole_value}
 use Rattle.script_text.proofs.Places.{bytes_same}

@@ -1,5 +1,5 @@
 -- What the words of a line between the head and `data` say, where they are read, and that it may stand there.
-use Rattle.std.proofs.Common.{◌≡◌, ◌∙◌, ℕ, zero, suc, ◌<◌, ◌≤◌, List, [], ◌∷◌, position, drop, length, Bool, true, false, not, cond, nat_lt, nat_le, ◌==◌, ◌&&◌, Option, Some, None, is_some, is_none, slice_get, map, Ok, refl, sym, ap, subst, arith, bytes_eq, codes}
+use Rattle.std.proofs.Common.{◌≡◌, ◌∙◌, ℕ, zero, suc, ◌<◌, ◌≤◌, List, [], ◌∷◌, position, drop, length, Bool, true, false, not, cond, nat_lt, nat_le, ◌==◌, ◌&&◌, Option, Some, None, is_some, is_none, slice_get, unwrap_or, map, Ok, refl, sym, ap, subst, arith, bytes_eq, codes}
 use Rattle.std.specs.List.{list_any, list_all}
 use borrow.Author.Tests.{not-false, leb-false, ltb-false}
 use Rattle.std.proofs.lemmas.Bool.{and_parts}
@@ -17,7 +17,8 @@ use Rattle.serial_spec.specs.Limits.{most_dims, most_dims_of_var, most_vars}
 use Rattle.script_spec.specs.ScriptWords.{Word, Plain, is_name, between_brackets, parts, all_some}
 use Rattle.script_spec.specs.ScriptSteps.{refuse_if, or_fault, reads_as, name, name_of_text, ended}
 use Rattle.script_spec.specs.ScriptValues.{values}
-use Rattle.script_spec.specs.ScriptDefinitions.{HintForm, Within, Either, hint_forms, hint_form, hint_of_text, hint_value, hint_in, hint_line, ranks_line, number_within, one_of_two, type_of, length_of_text, is_among, dim_names, dim_ids, is_unlimited, is_record_dim, is_added_record, dim_line, var_head, name_list, shape, added_shape, var_names, var_line, owner_of_text, owner_name, Title, same_title, attr_of, attribute_name, attribute}
+use Rattle.script_spec.specs.HintTable.{HintForm, Within, Either, HintRow, hint_table, hint_form, hint_of_text, no_row, hint_in}
+use Rattle.script_spec.specs.ScriptDefinitions.{hint_value, hint_line, ranks_line, number_within, one_of_two, type_of, length_of_text, is_among, dim_names, dim_ids, is_unlimited, is_record_dim, is_added_record, dim_line, var_head, name_list, shape, added_shape, var_names, var_line, owner_of_text, owner_name, Title, same_title, attr_of, attribute_name, attribute}
 use Rattle.script_text.proofs.Steps.{went, same_ok, not_refused, is_end, whole_value}
 use Rattle.script_text.proofs.Places.{bytes_same}
 use Rattle.script_spelling.specs.Statements.{VarLine, RanksAre, HintIs, DimIs, VarIs, AttIs, hint_value_of, owner_word, IsOwner, Says, DimStands, VarStands}
@@ -45,11 +46,11 @@ hint_word (Within low high unit) ws r none h = let w = word_is (number_within lo
 hint_word (Either a b) ws r none h = let w = word_is (one_of_two a b) kind.UnknownWord ws r none h in record { word = w.word; are = w.are; says = w.says }
 
 -- a text is the value of no hint
-no_quote : (fs : List (List ℕ × HintForm)) (h : ℕ) → list_all (λ f. is_none (hint_value_of f.1 (34 ∷ []))) fs ≡ true
-    → hint_value_of (elim (slice_get fs h) as (λ x. HintForm) [ None ↦ Within 0 0 1 | Some f ↦ f.1 ]) (34 ∷ []) ≡ None
+no_quote : (rows : List HintRow) (h : ℕ) → list_all (λ row. is_none (hint_value_of row.form (34 ∷ []))) rows ≡ true
+    → hint_value_of ((unwrap_or (slice_get rows h) no_row).form) (34 ∷ []) ≡ None
 no_quote [] h all = refl
-no_quote (f ∷ fs) zero all = none_of_test (hint_value_of f.1 (34 ∷ [])) (and_parts _ _ all).0
-no_quote (f ∷ fs) (suc h) all = no_quote fs h (and_parts (is_none (hint_value_of f.1 (34 ∷ []))) _ all).1
+no_quote (row ∷ rows) zero all = none_of_test (hint_value_of row.form (34 ∷ [])) (and_parts _ _ all).0
+no_quote (row ∷ rows) (suc h) all = no_quote rows h (and_parts (is_none (hint_value_of row.form (34 ∷ []))) _ all).1
 
 pub record HintSaid (version : ℕ) (hints : List (Option ℕ)) (words : List Word) (r : ℕ × ℕ) : Type 0 where
   pub says : Says version words (HintIs r.0 r.1)
@@ -62,7 +63,7 @@ hint_said version hints ws r h =
     let c = went (hint_value (hint_form a.value.0) a.value.1) _ r b.rest in
     let d = went (ended c.value.1) _ r c.rest in
     let n = word_is hint_of_text kind.UnknownWord ws a.value refl a.first in
-    let v = hint_word (hint_form a.value.0) a.value.1 c.value (no_quote hint_forms a.value.0 refl) c.first in
+    let v = hint_word (hint_form a.value.0) a.value.1 c.value (no_quote hint_table a.value.0 refl) c.first in
     subst (HintSaid version hints (Plain (codes "hint") ∷ ws)) (same_ok (a.value.0, c.value.0) r d.rest) (record {
       says = (n.word, v.word, three_words (codes "hint") n.word v.word ws a.value.1 c.value.1 n.are v.are (is_end c.value.1 d.value d.first), n.says, v.says);
       free = not_some (hint_in a.value.0 hints) (not_refused _ _ b.value b.first);

@@ -11,7 +11,8 @@ use Rattle.nc_base.specs.declared.script.Script.{Script}
 use Rattle.script_spec.specs.ScriptWords.{Word, Plain, Line, is_word, size_of_text, text_lines, significant}
 use Rattle.serial_spec.specs.HeaderBytes.{is_version}
 use Rattle.script_spec.specs.ScriptSteps.{reads_as, whole}
-use Rattle.script_spec.specs.ScriptDefinitions.{hint_in, Known, nothing_known}
+use Rattle.script_spec.specs.HintTable.{hint_in}
+use Rattle.script_spec.specs.ScriptDefinitions.{Known, nothing_known}
 use Rattle.script_spec.specs.ScriptCalls.{Called}
 use Rattle.script_spec.specs.ScriptGrammar.{at_line, version_of_text, version_line, head, definitions, data_part, finish, header_of, script_of, no_calls, script_of_lines, Reads}
 use Rattle.script_laws.proofs.LawfulLaws.{read_lawful}

@@ -5,7 +5,8 @@ use Rattle.list_laws.proofs.Truth.{equal_true}
 use Rattle.list_laws.proofs.Places.{entry_below, entry_set, entry_set_other, position_below}
 use Rattle.script_spec.specs.ScriptWords.{Word, Plain}
 use Rattle.script_spec.specs.ScriptSteps.{◌>>=◌}
-use Rattle.script_spec.specs.ScriptDefinitions.{hint_forms, hint_in, hint_line, ranks_line, var_names, Known}
+use Rattle.script_spec.specs.HintTable.{hint_table, hint_in}
+use Rattle.script_spec.specs.ScriptDefinitions.{hint_line, ranks_line, var_names, Known}
 use Rattle.script_text.proofs.Steps.{went, same_ok}
 use Rattle.script_spelling.specs.Statements.{Statement, RanksAre, HintIs, Says, Stand}
 use Rattle.script_spelling.specs.Described.{ranks_in, hint_values, fills_in, dims_in, vars_in, own_attrs, attrs_of, extras_in, at_most_one}
@@ -103,7 +104,7 @@ hint_taken opened version k ws next fine h =
     let v = a.value.1 in
     let hints = slice_set k.hints i (Some v) in
     let said = hint_said version k.hints ws a.value a.first in
-    let low : i < length k.hints = omega (arith, fine.long, position_below (λ f. bytes_eq said.says.0 f.0) hint_forms i said.says.3) in
+    let low : i < length k.hints = omega (arith, fine.long, position_below (λ row. bytes_eq said.says.0 row.word) hint_table i said.says.3) in
     subst (Taken opened version k (Plain (codes "hint") ∷ ws)) (same_ok (record k { hints = hints }) next a.rest) (record {
       statement = HintIs i v;
       says = said.says;

@@ -20,7 +20,7 @@ use Rattle.serial_spec.specs.History.{kinds, kind_number}
 use Rattle.serial_spec.specs.Lawful.{added_dims, added_vars, agree, are_different, are_lawful_hints, is_alignment, is_empty, is_lawful, is_lawful_call, is_lawful_dim, is_lawful_extra, is_lawful_header, is_lawful_var, is_within, kind_numbers, most_calls, most_ranks, most_values, posted_ids, values_in_script}
 use Rattle.script_spec.specs.Shown.{shown}
 use Rattle.script_spec.specs.ScriptWords.{Word, Plain}
-use Rattle.script_spec.specs.ScriptDefinitions.{Within}
+use Rattle.script_spec.specs.HintTable.{Within}
 use Rattle.script_spec.specs.ScriptCalls.{kind_at, differs_at, is_difference, mismatch}
 use Rattle.script_spec.specs.ScriptGrammar.{Reads, most_bytes, most_lines}
 use Rattle.script_text.specs.Expressible.{is_expressible, is_expressible_call, is_expressible_header, printed_lines}

@@ -19,9 +19,10 @@ use Rattle.serial_spec.specs.Lawful.{most_values}
 use Rattle.script_spec.specs.Shown.{shown}
 use Rattle.script_spec.specs.ScriptWords.{Word, Plain, Line, is_word, size_of_text, text_lines, significant}
 use Rattle.script_spec.specs.ScriptSteps.{◌>>=◌, reads_as, whole}
-use Rattle.script_spec.specs.ScriptDefinitions.{Within, Defined, no_definition, Added, nothing_added, Known, nothing_known, ranks_line}
+use Rattle.script_spec.specs.HintTable.{Within}
+use Rattle.script_spec.specs.ScriptDefinitions.{Defined, no_definition, Added, nothing_added, Known, nothing_known, ranks_line}
 use Rattle.script_spec.specs.ScriptCalls.{Called, mismatch}
-use Rattle.script_spec.specs.ScriptGrammar.{at_line, version_of_text, version_line, head, definitions, data_part, finish, hints_of, script_of, no_calls, script_of_lines, most_bytes, most_lines, newlines, too_many_lines, within_lines, script_of_utf8, Reads, is_mismatch}
+use Rattle.script_spec.specs.ScriptGrammar.{at_line, version_of_text, version_line, head, definitions, data_part, finish, script_of, no_calls, script_of_lines, most_bytes, most_lines, newlines, too_many_lines, within_lines, script_of_utf8, Reads, is_mismatch}
 use Rattle.std.proofs.lemmas.List.{length-map}
 use Rattle.script_text.proofs.Steps.{went, go_on, same_ok, read_word, word_read, whole_value}
 use Rattle.script_text.proofs.Lines.{is_line, spelled, body, numbered, all_joined, lines_again, significant_lines, valid_lines, valid_bytes}
@@ -32,7 +33,7 @@ use Rattle.script_text.proofs.AddedLines.{Leads, Runs, runs_on, run_again, Repla
 use Rattle.script_text.proofs.DefinedChains.{DefinedOk}
 use Rattle.script_text.proofs.DefinedLines.{at_state, leads_by, definition_lines, told_again, nothing_but, definitions_run, definitions_are_lines}
 use Rattle.script_text.proofs.ReadWords.{significant_read}
-use Rattle.script_text.proofs.KnownLines.{hint_tokens, hint_table, hints_again, HintsFit, hints_fit, with_hints, hints_run, hints_are_lines, What, nothing_ok, definitions_read}
+use Rattle.script_text.proofs.KnownLines.{hint_tokens, all_given, hints_again, HintsFit, hints_fit, with_hints, hints_run, hints_are_lines, What, nothing_ok, definitions_read}
 use Rattle.script_text.proofs.ScriptLines.{ranks_words, fill_lines, before_data, from_data, head_words, all_lines, script_with, all_spelled}
 
 -- ---- what is known at `data` is known again
@@ -70,7 +71,7 @@ before_are_lines n h es d r fit a b =
 open_again : (n values : ℕ) (h : Hints) (added : Added) → is_value_of (Within 1 64 1) n ≡ true → HintsFit h → Replay 0 nothing_added added.extras values added → KnownAgain 0 n h added.extras no_definition values
 open_again n values h added r fit replay =
     let k = with_ranks n in
-    let k2 = with_hints k (hint_table h) in
+    let k2 = with_hints k (all_given h) in
     let last : Known = record k2 { added = added; values = values } in
     let extras = replay_runs 0 values nothing_added added added.extras k2 replay in
     record {
@@ -85,7 +86,7 @@ open_again n values h added r fit replay =
 pub create_again : (version n values : ℕ) (h : Hints) (d : Defined) → (version == 0) ≡ false → is_value_of (Within 1 64 1) n ≡ true → HintsFit h → DefinedOk version values d → values ≤ most_values → KnownAgain version n h [] d values
 create_again version n values h d new r fit ok few =
     let k = with_ranks n in
-    let k2 = with_hints k (hint_table h) in
+    let k2 = with_hints k (all_given h) in
     let k3 = at_state k2 (nothing_but d.filled) 0 in
     let last : Known = at_state k2 (told_again d) values in
     let defined = definitions_run version values k2 d new ok.dims ok.vars ok.attrs ok.own ok.counted few in
