@@ -3,7 +3,9 @@ ghost use Rattle.std.specs.Prelude.{◌≡◌, ◌≤◌, IfOk, IfSome};
 ghost use Rattle.script_spec.specs.ScriptWords.{significant_of};
 ghost use Rattle.script_spec.specs.ScriptGrammar.{head, data_line, definition_step, definitions, call_step, data_part, at_line};
 ghost use Rattle.script_words.specs.Reading.{Gives, GivesAt, word_of};
+ghost use Rattle.script_words.specs.Seen.{line_seen};
 ghost use Rattle.ncmpi_script.specs.LineFaults.{TakesLine, on_line};
+ghost use Rattle.ncmpi_script.specs.TopWords.{head_by};
 
 use nc_base::{ScriptErr, ScriptKind};
 use script_calls::RankTable;
@@ -60,9 +62,9 @@ fn line_before_end<'a>(
 }
 
 /// Reads the first significant line.
-#[tactic(auto, using(crate::proofs::FaultLaws::given_at))]
+#[tactic(auto, using(crate::proofs::FaultLaws::given_at), unfolding(crate::specs::TopWords::head_by))]
 pub fn head_line(line: Line<'_>) -> Result<u8, LineErr>
-    ensures { GivesAt (λ version. version) result (at_line line.entry.number (head (word_of line.entry.first) line.entry.rest)) }
+    ensures { GivesAt (λ version. version) result (head_by (line_seen line.entry)) }
 {
     let Line {
         number,
