@@ -54,7 +54,11 @@ const NO_HINTS: Hints = Hints {
 #[derive(Clone, Copy, Debug)]
 pub enum HintForm {
     /// The multiples of `unit` from `low` to `high`.
-    Within { low: u32, high: u32, unit: u32 },
+    Within {
+        low: u32,
+        high: u32,
+        unit: u32,
+    },
     /// One of two words, which are the numbers 0 and 1.
     Either {
         zero: &'static [u8],
