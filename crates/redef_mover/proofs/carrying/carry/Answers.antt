@@ -15,6 +15,12 @@ use Rattle.redef_mover.proofs.ListedLaws.{risen_up}
 use Rattle.redef_mover.proofs.ToldSteps.{when_ok}
 use Rattle.redef_mover.proofs.carrying.carry.Goals as goal
 
+pub grow_to-requires-clause-below : goal.grow_to-requires-clause-below
+grow_to-requires-clause-below g c κs within =
+    let low = c.requires.carriable.low in
+    let end : c.end_of-end.result ≡ new_end c.args.old.now c.args.new.now = c.end_of-end.ensures in
+    omega arith
+
 pub move_all-requires-clause-slabs : goal.move_all-requires-clause-slabs
 move_all-requires-clause-slabs g c κs within =
     record {
