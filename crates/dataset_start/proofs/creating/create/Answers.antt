@@ -17,6 +17,12 @@ end_of-end-requires-clause-sound g c = writable_is_sound c.args.header.now c.req
 pub end_of-end-requires-clause-below : goal.end_of-end-requires-clause-below
 end_of-end-requires-clause-below g c = sound_end c.args.header.now 0 (writable_is_sound c.args.header.now c.requires.writable) (omega arith)
 
+pub grow-requires-clause-below : goal.grow-requires-clause-below
+grow-requires-clause-below g c =
+    let below = sound_end c.args.header.now 0 (writable_is_sound c.args.header.now c.requires.writable) (omega arith) in
+    let end = c.end_of-end.ensures in
+    omega arith
+
 pub returns-clause-bytes : goal.returns-clause-bytes
 returns-clause-bytes g c =
     let h : Header = c.args.header.now in

@@ -16,6 +16,12 @@ use Rattle.redef_mover.proofs.ToldSteps.{when_ok}
 use Rattle.redef_mover.proofs.carrying.carry.Goals as goal
 use Rattle.list_laws.proofs.Results.{on_err}
 
+pub grow_to-requires-clause-below : goal.grow_to-requires-clause-below
+grow_to-requires-clause-below g c κs within =
+    let low = c.requires.carriable.low in
+    let end : c.end_of-end.result ≡ new_end c.args.old.now c.args.new.now = c.end_of-end.ensures in
+    omega arith
+
 pub move_all-requires-clause-slabs : goal.move_all-requires-clause-slabs
 move_all-requires-clause-slabs g c κs within =
     record {
