@@ -98,8 +98,7 @@ fn more_text(bytes: Blob, more: Blob) -> Result<Blob, Memory>
     ensures { IfOk result (λ all. all ≡ bytes ++ more) }
 {
     let mut all = bytes.into_vec();
-    let mut more = more.into_vec();
-    all.append(&mut more)?;
+    all.extend_from_slice(more.as_slice())?;
     Ok(Blob::from_vec(all))
 }
 
@@ -131,11 +130,11 @@ fn fill(
     requires once { AreOnce items }
     ensures { IfOk result (λ filled. filled ≡ map (filled_by (get nat_cmp found)) items) }
 {
-    let mut filled = Vec::with_capacity(alloc, items.len())?;
+    let mut filled = ItemList::with_capacity(alloc, items.len())?;
     for item in items.into_vec() {
         filled.push(with_values(item, &mut found))?;
     }
-    Ok(ItemList::from_vec(filled))
+    Ok(filled)
 }
 
 fn with_values(item: Item, found: &mut BTreeMap<u32, Values>) -> Item
