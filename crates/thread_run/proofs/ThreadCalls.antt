@@ -5,7 +5,7 @@ use Rattle.std.specs.Prelude.{slice_get, fold, nat_lt}
 use Rattle.std.specs.List.{list_all}
 use Rattle.std.proofs.lemmas.Option.{same_Some}
 use borrow.Author.Tests.{ltb-true}
-use Rattle.list_laws.proofs.Places.{entry_below}
+use Rattle.list_laws.proofs.Places.{entry_below, entry_beside}
 use Rattle.list_laws.proofs.Truth.{and_first, and_second}
 use Rattle.nc_base.specs.declared.header.Header.{Header}
 use Rattle.nc_base.specs.declared.answer.Answer.{Answer}
@@ -32,7 +32,6 @@ use Rattle.run_laws.specs.Standing.{calls_so_far}
 use Rattle.run_laws.proofs.OrderLaws.{calls_more}
 use Rattle.join_laws.proofs.EventLaws.{Stepped, get_set, item_steps, own_here, seated_same}
 use Rattle.join_laws.proofs.JoinLaws.{Stands, join, owed_on, served_on, stranger_on}
-use Rattle.join_laws.proofs.ListLaws.{get_beside}
 use Rattle.join_laws.proofs.StepLaws.{same_offers}
 use Rattle.join_laws.proofs.StrangeLaws.{event_is, not_ended, strange_alone}
 use Rattle.join_laws.proofs.SeatTurns.{Lasting, Sits, offered_now, seat_held}
@@ -122,7 +121,7 @@ onward s Good lasting ks d goings r i rest t = by (entry_below goings r low)
         }
 
     by : (g : Going) × (slice_get goings r ≡ Some g) → Onward s Good d goings r i rest
-    by (g, b) = let x = get_beside goings d.seats r g (sym t.seated.long) b in by_two x.0 g x.1 b
+    by (g, b) = let x = entry_beside goings d.seats r g (sym t.seated.long) b in by_two x.0 g x.1 b
 
 -- ---- device calls
 
