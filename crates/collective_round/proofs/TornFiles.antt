@@ -203,7 +203,7 @@ torn_counted version n bytes old whole left past t =
     let s = torn_sides bytes (byte_len (count_width version)) old whole left w in
     let u = torn_sides bytes 0 old whole left t in
     torn_by bytes (byte_len (count_width version)) old (with_records version whole n) left t.long
-    (let l = t.short in let g = written_grows whole (count version n) 4 in omega arith)
+    (let l = t.short in let g = written_grows whole 4 (count version n) in omega arith)
     (λ x e. by_new x (past x (any_in bytes x e)) (s.inside x e)) (λ x e l h. inl (u.outside x e (inr (omega arith)))) s.outside
   where
     by_new : (x : ℕ) → 4 + byte_len (count_width version) ≤ x → (at left x ≡ at old x) ⊎ (at left x ≡ at whole x)
@@ -230,7 +230,7 @@ pub torn_stored : (version n : ℕ) (old left : List ℕ) → PartlyWritten 4 (c
     → IsTorn [] (byte_len (count_width version)) old (with_records version old n) left
 torn_stored version n old left p =
     torn_by [] (byte_len (count_width version)) old (with_records version old n) left
-    (let g = written_grows old (count version n) 4 in let l = p.len in omega arith) (let l = p.len in omega arith)
+    (let g = written_grows old 4 (count version n) in let l = p.len in omega arith) (let l = p.len in omega arith)
     (λ x e. cc) (λ x e l h. p.each x) (λ x e h. by_kept x h (p.each x))
   where
     same : (x : ℕ) → (x < 4) ⊎ (4 + byte_len (count_width version) ≤ x) → at (with_records version old n) x ≡ at old x

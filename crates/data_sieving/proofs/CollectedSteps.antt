@@ -10,11 +10,11 @@ use Rattle.file_domains.specs.declared.walk.Window.{Window}
 use Rattle.serial_spec.specs.File.{read, written}
 use Rattle.serial_spec.specs.Said.{Cell, write_cells}
 use Rattle.overlay_laws.specs.Entries.{got_cell}
-use Rattle.overlay_laws.proofs.WalkLaws.{filter_joined}
 use Rattle.data_sieving.specs.Sieving.{of_slot, got_cells, blob_at, HasGot, FitBlobs, HaveOnePlace, AreAsLong, LieOn}
 use Rattle.data_sieving.specs.Serving.{part_in, IsPast, IsNext, buffer_cell, HasGotPart}
 use Rattle.data_sieving.proofs.ReadParts.{read_part, parts_got}
 use Rattle.data_sieving.proofs.GetSteps.{got_step, got_begin, got_end}
+use Rattle.std.proofs.lemmas.List.Elements.{filter-append}
 
 -- ---- one entry more
 
@@ -52,7 +52,7 @@ one_slot : (k : ℕ) (list : List Owned) (i : ℕ) (o d : Owned) → i < length 
     → of_slot k (take (i + 1) list) ≡ of_slot k (take i list) ++ of_slot k (o ∷ [])
 one_slot k list i o d l e =
     ap (λ (os : List Owned). of_slot k os) (take_more list i d l ∙ ap (λ (q : Owned). take i list ++ q ∷ []) (sym e))
-    ∙ filter_joined (λ (q : Owned). q.slot == k) (take i list) (o ∷ [])
+    ∙ filter-append (λ (q : Owned). q.slot == k) (take i list) (o ∷ [])
 
 pub collected_more : (lo hi : ℕ) (buf : List ℕ) (old mid now : List (List ℕ)) (list : List Owned) (i : ℕ) (o d : Owned) → i < length list → o ≡ get_or list i d
     → o.slot < length mid → now ≡ set mid o.slot (written (blob_at mid o.slot) (buffer_cell lo hi buf o).0 (buffer_cell lo hi buf o).1)
@@ -117,7 +117,7 @@ collected_twice lo hi buf a b old mid now k h g =
     ∙ ap (λ (m : List ℕ). write_cells m (map (λ o. buffer_cell lo hi buf o) (of_slot k b))) h
     ∙ sym (fold-append (λ f cell. written f cell.0 cell.1) (blob_at old k) (map (λ o. buffer_cell lo hi buf o) (of_slot k a)) (map (λ o. buffer_cell lo hi buf o) (of_slot k b)))
     ∙ ap (λ (cells : List Cell). write_cells (blob_at old k) cells)
-    (sym (ap (λ (os : List Owned). map (λ o. buffer_cell lo hi buf o) os) (filter_joined (λ (o : Owned). o.slot == k) a b)
+    (sym (ap (λ (os : List Owned). map (λ o. buffer_cell lo hi buf o) os) (filter-append (λ (o : Owned). o.slot == k) a b)
     ∙ map-append (λ o. buffer_cell lo hi buf o) (of_slot k a) (of_slot k b)))
 
 -- ---- a buffer that has the file's bytes

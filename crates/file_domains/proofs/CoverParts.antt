@@ -14,9 +14,9 @@ use Rattle.nc_base.specs.declared.plan.Extent.{Extent}
 use Rattle.overlay_laws.specs.Entries.{In}
 use Rattle.overlay_laws.specs.Lines.{EndBelow}
 use Rattle.overlay_laws.specs.Walks.{spans, below, IsCover, end_after, is_single, first_at}
-use Rattle.overlay_laws.proofs.WalkLaws.{filter_joined}
 use Rattle.overlay_laws.proofs.CoverLaws.{range_above_none}
 use Rattle.file_domains.specs.Rounds.{IsLeft}
+use Rattle.std.proofs.lemmas.List.Elements.{filter-append}
 
 pub in_dropped : {X : Type 0} (k : ℕ) (xs : List X) (e : X) → In (drop k xs) e → In xs e
 in_dropped zero xs e h = h
@@ -47,7 +47,7 @@ dropped_bytes zero place cover h = refl
 dropped_bytes (suc k) place [] h = refl
 dropped_bytes (suc k) place (e ∷ cover) h =
     dropped_bytes k place cover (λ i d l g. h (suc i) d (omega arith) g)
-    ∙ sym (filter_joined (λ y. nat_le place y) (range_with_len e.at e.len) (spans cover)
+    ∙ sym (filter-append (λ y. nat_le place y) (range_with_len e.at e.len) (spans cover)
     ∙ ap (λ r. r ++ filter (λ y. nat_le place y) (spans cover)) (range_above_none place e.at e.len (h zero e (omega arith) refl)))
 
 pub dropped_left : (k place : ℕ) (cover : List Extent) → IsCover cover → ((e : Extent) → slice_get cover k ≡ Some e → place < e.at + e.len)

@@ -7,3 +7,4 @@ pub mod Ranges
 pub mod Numbers
 pub mod Results
 pub mod Appends
+pub mod Fronts

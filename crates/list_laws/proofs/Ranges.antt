@@ -1,6 +1,6 @@
 -- Numbers one after another.
-use Rattle.std.proofs.Common.{◌≡◌, ℕ, zero, suc, ◌+◌, ◌*◌, ◌∙◌, ap, List, ◌∷◌, ◌++◌, length, arith, [], ◌-◌}
-use Rattle.std.specs.Prelude.{flat_map}
+use Rattle.std.proofs.Common.{◌≡◌, ℕ, zero, suc, ◌+◌, ◌*◌, ◌∙◌, ap, List, ◌∷◌, ◌++◌, length, arith, [], ◌-◌, ◌<◌, Some}
+use Rattle.std.specs.Prelude.{flat_map, slice_get}
 use Rattle.std.specs.List.{range_with_len}
 use Rattle.std.proofs.lemmas.List.{length-append}
 use Rattle.std.proofs.lemmas.List.FromFn.{length-range_with_len}
@@ -35,3 +35,14 @@ spans_long size (x ∷ xs) =
     let both = length-append (range_with_len x size) (flat_map (λ x. range_with_len x size) xs) in
     let first = length-range_with_len x size in
     omega arith
+
+pub range_first : (a n : ℕ) (ys : List ℕ) (i : ℕ) → i < n → slice_get (range_with_len a n ++ ys) i ≡ Some (a + i)
+range_first a zero ys i h = absurd (omega arith)
+range_first a (suc n) ys zero h = let same : a ≡ a + 0 = omega arith in ap Some same
+range_first a (suc n) ys (suc i) h = let next : a + 1 + i ≡ a + suc i = omega arith in range_first (a + 1) n ys i (omega arith) ∙ ap Some next
+
+pub range_rest : (a n : ℕ) (ys : List ℕ) (j x : ℕ) → slice_get ys j ≡ Some x → slice_get (range_with_len a n ++ ys) (n + j) ≡ Some x
+range_rest a zero ys j x h = let same : 0 + j ≡ j = omega arith in ap (λ (k : ℕ). slice_get ys k) same ∙ h
+range_rest a (suc n) ys j x h =
+    let next : suc n + j ≡ suc (n + j) = omega arith in
+    ap (λ (k : ℕ). slice_get (a ∷ (range_with_len (a + 1) n ++ ys)) k) next ∙ range_rest (a + 1) n ys j x h

@@ -12,9 +12,10 @@ use Rattle.nc_base.specs.declared.step.DiskCall.TheVariants.{Store}
 use Rattle.serial_spec.specs.DeviceCalls.{Slab, run_before, runs, stores, first_of, window_count}
 use Rattle.overlay_laws.specs.Entries.{In, HaveSame}
 use Rattle.overlay_laws.proofs.HullLaws.{range_low, range_high, in_either}
-use Rattle.overlay_laws.proofs.WalkLaws.{filter_same, filter_none, filter_all, filter_joined}
+use Rattle.overlay_laws.proofs.WalkLaws.{filter_same, filter_none, filter_all}
 use Rattle.redef_laws.specs.Rising.{gaps, IsRisen}
 use Rattle.redef_laws.proofs.ChainLaws.{risen_past}
+use Rattle.std.proofs.lemmas.List.Elements.{filter-append}
 
 -- x is one of the slab's bytes in the new file
 abbrev pub covers : ℕ → Slab → Bool
@@ -60,8 +61,8 @@ bare_gaps a b end [] h k l =
 bare_gaps a b end (s ∷ ss) h k l =
     ap (λ n. filter (is_bare (s ∷ ss)) (range_with_len b n)) parts
     ∙ ap (filter (is_bare (s ∷ ss))) (three_parts b (s.to - b) s.len left)
-    ∙ filter_joined (is_bare (s ∷ ss)) before (inside ++ past)
-    ∙ (λ i. none_before i ++ filter_joined (is_bare (s ∷ ss)) inside past i)
+    ∙ filter-append (is_bare (s ∷ ss)) before (inside ++ past)
+    ∙ (λ i. none_before i ++ filter-append (is_bare (s ∷ ss)) inside past i)
     ∙ (λ i. before ++ (all_inside i ++ filter (is_bare (s ∷ ss)) past))
     ∙ ap (λ r. before ++ r)
     (same_past ∙ bare_gaps (s.from + s.len) (s.to + s.len) end ss h.4 (l s (inl refl)) (λ t m. l t (inr m)))

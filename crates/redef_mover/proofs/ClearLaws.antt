@@ -18,8 +18,8 @@ use Rattle.redef_mover.specs.declared.slabs.Shift.{Shift}
 use Rattle.redef_mover.specs.declared.slabs.Slabs.{Slabs}
 use Rattle.redef_mover.specs.Moves.{all_cleared, behind, cleared, further, gap_calls, gaps_before, listed, slab_of, slabs_at, AreClearable, AreSpaced}
 use Rattle.redef_mover.proofs.MovesLaws.{map_id, no_further}
-use Rattle.redef_mover.proofs.SlabLaws.{below_or}
 use Rattle.overlay_laws.proofs.WindowCounts.{windows_of, count_is, stores_before}
+use Rattle.std.proofs.lemmas.Bool.{cases_lt}
 
 -- ---- one gap
 
@@ -54,11 +54,11 @@ both_cleared file x a b c e h =
     room = let long = cleared_long file x a (omega arith) in omega arith
 
     each : (y : ℕ) → at (cleared (cleared file (x, a)) (x + a, b)) y ≡ at (cleared file (x, c)) y
-    each y = elim (below_or y x) [
+    each y = elim (cases_lt y x) [
       | inl l ↦ cleared_before (cleared file (x, a)) (x + a) b y (omega arith) ∙ cleared_before file x a y l ∙ sym (cleared_before file x c y l)
-      | inr l ↦ elim (below_or y (x + a)) [
+      | inr l ↦ elim (cases_lt y (x + a)) [
         | inl m ↦ cleared_before (cleared file (x, a)) (x + a) b y m ∙ cleared_inside file x a y l m ∙ sym (cleared_inside file x c y l (omega arith))
-        | inr m ↦ elim (below_or y (x + c)) [
+        | inr m ↦ elim (cases_lt y (x + c)) [
           | inl n ↦ cleared_inside (cleared file (x, a)) (x + a) b y m (omega arith) ∙ sym (cleared_inside file x c y l n)
           | inr n ↦ cleared_after (cleared file (x, a)) (x + a) b y (omega arith) ∙ cleared_after file x a y m ∙ sym (cleared_after file x c y n)
         ]

@@ -17,8 +17,8 @@ use Rattle.serial_spec.specs.DeviceCalls.{Slab}
 use Rattle.redef_laws.specs.Rising.{lowest_first, put_in}
 use Rattle.redef_mover.specs.declared.slabs.Shift.{Shift}
 use Rattle.redef_mover.specs.Moves.{is_kind, slab_of}
-use Rattle.redef_mover.proofs.SlabLaws.{below_or}
 use Rattle.list_laws.proofs.Places.{first_same}
+use Rattle.std.proofs.lemmas.Bool.{cases_lt}
 
 -- ---- listing
 
@@ -117,7 +117,7 @@ nil_cons x xs e = absurd cc
 -- both begin with the same slab
 same_first : (n : ℕ) (s t : Slab) (ss ts : List Slab) → AreUp n (s ∷ ss) → AreUp n (t ∷ ts)
     → ((k : ℕ) → filter (at_place k) (s ∷ ss) ≡ filter (at_place k) (t ∷ ts)) → s ≡ t
-same_first n s t ss ts h g e = by_order (below_or s.from t.from) (below_or t.from s.from)
+same_first n s t ss ts h g e = by_order (cases_lt s.from t.from) (cases_lt t.from s.from)
   where
     by_order : (s.from < t.from) ⊎ (t.from ≤ s.from) → (t.from < s.from) ⊎ (s.from ≤ t.from) → s ≡ t
     by_order (inl l) q =

@@ -112,7 +112,7 @@ call_plain call.EndIndep = refl
 call_plain call.SyncRecords = refl
 
 module _ (ranks r : ℕ) (own : List Call) (before : ℕ) (ws : List Word) where
-  put_word : (all : Bool) (f : Form) → call_of ranks r own before (with_all all (codes "put_" ++ form_word f)) ws ≡ put_call all f before ws
+  pub put_word : (all : Bool) (f : Form) → call_of ranks r own before (with_all all (codes "put_" ++ form_word f)) ws ≡ put_call all f before ws
   put_word true form.Var1 = refl
   put_word true form.Var = refl
   put_word true form.Vara = refl
@@ -126,7 +126,7 @@ module _ (ranks r : ℕ) (own : List Call) (before : ℕ) (ws : List Word) where
   put_word false form.Varm = refl
   put_word false form.Varn = refl
 
-  get_word : (all : Bool) (f : Form) → call_of ranks r own before (with_all all (codes "get_" ++ form_word f)) ws ≡ get_call all f ws
+  pub get_word : (all : Bool) (f : Form) → call_of ranks r own before (with_all all (codes "get_" ++ form_word f)) ws ≡ get_call all f ws
   get_word true form.Var1 = refl
   get_word true form.Var = refl
   get_word true form.Vara = refl
@@ -140,7 +140,7 @@ module _ (ranks r : ℕ) (own : List Call) (before : ℕ) (ws : List Word) where
   get_word false form.Varm = refl
   get_word false form.Varn = refl
 
-  post_word : (k : PostKind) (f : Form) → call_of ranks r own before (kind_word k ++ form_word f) ws ≡ post_call k (posted own) f before ws
+  pub post_word : (k : PostKind) (f : Form) → call_of ranks r own before (kind_word k ++ form_word f) ws ≡ post_call k (posted own) f before ws
   post_word Iput form.Var1 = refl
   post_word Iput form.Var = refl
   post_word Iput form.Vara = refl
@@ -160,6 +160,6 @@ module _ (ranks r : ℕ) (own : List Call) (before : ℕ) (ws : List Word) where
   post_word Bput form.Varm = refl
   post_word Bput form.Varn = refl
 
-  wait_word : (all : Bool) → call_of ranks r own before (with_all all (codes "wait")) ws ≡ (choice ws >>= λ c. Ok (call.Wait all c))
+  pub wait_word : (all : Bool) → call_of ranks r own before (with_all all (codes "wait")) ws ≡ (choice ws >>= λ c. Ok (call.Wait all c))
   wait_word true = refl
   wait_word false = refl

@@ -26,7 +26,7 @@ use Rattle.script_text.proofs.Lines.{all_joined}
 use Rattle.script_text.proofs.Numerals.{name_plain, size_plain}
 use Rattle.script_text.proofs.PrintedValues.{value_tokens, is_read, Fitting, values_fit, values_again, values_good}
 use Rattle.script_text.proofs.PrintedRegions.{kept, name_read, name_again, size_read, size_word, region_tokens, RegionAgain, region_again, region_kept, id_bound, id_again, id_plain, choice_tokens, ChoiceAgain, choice_read}
-use Rattle.script_text.proofs.CallTokens.{call_tokens}
+use Rattle.script_text.proofs.CallTokens.{call_tokens, get_word, post_word, put_word, wait_word}
 
 -- ---- a call read again
 

@@ -20,13 +20,13 @@ use Rattle.serial_spec.specs.SerialEnd.{Going, advance, after_mark, offers_of, s
 use Rattle.serial_spec.specs.SharedByte.{Puts}
 use Rattle.serial_spec.proofs.FileLaws.{longer_long}
 
-pub written_grows : (file b : List ℕ) (x : ℕ) → length file ≤ length (written file x b)
-written_grows file b x = grind (arith, common_steps)
+pub written_grows : (file : List ℕ) (x : ℕ) (b : List ℕ) → length file ≤ length (written file x b)
+written_grows file x b = grind (arith, common_steps)
 
 cells_grow : (size : ℕ) (ps bytes file : List ℕ) → length file ≤ length (fold (λ f cell. written f cell.0 cell.1) file (cells size ps bytes))
 cells_grow size [] bytes file = omega arith
 cells_grow size (p ∷ ps) bytes file =
-    let one = written_grows file (take size bytes) p in
+    let one = written_grows file p (take size bytes) in
     let rest = cells_grow size ps (drop size bytes) (written file p (take size bytes)) in
     omega arith
 
@@ -56,7 +56,7 @@ raised_grows s c n = by_test (nat_lt c.records n)
   where
     by_test : (t : Bool) → length c.file ≤ length (cond t (record { file = with_records s.header.version c.file n; records = n }) c).file
     by_test false = omega arith
-    by_test true = written_grows c.file (count s.header.version n) 4
+    by_test true = written_grows c.file 4 (count s.header.version n)
 
 -- each step of an order, and the close, leaves a file that is as long at least
 pub mark_grows : (s : Setting) (state : Counted × List Going) (m : Mark) → length state.0.file ≤ length (after_mark s state m).0.file

@@ -34,10 +34,9 @@ use Rattle.thread_run.specs.Stopping.{held_stops, put_one, stop_each, stops_for}
 use Rattle.thread_run.proofs.AlikeLaws.{lines_as, lines_none, lines_twice}
 use Rattle.turn_run.proofs.CountLaws.{count_less, count_longer}
 use Rattle.thread_run.proofs.DeskRuns.{seat_ended, seat_held}
-use Rattle.turn_run.proofs.ListLaws.{get_set_other}
 use Rattle.thread_run.proofs.PutLaws.{put_here, put_other, stop_for_offer}
 use Rattle.thread_run.proofs.StrangeLaws.{fits, kind_is, passes}
-use Rattle.list_laws.proofs.Places.{entry_below, entry_set}
+use Rattle.list_laws.proofs.Places.{entry_below, entry_set, entry_set_other}
 use Rattle.nc_outside.proofs.ToldLaws.{with_end-nil}
 
 abbrev pub with_seats : Standing → List Seat → Standing
@@ -79,7 +78,7 @@ single_set seats r x y e all own q z o f g = by (cases_eq q r)
   where
     by : (q ≡ r) ⊎ (q ≡ r → ⊥) → IsSingleOffer o
     by (inl s) = own o (ap (λ (w : Seat). w.held) (same_Some y z (sym (entry_set seats r x y e) ∙ ap (λ (k : ℕ). slice_get (set seats r y) k) (sym s) ∙ f)) ∙ g)
-    by (inr n) = all q z o (sym (get_set_other seats r q y n) ∙ f) g
+    by (inr n) = all q z o (sym (entry_set_other seats r q y n) ∙ f) g
 
 pub done_ended : (hints : Hints) (s : Setting) (b : Standing) (r : ℕ) (x y : Seat) (memory : Bool) → slice_get b.seats r ≡ Some x → y ≡ seat_ended x memory
     → HasDone hints s (r, item.Ended memory) b (with_seats b (set b.seats r y))
@@ -171,7 +170,7 @@ set_cases seats r q x y z e f = by (cases_eq q r)
   where
     by : (q ≡ r) ⊎ (q ≡ r → ⊥) → ((q ≡ r) × (y ≡ z)) ⊎ ((q ≡ r → ⊥) × (slice_get seats q ≡ Some z))
     by (inl s) = inl (s, same_Some y z (sym (entry_set seats r x y e) ∙ ap (λ (k : ℕ). slice_get (set seats r y) k) (sym s) ∙ f))
-    by (inr n) = inr (n, sym (get_set_other seats r q y n) ∙ f)
+    by (inr n) = inr (n, sym (entry_set_other seats r q y n) ∙ f)
 
 -- the offers held are the old ones and perhaps one more
 steady_set : (header : Header) (len : ℕ) (b : Standing) (r : ℕ) (x y : Seat) → IsSteady header len b → slice_get b.seats r ≡ Some x → ((o : Offer) → y.held ≡ Some o → IsHeld header len b.reached o)
@@ -291,7 +290,7 @@ all_stopped d r c o x y old now e free all long g = lines_as old now stop_each (
             (λ i. ((ap (λ (k : ℕ). stop_held (slice_get d.seats k)) s ∙ ap stop_held e ∙ none x.held x.ended free) i) ++ ((stop_for_offer r c o q ∙ ap (λ (k : ℕ). put_one r Stop k) s ∙ put_here r Stop) i))
         by (inr n) =
             let z = entry_below d.seats q l in
-            let held = at q z.0 (set d.seats r y) (get_set_other d.seats r q y n ∙ z.1) all in
+            let held = at q z.0 (set d.seats r y) (entry_set_other d.seats r q y n ∙ z.1) all in
             (λ i. ((ap stop_held z.1 ∙ one z.0.held z.0.ended held) i) ++ ((stop_for_offer r c o q ∙ put_other q r Stop n) i))
 
 -- an offer alone that was not done, and the offers that are held

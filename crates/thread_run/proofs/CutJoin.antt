@@ -7,7 +7,7 @@ use Rattle.std.proofs.lemmas.Option.{slice_get_within}
 use Rattle.std.specs.Prelude.{slice_get, fold, nat_lt}
 use Rattle.std.specs.List.{list_all}
 use borrow.Author.Tests.{ltb-true}
-use Rattle.list_laws.proofs.Places.{entry_below}
+use Rattle.list_laws.proofs.Places.{entry_below, entry_replicate, entry_beside}
 use Rattle.list_laws.proofs.Truth.{and_first, and_second}
 use Rattle.nc_base.specs.declared.header.Header.{Header}
 use Rattle.nc_base.specs.declared.request.Call.{Call}
@@ -26,9 +26,7 @@ use Rattle.serial_spec.specs.SerialEnd.{Going, after_mark, first_going, setting_
 use Rattle.serial_spec.specs.Torn.{Begins}
 use Rattle.join_laws.specs.Begun.{HasOffered}
 use Rattle.join_laws.proofs.CountLaws.{sound_small}
-use Rattle.join_laws.proofs.ListLaws.{get_beside}
 use Rattle.turn_run.specs.Seated.{calls_of}
-use Rattle.turn_run.proofs.ListLaws.{get_mapped, get_replicate}
 use Rattle.join_laws.proofs.JoinLaws.{stranger_on, served_on, ServedOn, fold_two}
 use Rattle.turn_run.specs.Telling.{counts_along}
 use Rattle.thread_run.specs.Owned.{desk_told}
@@ -36,6 +34,7 @@ use Rattle.join_laws.proofs.GoingOnLaws.{given_on}
 use Rattle.thread_run.proofs.TellLaws.{count_of, tells_more}
 use Rattle.thread_run.proofs.CutRank.{Sits, sits_as}
 use Rattle.thread_run.proofs.CutSteps.{Stands, Stepped, arrival_stands}
+use Rattle.list_laws.proofs.Maps.{mapped_entry}
 
 -- ---- arrivals
 
@@ -81,7 +80,7 @@ ran s ((r, i) ∷ first) later d goings n end none low t = by (is_strange s d (r
         seat = entry_below d.seats r (ltb-true r (length d.seats) (and_first (nat_lt r (length d.seats)) (list_all (λ (a : Arrival). nat_lt a.0 (length d.seats)) first) low))
 
         going : (g : Going) × (slice_get goings r ≡ Some g)
-        going = get_beside d.seats goings r seat.0 t.long seat.1
+        going = entry_beside d.seats goings r seat.0 t.long seat.1
 
         whole : Stands s d goings (λ q. own_items q ((r, i) ∷ (first ++ later))) (λ q. (event s d (r, i)).given q ++ (given_along s (event s d (r, i)).desk first q ++ replicate (n q) Stop)) end
         whole = record {
@@ -130,16 +129,16 @@ cut_run script header file first later taken n sound long none offered enough ca
     front = and_first (list_all (λ (a : Arrival). nat_lt a.0 script.ranks) first) _ (sym (list_all-append (λ (a : Arrival). nat_lt a.0 script.ranks) first later) ∙ offered.numbers)
 
     not_held : (q : ℕ) (x : Seat) (o : Offer) → slice_get (replicate (length script.calls) free_seat) q ≡ Some x → x.held ≡ Some o → ⊥
-    not_held q x o a h = let free = get_replicate (length script.calls) q free_seat x a in let none : x.held ≡ None = ap (λ (y : Seat). y.held) free in cc
+    not_held q x o a h = let free = entry_replicate (length script.calls) q free_seat x a in let none : x.held ≡ None = ap (λ (y : Seat). y.held) free in cc
 
     sits : (q : ℕ) (x : Seat) (g : Going) → slice_get (replicate (length script.calls) free_seat) q ≡ Some x → slice_get (map (first_going header) script.calls) q ≡ Some g
         → Sits header x g (own_items q (first ++ later)) (given_along (setting_of script header) (opening_desk script header file) first q ++ replicate (n q) Stop) (end_of_rank script header taken q)
     sits q x g a b =
-        let own = get_mapped (first_going header) script.calls q g b in
+        let own = mapped_entry (first_going header) script.calls q g b in
         let low : q < script.ranks = (let l = slice_get_within script.calls q own.0 own.1.0 in omega arith) in
         let its : calls_of script q ≡ own.0 = ap (λ (m : Option (List Call)). elim m [ None ↦ [] | Some cs ↦ cs ]) own.1.0 in
         subst (λ (z : Seat). Sits header z g (own_items q (first ++ later)) (given_along (setting_of script header) (opening_desk script header file) first q ++ replicate (n q) Stop) (end_of_rank script header taken q))
-        (sym (get_replicate (length script.calls) q free_seat x a))
+        (sym (entry_replicate (length script.calls) q free_seat x a))
         (subst (λ (z : Going). Sits header free_seat z (own_items q (first ++ later)) (given_along (setting_of script header) (opening_desk script header file) first q ++ replicate (n q) Stop) (end_of_rank script header taken q))
         own.1.1 (record {
           back = taken q;

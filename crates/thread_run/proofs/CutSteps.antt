@@ -8,7 +8,7 @@ use Rattle.std.specs.Prelude.{slice_get, flat_map, fold, is_some, nat_lt, ◌==�
 use Rattle.std.specs.List.{enumerate_from, list_all}
 use Rattle.list_laws.proofs.Each.{passes_at}
 use Rattle.list_laws.proofs.Optional.{some_or_none}
-use Rattle.list_laws.proofs.Places.{entry_set, entry_set_other}
+use Rattle.list_laws.proofs.Places.{entry_set, entry_set_other, entry_beside}
 use Rattle.list_laws.proofs.Truth.{or_first_false, or_second_false}
 use Rattle.run_laws.proofs.StandingLaws.{solo_goes}
 use Rattle.nc_base.specs.declared.header.Header.{Header}
@@ -27,7 +27,6 @@ use Rattle.serial_spec.specs.Limits.{record_limit}
 use Rattle.serial_spec.specs.SerialEnd.{Going, advance, after_mark, hears, offers_of}
 use Rattle.join_laws.proofs.CountLaws.{less_max, meeting_small, solo_small}
 use Rattle.join_laws.proofs.EventLaws.{to_one_here, to_one_other, own_here, own_other}
-use Rattle.join_laws.proofs.ListLaws.{get_beside}
 use Rattle.join_laws.proofs.ReplyLaws.{fit_passes, meeting_fits, solo_fits}
 use Rattle.join_laws.proofs.StepLaws.{going_after, goings_after, goings_long, meeting_is, meeting_within, offer_at, offers_long, replied, same_offers, solo_of_is, solo_within, Replied}
 use Rattle.join_laws.proofs.StrangeLaws.{event_is, strange_alone}
@@ -182,7 +181,7 @@ solo_stands s d goings r c o rest x g given end a b free fit t = record {
 held_each : (seats : List Seat) (P : Offer → Type 0) → list_all holds seats ≡ true → ((q : ℕ) (x : Seat) (o : Offer) → slice_get seats q ≡ Some x → x.held ≡ Some o → P o)
     → (q : ℕ) (o : Offer) → slice_get (offers_held seats) q ≡ Some o → P o
 held_each seats P all f q o e =
-    let x = get_beside (offers_held seats) seats q o (offers_long seats all) e in
+    let x = entry_beside (offers_held seats) seats q o (offers_long seats all) e in
     by_held x.0 x.1 (some_or_none x.0.held)
   where
     by_held : (x : Seat) → slice_get seats q ≡ Some x → (x.held ≡ None) ⊎ ((p : Offer) × (x.held ≡ Some p)) → P o
@@ -244,8 +243,8 @@ meeting_stands s d goings coming seats given end all same t = record {
 
     sits : (q : ℕ) (z : Seat) (h : Going) → slice_get (map freed seats) q ≡ Some z → slice_get (goings_after s (offers_held seats) d.state goings) q ≡ Some h → Sits s.header z h (coming q) (given q) (end q)
     sits q z h e f =
-        let x = get_beside (map freed seats) seats q z (length-map seats freed) e in
-        let g = get_beside seats goings q x.0 t.long x.1 in
+        let x = entry_beside (map freed seats) seats q z (length-map seats freed) e in
+        let g = entry_beside seats goings q x.0 t.long x.1 in
         by_held x.0 x.1 g.0 g.1 (some_or_none x.0.held)
       where
         by_held : (x : Seat) → slice_get seats q ≡ Some x → (g : Going) → slice_get goings q ≡ Some g → (x.held ≡ None) ⊎ ((o : Offer) × (x.held ≡ Some o)) → Sits s.header z h (coming q) (given q) (end q)

@@ -6,7 +6,7 @@ use borrow.Author.Tests.{ltb-true, ltb-false}
 use Rattle.std.specs.Prelude.{slice_get, flat_map, nat_lt, ◌==◌}
 use Rattle.std.specs.List.{enumerate_from, list_all, list_any}
 use Rattle.std.specs.Int.{byte_len}
-use Rattle.list_laws.proofs.Places.{entry_below}
+use Rattle.list_laws.proofs.Places.{entry_below, entry_beside}
 use Rattle.list_laws.proofs.Truth.{and_first, and_second}
 use Rattle.nc_base.specs.declared.header.Header.{Header}
 use Rattle.nc_base.specs.declared.request.Call.{Call}
@@ -38,7 +38,6 @@ use Rattle.serial_spec.specs.Torn.StoodAt.{in_step, in_close, between}
 use Rattle.collective_round.proofs.TornFiles.{torn_sides, AreSides, torn_still}
 use Rattle.run_laws.proofs.StandingLaws.{solo_goes}
 use Rattle.join_laws.specs.Begun.{HasOffered, IsBeginning}
-use Rattle.join_laws.proofs.ListLaws.{get_beside}
 use Rattle.join_laws.proofs.StreamLaws.{waiting_misfit, waiting_reply}
 use Rattle.join_laws.proofs.StepLaws.{meeting_is, same_offers, solo_of_is}
 use Rattle.thread_run.specs.Owned.{AreSingle, IsSingleOffer}
@@ -186,7 +185,7 @@ stood_run script s e d goings order later left records given end t low begun nex
     found r i e =
         let low = ltb-true r (length d.seats) (ap (λ (b : Arrival). nat_lt b.0 (length d.seats)) e ∙ and_first (nat_lt a.0 (length d.seats)) _ numbers) in
         let seat = entry_below d.seats r low in
-        let going = get_beside d.seats goings r seat.0 t.long seat.1 in
+        let going = entry_beside d.seats goings r seat.0 t.long seat.1 in
         subst (λ (b : Arrival). Brings s d goings b) e
         (brings s d goings r i others seat.0 going.0 given end seat.1 going.1 (ap (λ (b : Arrival). is_strange s d b) e ∙ fit)
         (subst (λ (b : Arrival). Stands s d goings (λ q. own_items q (b ∷ others)) given end) (sym e) here))

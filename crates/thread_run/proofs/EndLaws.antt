@@ -32,14 +32,13 @@ use Rattle.thread_run.specs.declared.serving.Halt.{Halt}
 use Rattle.thread_run.specs.declared.serving.Halt.TheVariants as halt
 use Rattle.thread_run.proofs.AlikeLaws.{alike_by, lines_twice}
 use Rattle.thread_run.proofs.DeskRuns.{goes_on, GoesOn}
-use Rattle.turn_run.proofs.ListLaws.{get_replicate}
 use Rattle.thread_run.proofs.RefusedSteps.{stood_later}
 use Rattle.join_laws.proofs.TieLaws.{one_if, owed_count}
 use Rattle.join_laws.proofs.OwnerAlikeLaws.{alike_same, alike_two}
 use Rattle.thread_run.proofs.StopLaws.{filter_joined}
 use Rattle.thread_run.proofs.GainedLaws.{gained_is, have_put, arrived_is, StoppedAt, stopped_at, left_at}
 use Rattle.list_laws.proofs.Optional.{if_some_at}
-use Rattle.list_laws.proofs.Places.{entry_below}
+use Rattle.list_laws.proofs.Places.{entry_below, entry_replicate}
 use Rattle.join_laws.proofs.BegunLaws.{own_two}
 use Rattle.thread_run.proofs.ThreadLists.{alike_long}
 
@@ -174,7 +173,7 @@ module _ (hints : Hints) (s : Setting) (old now : Receiver RankItem) (left : Lis
       → length (gained before.lines lines q) ≡ offers_in (own_items q (o.first ++ o.last))
   one_item_each senders seats long same q l =
       let seat = entry_below before.seats q (seats_long q l) in
-      let free : seat.0.held ≡ None = ap (λ (x : Seat). x.held) (get_replicate senders q free_seat seat.0 (ap (λ (ss : List Seat). slice_get ss q) (sym seats) ∙ seat.1)) in
+      let free : seat.0.held ≡ None = ap (λ (x : Seat). x.held) (entry_replicate senders q free_seat seat.0 (ap (λ (ss : List Seat). slice_get ss q) (sym seats) ∙ seat.1)) in
       let count = owed_count s (desk_at before []) o.first q seat.0 numbers seat.1 in
       let none = held_none seat.0.held free in
       let given = ap (λ (items : List OwnerItem). length items) (all_given q) ∙ length-append (given_along s (desk_at before []) o.first q) (stops (desk_at o.middle []) [] q) in

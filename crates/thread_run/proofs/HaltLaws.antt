@@ -26,9 +26,9 @@ use Rattle.thread_run.specs.declared.serving.Halt.TheVariants as halt
 use Rattle.thread_run.specs.Refused.{IsFaultAt}
 use Rattle.thread_run.proofs.RefusedSteps.{fault_none}
 use Rattle.thread_run.proofs.AlikeLaws.{lines_as, lines_none, lines_twice}
-use Rattle.turn_run.proofs.ListLaws.{get_replicate}
 use Rattle.thread_run.proofs.RunLaws.{run_more, run_none}
 use Rattle.thread_run.proofs.StopLaws.{more_none, more_one}
+use Rattle.list_laws.proofs.Places.{entry_replicate}
 
 pub served_none : (hints : Hints) (s : Setting) (old : Receiver RankItem) (flags : List Bool) (x : Standing) → HaveEnded flags [] → HasServed hints s old old flags x x
 served_none hints s old flags x h = record { more = []; taken = more_none old; ended = h; run = run_none hints s x }
@@ -135,8 +135,8 @@ opening_steady header len senders n held made heard lines few long count = recor
   count = count;
   reached = count;
   below = omega arith;
-  held = λ r x o e f. let free = get_replicate senders r free_seat x e in let none : x.held ≡ None = ap (λ (y : Seat). y.held) free in absurd cc;
-  same = λ r q x y o p e g f k. let free = get_replicate senders r free_seat x e in let none : x.held ≡ None = ap (λ (y : Seat). y.held) free in absurd cc;
+  held = λ r x o e f. let free = entry_replicate senders r free_seat x e in let none : x.held ≡ None = ap (λ (y : Seat). y.held) free in absurd cc;
+  same = λ r q x y o p e g f k. let free = entry_replicate senders r free_seat x e in let none : x.held ≡ None = ap (λ (y : Seat). y.held) free in absurd cc;
 }
 
 -- ---- what still comes

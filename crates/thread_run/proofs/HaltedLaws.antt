@@ -19,8 +19,8 @@ use Rattle.thread_run.specs.Refused.{HasCutService}
 use Rattle.thread_run.specs.Serving.{arrived, gained, opening, HasFailed, HasTaken, HasToldAlong, HavePut, IsDone, IsDoneSo}
 use Rattle.thread_run.specs.declared.serving.Halt.{Halt}
 use Rattle.thread_run.specs.declared.serving.Halt.TheVariants as halt
-use Rattle.turn_run.proofs.ListLaws.{get_replicate}
 use Rattle.thread_run.proofs.EndLaws.{out_taken, out_put, out_done, out_told, out_bytes, out_calls, out_failed, out_cut}
+use Rattle.list_laws.proofs.Places.{entry_replicate}
 
 -- ---- from the opening
 
@@ -72,7 +72,7 @@ module _ (hints : Hints) (s : Setting) (old now : Receiver RankItem) (left : Lis
           (subst (λ (d : Desk). IsDoneSo s d (arrived old now) (length back0) (gained back0 lines) held n) (opened file) i)
 
   none_single : HoldSingle (replicate old.senders free_seat)
-  none_single r x p e f = let free = get_replicate old.senders r free_seat x e in let no : x.held ≡ None = ap (λ (y : Seat). y.held) free in absurd cc
+  none_single r x p e f = let free = entry_replicate old.senders r free_seat x e in let no : x.held ≡ None = ap (λ (y : Seat). y.held) free in absurd cc
 
   pub end_calls : (fault : Option StepErr) → fault ≡ of_fault h → fault ≡ None → AreSingle (arrived old now)
       → IfSome held0 (λ file. made ≡ with_end made0 (desk_calls hints s (opening old.senders (counted file k)) (arrived old now)))

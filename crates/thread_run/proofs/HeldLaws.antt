@@ -18,9 +18,9 @@ use Rattle.list_laws.proofs.Optional.{some_or_none}
 use Rattle.thread_run.specs.Owned.{AreOfOneKind, HoldAll, HoldSingle, IsSteady, Standing, IsSingleOffer}
 use Rattle.turn_run.specs.Steps.{batches_of, known_of, IsJob, IsOneRise}
 use Rattle.turn_run.proofs.CountLaws.{count_longer, count_max}
-use Rattle.turn_run.proofs.MeetLists.{take_next}
 use Rattle.turn_run.proofs.MeetOffers.{offers_job, one_rise, rise_brought}
 use Rattle.serial_spec.proofs.CountLaws.{known_less, greatest_joined}
+use Rattle.list_laws.proofs.Places.{take_next}
 
 pub all_held : (P : Offer → Type 0) (seats : List Seat) → HoldAll P seats → AllByRecursion P (offers_held seats)
 all_held P [] h = tt

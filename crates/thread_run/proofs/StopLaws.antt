@@ -17,8 +17,8 @@ use Rattle.join_laws.proofs.EventLaws.{own_here}
 use Rattle.thread_run.specs.Owned.{Grows}
 use Rattle.thread_run.specs.Stopping.{stops_for, HaveEnded, HaveMet, IsMore}
 use Rattle.thread_run.proofs.AlikeLaws.{lines_as, lines_twice}
-use Rattle.turn_run.proofs.ListLaws.{get_set_other}
 use Rattle.join_laws.proofs.BegunLaws.{own_two}
+use Rattle.list_laws.proofs.Places.{entry_set_other}
 
 -- ---- items of one number
 
@@ -59,7 +59,7 @@ noted_end flags arrivals r memory h q e = by (cases_eq q r)
     by (inl s) =
         subst HasEnd (sym (own_two q arrivals ((r, item.Ended memory) ∷ []) ∙ ap (λ (k : ℕ). own_items q arrivals ++ own_items k ((r, item.Ended memory) ∷ [])) s
         ∙ ap (λ (items : List RankItem). own_items q arrivals ++ items) (own_here r (item.Ended memory) []))) (end_last (own_items q arrivals) memory)
-    by (inr n) = ended_more flags arrivals ((r, item.Ended memory) ∷ []) h q (sym (get_set_other flags r q true n) ∙ e)
+    by (inr n) = ended_more flags arrivals ((r, item.Ended memory) ∷ []) h q (sym (entry_set_other flags r q true n) ∙ e)
 
 pub noted : (flags : List Bool) (arrivals : List Arrival) (r : ℕ) (i j : RankItem) → i ≡ j → HaveEnded flags (arrivals ++ (r, j) ∷ []) → HaveEnded flags (arrivals ++ (r, i) ∷ [])
 noted flags arrivals r i j e h = subst (λ (k : RankItem). HaveEnded flags (arrivals ++ (r, k) ∷ [])) (sym e) h

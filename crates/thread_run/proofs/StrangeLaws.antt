@@ -2,7 +2,7 @@
 use Rattle.std.proofs.Common.{◌≡◌, ℕ, zero, suc, ◌+◌, ◌*◌, ◌^◌, ◌<◌, ◌≤◌, refl, sym, ◌∙◌, ap, inl, inr, List, [], ◌∷◌, length, map, set, Bool, true, false, not, ◌&&◌, ◌||◌, Option, Some, None, arith}
 use Rattle.std.specs.Prelude.{slice_get, is_some, nat_le, nat_lt, ◌==◌, IfSome}
 use Rattle.std.specs.List.{list_all, list_any}
-use Rattle.std.proofs.lemmas.Bool.{or_parts, and_right}
+use Rattle.std.proofs.lemmas.Bool.{or_parts, and_right, not-false}
 use Rattle.std.proofs.lemmas.Bool.Decides.{nat_tests}
 use Rattle.std.proofs.lemmas.Option.{same_Some}
 use Rattle.list_laws.proofs.Truth.{and_first, and_second, or_false}
@@ -38,6 +38,7 @@ use Rattle.list_laws.proofs.Places.{entry_set}
 use Rattle.overlay_laws.proofs.Members.{at_in}
 use Rattle.thread_run.specs.Strange.{fails_as_offer, fails_test, leaves_behind, leaves_with}
 use Rattle.thread_run.proofs.DeskRuns.{seat_ended, seat_held}
+use Rattle.std.proofs.lemmas.Map.Keys.{any_passes_from_place}
 
 -- ---- one element of a list is changed
 
@@ -45,13 +46,13 @@ any_set : {X : Type 0} (p : X → Bool) (xs : List X) (r : ℕ) (x y : X) → sl
 any_set p [] r x y e h = absurd cc
 any_set p (z ∷ xs) zero x y e h =
     let same : p z ≡ false = ap p (same_Some z x e) ∙ h in
-    turned (p y) (list_any p xs) ∙ ap (λ (t : Bool). (t || list_any p xs) || p y) (sym same)
+    not-false (p y) (list_any p xs) ∙ ap (λ (t : Bool). (t || list_any p xs) || p y) (sym same)
   where
-    turned : (a b : Bool) → (a || b) ≡ ((false || b) || a)
-    turned true true = refl
-    turned true false = refl
-    turned false true = refl
-    turned false false = refl
+    not-false : (a b : Bool) → (a || b) ≡ ((false || b) || a)
+    not-false true true = refl
+    not-false true false = refl
+    not-false false true = refl
+    not-false false false = refl
 any_set p (z ∷ xs) (suc r) x y e h = ap (λ (t : Bool). p z || t) (any_set p xs r x y e h) ∙ regrouped (p z) (list_any p xs) (p y)
   where
     regrouped : (a b c : Bool) → (a || (b || c)) ≡ ((a || b) || c)
@@ -62,15 +63,6 @@ any_same : {X : Type 0} (p : X → Bool) (xs : List X) (r : ℕ) (x y : X) → s
 any_same p [] r x y e h = absurd cc
 any_same p (z ∷ xs) zero x y e h = ap (λ (t : Bool). t || list_any p xs) (h ∙ ap p (sym (same_Some z x e)))
 any_same p (z ∷ xs) (suc r) x y e h = ap (λ (t : Bool). p z || t) (any_same p xs r x y e h)
-
-any_there : {X : Type 0} (p : X → Bool) (xs : List X) (r : ℕ) (x : X) → slice_get xs r ≡ Some x → p x ≡ true → list_any p xs ≡ true
-any_there p [] r x e h = absurd cc
-any_there p (z ∷ xs) zero x e h = ap (λ (t : Bool). t || list_any p xs) (ap p (same_Some z x e) ∙ h)
-any_there p (z ∷ xs) (suc r) x e h = ap (λ (t : Bool). p z || t) (any_there p xs r x e h) ∙ or_true (p z)
-  where
-    or_true : (a : Bool) → (a || true) ≡ true
-    or_true true = refl
-    or_true false = refl
 
 -- ---- who is left behind
 
@@ -124,7 +116,7 @@ meeting_leaves s d r x o e f there true h =
     and_right (list_any has_left (map freed (set d.seats r (seat_held x o)))) (list_any holds (map freed (set d.seats r (seat_held x o)))) (none_held (set d.seats r (seat_held x o)))
     ∙ sym (none_left (set d.seats r (seat_held x o)) h) ∙ any_set has_left d.seats r x (seat_held x o) e (stays x f) ∙ or_false (list_any has_left d.seats)
 meeting_leaves s d r x o e f there false h =
-    and_true (list_any has_left (set d.seats r (seat_held x o))) (list_any holds (set d.seats r (seat_held x o))) (any_there holds (set d.seats r (seat_held x o)) r (seat_held x o) there refl)
+    and_true (list_any has_left (set d.seats r (seat_held x o))) (list_any holds (set d.seats r (seat_held x o))) (any_passes_from_place holds (set d.seats r (seat_held x o)) r (seat_held x o) there refl)
     ∙ any_set has_left d.seats r x (seat_held x o) e (stays x f) ∙ or_false (list_any has_left d.seats)
 
 leaves : (s : Setting) (d : Desk) (r : ℕ) (i : RankItem) (x : Seat) → slice_get d.seats r ≡ Some x → x.ended ≡ None → left_behind (at_item s d r x i).desk.seats ≡ leaves_behind d.seats x i
@@ -213,12 +205,8 @@ none_in p [] x h i = absurd i
 none_in p (z ∷ xs) x h (inl e) = ap p (sym e) ∙ (or_parts (p z) (list_any p xs) h).0
 none_in p (z ∷ xs) x h (inr i) = none_in p xs x (or_parts (p z) (list_any p xs) h).1 i
 
-turned : (t : Bool) → not t ≡ false → t ≡ true
-turned true e = refl
-turned false e = absurd cc
-
 not_refused : (header : Header) (known : ℕ) (way : Direction) (p : Post) → refused header known way p ≡ false → check header p.var p.region known way ≡ code.Ok
-not_refused header known way p e = ok_is (check header p.var p.region known way) (turned (is_ok_code (check header p.var p.region known way)) e)
+not_refused header known way p e = ok_is (check header p.var p.region known way) (not-false (is_ok_code (check header p.var p.region known way)) e)
 
 whole_length : (header : Header) (p : Post) → wrong_length header p ≡ false → IfSome (slice_get header.vars p.var) (λ v. length p.bytes ≡ product p.region.count * size_of v.kind)
 whole_length header p e = by (slice_get header.vars p.var) e
@@ -226,7 +214,7 @@ whole_length header p e = by (slice_get header.vars p.var) e
     by : (m : Option Var) → (elim m [ None ↦ true | Some var ↦ not (length p.bytes == product p.region.count * size_of var.kind) ]) ≡ false
         → IfSome m (λ v. length p.bytes ≡ product p.region.count * size_of v.kind)
     by None f = tt
-    by (Some v) f = same (length p.bytes) (product p.region.count * size_of v.kind) (turned (length p.bytes == product p.region.count * size_of v.kind) f)
+    by (Some v) f = same (length p.bytes) (product p.region.count * size_of v.kind) (not-false (length p.bytes == product p.region.count * size_of v.kind) f)
       where
         same : (n m : ℕ) → (n == m) ≡ true → n ≡ m
         same n m h = grind (arith, nat_tests)

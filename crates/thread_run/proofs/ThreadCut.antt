@@ -6,7 +6,7 @@ use Rattle.std.proofs.lemmas.Option.{slice_get_within, same_Some}
 use Rattle.std.specs.Prelude.{slice_get, nat_lt, filter, IfSome}
 use Rattle.std.specs.Int.{byte_len}
 use Rattle.std.specs.List.{list_all}
-use Rattle.list_laws.proofs.Places.{entry_below}
+use Rattle.list_laws.proofs.Places.{entry_below, entry_beside}
 use Rattle.list_laws.proofs.Truth.{and_second}
 use Rattle.nc_base.specs.declared.answer.Answer.{Answer}
 use Rattle.nc_base.specs.declared.header.Header.{Header}
@@ -37,13 +37,11 @@ use Rattle.serial_spec.specs.Torn.{Begins, HasAnswers, HasAnswersOfEach, IsCutRu
 use Rattle.serial_spec.specs.Torn.StoodAt.{in_step, in_close, between}
 use Rattle.collective_round.specs.Rounds.{as_setting, counted}
 use Rattle.join_laws.specs.Begun.{HasOffered}
-use Rattle.join_laws.proofs.ListLaws.{get_beside}
 use Rattle.join_laws.proofs.Completing.{completed, completed_by}
 use Rattle.turn_run.specs.Begun.{HasBegun}
 use Rattle.turn_run.specs.Said.{HasSaid}
 use Rattle.turn_run.specs.Seated.{calls_of}
 use Rattle.turn_run.proofs.CutRuns.{no_answers}
-use Rattle.turn_run.proofs.ListLaws.{get_mapped}
 use Rattle.turn_run.proofs.SaidLaws.{said_here, said_part, said_up}
 use Rattle.turn_run.proofs.TellLaws.{told_along}
 use Rattle.turn_run.specs.Telling.{counts_along}
@@ -62,6 +60,7 @@ use Rattle.thread_run.proofs.TellLaws.{count_of}
 use Rattle.thread_run.proofs.ThreadRuns.{FinishedSo, finished, finished_so}
 use Rattle.thread_run.proofs.ThreadTies.{Own, Told, begun, broke_or_not, offered_all, own_of, puts, takes}
 use Rattle.thread_run.proofs.ServiceCut.{Service, service_cut, service_done}
+use Rattle.list_laws.proofs.Maps.{mapped_entry}
 
 -- ---- the ranks
 
@@ -143,7 +142,7 @@ module _ (script : Script) (header : Header) (arrivals : List Arrival) (given : 
       let own = own_at r low in
       let o = own_of script header arrivals given ends t r own.0 own.1 in
       let same : o.end ≡ end = same_Some o.end end (sym o.at_end ∙ b) in
-      let x = get_beside run.last (run_of script header file h.first).desk.seats r g (sym run.stands.long) a in
+      let x = entry_beside run.last (run_of script header file h.first).desk.seats r g (sym run.stands.long) a in
       let ended : (advance header g).0 ≡ end_of_rank script header (takes script header arrivals given ends t) r =
       last_end header x.0 g (own_items r h.later) (stopped r) (end_of_rank script header (takes script header arrivals given ends t) r) (run.stands.sits r x.0 g x.1 a) in
       let its : calls_of script r ≡ own.0 = ap (λ (m : Option (List Call)). elim m [ None ↦ [] | Some cs ↦ cs ]) own.1 in
@@ -167,7 +166,7 @@ module _ (script : Script) (header : Header) (arrivals : List Arrival) (given : 
       → (r : ℕ) (g : Going) (own : List Answer) → slice_get (state_after script header file order).1 r ≡ Some g → slice_get answers r ≡ Some own → HasAnswers header e g own
   all_answers e whole answers (inr none) r g own a b = no_answers script header e order file answers none r g own a b
   all_answers e whole answers (inl are) r g own a b =
-      let row = get_mapped (λ (end : RankEnd). end.answers) ends r own (ap (λ (rows : List (List Answer)). slice_get rows r) (sym are) ∙ b) in
+      let row = mapped_entry (λ (end : RankEnd). end.answers) ends r own (ap (λ (rows : List (List Answer)). slice_get rows r) (sym are) ∙ b) in
       subst (λ (xs : List Answer). HasAnswers header e g xs) row.1.1
       (own_answers e whole r g row.0 (ap (λ (st : Counted × List Going). slice_get st.1 r) (sym state_is) ∙ a) row.1.0)
 

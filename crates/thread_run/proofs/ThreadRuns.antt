@@ -29,10 +29,10 @@ use Rattle.thread_run.specs.Attending.{HasFinished}
 use Rattle.thread_run.specs.Owned.{AreSingle, desk_calls}
 use Rattle.thread_run.specs.Serving.{IsDone, IsDoneSo, opening}
 use Rattle.thread_run.specs.Threads.{most_known_of, NoneBroke}
-use Rattle.thread_run.proofs.ThreadLists.{alike_from, rows_same}
+use Rattle.thread_run.proofs.ThreadLists.{alike_from}
 use Rattle.thread_run.proofs.ThreadTies.{Told, finished_of, joined, low_rank, own_of, puts, takes, took_all}
 use Rattle.thread_run.proofs.ThreadWhole.{calls_all, known_sound, single_all}
-use Rattle.list_laws.proofs.Maps.{map_map}
+use Rattle.list_laws.proofs.Maps.{map_map, rows_same}
 use Rattle.serial_spec.proofs.CountLaws.{raised_records}
 
 -- what is told of the run, whether its bytes are told or not

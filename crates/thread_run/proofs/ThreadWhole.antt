@@ -27,7 +27,6 @@ use Rattle.run_laws.proofs.OrderLaws.{calls_close}
 use Rattle.join_laws.proofs.CountLaws.{sound_small}
 use Rattle.join_laws.proofs.GoodLaws.{Good, good_first, lasting}
 use Rattle.join_laws.proofs.JoinLaws.{Joins, Stands, join}
-use Rattle.join_laws.proofs.ListLaws.{get_beside}
 use Rattle.join_laws.proofs.StreamLaws.{closes, seat_end}
 use Rattle.join_laws.proofs.SeatTurns.{Sits}
 use Rattle.join_laws.proofs.TurnLaws.{Seated}
@@ -36,6 +35,7 @@ use Rattle.thread_run.specs.Owned.{AreSingle, desk_calls}
 use Rattle.thread_run.proofs.ThreadCalls.{calls_along, single_along}
 use Rattle.thread_run.proofs.ThreadKnown.{EndsNear, good_along, near_along, near_first, small_along}
 use Rattle.list_laws.proofs.Maps.{entry_map, map_map}
+use Rattle.list_laws.proofs.Places.{entry_beside}
 
 rows_within : {B : Type 0} (h : ℕ × B → ℕ) (n : ℕ) (ys : List B) (from : ℕ) → ((q : ℕ) (b : B) → slice_get ys q ≡ Some b → h (from + q, b) ≤ n) → greatest (map h (enumerate_from from ys)) ≤ n
 rows_within h n [] from f = omega arith
@@ -119,7 +119,7 @@ module _ (script : Script) (header : Header) (file : List ℕ) (arrivals : List 
   known_each q own e =
       let back = back_of script header file arrivals q in
       let g = entry_map (first_going header) script.calls q own e in
-      let x = get_beside goings (replicate (length script.calls) free_seat) q (first_going header own) (sym seats_long) g in
+      let x = entry_beside goings (replicate (length script.calls) free_seat) q (first_going header own) (sym seats_long) g in
       let cm = whole.ranks q x.0 (first_going header own) x.1 g in
       let ends : advance header cm.going ≡ (rank_end header (first_going header own) back, None) =
       cm.ends ∙ ap (λ (z : Seat). (seat_end header z.held (first_going header own) back, None)) (get_replicate (length script.calls) free_seat q x.0 x.1) in

@@ -132,7 +132,7 @@ fn greatest_known(ends: &[RankEnd]) -> u64
 }
 
 /// How many requests each rank left.
-#[tactic(auto, using(turn_run::proofs::ListLaws::map_more))]
+#[tactic(auto, using(list_laws::proofs::Maps::map_more))]
 fn pending_of(alloc: Global, ends: &[RankEnd]) -> Result<SizeList, Memory>
     ensures { IfOk result (λ sizes. sizes ≡ map (λ end. end.pending) ends.now) }
 {

@@ -1,6 +1,6 @@
 -- A rank that goes from one offer to the next by itself.
 use Rattle.std.proofs.Common.{◌≡◌, ℕ, suc, refl, sym, ◌∙◌, ap, subst, List, [], ◌∷◌, ◌++◌, length, map, set, drop, true, max, Option, Some, None, append_assoc}
-use Rattle.std.proofs.lemmas.List.{append-nil}
+use Rattle.std.proofs.lemmas.List.{append-nil, set-set}
 use Rattle.std.specs.Prelude.{slice_get, is_some, IfSome}
 use Rattle.nc_base.specs.declared.header.Header.{Header}
 use Rattle.nc_base.specs.declared.request.Call.{Call}
@@ -30,10 +30,9 @@ use Rattle.turn_run.specs.Seated.{asking, between, calls_of, going_of, AsksAlone
 use Rattle.run_laws.specs.Arrivals.{solo_to, step_calls, step_to, Arrived}
 use Rattle.turn_run.specs.Stages.{arrived, stage, HasGone, IsGrownBy, Leads}
 use Rattle.turn_run.specs.declared.seats.Seat.{Seat}
-use Rattle.turn_run.proofs.ListLaws.{set_own, set_set}
 use Rattle.turn_run.proofs.SeatLaws.{advance_ended}
 use Rattle.turn_run.proofs.StageLaws.{led_none, led_then}
-use Rattle.list_laws.proofs.Places.{entry_set}
+use Rattle.list_laws.proofs.Places.{entry_set, set_own}
 use Rattle.run_laws.proofs.WayLaws.{one_of}
 use Rattle.join_laws.proofs.Completing.{all_joined}
 
@@ -126,7 +125,7 @@ gone_then hints s r before now later held left last calls made done from mid to 
       let one = first.led records ranks g in
       let two = second.led records (set ranks r mid) (entry_set ranks r from mid g) in
       led_then hints s first.more second.more (stage held calls records ranks) (stage left made records (set ranks r mid)) (stage last done records (set ranks r to)) one
-      (subst (λ (others : List Arrived). Leads hints s second.more (stage left made records (set ranks r mid)) (stage last done records others)) (set_set ranks r mid to) two);
+      (subst (λ (others : List Arrived). Leads hints s second.more (stage left made records (set ranks r mid)) (stage last done records others)) (set-set ranks r mid to) two);
 }
 
 pub grown_then : (r : ℕ) (before now later : List Mark) → IsGrownBy r before now → IsGrownBy r now later → IsGrownBy r before later

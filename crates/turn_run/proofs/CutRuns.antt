@@ -39,11 +39,10 @@ use Rattle.turn_run.specs.Said.{all_between, HaveAnswers}
 use Rattle.turn_run.specs.Steps.{first_seat, most_known}
 use Rattle.turn_run.specs.declared.seats.Seat.{Seat}
 use Rattle.turn_run.proofs.CutMeet.{raised_kept}
-use Rattle.turn_run.proofs.ListLaws.{get_map_none, get_mapped}
 use Rattle.turn_run.proofs.StageLaws.{gone_up, mark_up, marks_up}
 use Rattle.turn_run.proofs.TurnEnds.{AreOver, map_ended}
 use Rattle.turn_run.proofs.TurnRuns.{first_goings, first_stage, none_begun}
-use Rattle.list_laws.proofs.Maps.{entry_map, map_map}
+use Rattle.list_laws.proofs.Maps.{entry_map, map_map, entry_map_none, mapped_entry}
 use Rattle.serial_spec.proofs.GrowLaws.{raised_grows}
 
 abbrev Ends : Script → Setting → StepErr → Option (List ℕ) → ℕ → List Arrived → List Mark → Option (List ℕ) → ℕ → Type 0
@@ -143,7 +142,7 @@ bytes_up s goings (Solo r n) = by_rank (slice_get goings r) refl
 
     by_rank : (m : Option Going) → slice_get goings r ≡ m → bytes_at s (map (advance s.header) goings) (Solo r n) ≡ bytes_of_mark s goings (Solo r n)
     by_rank None e =
-        ap (λ (m : Option Arrived). some (elim m [ None ↦ None | Some a ↦ a.1 ])) (get_map_none (advance s.header) goings r e)
+        ap (λ (m : Option Arrived). some (elim m [ None ↦ None | Some a ↦ a.1 ])) (entry_map_none (advance s.header) goings r e)
         ∙ sym (ap (λ (m : Option Going). some (elim m [ None ↦ None | Some g ↦ (advance s.header g).1 ])) e)
     by_rank (Some g) e =
         ap (λ (m : Option Arrived). some (elim m [ None ↦ None | Some a ↦ a.1 ])) (entry_map (advance s.header) goings r g e)
@@ -223,7 +222,7 @@ cut_answers script header e x records first last before order file answers lawfu
 
     by_answers : (answers ≡ map (λ seat. seat.answers) last) ⊎ (answers ≡ []) → HasAnswers header e g own
     by_answers (inl q) =
-        let seat = get_mapped (λ (seat : Seat). seat.answers) last r own (ap (λ (table : List (List Answer)). slice_get table r) (sym q) ∙ is) in
+        let seat = mapped_entry (λ (seat : Seat). seat.answers) last r own (ap (λ (table : List (List Answer)). slice_get table r) (sym q) ∙ is) in
         subst (λ (xs : List Answer). HasAnswers header e g xs) seat.1.1
         (by_cause which seat.0 (h.said r g seat.0 (ap (λ (st : Counted × List Going). slice_get st.1 r) state ∙ at) seat.1.0))
     by_answers (inr q) = no_row (ap (λ (table : List (List Answer)). slice_get table r) (sym q) ∙ is)

@@ -31,12 +31,11 @@ use Rattle.turn_run.specs.Seated.{between, calls_of, AreFree, HasArrived}
 use Rattle.turn_run.specs.Stages.{Stage, Leads, IsLed, HasGone, HasLed, IsGrownBy, arrived, arrived_all, stage}
 use Rattle.turn_run.specs.declared.seats.Seat.{Seat}
 use Rattle.turn_run.proofs.AloneLaws.{arrived_free, arrived_held, step_at}
-use Rattle.turn_run.proofs.ListLaws.{get_set_other}
 use Rattle.turn_run.proofs.SeatLaws.{advance_ended, answers_begin}
 use Rattle.turn_run.proofs.StageLaws.{gone_up, marks_up}
 use Rattle.turn_run.proofs.TurnSteps.{calls_there, get_arrived, own_or_other}
 use Rattle.list_laws.proofs.Optional.{if_some_at}
-use Rattle.list_laws.proofs.Places.{entry_set}
+use Rattle.list_laws.proofs.Places.{entry_set, entry_set_other}
 use Rattle.list_laws.proofs.Maps.{entry_map}
 
 -- ---- one rank
@@ -162,7 +161,7 @@ solo_some s q c ranks (Some a) = solo_to s q c ranks a
 
 solo_beside : (s : Setting) (q r : ℕ) (c : Counted) (ranks : List Arrived) (m : Option Arrived) → q ≢ r → slice_get (solo_some s q c ranks m).1 r ≡ slice_get ranks r
 solo_beside s q r c ranks None n = refl
-solo_beside s q r c ranks (Some a) n = get_set_other ranks q r (advance s.header (solo_of s q c a).1) (λ e. n (sym e))
+solo_beside s q r c ranks (Some a) n = entry_set_other ranks q r (advance s.header (solo_of s q c a).1) (λ e. n (sym e))
 
 not_equal : (q r : ℕ) → (q == r) ≡ false → q ≢ r
 not_equal q r h e = grind (arith, nat_tests)
@@ -184,7 +183,7 @@ going_some s q c goings (Some g) = let done = solo_of s q c (advance s.header g)
 
 going_beside : (s : Setting) (q r : ℕ) (c : Counted) (goings : List Going) (m : Option Going) → q ≢ r → slice_get (going_some s q c goings m).1 r ≡ slice_get goings r
 going_beside s q r c goings None n = refl
-going_beside s q r c goings (Some g) n = get_set_other goings q r (solo_of s q c (advance s.header g)).1 (λ e. n (sym e))
+going_beside s q r c goings (Some g) n = entry_set_other goings q r (solo_of s q c (advance s.header g)).1 (λ e. n (sym e))
 
 pub goings_beside : (s : Setting) (r : ℕ) (more : List Mark) (state : Counted × List Going) → filter (concerns r) more ≡ []
     → slice_get (fold (after_mark s) state more).1 r ≡ slice_get state.1 r
@@ -312,7 +311,7 @@ answers_cut script fault n before mid now first seats was new s held left calls 
         at_other r g seat f k ne = by_order (nat_lt r n) refl
           where
             here : slice_get seats r ≡ Some seat
-            here = sym (get_set_other seats n r new (λ e. ne (sym e))) ∙ k
+            here = sym (entry_set_other seats n r new (λ e. ne (sym e))) ∙ k
 
             its_calls : slice_get script.calls r ≡ Some (calls_of script r)
             its_calls = calls_there script r (let w = slice_get_within seats r seat here in omega arith)

@@ -29,9 +29,8 @@ use Rattle.run_laws.proofs.WayLaws.{way_answers, way_meets, way_solo}
 use Rattle.turn_run.specs.Counts.{raises, IsAsked}
 use Rattle.turn_run.specs.Seated.{asking, between, AsksAlone, HasHeard, IsPlaced, IsPlacedWith}
 use Rattle.turn_run.specs.declared.seats.Seat.{Seat}
-use Rattle.turn_run.proofs.ListLaws.{get_read}
 use Rattle.join_laws.proofs.QuietLaws.{meets_quiet}
-use Rattle.list_laws.proofs.Places.{drop_at}
+use Rattle.list_laws.proofs.Places.{drop_at, entry_read}
 
 -- between two calls, by the state and the answers
 abbrev pub at : List Call → machine.Rank → List Answer → Going
@@ -85,7 +84,7 @@ answers_on_way header from own rank answers now e f =
 
 -- the call that is next
 pub next_call : (own : List Call) (answers : List Answer) (n : ℕ) (c : Call) → n ≡ length answers → n < length own → c ≡ get_or own n c → slice_get own (length answers) ≡ Some c
-next_call own answers n c e l g = subst (λ (k : ℕ). slice_get own k ≡ Some c) e (get_read own n c l g)
+next_call own answers n c e l g = subst (λ (k : ℕ). slice_get own k ≡ Some c) e (entry_read own n c l g)
 
 -- ---- at an offer
 

@@ -1,6 +1,6 @@
 -- Stages: what ranks that have gone up to their next offers have of the serial run, and steps one after another.
 use Rattle.std.proofs.Common.{◌≡◌, ℕ, refl, sym, ◌∙◌, ap, subst, List, [], ◌∷◌, ◌++◌, length, map, set, replicate, Option, Some, None, append_assoc}
-use Rattle.std.proofs.lemmas.List.{append-nil}
+use Rattle.std.proofs.lemmas.List.{append-nil, map-set}
 use Rattle.std.proofs.lemmas.Grind.{fold-append}
 use Rattle.std.specs.Prelude.{slice_get, zip, nat_lt, fold, IfSome}
 use Rattle.nc_base.specs.declared.header.Header.{Header}
@@ -20,8 +20,7 @@ use Rattle.run_laws.proofs.OrderLaws.{calls_close}
 use Rattle.run_laws.specs.Arrivals.{calls_over, solo_to, step_calls, step_to, Arrived, Stand, all_calls_over, ended_from}
 use Rattle.turn_run.specs.Stages.{arrived, arrived_all, stage, stand_of, HasLed, IsLed, Leads, Stage}
 use Rattle.turn_run.specs.Steps.{first_seat}
-use Rattle.turn_run.proofs.ListLaws.{get_map_none, map_set}
-use Rattle.list_laws.proofs.Maps.{entry_map, map_map}
+use Rattle.list_laws.proofs.Maps.{entry_map, map_map, entry_map_none}
 use Rattle.nc_outside.proofs.ToldLaws.{with_end-with_end, with_end-nil}
 
 -- ---- the serial run's ranks, gone up to their next offers
@@ -32,14 +31,14 @@ gone_up s state = (state.0, map (advance s.header) state.1)
 solo_up : (s : Setting) (r n : ℕ) (c : Counted) (goings : List Going) (m : Option Going) → slice_get goings r ≡ m
     → gone_up s (after_mark s (c, goings) (Solo r n)) ≡ step_to s (gone_up s (c, goings)) (Solo r n)
 solo_up s r n c goings None e =
-    let f = get_map_none (advance s.header) goings r e in
+    let f = entry_map_none (advance s.header) goings r e in
     ap (λ (m : Option Going). gone_up s (elim m [ None ↦ (c, goings) | Some g ↦ let done = solo_of s r c (advance s.header g) in (done.0, set goings r done.1) ])) e
     ∙ sym (ap (λ (m : Option Arrived). elim m [ None ↦ gone_up s (c, goings) | Some a ↦ solo_to s r c (map (advance s.header) goings) a ]) f)
 solo_up s r n c goings (Some g) e =
     let f = entry_map (advance s.header) goings r g e in
     let done = solo_of s r c (advance s.header g) in
     ap (λ (m : Option Going). gone_up s (elim m [ None ↦ (c, goings) | Some g ↦ let done = solo_of s r c (advance s.header g) in (done.0, set goings r done.1) ])) e
-    ∙ ap (λ (ranks : List Arrived). (done.0, ranks)) (map_set (advance s.header) goings r done.1)
+    ∙ ap (λ (ranks : List Arrived). (done.0, ranks)) (map-set (advance s.header) goings r done.1)
     ∙ sym (ap (λ (m : Option Arrived). elim m [ None ↦ gone_up s (c, goings) | Some a ↦ solo_to s r c (map (advance s.header) goings) a ]) f)
 
 pub mark_up : (s : Setting) (state : Counted × List Going) (m : Mark) → gone_up s (after_mark s state m) ≡ step_to s (gone_up s state) m
@@ -66,7 +65,7 @@ call_up hints s (c, goings) (Solo r n) = by_rank (slice_get goings r) refl
     by_rank : (m : Option Going) → slice_get goings r ≡ m → mark_calls hints s (c, goings) (Solo r n) ≡ step_calls hints s (gone_up s (c, goings)) (Solo r n)
     by_rank None e =
         ap (λ (m : Option Going). calls_at hints s r c (elim m [ None ↦ None | Some g ↦ (advance s.header g).1 ])) e
-        ∙ sym (ap (λ (m : Option Arrived). calls_at hints s r c (offer_of m)) (get_map_none (advance s.header) goings r e))
+        ∙ sym (ap (λ (m : Option Arrived). calls_at hints s r c (offer_of m)) (entry_map_none (advance s.header) goings r e))
     by_rank (Some g) e =
         ap (λ (m : Option Going). calls_at hints s r c (elim m [ None ↦ None | Some g ↦ (advance s.header g).1 ])) e
         ∙ sym (ap (λ (m : Option Arrived). calls_at hints s r c (offer_of m)) (entry_map (advance s.header) goings r g e))

@@ -31,9 +31,9 @@ use Rattle.run_laws.specs.Arrivals.{Arrived}
 use Rattle.turn_run.specs.Stages.{arrived, arrived_all, stage, HasGone, HasLed, IsGrownBy, Leads}
 use Rattle.turn_run.specs.declared.seats.Seat.{Seat}
 use Rattle.turn_run.proofs.CountLaws.{count_longer}
-use Rattle.turn_run.proofs.ListLaws.{get_set_other}
 use Rattle.turn_run.proofs.SeatLaws.{placed_rest, HasRest}
-use Rattle.list_laws.proofs.Places.{entry_below, entry_set}
+use Rattle.list_laws.proofs.Places.{entry_below, entry_set, entry_set_other}
+use Rattle.std.proofs.lemmas.List.{length-set}
 
 -- ---- solo steps that are added to an order
 
@@ -106,11 +106,6 @@ get_at [] n d l = absurd (omega arith)
 get_at (x ∷ xs) zero d l = refl
 get_at (x ∷ xs) (suc n) d l = get_at xs n d (omega arith)
 
-long_set : {X : Type 0} (xs : List X) (r : ℕ) (x : X) → length (set xs r x) ≡ length xs
-long_set [] r x = refl
-long_set (y ∷ xs) zero x = refl
-long_set (y ∷ xs) (suc r) x = ap (λ (k : ℕ). suc k) (long_set xs r x)
-
 -- what holds of the new element and held of the others holds of all
 pub set_each : {X : Type 0} (P : ℕ → X → Type 0) (xs : List X) (n : ℕ) (was x : X) → slice_get xs n ≡ Some was → P n x
     → ((r : ℕ) (y : X) → n ≢ r → slice_get xs r ≡ Some y → P r y) → (r : ℕ) (y : X) → slice_get (set xs n x) r ≡ Some y → P r y
@@ -118,13 +113,13 @@ set_each P xs n was x e own others r y f =
     own_or_other (P r y) n r
     (λ same. let g : Some x ≡ Some y = sym (entry_set xs n was x e) ∙ ap (λ (k : ℕ). slice_get (set xs n x) k) same ∙ f in
     subst (λ (k : ℕ). P k y) same (subst (P n) (same_Some x y g) own))
-    (λ other. others r y other (sym (get_set_other xs n r x (λ z. other (sym z))) ∙ f))
+    (λ other. others r y other (sym (entry_set_other xs n r x (λ z. other (sym z))) ∙ f))
 
 pub seats_step : (script : Script) (header : Header) (len later : ℕ) (before now : List Mark) (seats : List Seat) (n : ℕ) (was seat : Seat)
     → AreSeats script header len before seats → slice_get seats n ≡ Some was → IsGrownBy n before now → len ≤ later
     → IsSeat script header now n seat → IsCount header later seat.rank.state.known → AreSeats script header later now (set seats n seat)
 seats_step script header len later before now seats n was seat a e g l own count = record {
-  all = long_set seats n seat ∙ a.all;
+  all = length-set seats n seat ∙ a.all;
   known_ranks = grown_known script.ranks n before now (number seats n was e a.all) g a.known_ranks;
   each = set_each (λ (r : ℕ) (s : Seat). IsSeat script header now r s) seats n was seat e own
       (λ r s other f. seat_beside script header before now r n s other g (a.each r s f));

@@ -54,7 +54,7 @@ fn greatest_known(seats: &[Seat]) -> u64
 }
 
 /// How many requests each rank left.
-#[tactic(auto, using(crate::proofs::ListLaws::map_more))]
+#[tactic(auto, using(list_laws::proofs::Maps::map_more))]
 pub(crate) fn pending_of(alloc: Global, seats: &[Seat]) -> Result<SizeList, Memory>
     ensures { IfOk result (λ sizes. sizes ≡ map (λ seat. machine.pending seat.rank.state) seats.now) }
 {

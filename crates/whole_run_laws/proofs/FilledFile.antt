@@ -74,7 +74,7 @@ module _ (e : Cell) (i : ℕ) (inside : i < length e.1) where
       by (inl a) (inl b) = inl (joined d cells ∙ second_counts (said_at (said_by cells) (e.0 + i)) _ a ∙ b)
       by (inl a) (inr b) = inr (joined d cells ∙ second_counts (said_at (said_by cells) (e.0 + i)) _ a ∙ b)
 
-  says_that : (cells : List Cell) → In cells e → ((d : Cell) → In cells d → IsThatOrApart e d) → said_at (said_by cells) (e.0 + i) ≡ Some (get_or e.1 i 0)
+  pub says_that : (cells : List Cell) → In cells e → ((d : Cell) → In cells d → IsThatOrApart e d) → said_at (said_by cells) (e.0 + i) ≡ Some (get_or e.1 i 0)
   says_that [] h f = absurd h
   says_that (d ∷ cells) (inr h) f =
       joined d cells ∙ first_counts (said_at (said_by cells) (e.0 + i)) _ _ (says_that cells h (λ z k. f z (inr k)))

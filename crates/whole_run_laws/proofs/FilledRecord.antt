@@ -43,7 +43,7 @@ use Rattle.rank_core.proofs.FillPostLaws.{shifted_is}
 use Rattle.whole_run_laws.specs.Completed.{completed, puts_met, unless_told}
 use Rattle.whole_run_laws.specs.Filling.{AllFill, filling, share_boxes}
 use Rattle.whole_run_laws.proofs.KeptLaws.{meeting_said}
-use Rattle.whole_run_laws.proofs.FilledFile.{IsThatOrApart, read_all, cell_of, fill_long, cells_apart, record_element, index_in, in_index, same_or_not, past_count}
+use Rattle.whole_run_laws.proofs.FilledFile.{IsThatOrApart, read_all, cell_of, fill_long, cells_apart, record_element, index_in, in_index, same_or_not, past_count, says_that}
 use Rattle.rank_core.proofs.FillLookLaws.{posts_filled}
 
 -- ---- the shares of all ranks

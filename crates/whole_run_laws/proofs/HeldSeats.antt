@@ -126,7 +126,7 @@ any_none f a (suc n) h =
 
 module _ (ranks : ℕ) (before : List Arrival) (d : Desk) (kept : Kept ranks before d) where
   -- it waits where it is held
-  waits_is : (q : ℕ) (x : Seat) → slice_get d.seats q ≡ Some x → waits ranks before q ≡ holds x
+  pub waits_is : (q : ℕ) (x : Seat) → slice_get d.seats q ≡ Some x → waits ranks before q ≡ holds x
   waits_is q x e = by x.held refl
     where
       less : (a b : ℕ) → a < b → nat_lt a b ≡ true
@@ -165,17 +165,17 @@ module _ (ranks : ℕ) (before : List Arrival) (d : Desk) (kept : Kept ranks bef
       by None f = ap (λ (m : Option Offer). cond (is_some m) (last (meeting_offers q before)) None) f ∙ sym f
       by (Some o) f = ap (λ (m : Option Offer). cond (is_some m) (last (meeting_offers q before)) None) f ∙ kept.held q x o e f ∙ sym f
 
-  numbers_any : (p : Seat → Bool) (f : ℕ → Bool) → ((q : ℕ) (x : Seat) → slice_get d.seats q ≡ Some x → p x ≡ f q) → list_any p d.seats ≡ list_any f (range_with_len 0 ranks)
+  pub numbers_any : (p : Seat → Bool) (f : ℕ → Bool) → ((q : ℕ) (x : Seat) → slice_get d.seats q ≡ Some x → p x ≡ f q) → list_any p d.seats ≡ list_any f (range_with_len 0 ranks)
   numbers_any p f h =
       any_numbers p f d.seats 0 (λ q x e. let z : q ≡ 0 + q = omega arith in h q x e ∙ ap f z) ∙ ap (λ (n : ℕ). list_any f (range_with_len 0 n)) kept.long
 
-  left_is : left_behind d.seats ≡ are_left_behind ranks before
+  pub left_is : left_behind d.seats ≡ are_left_behind ranks before
   left_is =
       let a = numbers_any desk.has_left (has_left ranks before) (λ q x e. λ i. left_by (sym (waiting_is q x e) i) (kept.ended q x e i)) in
       let b = numbers_any holds (waits ranks before) (λ q x e. sym (waits_is q x e)) in
       λ i. (a i && b i)
 
-  kinds_are : (k : Option MeetKind) → list_any (λ y. differs (kind_held y) k) d.seats ≡ list_any (λ q. differs (kind_waiting ranks before q) k) (range_with_len 0 ranks)
+  pub kinds_are : (k : Option MeetKind) → list_any (λ y. differs (kind_held y) k) d.seats ≡ list_any (λ q. differs (kind_waiting ranks before q) k) (range_with_len 0 ranks)
   kinds_are k = numbers_any (λ y. differs (kind_held y) k) (λ q. differs (kind_waiting ranks before q) k)
       (λ q x e. ap (λ (m : Option Offer). differs (option_then m (λ o. kind_of_meeting o.kind)) k) (sym (waiting_is q x e)))
 

@@ -28,7 +28,7 @@ use Rattle.join_laws.proofs.WholeLaws.{get_replicate, get_map as mapped_from}
 use Rattle.join_laws.proofs.DoneLaws.{all_holds as all_hold, holds_one as one_held}
 use Rattle.whole_run_laws.specs.Completed.{puts_met}
 use Rattle.whole_run_laws.proofs.Courses.{set_cases}
-use Rattle.whole_run_laws.proofs.HeldSeats.{one_or_none, brought_here, brought_other, brought_none, last_here, one_if, Kept, Next, nothing_reached, Free, free_set, not_all, some_holds, held_all}
+use Rattle.whole_run_laws.proofs.HeldSeats.{one_or_none, brought_here, brought_other, brought_none, last_here, one_if, Kept, Next, nothing_reached, Free, free_set, not_all, some_holds, held_all, kinds_are, left_is, numbers_any, waits_is}
 use Rattle.whole_run_laws.specs.Strangers.{are_left_behind, end_of_item, ends, first_stranger, first_stranger_from, is_strange_after, last, meeting_offer, meeting_offers, puts_brought, puts_complete, waits}
 use Rattle.list_laws.proofs.Maps.{entry_map}
 

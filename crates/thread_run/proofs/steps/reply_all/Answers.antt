@@ -4,10 +4,10 @@ use Rattle.std.proofs.lemmas.List.{length-set}
 use Rattle.nc_base.specs.declared.step.OwnerItem.TheVariants.{Reply}
 use Rattle.thread_run.specs.Owned.{replies}
 use Rattle.turn_run.specs.Seated.{reply_of}
-use Rattle.turn_run.proofs.MeetLists.{left_more}
 use Rattle.thread_run.proofs.PutLaws.{all_below, put_below}
 use Rattle.thread_run.proofs.steps.reply_all.Goals as goal
 use Rattle.std.proofs.lemmas.Option.{slice_get-get_or}
+use Rattle.list_laws.proofs.Places.{left_more}
 
 pub loop-number-preserved : goal.loop-number-preserved
 loop-number-preserved g c =

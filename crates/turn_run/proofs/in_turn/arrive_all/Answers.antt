@@ -14,11 +14,11 @@ use Rattle.turn_run.specs.Cuts.{IsNext, MayFollow}
 use Rattle.turn_run.specs.Stages.{arrived_all, stage}
 use Rattle.turn_run.proofs.CutLaws.{stopped_at, stopped_then, stopped_as, follows_next, same_err}
 use Rattle.turn_run.proofs.TurnSteps.{calls_there, get_arrived}
-use Rattle.turn_run.proofs.MeetLists.{left_more}
 use Rattle.turn_run.proofs.SaidLaws.{answers_cut, grown_beside}
 use Rattle.turn_run.proofs.TellLaws.{told_at, told_none, told_then}
 use Rattle.turn_run.proofs.in_turn.arrive_all.Goals as goal
 use Rattle.std.proofs.lemmas.Option.{slice_get_within}
+use Rattle.list_laws.proofs.Places.{left_more}
 
 pub loop-number-init : goal.loop-number-init
 loop-number-init g c = record {

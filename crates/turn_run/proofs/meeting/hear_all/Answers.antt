@@ -5,10 +5,10 @@ use Rattle.std.proofs.lemmas.Option.{same_Some, slice_get_within, slice_get-get_
 use Rattle.serial_spec.specs.RankSide.{wanted}
 use Rattle.turn_run.specs.Seated.{reply_of, IsAnswered}
 use Rattle.turn_run.proofs.MeetHear.{answered_by}
-use Rattle.turn_run.proofs.MeetLists.{each_more, left_more}
 use Rattle.turn_run.proofs.SaidMeet.{heard_part}
 use Rattle.turn_run.proofs.meeting.hear_all.Goals as goal
 use Rattle.list_laws.proofs.Results.{on_err}
+use Rattle.list_laws.proofs.Places.{left_more, each_more}
 
 pub hear-requires-clause-waits : goal.hear-requires-clause-waits
 hear-requires-clause-waits c =

@@ -2,10 +2,10 @@
 use Rattle.std.proofs.Common.{◌<◌, sym, ◌∙◌, length, get_or, arith}
 use Rattle.turn_run.specs.Seated.{IsFreed}
 use Rattle.turn_run.proofs.MeetJob.{batches_next, known_next}
-use Rattle.turn_run.proofs.MeetLists.{each_more, left_more}
 use Rattle.turn_run.proofs.SaidMeet.{keep_freed, keep_part}
 use Rattle.turn_run.proofs.meeting.take_job.Goals as goal
 use Rattle.std.proofs.lemmas.Option.{slice_get_within, slice_get-get_or}
+use Rattle.list_laws.proofs.Places.{left_more, each_more}
 
 pub loop-seat-preserved : goal.loop-seat-preserved
 loop-seat-preserved c =
