@@ -1,5 +1,5 @@
 -- The first hint with a word has the place of the first row with it.
-use Rattle.std.proofs.Common.{◌≡◌, ◌⊎◌, ◌∙◌, ℕ, suc, ◌+◌, ◌≤◌, ◌<◌, List, [], ◌∷◌, length, find, Bool, true, false, not, cond, nat_lt, Option, Some, None, option_map, bytes_eq, refl, sym, ap, ⊎_elim, arith}
+use Rattle.std.proofs.Common.{◌≡◌, ◌∙◌, ℕ, suc, ◌+◌, ◌≤◌, ◌<◌, List, [], ◌∷◌, length, find, Bool, true, false, not, cond, nat_lt, Option, Some, None, option_map, bytes_eq, refl, sym, ap, ⊎_elim, arith}
 use Rattle.std.specs.List.{position_or_len}
 use Rattle.std.proofs.lemmas.Bool.{cases_lt, cond-true, cond-false}
 use borrow.Author.Tests.{lt-ltb, le-ltb}
