@@ -1,5 +1,5 @@
 -- The first hint with a word has the place of the first row with it.
-use Rattle.std.proofs.Common.{◌≡◌, ◌⊎◌, ◌∙◌, ℕ, suc, ◌+◌, ◌≤◌, ◌<◌, List, [], ◌∷◌, length, find, Bool, true, false, not, cond, nat_lt, Option, Some, None, option_map, bytes_eq, refl, sym, ap, ⊎_elim, arith}
+use Rattle.std.proofs.Common.{◌≡◌, ◌∙◌, ℕ, suc, ◌+◌, ◌≤◌, ◌<◌, List, [], ◌∷◌, length, find, Bool, true, false, not, cond, nat_lt, Option, Some, None, option_map, bytes_eq, refl, sym, ap, ⊎_elim, arith}
 use Rattle.std.specs.List.{position_or_len}
 use Rattle.std.proofs.lemmas.Bool.{cases_lt, cond-true, cond-false}
 use borrow.Author.Tests.{lt-ltb, le-ltb}
@@ -35,7 +35,7 @@ found_from p k (name ∷ names) h = by (p name) (position_or_len p names) (lengt
 from_zero : (m n : ℕ) → place 0 m n ≡ cond (nat_lt m n) (Some m) None
 from_zero m n = let same : 0 + m ≡ m = omega arith in ap (λ (i : ℕ). cond (nat_lt m n) (Some i) None) same
 
-pub place_found : (w : List ℕ) → option_map hint_place (first_with w) ≡ hint_of_text w
+pub place_found : (w : List ℕ) → option_map hint_place (first_with HINTS w) ≡ hint_of_text w
 place_found w =
     found_from (λ name. bytes_eq w (row_of name).word) 0 HINTS (refl, (refl, (refl, (refl, (refl, (refl, (refl, (refl, (refl, (refl, tt))))))))))
     ∙ from_zero (position_or_len (λ name. bytes_eq w (row_of name).word) HINTS) 10

@@ -1,9 +1,9 @@
 -- The hints by name: the place and the row of each in the table.
 use Rattle.std.specs.Prelude.{ℕ, ◌<◌, List, Option, find, bytes_eq}
-use Rattle.script_spec.specs.HintTable.{HintForm, Within, Either, HintRow, hint_row}
+use Rattle.nc_base.specs.declared.script.Hints.{Hints}
+use Rattle.script_spec.specs.HintTable.{HintForm, Within, Either, HintRow, hint_row, hint_or}
 use Rattle.hint_table.specs.declared.HintForm as code_form
 use Rattle.hint_table.specs.declared.HintForm.TheVariants as form
-use Rattle.hint_table.specs.declared.TheConstants.{HINTS}
 use Rattle.hint_table.specs.declared.HintName.{HintName}
 use Rattle.hint_table.specs.declared.HintName.TheVariants as hint
 
@@ -22,9 +22,13 @@ hint_place hint.StripingUnit = 9
 abbrev pub row_of : HintName → HintRow
 row_of name = hint_row (hint_place name)
 
--- the first hint with this word
-abbrev pub first_with : List ℕ → Option HintName
-first_with w = find (λ name. bytes_eq w (row_of name).word) HINTS
+-- the first of the hints with this word
+abbrev pub first_with : List HintName → List ℕ → Option HintName
+first_with names w = find (λ name. bytes_eq w (row_of name).word) names
+
+-- the hint as it is given, or its default
+abbrev pub with_hint : ℕ → List (Option ℕ) → Hints → HintName → Hints
+with_hint ranks given hints name = (row_of name).set (hint_or given (hint_place name) ((row_of name).default ranks)) hints
 
 abbrev pub form_of : code_form.HintForm → HintForm
 form_of (form.Within low high unit) = Within low high unit

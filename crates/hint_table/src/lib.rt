@@ -1,9 +1,9 @@
 //! The hints of a script: the word, the form, the default and the field of each.
 #![tactic(auto)]
 
-ghost use Rattle.std.specs.Prelude.{◌≡◌, ◌<◌, length, option_map};
+ghost use Rattle.std.specs.Prelude.{◌≡◌, ◌<◌, fold, length, option_map};
 ghost use Rattle.script_spec.specs.HintTable.{hint_of_text, hint_or, hints_of, rule_number, rule_of, Within, Either};
-ghost use Rattle.hint_table.specs.HintNames.{first_with, form_of, hint_place, row_of, HasUnit};
+ghost use Rattle.hint_table.specs.HintNames.{first_with, form_of, hint_place, row_of, with_hint, HasUnit};
 
 use nc_base::{Hints, OverlapRule};
 
@@ -75,7 +75,7 @@ impl HintName {
     pub fn of_word(word: &[u8]) -> Option<HintName>
         ensures { option_map hint_place result ≡ hint_of_text word.now }
     {
-        first_with(word)
+        first_with(&HINTS, word)
     }
 
     /// The place in the table.
@@ -174,10 +174,10 @@ impl HintName {
     }
 }
 
-fn first_with(word: &[u8]) -> Option<HintName>
-    ensures { result ≡ first_with word.now }
+fn first_with(names: &[HintName], word: &[u8]) -> Option<HintName>
+    ensures { result ≡ first_with names.now word.now }
 {
-    HINTS.into_iter().find(|name| word == name.word())
+    names.iter().copied().find(|name| word == name.word())
 }
 
 /// The hints of a script of so many ranks: the values that it gives, each at its place in the table, and the defaults of
@@ -187,10 +187,17 @@ pub fn hints_of(ranks: u32, given: &[Option<u32>]) -> Hints
     ensures { result ≡ hints_of ranks given.now }
 {
     let mut hints = NO_HINTS;
-    for name in HINTS {
-        name.set(value_or_default(name, ranks, given), &mut hints);
-    }
+    set_each(&HINTS, ranks, given, &mut hints);
     hints
+}
+
+fn set_each(names: &[HintName], ranks: u32, given: &[Option<u32>], hints: &mut Hints)
+    requires { length given.now ≡ 10 }
+    ensures { hints.new ≡ fold (with_hint ranks given.now) hints.old names.now }
+{
+    for name in names {
+        name.set(value_or_default(*name, ranks, given), hints);
+    }
 }
 
 fn value_or_default(name: HintName, ranks: u32, given: &[Option<u32>]) -> u32

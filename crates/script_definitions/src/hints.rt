@@ -4,7 +4,7 @@ ghost use Rattle.nc_base.specs.declared.errors.ScriptKind.TheVariants as kind;
 ghost use Rattle.script_spec.specs.ScriptSteps.{reads_as};
 ghost use Rattle.script_spec.specs.HintTable.{hint_of_text, hint_form, hint_in, hints_of, none_given};
 ghost use Rattle.script_spec.specs.ScriptDefinitions.{hint_value, hint_line, one_of_two};
-ghost use Rattle.hint_table.specs.HintNames.{hint_place};
+ghost use Rattle.hint_table.specs.HintNames.{form_of, hint_place, HasUnit};
 ghost use Rattle.script_words.specs.Reading.{Gives};
 
 use hint_table::{HintForm, HintName, hints_of};
@@ -42,7 +42,14 @@ fn one_of_two(zero: &[u8], one: &[u8], words: &mut Words<'_>) -> Result<u32, Rea
 fn hint_value(name: HintName, words: &mut Words<'_>) -> Result<u32, ReadErr>
     ensures { Gives (λ v. (v, words.new)) result (hint_value (hint_form (hint_place name)) words.old) }
 {
-    match name.form() {
+    value_of_form(name.form(), words)
+}
+
+fn value_of_form(form: HintForm, words: &mut Words<'_>) -> Result<u32, ReadErr>
+    requires { HasUnit form }
+    ensures { Gives (λ v. (v, words.new)) result (hint_value (form_of form) words.old) }
+{
+    match form {
         HintForm::Within { low, high, unit } => size_within(low, high, unit, words),
         HintForm::Either { zero, one } => one_of_two(zero, one, words),
     }
