@@ -13,7 +13,7 @@ use Rattle.serial_spec.specs.Layout.{slab, vsize, is_record, recsize, record_siz
 use Rattle.var_layout.specs.Begins.{HasPlace}
 use Rattle.var_layout.proofs.Soundness.{recsize_shared}
 use Rattle.var_layout.proofs.CreatedFiles.{in_place}
-use Rattle.var_layout.proofs.LaidPlaces.{Lies, lies_at, fixed_grows, all_records, records_before, records_grow, fixed_at, record_at, first_low, header_low}
+use Rattle.var_layout.proofs.LaidPlaces.{Lies, lies_at, fixed_grows, all_records, records_grow, fixed_at, record_at, first_low, header_low}
 
 -- ---- no two variables share a byte
 
