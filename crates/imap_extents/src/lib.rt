@@ -6,6 +6,7 @@
 #![tactic(auto)]
 
 mod blocks;
+mod decoding;
 mod packing;
 mod positions;
 mod runs;
