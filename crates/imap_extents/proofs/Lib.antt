@@ -1,3 +1,6 @@
+pub mod BlockLaws
+pub mod CodeLaws
+pub mod EndLaws
 pub mod FrontLaws
 pub mod OrderLaws
 pub mod PlacingLaws

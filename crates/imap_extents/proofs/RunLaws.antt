@@ -126,17 +126,6 @@ part_hit {R} at size test rs i count left here d h rest part hit =
     ∙ ap (λ (l : List Value). list_any test l) (first_of_both next later count)
     ∙ hit_front test (take count next) (take (count - length next) later) there
 
-pub step_forms : (f : Value → List ℕ) (at : ℕ → Value) (old now new : List ℕ) (k : ℕ) → now ≡ old ++ flat_map f (map at (range_with_len 0 k)) → new ≡ now ++ f (at k)
-    → new ≡ old ++ flat_map f (map at (range_with_len 0 (k + 1)))
-step_forms f at old now new k before added =
-    let front = map at (range_with_len 0 k) in
-    added
-    ∙ ap (λ (l : List ℕ). l ++ f (at k)) before
-    ∙ append_assoc old (flat_map f front) (f (at k))
-    ∙ ap (λ (l : List ℕ). old ++ (flat_map f front ++ l)) (sym (append-nil (f (at k))))
-    ∙ ap (λ (l : List ℕ). old ++ l) (sym (flat_map-append f front (at k ∷ [])))
-    ∙ ap (λ (l : List Value). old ++ flat_map f l) (sym (map-range_with_len_more at 0 k k (omega arith)))
-
 or_none : (b : Bool) → (b || false) ≡ b
 or_none true = refl
 or_none false = refl

@@ -5,8 +5,11 @@
 //! later one stands there after a read; that is our choice.
 #![tactic(auto)]
 
+mod blocks;
+mod decoding;
 mod packing;
 mod positions;
+mod runs;
 mod unpacking;
 mod words;
 

@@ -9,6 +9,7 @@ ghost use Rattle.serial_spec.specs.Request.{cells, number_in, spread};
 ghost use Rattle.imap_extents.specs.Mapped.{IsMapped};
 ghost use Rattle.imap_extents.specs.Found.{value_of_last, char_in, bits_in, in_order};
 
+use crate::decoding::{narrow_numbers, narrow_patterns, wide_numbers, wide_patterns};
 use crate::positions::positions_of;
 use nc_base::{BitList, Blob, Memory, NcType, NumberList, Region, Value, Values};
 use std::alloc::Global;
@@ -40,15 +41,15 @@ fn unpack_front(alloc: Global, kind: NcType, bytes: &[u8]) -> Result<Values, Mem
 {
     match kind {
         NcType::Char => Ok(Values::Text(Blob::from_vec(decode_text(alloc, bytes)?))),
-        NcType::Float => Ok(Values::Bits(decode_patterns::<4>(alloc, NcType::Float, bytes)?)),
-        NcType::Double => Ok(Values::Bits(decode_patterns::<8>(alloc, NcType::Double, bytes)?)),
-        NcType::Byte => Ok(Values::Numbers(decode_numbers::<1>(alloc, NcType::Byte, bytes)?)),
-        NcType::UByte => Ok(Values::Numbers(decode_numbers::<1>(alloc, NcType::UByte, bytes)?)),
-        NcType::Short => Ok(Values::Numbers(decode_numbers::<2>(alloc, NcType::Short, bytes)?)),
-        NcType::UShort => Ok(Values::Numbers(decode_numbers::<2>(alloc, NcType::UShort, bytes)?)),
-        NcType::Int => Ok(Values::Numbers(decode_numbers::<4>(alloc, NcType::Int, bytes)?)),
-        NcType::UInt => Ok(Values::Numbers(decode_numbers::<4>(alloc, NcType::UInt, bytes)?)),
-        NcType::Int64 => Ok(Values::Numbers(decode_numbers::<8>(alloc, NcType::Int64, bytes)?)),
+        NcType::Float => Ok(Values::Bits(narrow_patterns(alloc, bytes)?)),
+        NcType::Double => Ok(Values::Bits(wide_patterns(alloc, bytes)?)),
+        NcType::Byte => Ok(Values::Numbers(narrow_numbers::<i8, 1>(alloc, bytes)?)),
+        NcType::UByte => Ok(Values::Numbers(narrow_numbers::<u8, 1>(alloc, bytes)?)),
+        NcType::Short => Ok(Values::Numbers(narrow_numbers::<i16, 2>(alloc, bytes)?)),
+        NcType::UShort => Ok(Values::Numbers(narrow_numbers::<u16, 2>(alloc, bytes)?)),
+        NcType::Int => Ok(Values::Numbers(narrow_numbers::<i32, 4>(alloc, bytes)?)),
+        NcType::UInt => Ok(Values::Numbers(wide_numbers::<u32, 4>(alloc, bytes)?)),
+        NcType::Int64 => Ok(Values::Numbers(wide_numbers::<i64, 8>(alloc, bytes)?)),
         NcType::UInt64 => Ok(Values::Numbers(decode_numbers::<8>(alloc, NcType::UInt64, bytes)?)),
     }
 }
@@ -78,35 +79,6 @@ fn number_of(value: Value) -> i128
 {
     match value {
         Value::Number(number) => number,
-        _ => 0,
-    }
-}
-
-/// The bit patterns of bytes, `N` for each.
-#[inline(always)]
-fn decode_patterns<const N: usize>(
-    alloc: Global,
-    kind: NcType,
-    bytes: &[u8],
-) -> Result<BitList, Memory>
-    requires some { 0 < N }
-    requires size { N ≡ external.size_of kind }
-    ensures { IfOk result (λ all. all ≡ map (λ b. bits_in (Some (external.val kind b))) (first_chunks N (length bytes.now / N) bytes.now)) }
-{
-    let (forms, _) = bytes.as_chunks::<N>();
-    let mut patterns = BitList::with_capacity(alloc, forms.len())?;
-    for form in forms {
-        patterns.push(bits_of(decode_one(kind, form)))?;
-    }
-    Ok(patterns)
-}
-
-#[inline(always)]
-fn bits_of(value: Value) -> u64
-    ensures { result ≡ bits_in (Some value) }
-{
-    match value {
-        Value::Bits(pattern) => pattern,
         _ => 0,
     }
 }

@@ -9,7 +9,8 @@ ghost use Rattle.serial_spec.specs.ExternalForm.{ext, fits};
 ghost use Rattle.imap_extents.specs.Refusals.{IsRangeRefusal};
 
 use crate::packing::push_external;
-use nc_base::{BitRun, BitWords, CallErr, NcType, NumberRun, NumberWords, Value};
+use crate::runs::push_runs;
+use nc_base::{BitWords, CallErr, NcType, NumberWords, Value};
 
 /// A word of memory that holds a value.
 pub(crate) trait Word: Copy {
@@ -73,51 +74,6 @@ impl Word for u64 {
     }
 }
 
-/// Values of equal steps.
-pub(crate) trait Run: Copy {
-    ghost told_at: { Self → ℕ → Told };
-
-    ghost size: { Self → ℕ };
-
-    fn value_at(self, k: u32) -> Value
-        ensures { result ≡ told_at self k };
-
-    fn count(self) -> u32
-        ensures { result ≡ size self };
-}
-
-impl Run for NumberRun {
-    ghost told_at = { λ r k. value.Number (r.first +ℤ (r.step *ℤ pos k)) };
-
-    ghost size = { λ r. r.count };
-
-    #[inline(always)]
-    fn value_at(self, k: u32) -> Value {
-        Value::Number(self.at(k))
-    }
-
-    #[inline(always)]
-    fn count(self) -> u32 {
-        self.count
-    }
-}
-
-impl Run for BitRun {
-    ghost told_at = { λ r k. value.Bits ((r.first + r.step * k) % 2 ^ 64) };
-
-    ghost size = { λ r. r.count };
-
-    #[inline(always)]
-    fn value_at(self, k: u32) -> Value {
-        Value::Bits(self.at(k))
-    }
-
-    #[inline(always)]
-    fn count(self) -> u32 {
-        self.count
-    }
-}
-
 /// Adds the first `count` numbers in external form.
 #[inline(always)]
 pub(crate) fn push_numbers(
@@ -172,51 +128,6 @@ pub(crate) fn push_words<W: Word>(
 {
     for word in words {
         push_external(kind, word.value(), bytes)?;
-    }
-    Ok(())
-}
-
-/// Adds the first `count` values of runs in external form.
-#[inline(always)]
-fn push_runs<R: Run>(
-    kind: NcType,
-    runs: &[R],
-    count: usize,
-    bytes: &mut Vec<u8>,
-) -> Result<(), CallErr>
-    ensures ok { OnOk result (bytes.new.items ≡ bytes.old.items ++ flat_map (λ v. ext kind v) (take count (flat_map (λ r. map (R.told_at r) (range_with_len 0 (R.size r))) runs.now))) }
-    ensures right { OnOk result (list_any (λ v. not (fits kind v)) (take count (flat_map (λ r. map (R.told_at r) (range_with_len 0 (R.size r))) runs.now)) ≡ false) }
-    ensures refused { IfErr result (IsRangeRefusal (list_any (λ v. not (fits kind v)) (take count (flat_map (λ r. map (R.told_at r) (range_with_len 0 (R.size r))) runs.now)))) }
-{
-    let mut left = count;
-    for run in runs {
-        let here = lesser(run.count(), left);
-        push_run(kind, *run, here, bytes)?;
-        left -= here as usize;
-    }
-    Ok(())
-}
-
-#[inline(always)]
-fn lesser(count: u32, left: usize) -> u32
-    ensures { result ≡ min count left }
-{
-    if left < count as usize {
-        left as u32
-    } else {
-        count
-    }
-}
-
-/// Adds the first `count` values of a run in external form.
-#[inline(always)]
-fn push_run<R: Run>(kind: NcType, run: R, count: u32, bytes: &mut Vec<u8>) -> Result<(), CallErr>
-    ensures ok { OnOk result (bytes.new.items ≡ bytes.old.items ++ flat_map (λ v. ext kind v) (map (R.told_at run) (range_with_len 0 count))) }
-    ensures right { OnOk result (list_any (λ v. not (fits kind v)) (map (R.told_at run) (range_with_len 0 count)) ≡ false) }
-    ensures refused { IfErr result (IsRangeRefusal (list_any (λ v. not (fits kind v)) (map (R.told_at run) (range_with_len 0 count)))) }
-{
-    for k in 0..count {
-        push_external(kind, run.value_at(k), bytes)?;
     }
     Ok(())
 }

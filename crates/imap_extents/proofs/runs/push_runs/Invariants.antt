@@ -3,7 +3,7 @@ use Rattle.std.specs.Prelude.{flat_map}
 use Rattle.std.specs.List.{list_any}
 use Rattle.serial_spec.specs.ExternalForm.{ext, fits}
 use Rattle.imap_extents.proofs.RunLaws.{told}
-use Rattle.imap_extents.proofs.words.push_runs.Given as goal
+use Rattle.imap_extents.proofs.runs.push_runs.Given as goal
 
 abbrev pub invariant-loop-run : goal.invariant-loop-run
 invariant-loop-run g l = record {

@@ -6,7 +6,7 @@ use Rattle.nc_base.specs.declared.request.Value.{Value}
 use Rattle.serial_spec.specs.ExternalForm.{ext, fits}
 use Rattle.imap_extents.proofs.RefusalLaws.{part_refused}
 use Rattle.imap_extents.proofs.RunLaws.{forms_more, fits_more, rest_more, part_hit, none_first}
-use Rattle.imap_extents.proofs.words.push_runs.Goals as goal
+use Rattle.imap_extents.proofs.runs.push_runs.Goals as goal
 
 pub loop-run-init : goal.loop-run-init
 loop-run-init g c =

@@ -1,0 +1,7 @@
+use Rattle.std.proofs.Common.{◌≡◌, map, take}
+use Rattle.std.specs.Int.{to_be_bytes}
+use Rattle.std.specs.List.{range_with_len}
+use Rattle.imap_extents.proofs.blocks.write_forms.Given as goal
+
+abbrev pub invariant-loop-i : goal.invariant-loop-i
+invariant-loop-i g l = take l.i l.forms ≡ map (λ k. to_be_bytes g.F.Form.width (g.C.Codes.code_at l.codes k)) (range_with_len l.start l.i)

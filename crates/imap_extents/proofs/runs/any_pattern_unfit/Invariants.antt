@@ -1,0 +1,9 @@
+use Rattle.std.proofs.Common.{◌≡◌, ◌+◌, ◌*◌, ◌^◌, false, not, map}
+use Rattle.std.specs.Prelude.{◌%◌}
+use Rattle.std.specs.List.{list_any, range_with_len}
+use Rattle.nc_base.specs.declared.request.Value.TheVariants as value
+use Rattle.serial_spec.specs.ExternalForm.{fits}
+use Rattle.imap_extents.proofs.runs.any_pattern_unfit.Given as goal
+
+abbrev pub invariant-loop-k : goal.invariant-loop-k
+invariant-loop-k l = list_any (λ v. not (fits l.kind v)) (map (λ k. value.Bits ((l.run.first + l.run.step * k) % 2 ^ 64)) (range_with_len 0 l.k)) ≡ false
