@@ -22,7 +22,7 @@ use Rattle.script_spec.specs.Texts.{line}
 use Rattle.script_spec.specs.Shown.{shown, shown_hints, shown_extra, shown_dim, shown_var, shown_attr, shown_call}
 use Rattle.script_spec.specs.ScriptWords.{Word, Plain, Line, is_word, size_of_text, text_lines, significant}
 use Rattle.script_spec.specs.ScriptSteps.{◌>>=◌, reads_as, whole}
-use Rattle.script_spec.specs.HintTable.{Within}
+use Rattle.script_spec.specs.HintTable.{Within, hints_of}
 use Rattle.script_spec.specs.ScriptDefinitions.{Defined, no_definition, Added, nothing_added, Known, nothing_known, ranks_line}
 use Rattle.script_spec.specs.ScriptCalls.{Called, mismatch}
 use Rattle.script_spec.specs.ScriptGrammar.{at_line, version_of_text, version_line, head, definitions, data_part, finish, header_of, script_of, no_calls, script_of_lines, most_bytes, most_lines, newlines, too_many_lines, within_lines, script_of_utf8, Reads, is_mismatch}
