@@ -1,5 +1,5 @@
 -- The number of ranks and the hints, and what is known before `data` as a whole.
-use Rattle.std.proofs.Common.{◌≡◌, ◌∙◌, ℕ, ◌+◌, ◌%◌, ◌^◌, ◌≤◌, ◌<◌, min, List, [], ◌∷◌, ◌++◌, map, flat_map, Bool, true, false, cond, nat_le, ◌==◌, ◌&&◌, Option, Some, None, is_some, slice_set, Result, Ok, Err, refl, ap, subst, arith, bytes_eq, codes, decimal}
+use Rattle.std.proofs.Common.{◌≡◌, ◌∙◌, ℕ, ◌+◌, ◌%◌, ◌^◌, ◌≤◌, ◌<◌, min, List, [], ◌∷◌, ◌++◌, map, flat_map, Bool, true, false, nat_le, ◌==◌, ◌&&◌, Option, Some, None, is_some, slice_set, Result, Ok, Err, refl, ap, subst, arith, bytes_eq, codes, decimal}
 use Rattle.std.specs.List.{list_all}
 use Rattle.std.proofs.lemmas.Bool.{and_parts, and_from}
 use borrow.Author.Tests.{leb-true, le-leb, eq-eqb}
