@@ -1,6 +1,6 @@
 use Rattle.std.proofs.Common.{◌≡◌, ◌≤◌, ◌+◌, ◌^◌, [], length}
 use Rattle.script_spec.specs.ScriptValues.{each_value, pattern_for}
-use Rattle.script_values.proofs.values.patterns.Given as goal
+use Rattle.script_values.proofs.values.bits_values.Given as goal
 
 abbrev pub invariant-loop-found : goal.invariant-loop-found
 invariant-loop-found l = record {

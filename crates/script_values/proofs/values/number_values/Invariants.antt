@@ -1,6 +1,6 @@
 use Rattle.std.proofs.Common.{◌≡◌, ◌≤◌, ◌+◌, ◌^◌, [], length}
 use Rattle.script_spec.specs.ScriptValues.{each_value, number_for}
-use Rattle.script_values.proofs.values.numbers.Given as goal
+use Rattle.script_values.proofs.values.number_values.Given as goal
 
 abbrev pub invariant-loop-found : goal.invariant-loop-found
 invariant-loop-found l = record {
