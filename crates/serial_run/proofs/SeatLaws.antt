@@ -48,9 +48,6 @@ pub no_call : (calls : List Call) → length calls < 1 → calls ≡ []
 no_call [] l = refl
 no_call (c ∷ calls) l = absurd (omega arith)
 
-pub comes_first : (header : Header) (s : Going) → MayGoOn s → Comes header s s
-comes_first header s ready = record { known = refl; ready = ready; kept = λ script order r way. way; advanced = refl }
-
 pub comes_answered : (header same : Header) (s t : Going) (next : machine.Rank) (w : Want) (a : Answer) (more : List Answer) (c : Call) (calls : List Call) → Comes header s t
     → t.calls ≡ c ∷ calls → same ≡ header → (next, w) ≡ machine.step same t.rank c → w ≡ want.Answered a → KeepsFew t.rank next c → more ≡ t.answers ++ a ∷ []
     → Comes header s (record { rank = next; answers = more; calls = calls })
