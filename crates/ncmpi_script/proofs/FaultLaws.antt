@@ -1,5 +1,5 @@
 -- A fault of a line keeps what is wrong.
-use Rattle.std.proofs.Common.{◌≡◌, ℕ, Result, Err, refl, ap}
+use Rattle.std.proofs.Common.{ℕ, Result, ap}
 use Rattle.nc_base.specs.declared.errors.ScriptKind.{ScriptKind}
 use Rattle.script_words.specs.declared.fault.ReadErr.{ReadErr}
 use Rattle.script_words.specs.declared.fault.ReadErr.TheVariants as errors

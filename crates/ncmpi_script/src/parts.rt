@@ -33,7 +33,7 @@ fn head(first: &Token<'_>, words: &mut Words<'_>) -> Result<u8, ReadErr>
     Err(ReadErr::Fault(ScriptKind::NoHead))
 }
 
-/// The same, and where it is on this line.
+/// What is wrong with a line, told with its number.
 fn on_line(number: u32, fault: ReadErr) -> LineErr
     ensures { result ≡ on_line number fault }
 {

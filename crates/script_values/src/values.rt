@@ -32,6 +32,34 @@ fn bits_for(kind: Option<NcType>, word: &[u8]) -> Option<u64>
     }
 }
 
+/// One number, after `n` values of its line.
+fn one_number(kind: Option<NcType>, before: u64, n: u64, word: Token<'_>) -> Result<i128, ReadErr>
+    requires { n ≤ 2 ^ 24 }
+    ensures read { Gives (λ x. x) result (one_value (number_for kind) kind before n (word_of word.entry)) }
+    ensures bound { OnOk result (before + n < 2 ^ 24) }
+{
+    let word = bare(word)?;
+    let Some(number) = number_for(kind, word) else {
+        return Err(ReadErr::Fault(ScriptKind::BadNumber));
+    };
+    within_limits(kind, before, n + 1)?;
+    Ok(number)
+}
+
+/// One pattern of bits, after `n` values of its line.
+fn one_pattern(kind: Option<NcType>, before: u64, n: u64, word: Token<'_>) -> Result<u64, ReadErr>
+    requires { n ≤ 2 ^ 24 }
+    ensures read { Gives (λ x. x) result (one_value (pattern_for kind) kind before n (word_of word.entry)) }
+    ensures bound { OnOk result (before + n < 2 ^ 24) }
+{
+    let word = bare(word)?;
+    let Some(pattern) = bits_for(kind, word) else {
+        return Err(ReadErr::Fault(ScriptKind::BadNumber));
+    };
+    within_limits(kind, before, n + 1)?;
+    Ok(pattern)
+}
+
 fn text_values(
     kind: Option<NcType>,
     before: u64,
@@ -62,10 +90,7 @@ fn number_values(
 {
     let mut found = NumberList::new(alloc);
     while let Some(word) = words.take()? {
-        let Some(number) = number_for(kind, bare(word)?) else {
-            return Err(ReadErr::Fault(ScriptKind::BadNumber));
-        };
-        within_limits(kind, before, found.len() as u64 + 1)?;
+        let number = one_number(kind, before, found.len() as u64, word)?;
         found.push(number)?;
     }
     Ok(Values::Numbers(found))
@@ -84,10 +109,7 @@ fn bits_values(
 {
     let mut found = BitList::new(alloc);
     while let Some(word) = words.take()? {
-        let Some(pattern) = bits_for(kind, bare(word)?) else {
-            return Err(ReadErr::Fault(ScriptKind::BadNumber));
-        };
-        within_limits(kind, before, found.len() as u64 + 1)?;
+        let pattern = one_pattern(kind, before, found.len() as u64, word)?;
         found.push(pattern)?;
     }
     Ok(Values::Bits(found))
