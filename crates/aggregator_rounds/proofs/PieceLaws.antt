@@ -1,8 +1,6 @@
 -- Pieces laid over a buffer one by one.
-use Rattle.std.proofs.Common.{◌≡◌, ℕ, zero, suc, ◌+◌, ◌<◌, ◌≤◌, refl, sym, ◌∙◌, ap, List, [], ◌∷◌, length, take, drop, get_or, arith}
-use Rattle.overlay_laws.proofs.OriginLaws.{slice_step}
+use Rattle.std.proofs.Common.{ℕ, zero, suc, ◌+◌, ◌<◌, ◌≤◌, List, [], ◌∷◌, length, get_or, arith}
 use Rattle.nc_base.specs.declared.plan.Piece.{Piece}
-use Rattle.serial_spec.specs.File.{at, read}
 use Rattle.serial_spec.specs.Said.{IsFrom, IsWithin}
 use Rattle.aggregator_rounds.specs.Pieces.{cells_of_pieces}
 
@@ -16,9 +14,3 @@ pub within_at : (n : ℕ) (ps : List Piece) (k : ℕ) (d : Piece) → k < length
 within_at n [] k d h g = absurd (omega arith)
 within_at n (p ∷ ps) zero d h g = g.0
 within_at n (p ∷ ps) (suc k) d h g = within_at n ps k d (omega arith) g.1
-
--- bytes read within a file, as a slice of it
-pub read_slice : (file : List ℕ) (x n : ℕ) → x + n ≤ length file → read file x n ≡ take n (drop x file)
-read_slice file x zero h = refl
-read_slice file x (suc n) h =
-    ap (λ r. at file x ∷ r) (read_slice file (x + 1) n (omega arith)) ∙ sym (slice_step file x n (omega arith))

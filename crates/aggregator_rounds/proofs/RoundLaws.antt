@@ -1,6 +1,6 @@
 -- What a window leaves on a disk that may tell its bytes and its calls.
-use Rattle.std.proofs.Common.{◌≡◌, ℕ, ◌+◌, ◌-◌, ◌<◌, ◌≤◌, inl, inr, refl, sym, ◌∙◌, ap, subst, List, [], ◌∷◌, length, take, drop, Bool, true, false, Option, Some, None, Result, Ok, Err, arith}
-use Rattle.std.specs.Prelude.{IfSome, OnErr, if◌then◌else◌}
+use Rattle.std.proofs.Common.{◌≡◌, ℕ, ◌+◌, ◌-◌, ◌<◌, ◌≤◌, inl, inr, refl, sym, ◌∙◌, ap, subst, List, [], ◌∷◌, length, take, drop, Bool, true, false, Option, Some, None, arith}
+use Rattle.std.specs.Prelude.{IfSome, if◌then◌else◌}
 use Rattle.list_laws.proofs.Optional.{no_none_some}
 use Rattle.nc_base.specs.declared.step.DiskCall.{DiskCall}
 use Rattle.serial_spec.specs.File.{at, read, written}
@@ -10,14 +10,9 @@ use Rattle.overlay_laws.specs.Windows.{HasPlace}
 use Rattle.overlay_laws.specs.Changes.{IsBetween, IsBegun, load_calls, store_calls}
 use Rattle.overlay_laws.proofs.SaidLaws.{cells_long}
 use Rattle.overlay_laws.proofs.WindowLaws.{moved_said, within_lowered}
-use Rattle.overlay_laws.proofs.ReadLaws.{kept_read, window_answer}
+use Rattle.overlay_laws.proofs.ReadLaws.{kept_read, window_answer, read_slice}
 use Rattle.nc_outside.specs.Told.{after, with_end, BothTold}
 use Rattle.nc_outside.specs.DiskState.{PartlyWritten}
-use Rattle.aggregator_rounds.proofs.PieceLaws.{read_slice}
-
-pub on_err : {T E P : Type 0} (r : Result T E) → P → OnErr r P
-on_err (Ok x) p = tt
-on_err (Err e) p = p
 
 pub got_read : (held : Option (List ℕ)) (buf : List ℕ) (x m n size : ℕ) → IfSome held (λ b. length b ≡ size) → m ≡ n → x + n ≤ size
     → IfSome held (λ file. buf ≡ take m (drop x file)) → IfSome held (λ file. buf ≡ read file x n)

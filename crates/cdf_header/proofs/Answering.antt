@@ -1,13 +1,16 @@
 -- Bytes have one answer.
 use Rattle.std.proofs.Common.{◌≡◌, ℕ, ◌+◌, ◌-◌, ◌≤◌, ◌^◌, List, [], ◌∷◌, ◌++◌, take, drop, length, true, Option, Some, None, refl, sym, ap, subst, ◌∙◌, length-append, arith, inl, inr}
 use Rattle.std.specs.Prelude.{is_none}
-use Rattle.std.proofs.lemmas.List.{take-append-drop, length-take, append-nil}
+use Rattle.std.proofs.lemmas.List.{take-append-drop, length-take-le, append-nil}
 use Rattle.std.proofs.Math.Seq.{take-append_seam, take-append-add}
 use Rattle.std.proofs.lemmas.Bool.{leb-true}
 use Rattle.list_laws.proofs.Truth.{and_first, and_second}
 use Rattle.nc_base.specs.declared.header.Header.{Header}
 use Rattle.nc_base.specs.declared.errors.HeaderErr.{HeaderErr}
-use Rattle.serial_spec.specs.HeaderGrammar.{Spells, HasFault, canon, header_len, field_fault, first_check, is_writable, is_sound}
+use Rattle.serial_spec.specs.HeaderBytes.{canon, header_len}
+use Rattle.serial_spec.specs.HeaderGrammar.{Spells}
+use Rattle.serial_spec.specs.HeaderFaults.{HasFault, field_fault, first_check}
+use Rattle.serial_spec.specs.SoundHeaders.{is_writable, is_sound}
 use Rattle.serial_spec.proofs.SpellingLaws.{canon_spelled}
 use Rattle.serial_spec.proofs.FaultLaws.{fault_only}
 use Rattle.serial_spec.proofs.OnceLaws.{spells_once}
@@ -20,13 +23,10 @@ no_some o x h k = absurd cc
 same_some : {A : Type 0} (o : Option A) (x y : A) → o ≡ Some x → o ≡ Some y → x ≡ y
 same_some o x y h k = cc
 
-taken : (bytes : List ℕ) (n : ℕ) → n ≤ length bytes → length (take n bytes) ≡ n
-taken bytes n h = let e = length-take n bytes in omega (arith, e)
-
 pub one_header : (bytes : List ℕ) (h k : Header) (n m : ℕ) → BeginsWith bytes h n → BeginsWith bytes k m → (h ≡ k) × (n ≡ m)
 one_header bytes h k n m p q =
     let once = spells_once h k (take n bytes) (take m bytes) (drop n bytes) (drop m bytes) p.0 q.0 (take-append-drop n bytes ∙ sym (take-append-drop m bytes)) in
-    (once.0, sym (taken bytes n p.3) ∙ ap (λ (t : List ℕ). length t) once.1 ∙ taken bytes m q.3)
+    (once.0, sym (length-take-le n bytes p.3) ∙ ap (λ (t : List ℕ). length t) once.1 ∙ length-take-le m bytes q.3)
 
 pub one_fault : (bytes : List ℕ) (e f : HeaderErr) → HasFault bytes e → HasFault bytes f → e ≡ f
 one_fault bytes e f (inl p) (inl q) = same_some (field_fault bytes) e f (fault_only bytes e p) (fault_only bytes f q)

@@ -2,7 +2,8 @@
 use Rattle.std.proofs.Common.{◌≡◌, ℕ, ◌*◌, ◌^◌, ◌<◌, Bool, true, false, refl, subst, arith, w32, w64}
 use Rattle.std.specs.Prelude.{if◌then◌else◌, ◌==◌}
 use borrow.Author.Tests.{ltb-true}
-use Rattle.serial_spec.specs.HeaderGrammar.{begin_width, fits_count, fits_field}
+use Rattle.serial_spec.specs.HeaderBytes.{begin_width}
+use Rattle.serial_spec.specs.SoundHeaders.{fits_count, fits_field}
 
 fits_word : (n : ℕ) → fits_field w32 n ≡ true → n < 2 ^ 32
 fits_word n h = let k : 2 * n < 2 ^ 32 = ltb-true _ _ h in omega arith

@@ -11,7 +11,7 @@ use Rattle.nc_base.specs.declared.header.Header.{Header}
 use Rattle.nc_base.specs.declared.header.Var.{Var}
 use Rattle.serial_spec.specs.Limits.{record_limit}
 use Rattle.serial_spec.specs.Layout.{round_up, slab, vsize, is_record, record_share, recsize}
-use Rattle.serial_spec.specs.HeaderGrammar.{keeps_bound, past_bound, measure, is_too_large}
+use Rattle.serial_spec.specs.HeaderFaults.{keeps_bound, past_bound, measure, is_too_large}
 
 kept : (t : Bool) (k : ℕ) (o : Option ℕ) → cond t o (Some k) ≡ None → (t ≡ true) × (o ≡ None)
 kept true k o h = (refl, h)

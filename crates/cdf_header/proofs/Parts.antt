@@ -6,7 +6,7 @@ use Rattle.list_laws.proofs.Truth.{and_first, and_second}
 use Rattle.nc_base.specs.declared.header.Header.{Header}
 use Rattle.nc_base.specs.declared.header.Var.{Var}
 use Rattle.serial_spec.specs.Layout.{vsize}
-use Rattle.serial_spec.specs.HeaderGrammar.{fits_count, is_writable, is_writable_attr, is_writable_dim, is_writable_list, is_writable_var}
+use Rattle.serial_spec.specs.SoundHeaders.{fits_count, is_writable, is_writable_attr, is_writable_dim, is_writable_list, is_writable_var}
 use Rattle.var_layout.proofs.Soundness.{measured}
 use Rattle.cdf_header.proofs.Measured.{sizes_kept}
 use Rattle.cdf_header.specs.Writable.{IsWritableList, IsWritableVar}

@@ -1,26 +1,23 @@
 -- No variable of a header is empty whose record dimension stands only first.
-use Rattle.std.proofs.Common.{◌≡◌, ℕ, zero, suc, ◌≤◌, List, [], ◌∷◌, drop, map, sym, arith, false}
-use Rattle.std.proofs.lemmas.Bool.{false≢true, or_parts}
+use Rattle.std.proofs.Common.{◌≡◌, ℕ, zero, suc, ◌≤◌, List, [], ◌∷◌, drop, map, arith, false}
+use Rattle.std.proofs.lemmas.Bool.{or_parts}
 use Rattle.std.specs.Prelude.{slice_get, ◌==◌}
 use Rattle.std.specs.List.{AllByRecursion, list_any}
 use Rattle.std.proofs.Math.Nat.{mul-le-mul_left}
 use Rattle.nc_base.specs.declared.header.Header.{Header}
 use Rattle.nc_base.specs.declared.header.Var.{Var}
 use Rattle.serial_spec.specs.Layout.{inner_lengths, length_of, product, without_record}
-use Rattle.serial_spec.specs.HeaderGrammar.{is_record_id, record_later}
+use Rattle.serial_spec.specs.HeaderFaults.{is_record_id, record_later}
+use Rattle.list_laws.proofs.Truth.{not_zero}
 
 pub product-pos : (ns : List ℕ) → AllByRecursion (λ n. 1 ≤ n) ns → 1 ≤ product ns
 product-pos [] h = omega arith
 product-pos (n ∷ ns) h = let rest = product-pos ns h.1 in omega (arith, mul-le-mul_left n rest, h.0)
 
-some-pos : (n : ℕ) → (n == 0) ≡ false → 1 ≤ n
-some-pos zero h = absurd (false≢true (sym h))
-some-pos (suc n) h = omega arith
-
 -- lengths of which none is zero
 none_zero : (f : ℕ → ℕ) (ids : List ℕ) → list_any (λ id. f id == 0) ids ≡ false → AllByRecursion (λ n. 1 ≤ n) (map f ids)
 none_zero f [] h = tt
-none_zero f (i ∷ ids) h = let parts = or_parts (f i == 0) (list_any (λ id. f id == 0) ids) h in (some-pos (f i) parts.0, none_zero f ids parts.1)
+none_zero f (i ∷ ids) h = let parts = or_parts (f i == 0) (list_any (λ id. f id == 0) ids) h in (not_zero (f i) parts.0, none_zero f ids parts.1)
 
 inner_of : (n : ℕ) (ns : List ℕ) → AllByRecursion (λ m. 1 ≤ m) ns → AllByRecursion (λ m. 1 ≤ m) (without_record (n ∷ ns))
 inner_of zero ns h = h

@@ -12,10 +12,11 @@ use Rattle.nc_base.specs.declared.header.Var.{Var}
 use Rattle.serial_spec.specs.ExternalForm.{size_of}
 use Rattle.serial_spec.specs.Layout.{product, inner_lengths, slab, recsize, sharing_with, sharing_from, sharing}
 use Rattle.serial_spec.specs.Layout as layout
-use Rattle.serial_spec.specs.HeaderGrammar.{record_later}
+use Rattle.serial_spec.specs.HeaderFaults.{record_later}
 use Rattle.cdf_header.specs.declared.spans.Span.{Span}
 use Rattle.cdf_header.specs.Spans.{span_of, spans_of, partner, shared_pair, AreSpans}
 use Rattle.cdf_header.proofs.Products.{inner-pos, product-pos}
+use Rattle.list_laws.proofs.Optional.{told_else}
 
 one_partner : (t : Bool) (k m : ℕ) (o : Option (ℕ × ℕ)) (p : Option ℕ) → o ≡ option_map (λ n. (k, n)) p
     → cond t (Some (k, m)) o ≡ option_map (λ n. (k, n)) (cond t (Some m) p)
@@ -62,14 +63,10 @@ some_bytes header v h =
     let more = mul-le-mul_left (product (inner_lengths header v)) size in
     omega (arith, elements, more)
 
-found_none : (t : Bool) (k : ℕ) (o : Option ℕ) → cond t (Some k) o ≡ None → (t ≡ false) × (o ≡ None)
-found_none true k o h = absurd cc
-found_none false k o h = (refl, h)
-
 filled : (header : Header) (k n : ℕ) (vs : List Var) → position_from (record_later header) n vs ≡ None → AllByRecursion (λ s. s.begin < s.end) (spans_of header k vs)
 filled header k n [] h = tt
 filled header k n (v ∷ vs) h =
-    let p = found_none (record_later header v) n (position_from (record_later header) (n + 1) vs) h in
+    let p = told_else (record_later header v) n (position_from (record_later header) (n + 1) vs) h in
     (some_bytes header v p.0, filled header (suc k) (n + 1) vs p.1)
 
 pub are_spans : (header : Header) → position (record_later header) header.vars ≡ None → AreSpans (spans_of header 0 header.vars)

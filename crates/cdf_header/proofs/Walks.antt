@@ -8,7 +8,7 @@ use Rattle.std.proofs.lemmas.List.{length-drop, length-replicate, drop-drop}
 use Rattle.std.proofs.lemmas.Nat.{from_be_bytes-to_be_bytes_4, from_be_bytes-to_be_bytes_8}
 use Rattle.std.proofs.lemmas.Bool.{ltb-true, eqb-true, eq-eqb, le-ltb, leb-true}
 use Rattle.serial_spec.proofs.LengthLaws.{width_long}
-use Rattle.list_laws.proofs.Truth.{and_first, and_second}
+use Rattle.list_laws.proofs.Truth.{and_first, and_second, all_three}
 use Rattle.nc_base.specs.declared.header.Header.{Header}
 use Rattle.nc_base.specs.declared.header.Dim.{Dim}
 use Rattle.nc_base.specs.declared.header.Attr.{Attr}
@@ -20,7 +20,9 @@ use Rattle.nc_base.specs.declared.errors.HeaderErr.TheVariants as fault
 use Rattle.serial_spec.specs.Limits.{most_dims, most_vars, most_dims_of_var, file_limit}
 use Rattle.serial_spec.specs.ExternalForm.{size_of}
 use Rattle.serial_spec.specs.Layout.{round_up, vsize}
-use Rattle.serial_spec.specs.HeaderGrammar.{Field, Magic, Records, Tag, Count, NameLength, Block, DimLength, AttrType, AttrCount, DimCount, DimId, VarType, Vsize, Begin, Entries, Dimensions, Attributes, Variables, Ids, Ask, One, Many, Run, stands, takes, asked, the_header, first_field, other_fields, many, block, most_of, tag_of, type_size, number_of, last_type, is_type, bad_type, is_version, version_of, fault_if, wrong, wrong_at, after_field, field_number, field_len, big_endian, count, tag, name, padded, list_of, dimension, attribute, variable, magic, canon, count_width, begin_width, fits_field, fits_count, field_fault, is_writable, is_writable_dim, is_writable_attr, is_writable_list, is_writable_var}
+use Rattle.serial_spec.specs.HeaderBytes.{number_of, last_type, is_version, count, tag, name, padded, list_of, dimension, attribute, variable, magic, canon, count_width, begin_width}
+use Rattle.serial_spec.specs.HeaderFaults.{Field, Magic, Records, Tag, Count, NameLength, Block, DimLength, AttrType, AttrCount, DimCount, DimId, VarType, Vsize, Begin, Entries, Dimensions, Attributes, Variables, Ids, Ask, One, Many, Run, stands, takes, asked, the_header, first_field, other_fields, many, block, most_of, tag_of, type_size, bad_type, version_of, fault_if, wrong, wrong_at, after_field, field_number, field_len, big_endian, field_fault}
+use Rattle.serial_spec.specs.SoundHeaders.{is_type, fits_field, fits_count, is_writable, is_writable_dim, is_writable_attr, is_writable_list, is_writable_var}
 use Rattle.serial_spec.proofs.FaultLaws.{run_on, run_whole, len_pos}
 use Rattle.serial_spec.proofs.SpellingLaws.{known_version}
 
@@ -297,9 +299,6 @@ var_walk h v is few asks rest a =
     (begin_walk version v.begin rest (and_second _ _ is))
 
 -- ---- a header
-
-all_three : (s t u : Bool) → s ≡ true → t ≡ true → u ≡ true → (s && t && u) ≡ true
-all_three s t u h k l = rw (h, k, l) refl
 
 both_tests : {A : Type 0} (p q : A → Bool) (xs : List A) → list_all p xs ≡ true → list_all q xs ≡ true → list_all (λ x. p x && q x) xs ≡ true
 both_tests p q [] h k = refl

@@ -1,7 +1,8 @@
 -- The header that bytes begin with.
 use Rattle.std.specs.Prelude.{◌≡◌, ◌≤◌, ℕ, List, take, length, None}
 use Rattle.nc_base.specs.declared.header.Header.{Header}
-use Rattle.serial_spec.specs.HeaderGrammar.{Spells, field_fault, first_check}
+use Rattle.serial_spec.specs.HeaderGrammar.{Spells}
+use Rattle.serial_spec.specs.HeaderFaults.{field_fault, first_check}
 
 -- The first n bytes spell the header, and nothing is wrong with any field of it or with the whole of it.
 abbrev pub BeginsWith : List ℕ → Header → ℕ → Type 0

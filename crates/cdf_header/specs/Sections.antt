@@ -1,5 +1,5 @@
 -- The code's word for a list of a header, and the grammar's.
-use Rattle.serial_spec.specs.HeaderGrammar.{Entries, Dimensions, Attributes, Variables}
+use Rattle.serial_spec.specs.HeaderFaults.{Entries, Dimensions, Attributes, Variables}
 use Rattle.cdf_header.specs.declared.section.Section.{Section}
 use Rattle.cdf_header.specs.declared.section.Section.TheVariants as section
 

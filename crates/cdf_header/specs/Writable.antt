@@ -4,7 +4,8 @@ use Rattle.std.specs.List.{AllByRecursion}
 use Rattle.nc_base.specs.declared.header.Header.{Header}
 use Rattle.nc_base.specs.declared.header.Var.{Var}
 use Rattle.serial_spec.specs.Layout.{vsize}
-use Rattle.serial_spec.specs.HeaderGrammar.{begin_width, fits_count, fits_field, is_writable_attr}
+use Rattle.serial_spec.specs.HeaderBytes.{begin_width}
+use Rattle.serial_spec.specs.SoundHeaders.{fits_count, fits_field, is_writable_attr}
 
 pub record IsWritableList {A : Type 0} (version : ℕ) (test : A → Bool) (xs : List A) : Type 0 where
   pub count : fits_count version (length xs) ≡ true

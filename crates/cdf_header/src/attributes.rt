@@ -1,6 +1,6 @@
 // Attributes.
 ghost use Rattle.std.specs.Prelude.{◌≡◌, ◌*◌};
-ghost use Rattle.serial_spec.specs.HeaderGrammar.{AttrType, AttrCount};
+ghost use Rattle.serial_spec.specs.HeaderFaults.{AttrType, AttrCount};
 ghost use Rattle.cdf_header.specs.Reading.{Gives, field_at, block_at, each_at, attr_at, attrs_at};
 
 use crate::cursor::Cursor;

@@ -1,6 +1,6 @@
 // Sections of a header, and the dimensions.
 ghost use Rattle.std.specs.Prelude.{◌≡◌};
-ghost use Rattle.serial_spec.specs.HeaderGrammar.{Count, DimLength};
+ghost use Rattle.serial_spec.specs.HeaderFaults.{Count, DimLength};
 ghost use Rattle.cdf_header.specs.Sections.{section_of};
 ghost use Rattle.cdf_header.specs.Reading.{Gives, field_at, absent_at, dim_at, each_at, count_at, dims_at};
 

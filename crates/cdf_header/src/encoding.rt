@@ -1,7 +1,8 @@
 // The header's bytes.
 ghost use Rattle.std.specs.Prelude.{◌≡◌, ◌++◌, IfOk, OnOk, false, length, true};
 ghost use Rattle.std.specs.List.{AllByRecursion, flat_map};
-ghost use Rattle.serial_spec.specs.HeaderGrammar.{attribute, canon, count, dimension, fits_count, is_writable, is_writable_attr, is_writable_dim, list_of, variable};
+ghost use Rattle.serial_spec.specs.HeaderBytes.{attribute, canon, count, dimension, list_of, variable};
+ghost use Rattle.serial_spec.specs.SoundHeaders.{fits_count, is_writable, is_writable_attr, is_writable_dim};
 ghost use Rattle.cdf_header.specs.Writable.{IsWritableList, IsWritableVar};
 
 use crate::pushing::{push_absent, push_begin, push_count, push_name, push_padded, push_tag};
@@ -18,7 +19,7 @@ const ATTRS: u32 = 12;
 
 /// The bytes of a header of version 1, 2 or 5, in the one spelling that is written: zero padding, a zero tag and a zero count
 /// for an empty list, and the size that the layout gives each variable.
-#[tactic(auto, using(crate::proofs::Appends::then_append), unfolding(serial_spec::specs::HeaderGrammar::canon))]
+#[tactic(auto, using(list_laws::proofs::Appends::then_append), unfolding(serial_spec::specs::HeaderBytes::canon))]
 pub fn encode(alloc: Global, header: &Header) -> Result<Blob, Memory>
     requires { is_writable header.now ≡ true }
     ensures { IfOk result (λ bytes. bytes ≡ canon header.now) }
@@ -70,7 +71,7 @@ fn push_attrs(out: &mut Vec<u8>, version: u8, attrs: &[Attr]) -> Result<(), Memo
     Ok(())
 }
 
-#[tactic(auto, using(crate::proofs::Appends::then_append))]
+#[tactic(auto, using(list_laws::proofs::Appends::then_append))]
 fn push_attr(out: &mut Vec<u8>, version: u8, attr: &Attr) -> Result<(), Memory>
     requires { is_writable_attr version attr.now ≡ true }
     ensures { OnOk result (out.new.items ≡ out.old.items ++ attribute version attr.now) }
@@ -98,7 +99,7 @@ fn push_vars(out: &mut Vec<u8>, header: &Header) -> Result<(), Memory>
     Ok(())
 }
 
-#[tactic(auto, using(crate::proofs::Appends::then_append))]
+#[tactic(auto, using(list_laws::proofs::Appends::then_append))]
 fn push_var(out: &mut Vec<u8>, header: &Header, var: &Var) -> Result<(), Memory>
     requires { IsWritableVar header.now var.now }
     ensures { OnOk result (out.new.items ≡ out.old.items ++ variable header.now var.now) }

@@ -2,7 +2,10 @@
 ghost use Rattle.std.specs.Prelude.{◌≡◌, ◌≤◌, ◌^◌, ◌++◌, ℕ, List, [], length, take, true};
 ghost use Rattle.nc_base.specs.declared.header.Header.{Header};
 ghost use Rattle.nc_base.specs.declared.errors.HeaderErr.{HeaderErr};
-ghost use Rattle.serial_spec.specs.HeaderGrammar.{HasFault, Spells, canon, header_len, is_writable};
+ghost use Rattle.serial_spec.specs.HeaderBytes.{canon, header_len};
+ghost use Rattle.serial_spec.specs.HeaderGrammar.{Spells};
+ghost use Rattle.serial_spec.specs.HeaderFaults.{HasFault};
+ghost use Rattle.serial_spec.specs.SoundHeaders.{is_writable};
 ghost use Rattle.cdf_header.specs.Decoding.{BeginsWith};
 
 /// Bytes begin with one header at most and have one fault at most, and never both. So what `decode` answers, but for

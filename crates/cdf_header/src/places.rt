@@ -4,7 +4,8 @@ ghost use Rattle.std.specs.List.{All};
 ghost use Rattle.std.specs.Option.{option_or};
 ghost use Rattle.nc_base.specs.declared.errors.HeaderErr.TheVariants as fault;
 ghost use Rattle.serial_spec.specs.Layout.{sharing, slab};
-ghost use Rattle.serial_spec.specs.HeaderGrammar.{fault_if, header_len, is_too_large, measure, record_later};
+ghost use Rattle.serial_spec.specs.HeaderBytes.{header_len};
+ghost use Rattle.serial_spec.specs.HeaderFaults.{fault_if, is_too_large, measure, record_later};
 ghost use Rattle.cdf_header.specs.Spans.{span_of, spans_of};
 
 use crate::sharing::first_shared;

@@ -1,7 +1,8 @@
 // The fields of a header, written one after the other.
 ghost use Rattle.std.specs.Prelude.{◌≡◌, ◌++◌, OnOk, length, true};
 ghost use Rattle.std.specs.Int.{to_be_bytes};
-ghost use Rattle.serial_spec.specs.HeaderGrammar.{begin_width, count, fits_count, fits_field, name, padded, tag};
+ghost use Rattle.serial_spec.specs.HeaderBytes.{begin_width, count, name, padded, tag};
+ghost use Rattle.serial_spec.specs.SoundHeaders.{fits_count, fits_field};
 
 use nc_base::Memory;
 

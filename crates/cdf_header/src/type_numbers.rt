@@ -1,6 +1,7 @@
 // The numbers of types.
 ghost use Rattle.std.specs.Prelude.{◌≡◌};
-ghost use Rattle.serial_spec.specs.HeaderGrammar.{number_of, type_size};
+ghost use Rattle.serial_spec.specs.HeaderBytes.{number_of};
+ghost use Rattle.serial_spec.specs.HeaderFaults.{type_size};
 ghost use Rattle.cdf_header.specs.Reading.{kind_of};
 
 use nc_base::NcType;

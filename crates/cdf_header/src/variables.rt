@@ -1,6 +1,6 @@
 // Variables.
 ghost use Rattle.std.specs.Prelude.{◌≡◌};
-ghost use Rattle.serial_spec.specs.HeaderGrammar.{DimCount, VarType, Vsize, Begin};
+ghost use Rattle.serial_spec.specs.HeaderFaults.{DimCount, VarType, Vsize, Begin};
 ghost use Rattle.cdf_header.specs.Reading.{Gives, field_at, unread_at, each_at, kind_at, id_at, ids_at, var_at, vars_at};
 
 use crate::cursor::Cursor;

@@ -108,9 +108,6 @@ pub record AreCut (lo hi nodes unit size : ℕ) (cover : List Extent) (a : ℕ) 
   pub many : length domains ≤ a
   pub windows : flat_map (λ d. turns_of size d cover) domains ≡ map told_of (flat_map (λ i. windows size (share_bytes lo hi nodes unit cover i)) (range_with_len 0 a))
 
-pub cut_begun : (lo hi nodes unit size : ℕ) (cover : List Extent) → lo ≤ hi → AreCut lo hi nodes unit size cover 0 []
-cut_begun lo hi nodes unit size cover h = record { line = tt; begin = omega arith; end = omega arith; many = omega arith; windows = refl }
-
 pub cut_more : (lo hi nodes unit size : ℕ) (cover : List Extent) (a : ℕ) (domains : List Extent) (d : Extent) → AreCut lo hi nodes unit size cover a domains
     → d.at ≡ border lo hi nodes unit a → d.at + d.len ≡ border lo hi nodes unit (a + 1) → bytes_in d cover ≡ share_bytes lo hi nodes unit cover a → 1 ≤ d.len
     → AreCut lo hi nodes unit size cover (a + 1) (domains ++ d ∷ [])

@@ -2,7 +2,6 @@
 use Rattle.std.proofs.Common.{◌≡◌, ◌∙◌, ℕ, ◌+◌, ◌≤◌, inl, inr, refl, sym, ap, subst, List, [], ◌∷◌, length, map, Option, Some, None, Result, Ok, Err, arith}
 use Rattle.std.specs.Prelude.{flat_map, zip, IfSome, OnOk}
 use Rattle.std.specs.List.{AllZip}
-use Rattle.aggregator_rounds.proofs.PieceLaws.{read_slice}
 use Rattle.nc_base.specs.declared.plan.Extent.{Extent}
 use Rattle.nc_base.specs.declared.step.DiskCall.{DiskCall}
 use Rattle.nc_outside.specs.Told.{with_end}
@@ -15,9 +14,11 @@ use Rattle.piece_exchange.specs.Put.{PartState}
 use Rattle.piece_exchange.specs.Turns.{Told}
 use Rattle.serial_spec.specs.File.{read}
 use Rattle.collective_round.specs.Parts.{parts_of, with_parts, Adjoin, Follow}
-use Rattle.collective_round.proofs.PartLaws.{each_weaker, flat_flat, follow_again, on_states, part_bytes, whole_calls, whole_kept, whole_place, IsInPlace}
+use Rattle.collective_round.proofs.PartDomains.{each_weaker, on_states, part_bytes}
+use Rattle.collective_round.proofs.PartLaws.{flat_flat, follow_again, whole_calls, whole_kept, whole_place, IsInPlace}
 use Rattle.collective_round.proofs.PartSplits.{next_begin}
 use Rattle.collective_round.proofs.PutPartLaws.{AreSplit}
+use Rattle.overlay_laws.proofs.ReadLaws.{read_slice}
 
 -- ---- the bytes of a part
 

@@ -1,7 +1,7 @@
 -- A disk that is split from the last domain on, and taken back.
-use Rattle.std.proofs.Common.{◌≡◌, ℕ, zero, suc, ◌+◌, ◌-◌, ◌^◌, ◌<◌, ◌≤◌, refl, sym, ◌∙◌, ap, subst, List, [], ◌∷◌, ◌++◌, length, take, drop, get_or, map, Option, Some, None, Err, arith}
-use Rattle.std.proofs.lemmas.List.{drop-take, drop_more, reverse-append, take_all, take-append-drop, take-take}
-use Rattle.std.specs.Prelude.{reverse, IfSome, IsErrOf}
+use Rattle.std.proofs.Common.{◌≡◌, ℕ, zero, suc, ◌+◌, ◌-◌, ◌^◌, ◌<◌, ◌≤◌, sym, ◌∙◌, ap, subst, List, [], ◌∷◌, ◌++◌, length, take, drop, get_or, map, Option, Err, arith}
+use Rattle.std.proofs.lemmas.List.{drop-take, drop_more, reverse-append, take-append-drop, take-take}
+use Rattle.std.specs.Prelude.{reverse, IsErrOf}
 use Rattle.nc_base.specs.declared.plan.Extent.{Extent}
 use Rattle.nc_base.specs.declared.step.DiskCall.{DiskCall}
 use Rattle.nc_outside.specs.Cause.{both_faults}
@@ -94,14 +94,6 @@ turned_more {D} state parts now part p ps e same h =
     ap (λ (ds : List D). map state (reverse ds)) e
     ∙ ap (λ (ds : List D). map state ds) (reverse-append parts (part ∷ []))
     ∙ (λ i. same i ∷ h i)
-
--- nothing is split off
-take_told : (told : Option (List ℕ)) (n : ℕ) → IfSome told (λ file. length file ≡ n) → told ≡ after (take n) told
-take_told None n h = refl
-take_told (Some file) n h = ap Some (sym (take_all n file (omega arith)))
-
-pub front_whole : (disk : PartState) (rest : List Extent) → IfSome disk.held (λ file. length file ≡ disk.len) → rest ≡ [] → IsFront rest disk disk
-front_whole disk rest told e = subst (λ (ds : List Extent). IsFront ds disk disk) (sym e) (record { from = refl; len = refl; held = take_told disk.held disk.len told; calls = refl })
 
 -- the last of the domains that are left, and those behind it
 pub record IsLast (domains : List Extent) (k n : ℕ) (d : Extent) (rest : List Extent) : Type 0 where

@@ -16,7 +16,9 @@ use Rattle.piece_exchange.specs.Put.{HasPut, PartState, SomeZip}
 use Rattle.piece_exchange.specs.Turns.{Told}
 use Rattle.collective_round.specs.Parts.{parts_of, with_parts, Adjoin, AreDomains, Follow, IsFront}
 use Rattle.collective_round.proofs.PartSplits.{joined_at_least}
-use Rattle.collective_round.proofs.PartLaws.{cells_behind, domains_room, joined_rose, puts_follow, puts_joined, HasPutWhole}
+use Rattle.collective_round.proofs.PartDomains.{cells_behind, domains_room}
+use Rattle.collective_round.proofs.PartLaws.{joined_rose}
+use Rattle.collective_round.proofs.PutParts.{puts_follow, puts_joined, HasPutWhole}
 
 -- ---- the domains lie on the disk
 

@@ -1,297 +1,28 @@
 -- What a refused step of puts leaves of a file.
-use Rattle.overlay_laws.proofs.Members.{each_in}
-use Rattle.list_laws.proofs.Truth.{and_first, and_second, no_false, or_first_false, or_second_false}
-use Rattle.std.proofs.lemmas.Bool.{leb-true, le-leb, lt-ltb}
-use Rattle.std.proofs.Common.{◌≡◌, ℕ, ◌+◌, ◌-◌, ◌<◌, ◌≤◌, refl, sym, ap, subst, ◌∙◌, inl, inr, ◌⊎◌, List, [], ◌∷◌, length, take, drop, Bool, true, false, cond, ◌||◌, ◌&&◌, max, Option, Some, None, length-append, arith}
-use Rattle.std.proofs.lemmas.Grind.{common_steps}
-use Rattle.std.proofs.lemmas.Bool.Decides.{nat_tests}
-use Rattle.std.proofs.lemmas.List.{length-replicate}
-use Rattle.std.specs.Prelude.{fold, map, nat_lt, nat_le, ◌==◌, slice_get, replicate}
-use Rattle.std.specs.List.{list_any, range_with_len}
+use Rattle.std.proofs.lemmas.Bool.{lt-ltb}
+use Rattle.std.proofs.Common.{◌≡◌, ℕ, ◌+◌, ◌-◌, ◌<◌, ◌≤◌, refl, sym, ap, subst, inr, List, [], length, Bool, true, false, cond, Option, Some, None, arith}
+use Rattle.std.specs.Prelude.{nat_lt}
 use Rattle.std.specs.Int.{byte_len}
-use borrow.Author.Tests.{ltb-true, ltb-false}
-use Rattle.nc_base.specs.declared.header.Header.{Header}
-use Rattle.nc_base.specs.declared.header.Var.{Var}
-use Rattle.nc_base.specs.declared.plan.Post.{Post}
 use Rattle.nc_base.specs.declared.answer.Pair.{Pair}
-use Rattle.nc_base.specs.declared.request.Direction.{Direction}
 use Rattle.nc_outside.specs.DiskState.{PartlyWritten}
 use Rattle.nc_outside.specs.Told.{after, BothTold}
-use Rattle.serial_spec.specs.ExternalForm.{size_of}
-use Rattle.serial_spec.specs.File.{at, longer, written}
-use Rattle.serial_spec.specs.FileStep.{Setting, Counted, end_for, put_some, put_post, after_puts, raised, told}
-use Rattle.serial_spec.specs.HeaderGrammar.{count, count_width, header_len, is_sound}
-use Rattle.serial_spec.specs.Place.{place, IsElementBelow}
-use Rattle.serial_spec.specs.Records.{needed_by, records_of, with_records}
-use Rattle.serial_spec.specs.RegionCheck.{check_some}
-use Rattle.serial_spec.specs.Request.{cells, places, elements}
-use Rattle.nc_base.specs.declared.answer.Code.TheVariants as code
-use Rattle.serial_spec.specs.SharedByte.{Puts, bytes_of, bytes_of_some, covered}
-use Rattle.serial_spec.specs.Torn.{IsTorn, may_change}
-use Rattle.serial_spec.proofs.AcceptLaws.{accepted_elements}
-use Rattle.serial_spec.proofs.ApartLaws.{elements_past_header}
-use Rattle.serial_spec.proofs.FileLaws.{at-longer, at-written_before, at-written_after}
-use Rattle.var_layout.proofs.WrittenLengths.{canon_len}
+use Rattle.serial_spec.specs.File.{at, longer}
+use Rattle.serial_spec.specs.FileStep.{Setting, end_for, after_puts, told}
+use Rattle.serial_spec.specs.HeaderBytes.{count, count_width}
+use Rattle.serial_spec.specs.SoundHeaders.{is_sound}
+use Rattle.serial_spec.specs.Records.{needed_by, with_records}
+use Rattle.serial_spec.specs.SharedByte.{Puts, covered}
+use Rattle.serial_spec.specs.Torn.{IsTorn}
 use Rattle.overlay_laws.specs.Changes.{IsBetween}
-use Rattle.overlay_laws.specs.Entries.{In}
-use Rattle.overlay_laws.proofs.HullLaws.{any_in, flat_in, range_low}
 use Rattle.serial_spec.specs.Desk.{needed_now}
 use Rattle.collective_round.specs.Rounds.{ArePuts, after_round, counted}
 use Rattle.collective_round.proofs.PutLaws.{laid_round}
 use Rattle.collective_round.proofs.StepLaws.{round_by}
 use Rattle.collective_round.proofs.ResultSteps.{told_as}
-use Rattle.serial_spec.proofs.KeepLaws.{after_keeps, count_long as length-count}
-
--- ---- no step makes a file shorter
-
-pub written_grows : (file b : List ℕ) (x : ℕ) → length file ≤ length (written file x b)
-written_grows file b x = grind (arith, common_steps)
-
-cells_grow : (size : ℕ) (ps bytes file : List ℕ) → length file ≤ length (fold (λ f cell. written f cell.0 cell.1) file (cells size ps bytes))
-cells_grow size [] bytes file = omega arith
-cells_grow size (p ∷ ps) bytes file =
-    let one = written_grows file (take size bytes) p in
-    let rest = cells_grow size ps (drop size bytes) (written file p (take size bytes)) in
-    omega arith
-
-post_grows : (s : Setting) (v : Option Var) (post : Post) (file : List ℕ) → length file ≤ length (put_some s v post file)
-post_grows s None post file = omega arith
-post_grows s (Some v) post file = cells_grow (size_of v.kind) (places s.header v post.region) post.bytes file
-
-puts_grow : (s : Setting) (puts : Puts) (file : List ℕ) → length file ≤ length (fold (put_post s) file puts)
-puts_grow s [] file = omega arith
-puts_grow s (p ∷ puts) file =
-    let one = post_grows s (slice_get s.header.vars p.1.var) p.1 file in
-    let rest = puts_grow s puts (put_post s file p) in
-    omega arith
-
-pub longer_most : (file : List ℕ) (n : ℕ) → length (longer file n) ≡ max (length file) n
-longer_most file n = omega (arith, length-append file (replicate (n - length file) 0), length-replicate {A = ℕ} (n - length file) 0)
-
-pub after_long : (s : Setting) (puts : Puts) (file : List ℕ) → max (length file) (end_for s (needed_by s.header puts)) ≤ length (after_puts s puts None file)
-after_long s puts file =
-    let long = longer_most file (end_for s (needed_by s.header puts)) in
-    let more = puts_grow s puts (longer file (end_for s (needed_by s.header puts))) in
-    omega arith
-
-pub after_grows : (s : Setting) (puts : Puts) (pair : Option Pair) (file : List ℕ) → length file ≤ length (after_puts s puts pair file)
-after_grows s puts (Some p) file = omega arith
-after_grows s puts None file = let l = after_long s puts file in omega arith
-
-pub raised_grows : (s : Setting) (c : Counted) (n : ℕ) → length c.file ≤ length (raised s c n).file
-raised_grows s c n = by_test (nat_lt c.records n)
-  where
-    by_test : (t : Bool) → length c.file ≤ length (cond t (record { file = with_records s.header.version c.file n; records = n }) c).file
-    by_test false = omega arith
-    by_test true = written_grows c.file (count s.header.version n) 4
-
--- ---- the field of the count
-
--- of how many bytes it is
-abbrev pub field_of : Header → ℕ
-field_of header = byte_len (count_width header.version)
-
-pub field_before : (header : Header) → 4 + field_of header ≤ header_len header
-field_before header = let whole = canon_len header in omega arith
-
--- each byte of the puts stands after it
-pub covered_past : (header : Header) (puts : Puts) (x : ℕ) → is_sound header ≡ true → ArePuts header puts → In (covered header puts) x → 4 + field_of header ≤ x
-covered_past header puts x sound are m =
-    let f = flat_in (λ (p : ℕ × Post). bytes_of header p.1) puts x m in
-    let a = (are f.0 f.1).accepted in
-    let low = by_var f.0.1 a.0 a.1 (slice_get header.vars f.0.1.var) refl a.2 f.2 in
-    let field = field_before header in
-    omega arith
-  where
-    by_var : (post : Post) (known : ℕ) (way : Direction) (o : Option Var) → slice_get header.vars post.var ≡ o → check_some header o post.region known way ≡ code.Ok
-        → In (bytes_of_some header o post) x → header_len header ≤ x
-    by_var post known way None e ok k = absurd k
-    by_var post known way (Some v) e ok k =
-        let g = flat_in (λ (y : ℕ). range_with_len y (size_of v.kind)) (places header v post.region) x k in
-        let i = from_map (λ (i : List ℕ). place header v i) (elements post.region) g.0 g.1 in
-        let is = each_in (IsElementBelow header v (records_of header v post.region)) (elements post.region) i.0 (accepted_elements header post.var v post.region known way sound e ok) i.1 in
-        let past = elements_past_header header post.var v i.0 sound e is.0 in
-        let low = range_low g.0 (size_of v.kind) x g.2 in
-        let same : place header v i.0 ≡ g.0 = i.2 in
-        omega arith
-      where
-        from_map : {A B : Type 0} (f : A → B) (xs : List A) (y : B) → In (map f xs) y → (x : A) × In xs x × (f x ≡ y)
-        from_map f [] y m = absurd m
-        from_map f (z ∷ xs) y (inl e) = (z, inl refl, e)
-        from_map f (z ∷ xs) y (inr m) = let r = from_map f xs y m in (r.0, inr r.1, r.2)
-
--- ---- a torn file
-
-outside_of : (field x : ℕ) → (nat_le 4 x && nat_lt x (4 + field)) ≡ false → (x < 4) ⊎ (4 + field ≤ x)
-outside_of field x h = by_low (nat_le 4 x) refl
-  where
-    by_high : (t : Bool) → nat_lt x (4 + field) ≡ t → nat_le 4 x ≡ true → (x < 4) ⊎ (4 + field ≤ x)
-    by_high false e g = inr (ltb-false _ _ e)
-    by_high true e g = no_false (sym h ∙ (λ i. g i && e i))
-
-    by_low : (t : Bool) → nat_le 4 x ≡ t → (x < 4) ⊎ (4 + field ≤ x)
-    by_low false e = inl (grind (arith, nat_tests))
-    by_low true e = by_high (nat_lt x (4 + field)) refl e
-
-pub torn_by : (bytes : List ℕ) (field : ℕ) (old new left : List ℕ) → length old ≤ length left → length left ≤ length new
-    → ((x : ℕ) → list_any (λ y. y == x) bytes ≡ true → (at left x ≡ at old x) ⊎ (at left x ≡ at new x))
-    → ((x : ℕ) → list_any (λ y. y == x) bytes ≡ false → 4 ≤ x → x < 4 + field → (at left x ≡ at old x) ⊎ (at left x ≡ at new x))
-    → ((x : ℕ) → list_any (λ y. y == x) bytes ≡ false → (x < 4) ⊎ (4 + field ≤ x) → at left x ≡ at old x)
-    → IsTorn bytes field old new left
-torn_by bytes field old new left long short inside beside outside = record {
-  long = long;
-  short = short;
-  changed = λ x l h. by_any x (list_any (λ y. y == x) bytes) refl h;
-  kept = λ x l h. outside x (or_first_false _ _ h) (outside_of field x (or_second_false (list_any (λ y. y == x) bytes) _ h));
-}
-  where
-    by_any : (x : ℕ) (t : Bool) → list_any (λ y. y == x) bytes ≡ t → (t || (nat_le 4 x && nat_lt x (4 + field))) ≡ true → (at left x ≡ at old x) ⊎ (at left x ≡ at new x)
-    by_any x true e h = inside x e
-    by_any x false e h = beside x e (leb-true 4 x (and_first _ _ h)) (ltb-true _ _ (and_second _ _ h))
-
--- nothing was written
-pub torn_still : (bytes : List ℕ) (field : ℕ) (old new : List ℕ) → length old ≤ length new → IsTorn bytes field old new old
-torn_still bytes field old new h = record { long = omega arith; short = h; changed = λ x l k. inl refl; kept = λ x l k. refl }
-
--- zeros were added
-pub torn_grown : (bytes : List ℕ) (field m : ℕ) (old new : List ℕ) → length (longer old m) ≤ length new → IsTorn bytes field old new (longer old m)
-torn_grown bytes field m old new h = record {
-  long = (let l = longer_most old m in omega arith);
-  short = h;
-  changed = λ x l k. inl (at-longer old m x);
-  kept = λ x l k. at-longer old m x;
-}
-
--- some windows of the puts were written over the file that was made longer
-pub torn_laid : (s : Setting) (puts : Puts) (n : ℕ) (old left : List ℕ) → n ≡ needed_by s.header puts
-    → IsBetween (longer old (end_for s n)) (after_puts s puts None old) left → IsTorn (covered s.header puts) 0 old (after_puts s puts None old) left
-torn_laid s puts n old left is b =
-    torn_by (covered s.header puts) 0 old (after_puts s puts None old) left (let m = made in omega arith) (let m = made in let w = whole in omega arith)
-    (λ x e. by_old x (b.each x)) (λ x e l h. absurd (omega arith))
-    (λ x e h. by_kept x e (b.each x))
-  where
-    made : length left ≡ max (length old) (end_for s n)
-    made = b.len ∙ longer_most old (end_for s n)
-
-    whole : max (length old) (end_for s n) ≤ length (after_puts s puts None old)
-    whole = let l = after_long s puts old in subst (λ (k : ℕ). max (length old) (end_for s k) ≤ length (after_puts s puts None old)) (sym is) l
-
-    by_old : (x : ℕ) → (at left x ≡ at (longer old (end_for s n)) x) ⊎ (at left x ≡ at (after_puts s puts None old) x) → (at left x ≡ at old x) ⊎ (at left x ≡ at (after_puts s puts None old) x)
-    by_old x (inl e) = inl (e ∙ at-longer old (end_for s n) x)
-    by_old x (inr e) = inr e
-
-    by_kept : (x : ℕ) → list_any (λ y. y == x) (covered s.header puts) ≡ false
-        → (at left x ≡ at (longer old (end_for s n)) x) ⊎ (at left x ≡ at (after_puts s puts None old) x) → at left x ≡ at old x
-    by_kept x f (inl e) = e ∙ at-longer old (end_for s n) x
-    by_kept x f (inr e) = e ∙ after_keeps s puts None old x f
-
--- a torn file, byte by byte, past its end too
-pub record AreSides (bytes : List ℕ) (field : ℕ) (old new left : List ℕ) : Type 0 where
-  pub inside : (x : ℕ) → list_any (λ y. y == x) bytes ≡ true → (at left x ≡ at old x) ⊎ (at left x ≡ at new x)
-  pub beside : (x : ℕ) → 4 ≤ x → x < 4 + field → (at left x ≡ at old x) ⊎ (at left x ≡ at new x)
-  pub outside : (x : ℕ) → list_any (λ y. y == x) bytes ≡ false → (x < 4) ⊎ (4 + field ≤ x) → at left x ≡ at old x
-
-past_end : (xs : List ℕ) (x : ℕ) → length xs ≤ x → at xs x ≡ 0
-past_end xs x h = grind (arith, common_steps)
-
-not_field : (field x : ℕ) → (x < 4) ⊎ (4 + field ≤ x) → (nat_le 4 x && nat_lt x (4 + field)) ≡ false
-not_field field x h = by_tests (nat_le 4 x) refl (nat_lt x (4 + field)) refl h
-  where
-    by_tests : (u : Bool) → nat_le 4 x ≡ u → (v : Bool) → nat_lt x (4 + field) ≡ v → (x < 4) ⊎ (4 + field ≤ x) → (u && v) ≡ false
-    by_tests false d v e k = refl
-    by_tests true d false e k = refl
-    by_tests true d true e (inl k) = let l = leb-true 4 x d in absurd (omega arith)
-    by_tests true d true e (inr k) = let l : x < 4 + field = ltb-true _ _ e in absurd (omega arith)
-
-in_field : (field x : ℕ) → 4 ≤ x → x < 4 + field → (nat_le 4 x && nat_lt x (4 + field)) ≡ true
-in_field field x l h = λ i. (le-leb 4 x l i && lt-ltb x (4 + field) h i)
-
-or_right : (a b : Bool) → b ≡ true → (a || b) ≡ true
-or_right true b h = refl
-or_right false b h = h
-
-pub torn_sides : (bytes : List ℕ) (field : ℕ) (old new left : List ℕ) → IsTorn bytes field old new left → AreSides bytes field old new left
-torn_sides bytes field old new left t = record {
-  inside = λ x e. by_changed x (ap (λ (b : Bool). b || (nat_le 4 x && nat_lt x (4 + field))) e) (nat_lt x (length left)) refl;
-  beside = λ x l h. by_changed x (or_right (list_any (λ y. y == x) bytes) _ (in_field field x l h)) (nat_lt x (length left)) refl;
-  outside = λ x e h. by_kept x (ap (λ (b : Bool). b || (nat_le 4 x && nat_lt x (4 + field))) e ∙ not_field field x h) (nat_lt x (length left)) refl;
-}
-  where
-    beyond : (x : ℕ) → nat_lt x (length left) ≡ false → at left x ≡ at old x
-    beyond x g =
-        let past : length left ≤ x = ltb-false _ _ g in
-        let long = t.long in
-        past_end left x past ∙ sym (past_end old x (omega arith))
-
-    by_changed : (x : ℕ) → may_change bytes field x ≡ true → (b : Bool) → nat_lt x (length left) ≡ b → (at left x ≡ at old x) ⊎ (at left x ≡ at new x)
-    by_changed x e true g = t.changed x (ltb-true _ _ g) e
-    by_changed x e false g = inl (beyond x g)
-
-    by_kept : (x : ℕ) → may_change bytes field x ≡ false → (b : Bool) → nat_lt x (length left) ≡ b → at left x ≡ at old x
-    by_kept x e true g = t.kept x (ltb-true _ _ g) e
-    by_kept x e false g = beyond x g
-
--- as bytes of the field may change that did not
-pub torn_wider : (bytes : List ℕ) (field : ℕ) (old new left : List ℕ) → IsTorn bytes 0 old new left → IsTorn bytes field old new left
-torn_wider bytes field old new left t =
-    let s = torn_sides bytes 0 old new left t in
-    torn_by bytes field old new left t.long t.short s.inside (λ x e l h. inl (s.outside x e (beside x))) (λ x e h. s.outside x e (beside x))
-  where
-    beside : (x : ℕ) → (x < 4) ⊎ (4 + 0 ≤ x)
-    beside x = by_test (nat_lt x 4) refl
-      where
-        by_test : (b : Bool) → nat_lt x 4 ≡ b → (x < 4) ⊎ (4 + 0 ≤ x)
-        by_test true e = inl (ltb-true _ _ e)
-        by_test false e = let l : 4 ≤ x = ltb-false _ _ e in inr (omega arith)
-
-pub counted_past : (version n : ℕ) (file : List ℕ) (x : ℕ) → 4 + byte_len (count_width version) ≤ x → at (with_records version file n) x ≡ at file x
-counted_past version n file x h = let l = length-count version n in at-written_after file (count version n) 4 x (omega arith)
-
--- the puts were cut off, where after them the count would have been written
-pub torn_counted : (version n : ℕ) (bytes : List ℕ) (old whole left : List ℕ) → ((x : ℕ) → In bytes x → 4 + byte_len (count_width version) ≤ x)
-    → IsTorn bytes 0 old whole left → IsTorn bytes (byte_len (count_width version)) old (with_records version whole n) left
-torn_counted version n bytes old whole left past t =
-    let w = torn_wider bytes (byte_len (count_width version)) old whole left t in
-    let s = torn_sides bytes (byte_len (count_width version)) old whole left w in
-    let u = torn_sides bytes 0 old whole left t in
-    torn_by bytes (byte_len (count_width version)) old (with_records version whole n) left t.long
-    (let l = t.short in let g = written_grows whole (count version n) 4 in omega arith)
-    (λ x e. by_new x (past x (any_in bytes x e)) (s.inside x e)) (λ x e l h. inl (u.outside x e (inr (omega arith)))) s.outside
-  where
-    by_new : (x : ℕ) → 4 + byte_len (count_width version) ≤ x → (at left x ≡ at old x) ⊎ (at left x ≡ at whole x)
-        → (at left x ≡ at old x) ⊎ (at left x ≡ at (with_records version whole n) x)
-    by_new x l (inl e) = inl e
-    by_new x l (inr e) = inr (e ∙ sym (counted_past version n whole x l))
-
--- the count was cut off, after the puts were written
-pub torn_after : (bytes : List ℕ) (field : ℕ) (old whole new left : List ℕ) → length old ≤ length whole
-    → ((x : ℕ) → list_any (λ y. y == x) bytes ≡ false → at whole x ≡ at old x) → ((x : ℕ) → In bytes x → 4 + field ≤ x)
-    → ((x : ℕ) → 4 + field ≤ x → at new x ≡ at whole x) → IsTorn [] field whole new left → IsTorn bytes field old new left
-torn_after bytes field old whole new left grows keeps past agree t =
-    let s = torn_sides [] field whole new left t in
-    torn_by bytes field old new left (let l = t.long in omega arith) t.short
-    (λ x e. inr (s.outside x refl (inr (past x (any_in bytes x e))) ∙ sym (agree x (past x (any_in bytes x e)))))
-    (λ x e l h. by_old x e (s.beside x l h)) (λ x e h. s.outside x refl h ∙ keeps x e)
-  where
-    by_old : (x : ℕ) → list_any (λ y. y == x) bytes ≡ false → (at left x ≡ at whole x) ⊎ (at left x ≡ at new x) → (at left x ≡ at old x) ⊎ (at left x ≡ at new x)
-    by_old x e (inl k) = inl (k ∙ keeps x e)
-    by_old x e (inr k) = inr k
-
--- the write of the count itself
-pub torn_stored : (version n : ℕ) (old left : List ℕ) → PartlyWritten 4 (count version n) old left
-    → IsTorn [] (byte_len (count_width version)) old (with_records version old n) left
-torn_stored version n old left p =
-    torn_by [] (byte_len (count_width version)) old (with_records version old n) left
-    (let g = written_grows old (count version n) 4 in let l = p.len in omega arith) (let l = p.len in omega arith)
-    (λ x e. cc) (λ x e l h. p.each x) (λ x e h. by_kept x h (p.each x))
-  where
-    same : (x : ℕ) → (x < 4) ⊎ (4 + byte_len (count_width version) ≤ x) → at (with_records version old n) x ≡ at old x
-    same x (inl l) = at-written_before old (count version n) 4 x l
-    same x (inr l) = counted_past version n old x l
-
-    by_kept : (x : ℕ) → (x < 4) ⊎ (4 + byte_len (count_width version) ≤ x) → (at left x ≡ at old x) ⊎ (at left x ≡ at (with_records version old n) x) → at left x ≡ at old x
-    by_kept x h (inl e) = e
-    by_kept x h (inr e) = e ∙ same x h
+use Rattle.collective_round.proofs.TornFiles.{covered_past, torn_by, torn_still, torn_grown, torn_laid, torn_wider, counted_past, torn_counted, torn_after, torn_stored}
+use Rattle.serial_spec.proofs.KeepLaws.{after_keeps}
+use Rattle.serial_spec.proofs.FileLaws.{longer_long}
+use Rattle.serial_spec.proofs.GrowLaws.{after_long, after_grows, raised_grows}
 
 -- ---- a step, on a disk that may tell its bytes
 
@@ -316,7 +47,7 @@ grown_torn s puts n m (Some old) now is h = (
   longer old m,
   h.0,
   torn_grown (covered s.header puts) 0 m old (after_puts s puts None old)
-      (let l = longer_most old m in
+      (let l = longer_long old m in
       let w = after_long s puts old in
       let end : end_for s n ≡ end_for s (needed_by s.header puts) = ap (λ (k : ℕ). end_for s k) is in
       let low = h.1 in

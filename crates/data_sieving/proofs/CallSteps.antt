@@ -8,17 +8,14 @@ use Rattle.nc_base.specs.declared.step.DiskCall.{DiskCall}
 use Rattle.nc_outside.specs.Told.{with_end}
 use Rattle.overlay_laws.specs.Changes.{IsBegun}
 use Rattle.data_sieving.specs.Serving.{HasDone}
+use Rattle.nc_outside.proofs.ToldLaws.{no_calls}
 
 ends_twice : (old : Option (List DiskCall)) (a b : List DiskCall) → with_end (with_end old a) b ≡ with_end old (a ++ b)
 ends_twice None a b = refl
 ends_twice (Some o) a b = ap Some (append_assoc o a b)
 
-no_end : (old : Option (List DiskCall)) → old ≡ with_end old []
-no_end None = refl
-no_end (Some o) = ap Some (sym (append-nil o))
-
 pub none_done : (plan rest : List DiskCall) (old : Option (List DiskCall)) → plan ≡ rest → HasDone plan rest old old
-none_done plan rest old e = record { done = []; told = no_end old; whole = e }
+none_done plan rest old e = record { done = []; told = no_calls old; whole = e }
 
 pub done_more : (f : List ℕ → List DiskCall) (ws : List ℕ) (here later : List (List ℕ)) (plan calls : List DiskCall) (old mid now : Option (List DiskCall))
     → here ≡ ws ∷ later → f ws ≡ calls → now ≡ with_end mid calls → HasDone plan (flat_map f here) old mid → HasDone plan (flat_map f later) old now

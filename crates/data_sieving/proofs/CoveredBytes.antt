@@ -13,6 +13,7 @@ use Rattle.overlay_laws.proofs.HullLaws.{filter_in, filter_ascends, in_left, in_
 use Rattle.overlay_laws.proofs.CoverLaws.{same_ascending}
 use Rattle.data_sieving.specs.Serving.{IsCovered, IsPast, AreBegun, bytes_from}
 use Rattle.data_sieving.proofs.PastSteps.{past_in, past_kept}
+use Rattle.overlay_laws.proofs.EntryLaws.{in_extents}
 
 -- ---- covered bytes
 
@@ -37,11 +38,6 @@ pub ranges_in : (list : List Owned) (x : ℕ) → In (ranges list) x → IsCover
 ranges_in list x h =
     let r = flat_in (λ (o : Owned). range_with_len o.extent.at o.extent.len) list x h in
     record { by = r.0; inside = r.1; low = range_low r.0.extent.at r.0.extent.len x r.2; high = range_high r.0.extent.at r.0.extent.len x r.2 }
-
-pub in_extents : (list : List Owned) (o : Owned) → In list o → In (extents list) o.extent
-in_extents [] o h = absurd h
-in_extents (p ∷ list) o (inl e) = inl (ap (λ (q : Owned). q.extent) e)
-in_extents (p ∷ list) o (inr h) = inr (in_extents list o h)
 
 pub covered_below : (n : ℕ) (list : List Owned) (x : ℕ) → EndBelow n (extents list) → IsCovered list x → x < n
 covered_below n list x h c =

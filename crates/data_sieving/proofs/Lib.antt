@@ -7,6 +7,8 @@ pub mod CallSteps
 pub mod PutSteps
 pub mod PartSteps
 pub mod ReachSteps
+pub mod ReadParts
 pub mod GetSteps
+pub mod CollectedSteps
 pub mod NextSteps
 pub mod LoopSteps

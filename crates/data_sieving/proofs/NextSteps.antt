@@ -6,9 +6,9 @@ use Rattle.nc_base.specs.declared.plan.Owned.{Owned}
 use Rattle.overlay_laws.specs.Entries.{In}
 use Rattle.file_domains.specs.declared.walk.Window.{Window}
 use Rattle.data_sieving.specs.Serving.{IsPast, AreLeft, AreBegun, HaveBegun, IsHull, IsNext}
-use Rattle.data_sieving.proofs.CoveredBytes.{in_extents}
 use Rattle.data_sieving.proofs.PastSteps.{past_in, past_extents, past_sorted}
 use Rattle.data_sieving.proofs.SplitSteps.{begun_all, first_begins, first_joined}
+use Rattle.overlay_laws.proofs.EntryLaws.{in_extents}
 
 -- the first byte that is not served lies in the first entry
 pub at_below : (left : List Owned) (place size at : ℕ) (first : Owned) → AreLeft left place size → slice_get left 0 ≡ Some first → at ≡ max first.extent.at place

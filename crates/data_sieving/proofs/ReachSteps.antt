@@ -9,9 +9,9 @@ use Rattle.overlay_laws.specs.Lines.{extents, EndBelow}
 use Rattle.overlay_laws.proofs.HullLaws.{in_left}
 use Rattle.data_sieving.specs.Sieving.{AreFilled, LieOn}
 use Rattle.data_sieving.specs.Serving.{IsPast, AreLeft, AreBegun, IsNext}
-use Rattle.data_sieving.proofs.CoveredBytes.{in_extents}
 use Rattle.data_sieving.proofs.PastSteps.{past_in, past_found}
 use Rattle.data_sieving.proofs.SplitSteps.{extents_left}
+use Rattle.overlay_laws.proofs.EntryLaws.{in_extents}
 
 pub begun_in : (place stop : ℕ) (list left begun : List Owned) (o : Owned) → IsPast place list left → AreBegun stop left begun → In begun o → In list o
 begun_in place stop list left begun o p b m =
@@ -53,14 +53,6 @@ hull_end left place size w begun stop l n =
     let below = begun_ends left place size stop begun l n.begun last.by.extent (in_extents begun last.by last.inside) in
     let end = last.high in
     let some = n.hull.some in
-    omega arith
-
--- a window begins below 2 ^ 62, and what was served before it ends there
-pub place_below : (left : List Owned) (place size : ℕ) (w : Window) (begun : List Owned) (stop : ℕ) → AreLeft left place size
-    → IsNext left place size w begun stop → place < 2 ^ 62
-place_below left place size w begun stop l n =
-    let end = hull_end left place size w begun stop l n in
-    let low = n.from in
     omega arith
 
 -- ---- their bytes

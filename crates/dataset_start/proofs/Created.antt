@@ -5,7 +5,7 @@ use Rattle.nc_base.specs.declared.header.Header.{Header}
 use Rattle.nc_outside.specs.Told.{after}
 use Rattle.nc_outside.proofs.ToldLaws.{after-after}
 use Rattle.serial_spec.specs.File.{longer, written}
-use Rattle.serial_spec.specs.HeaderGrammar.{header_len}
+use Rattle.serial_spec.specs.HeaderBytes.{header_len}
 use Rattle.serial_spec.specs.Layout.{end_of}
 use Rattle.serial_spec.proofs.FileLaws.{written-front}
 

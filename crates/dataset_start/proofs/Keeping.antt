@@ -2,15 +2,15 @@
 use Rattle.std.proofs.Common.{◌≡◌, ℕ, ◌^◌, ◌≤◌, Bool, true, false, List, [], ◌∷◌, length, refl, ◌==◌, eqb-true}
 use Rattle.std.specs.Prelude.{if◌then◌else◌}
 use Rattle.std.specs.List.{list_all}
-use Rattle.std.proofs.lemmas.Bool.{leb-true}
 use Rattle.list_laws.proofs.Truth.{and_first, and_second}
 use Rattle.nc_base.specs.declared.script.Extra.{Extra}
 use Rattle.nc_base.specs.declared.script.Script.{Script}
-use Rattle.serial_spec.specs.Lawful.{are_lawful_hints, is_empty, is_lawful_extra, is_lawful_header, is_whole_extra, is_within}
+use Rattle.serial_spec.specs.Lawful.{are_lawful_hints, is_empty, is_lawful_extra, is_lawful_header, is_whole_extra}
 use Rattle.script_spec.specs.ScriptGrammar.{Reads}
 use Rattle.script_laws.proofs.HeaderLaws.{read_unplaced, read_writable}
 use Rattle.script_laws.proofs.LawfulLaws.{read_lawful, read_whole}
 use Rattle.dataset_start.specs.Dataset.{IsKept}
+use Rattle.serial_spec.proofs.LawfulTests.{within_is}
 
 pub read_kept : (text : List ℕ) (script : Script) → Reads text script → IsKept script
 read_kept text script r = record {
@@ -26,21 +26,18 @@ kept_hints script k =
 
 -- ---- the size of a window
 
-within : (low high n : ℕ) → is_within low high n ≡ true → (low ≤ n) × (n ≤ high)
-within low high n h = (leb-true low n (and_first _ _ h), leb-true n high (and_second _ _ h))
-
 pub kept_wr_buffer : (script : Script) → IsKept script → (1 ≤ script.hints.wr_buffer) × (script.hints.wr_buffer ≤ 2 ^ 25)
 kept_wr_buffer script k =
-    within 1 (2 ^ 25) script.hints.wr_buffer (and_second _ _ (and_first _ _ (and_first _ _ (and_first _ _ (and_first _ _ (kept_hints script k))))))
+    within_is 1 (2 ^ 25) script.hints.wr_buffer (and_second _ _ (and_first _ _ (and_first _ _ (and_first _ _ (and_first _ _ (kept_hints script k))))))
 
 -- ---- the alignments, and the record count
 
 pub kept_header_align : (script : Script) → IsKept script → (4 ≤ script.hints.header_align) × (script.hints.header_align ≤ 1048576)
 kept_header_align script k =
-    within 4 1048576 script.hints.header_align (and_first _ _ (and_second _ _ (and_first _ _ (and_first _ _ (kept_hints script k)))))
+    within_is 4 1048576 script.hints.header_align (and_first _ _ (and_second _ _ (and_first _ _ (and_first _ _ (kept_hints script k)))))
 
 pub kept_var_align : (script : Script) → IsKept script → (4 ≤ script.hints.var_align) × (script.hints.var_align ≤ 1048576)
-kept_var_align script k = within 4 1048576 script.hints.var_align (and_first _ _ (and_second _ _ (and_first _ _ (kept_hints script k))))
+kept_var_align script k = within_is 4 1048576 script.hints.var_align (and_first _ _ (and_second _ _ (and_first _ _ (kept_hints script k))))
 
 kept_header : (script : Script) → IsKept script → is_lawful_header script ≡ true
 kept_header script k =

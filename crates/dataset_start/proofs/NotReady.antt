@@ -1,19 +1,17 @@
 -- A dataset that was not made ready.
-use Rattle.std.proofs.Common.{◌≡◌, ℕ, ◌≤◌, ◌==◌, max, ◌⊎◌, inl, inr, refl, sym, ◌∙◌, ap, subst, List, [], length, Bool, true, false, Option, Some, None, arith}
-use Rattle.std.specs.Prelude.{Result, Ok, Err, OnErr}
-use Rattle.std.proofs.lemmas.Grind.{common_steps}
+use Rattle.std.proofs.Common.{◌≡◌, ℕ, ◌≤◌, ◌==◌, ◌⊎◌, inl, inr, refl, sym, ◌∙◌, ap, subst, List, [], length, Bool, true, false, Option, Some, None, arith}
 use Rattle.nc_base.specs.declared.header.Header as head
 use Rattle.nc_base.specs.declared.script.Extra.{Extra}
 use Rattle.nc_base.specs.declared.script.Script as script_type
 use Rattle.nc_outside.specs.DiskState.{PartlyWritten}
 use Rattle.nc_outside.specs.Told.{after, BothTold}
 use Rattle.serial_spec.specs.File.{at, longer, written}
-use Rattle.serial_spec.specs.HeaderGrammar.{canon, header_len}
+use Rattle.serial_spec.specs.HeaderBytes.{canon, header_len}
 use Rattle.serial_spec.specs.Layout.{end_of}
 use Rattle.serial_spec.specs.SerialEnd.{start}
 use Rattle.serial_spec.specs.Redefinition.{redefined}
 use Rattle.serial_spec.specs.Torn.{IsBegun, IsLengthened, IsTornCreation, IsTornRedefinition}
-use Rattle.serial_spec.proofs.FileLaws.{at-longer}
+use Rattle.serial_spec.proofs.FileLaws.{at-longer, longer_long}
 use Rattle.overlay_laws.specs.Changes.{IsBetween}
 use Rattle.fill_records.proofs.TornLaws.{filled_long}
 use Rattle.redef_laws.specs.Applied.{IsApplied}
@@ -22,22 +20,9 @@ use Rattle.redef_mover.specs.Relocation.{KeepsPlaces}
 use Rattle.dataset_start.specs.Dataset.{created_header, header_of_run, AreHeadersOf}
 use Rattle.dataset_start.specs.Opening.{filled_if, IsCutRedefinition, IsNotReady, IsOpened, IsPartlyOpened, IsPartlyRedefined}
 use Rattle.dataset_start.proofs.Created.{front-of-zeros}
-use Rattle.dataset_start.proofs.Ready.{begun, false-true, header-changed, header-kept, start-created}
-
-pub on_err : {T E P : Type 0} (r : Result T E) → P → OnErr r P
-on_err (Ok x) p = tt
-on_err (Err e) p = p
-
-pub err_as : {T E P Q : Type 0} (r : Result T E) → (P → Q) → OnErr r P → OnErr r Q
-err_as (Ok x) f p = tt
-err_as (Err e) f p = f p
-
-told_as : {A : Type 0} (R S : A → A → Type 0) (held now : Option A) → ((old left : A) → R old left → S old left) → BothTold R held now → BothTold S held now
-told_as R S None now f b = b
-told_as R S (Some old) now f b = (b.0, b.1, f old b.0 b.2)
-
-longer_long : (file : List ℕ) (n : ℕ) → length (longer file n) ≡ max (length file) n
-longer_long file n = grind (arith, common_steps)
+use Rattle.dataset_start.proofs.Ready.{begun, header-changed, header-kept, start-created}
+use Rattle.nc_outside.proofs.ToldLaws.{told_as}
+use Rattle.std.proofs.lemmas.Bool.{both_ways}
 
 -- ---- a dataset that is created
 
@@ -97,7 +82,7 @@ head_refused bytes other size end place held mid grown now fits s p o e g b =
 
 as_created : (script : script_type.Script) (file left : List ℕ) → script.fresh ≡ true
     → IsTornCreation (canon (created_header script)) (start script (created_header script) file) file left → IsNotReady script file left
-as_created script file left f t = record { created = λ _. t; opened = λ o. absurd (false-true script.fresh o f) }
+as_created script file left f t = record { created = λ _. t; opened = λ o. absurd (both_ways script.fresh o f) }
 
 -- the layout was refused
 pub not_laid : (script : script_type.Script) (held : Option (List ℕ)) → script.fresh ≡ true → BothTold (IsNotReady script) held held
@@ -177,7 +162,7 @@ pub open_refused : (script : script_type.Script) (held now : Option (List ℕ)) 
     → BothTold (IsNotReady script) held now
 open_refused script held now f b =
     told_as (IsPartlyOpened script) (IsNotReady script) held now
-    (λ old left p. record { created = λ c. absurd (false-true script.fresh f c); opened = λ _. p }) b
+    (λ old left p. record { created = λ c. absurd (both_ways script.fresh f c); opened = λ _. p }) b
 
 -- ---- a dataset that is opened
 
@@ -192,7 +177,7 @@ not_opened script held now e = subst (λ (m : Option (List ℕ)). BothTold (IsPa
 heads_of : (script : script_type.Script) (old header : head.Header) (file : List ℕ) → script.fresh ≡ false → IsOpened (Some file) old
     → ((length script.extra == 0) ≡ true → header ≡ old) → ((length script.extra == 0) ≡ false → IsApplied old script.extra header) → AreHeadersOf script file old header
 heads_of script old header file f o same changed = record {
-  created = λ c. absurd (false-true script.fresh f c);
+  created = λ c. absurd (both_ways script.fresh f c);
   opened = λ _. begun (Some file) old o;
   made = by_extras (length script.extra == 0) refl;
 }
@@ -214,8 +199,8 @@ lengthen_refused script header held mid now f x o e b =
       inr (
         header,
         header,
-        heads_of script header header file f p (λ _. refl) (λ s. absurd (false-true (length script.extra == 0) s x)),
-        record { kept = λ _. c.2; moved = λ s. absurd (false-true (length script.extra == 0) s x) },
+        heads_of script header header file f p (λ _. refl) (λ s. absurd (both_ways (length script.extra == 0) s x)),
+        record { kept = λ _. c.2; moved = λ s. absurd (both_ways (length script.extra == 0) s x) },
       ),
     )
 
@@ -230,8 +215,8 @@ redefine_refused script old held mid now f x o e b =
         inr (
           old,
           new,
-          heads_of script old new file f p (λ s. absurd (false-true (length script.extra == 0) x s)) (λ _. a),
-          record { kept = λ s. absurd (false-true (length script.extra == 0) x s); moved = λ _. t },
+          heads_of script old new file f p (λ s. absurd (both_ways (length script.extra == 0) x s)) (λ _. a),
+          record { kept = λ s. absurd (both_ways (length script.extra == 0) x s); moved = λ _. t },
         )
 
     by_held : (t : Option (List ℕ)) → IsOpened t old → BothTold (IsPartlyRedefined old script.extra) t now → BothTold (IsPartlyOpened script) t now

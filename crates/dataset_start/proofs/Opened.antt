@@ -15,7 +15,8 @@ use Rattle.dataset_start.specs.declared.stop.Stop.{Stop}
 use Rattle.dataset_start.specs.declared.stop.Stop.TheVariants.{Header, Memory}
 use Rattle.nc_base.specs.declared.errors.HeaderErr.TheVariants as fault
 use Rattle.nc_base.specs.declared.header.Header as head
-use Rattle.serial_spec.specs.HeaderGrammar.{first_check, HasFault, Spells}
+use Rattle.serial_spec.specs.HeaderGrammar.{Spells}
+use Rattle.serial_spec.specs.HeaderFaults.{first_check, HasFault}
 use Rattle.serial_spec.proofs.FaultLaws.{fault_only}
 use Rattle.serial_spec.proofs.OnceLaws.{spells_once}
 use Rattle.cdf_header.specs.Decoding.{BeginsWith}

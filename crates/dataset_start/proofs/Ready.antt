@@ -14,7 +14,9 @@ use Rattle.nc_outside.proofs.ToldLaws.{after-after, after-same}
 use Rattle.serial_spec.specs.DeviceCalls.{grow_to, head_load, move_calls, opening_calls, redefining_calls, zero_calls}
 use Rattle.serial_spec.specs.File.{longer}
 use Rattle.serial_spec.specs.Fill.{filled}
-use Rattle.serial_spec.specs.HeaderGrammar.{canon, HasFault, header_len, is_sound}
+use Rattle.serial_spec.specs.HeaderBytes.{canon, header_len}
+use Rattle.serial_spec.specs.HeaderFaults.{HasFault}
+use Rattle.serial_spec.specs.SoundHeaders.{is_sound}
 use Rattle.serial_spec.specs.Layout.{end_of}
 use Rattle.serial_spec.specs.Redefinition.{brought, layout_fault, redefined, redefined_fault, redefined_header}
 use Rattle.serial_spec.specs.SerialEnd.{start}
@@ -32,12 +34,7 @@ use Rattle.dataset_start.specs.declared.stop.Stop.TheVariants as stops
 use Rattle.dataset_start.proofs.Opened.{begins_once}
 use Rattle.dataset_start.proofs.Redefinable.{redefined_sound}
 use Rattle.dataset_start.proofs.Redefined.{long_enough, same_end}
-
-pub false-true : (b : Bool) → b ≡ false → b ≡ true → ⊥
-false-true b e f = clash (sym e ∙ f)
-  where
-    clash : false ≡ true → ⊥
-    clash x = cc
+use Rattle.std.proofs.lemmas.Bool.{both_ways}
 
 -- ---- nothing is added to a dataset, or something
 
@@ -194,9 +191,9 @@ ready-created script header before mid now calls_before calls_mid calls_now f x 
   old = header;
   file = told before;
   held = told-is before;
-  heads = record { created = λ _. h; opened = λ o. absurd (false-true script.fresh o f); made = sym (header-kept script header x) };
+  heads = record { created = λ _. h; opened = λ o. absurd (both_ways script.fresh o f); made = sym (header-kept script header x) };
   sound = s;
-  faultless = record { created = λ _. l; opened = λ o. absurd (false-true script.fresh o f) };
+  faultless = record { created = λ _. l; opened = λ o. absurd (both_ways script.fresh o f) };
   bytes =
       g ∙ ap (λ (t : Option (List ℕ)). after (filled_if script.filled header) t) e
       ∙ after-after (filled_if script.filled header) (λ _. longer (canon header) (end_of header (header_len header) 0)) before
@@ -228,7 +225,7 @@ sound-file script old (Some file) o r n = record { header = n; redefinition = re
 opened-faultless : (script : script_type.Script) (old : head.Header) (held : Option (List ℕ)) → script.fresh ≡ false → IsOpened held old
     → redefinition_fault script old ≡ None → IfSome held (λ file. (e : HeaderErr) → HasFault (front file) e → ⊥) → IsFaultless script held
 opened-faultless script old held f o r n =
-    record { created = λ c. absurd (false-true script.fresh f c); opened = λ _. sound-file script old held o r n }
+    record { created = λ c. absurd (both_ways script.fresh f c); opened = λ _. sound-file script old held o r n }
 
 pub ready-kept : (script : script_type.Script) (header : head.Header) (before mid now : Option (List ℕ)) (calls_before calls_mid calls_now : Option (List DiskCall))
     → script.fresh ≡ false → AddsNothing script true → IsOpened before header → is_sound header ≡ true
@@ -241,7 +238,7 @@ ready-kept script header before mid now calls_before calls_mid calls_now f x o s
   old = header;
   file = o.file;
   held = o.told;
-  heads = record { created = λ c. absurd (false-true script.fresh f c); opened = λ _. (o.count, o.begins); made = sym (header-kept script header x) };
+  heads = record { created = λ c. absurd (both_ways script.fresh f c); opened = λ _. (o.count, o.begins); made = sym (header-kept script header x) };
   sound = s;
   faultless = opened-faultless script header before f o (fault-none script header x) n;
   bytes = e ∙ ap (λ (t : Option (List ℕ)). after (λ file. longer file (end_of header (header_len header) header.records)) t) h
@@ -272,7 +269,7 @@ ready-redefined script old new before mid now calls_before calls_mid calls_now f
   old = old;
   file = o.file;
   held = o.told;
-  heads = record { created = λ c. absurd (false-true script.fresh f c); opened = λ _. (o.count, o.begins); made = header-changed script old new x a };
+  heads = record { created = λ c. absurd (both_ways script.fresh f c); opened = λ _. (o.count, o.begins); made = header-changed script old new x a };
   sound = redefined_sound old new script.extra a;
   faultless = opened-faultless script old before f o (fault-some script old x ∙ a.faultless) n;
   bytes = e ∙ ap (λ (t : Option (List ℕ)). after (λ file. redefined file old new) t) h
@@ -305,7 +302,7 @@ bad-header-stop : (script : script_type.Script) (held : Option (List ℕ)) (stop
     → ((e : HeaderErr) → stop ≡ stops.Header e → IfSome held (λ file. HasFault (front file) e)) → IsOfHeader stop
     → status_of stop ≡ 4 → IfSome (line_of stop) (TellsDataset script held)
 bad-header-stop script held (stops.Header e) f h o s =
-    record { created = λ c. absurd (false-true script.fresh f c); opened = λ _. inl (e, (h e refl, refl)) }
+    record { created = λ c. absurd (both_ways script.fresh f c); opened = λ _. inl (e, (h e refl, refl)) }
 bad-header-stop script held stops.Disk f h o s = absurd (omega (arith, s))
 bad-header-stop script held stops.Memory f h o s = absurd (omega (arith, s))
 bad-header-stop script held stops.Usage f h o s = absurd o
@@ -335,7 +332,7 @@ bad-redefinition-stop : (script : script_type.Script) (old : head.Header) (held 
     → IsOpened held old → ((e : RedefErr) → stop ≡ stops.Redefinition e → redefined_fault old script.extra ≡ Some e) → IsOfRedefinition stop
     → status_of stop ≡ 4 → IfSome (line_of stop) (TellsDataset script held)
 bad-redefinition-stop script old held (stops.Redefinition e) f x p h o s =
-    record { created = λ c. absurd (false-true script.fresh f c); opened = λ _. inr (e, (redefinition-told script old held e x p (h e refl), refl)) }
+    record { created = λ c. absurd (both_ways script.fresh f c); opened = λ _. inr (e, (redefinition-told script old held e x p (h e refl), refl)) }
 bad-redefinition-stop script old held stops.Disk f x p h o s = absurd (omega (arith, s))
 bad-redefinition-stop script old held stops.Memory f x p h o s = absurd (omega (arith, s))
 bad-redefinition-stop script old held stops.Usage f x p h o s = absurd o

@@ -3,7 +3,7 @@ use Rattle.std.proofs.Common.{◌≡◌, List, true}
 use Rattle.redef_laws.proofs.MovedLaws.{writable_is_sound}
 use Rattle.nc_base.specs.declared.header.Header.{Header}
 use Rattle.nc_base.specs.declared.script.Extra.{Extra}
-use Rattle.serial_spec.specs.HeaderGrammar.{is_sound}
+use Rattle.serial_spec.specs.SoundHeaders.{is_sound}
 use Rattle.redef_laws.specs.Applied.{IsApplied}
 use Rattle.redef_laws.proofs.WrittenLaws.{written}
 

@@ -1,18 +1,18 @@
 -- The header and the file of a redefinition.
-use Rattle.std.proofs.Common.{◌≡◌, ℕ, ◌+◌, ◌-◌, ◌≤◌, List, [], ◌∷◌, ◌++◌, length, take, drop, replicate, fold, zip, refl, ap, ◌∙◌, arith}
-use Rattle.std.proofs.lemmas.List.{length-append, length-drop, length-replicate, length-take}
+use Rattle.std.proofs.Common.{◌≡◌, ℕ, ◌+◌, ◌-◌, ◌≤◌, List, [], ◌∷◌, ◌++◌, length, drop, replicate, fold, zip, refl, ap, ◌∙◌, arith}
+use Rattle.std.proofs.lemmas.List.{length-append, length-replicate}
 use Rattle.redef_mover.proofs.AppliedLaws.{one_keeps}
 use Rattle.nc_base.specs.declared.header.Header.{Header}
 use Rattle.nc_base.specs.declared.header.Var.{Var}
 use Rattle.nc_base.specs.declared.script.Extra.{Extra}
 use Rattle.serial_spec.specs.ExternalForm.{size_of}
-use Rattle.serial_spec.specs.File.{longer, read, written}
-use Rattle.serial_spec.specs.HeaderGrammar.{canon, header_len}
+use Rattle.serial_spec.specs.File.{read, written}
+use Rattle.serial_spec.specs.HeaderBytes.{canon, header_len}
 use Rattle.serial_spec.specs.Layout.{end_of}
 use Rattle.serial_spec.specs.Place.{place}
 use Rattle.serial_spec.specs.Redefinition.{all_indices, moved, redefined, redefined_header, with_extra}
-use Rattle.serial_spec.proofs.FileLaws.{written-front}
 use Rattle.redef_laws.specs.Shifted.{new_end}
+use Rattle.serial_spec.proofs.GrowLaws.{written_grows}
 
 -- ---- the record count stays
 
@@ -27,21 +27,6 @@ pub same_end : (old new : Header) (extras : List Extra) → new ≡ redefined_he
 same_end old new extras e = ap (λ (n : ℕ). end_of new (header_len new) n) (records_kept old new extras e)
 
 -- ---- the file is not shorter than its end
-
-written_grows : (file : List ℕ) (x : ℕ) (bytes : List ℕ) → length file ≤ length (written file x bytes)
-written_grows file x bytes =
-    let whole : List ℕ = longer file x in
-    let rest : List ℕ = drop (x + length bytes) file in
-    omega (
-      arith,
-      ap length (written-front file x bytes),
-      length-append (take x whole ++ bytes) rest,
-      length-append (take x whole) bytes,
-      length-take x whole,
-      length-append file (replicate (x - length file) 0),
-      length-replicate {A = ℕ} (x - length file) 0,
-      length-drop (x + length bytes) file,
-    )
 
 fold_grows : {A : Type 0} (f : List ℕ → A → List ℕ) → ((file : List ℕ) (a : A) → length file ≤ length (f file a)) → (list : List A) (file : List ℕ)
     → length file ≤ length (fold f file list)

@@ -13,7 +13,8 @@ use Rattle.nc_base.specs.declared.script.Align.{Align}
 use Rattle.nc_base.specs.declared.script.Hints.{Hints}
 use Rattle.nc_base.specs.declared.script.Script.{Script}
 use Rattle.serial_spec.specs.Layout.{begins}
-use Rattle.serial_spec.specs.HeaderGrammar.{HasFault, header_len}
+use Rattle.serial_spec.specs.HeaderBytes.{header_len}
+use Rattle.serial_spec.specs.HeaderFaults.{HasFault}
 use Rattle.serial_spec.specs.Lawful.{has_whole_attrs, is_lawful}
 use Rattle.serial_spec.specs.Redefinition.{layout_fault, redefined_fault, redefined_header}
 use Rattle.var_layout.specs.Unplaced.{has_writable_parts, is_unplaced}

@@ -19,7 +19,8 @@ use Rattle.nc_base.specs.declared.step.DiskCall.{DiskCall}
 use Rattle.nc_outside.specs.Told.{after, BothTold}
 use Rattle.serial_spec.specs.DeviceCalls.{fill_calls, grow_to, head_load, opening_calls, redefining_calls}
 use Rattle.serial_spec.specs.Fill.{filled}
-use Rattle.serial_spec.specs.HeaderGrammar.{canon, header_len, is_sound}
+use Rattle.serial_spec.specs.HeaderBytes.{canon, header_len}
+use Rattle.serial_spec.specs.SoundHeaders.{is_sound}
 use Rattle.serial_spec.specs.Layout.{end_of}
 use Rattle.serial_spec.specs.Redefinition.{brought, layout_fault, redefined}
 use Rattle.serial_spec.specs.SerialEnd.{start}

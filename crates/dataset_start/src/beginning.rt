@@ -2,7 +2,8 @@
 ghost use Rattle.std.specs.Prelude.{◌≡◌, ◌≤◌, ℕ, [], true, IfOk, IfErr, OnOk, OnErr, IfSome, IsErrOf, Err, Some, None};
 ghost use Rattle.nc_outside.specs.Told.{after, BothTold};
 ghost use Rattle.nc_outside.specs.Cause.{Rose};
-ghost use Rattle.serial_spec.specs.HeaderGrammar.{header_len, is_sound, is_writable};
+ghost use Rattle.serial_spec.specs.HeaderBytes.{header_len};
+ghost use Rattle.serial_spec.specs.SoundHeaders.{is_sound, is_writable};
 ghost use Rattle.serial_spec.specs.Layout.{end_of};
 ghost use Rattle.dataset_start.specs.Dataset.{align_of, Asks, created_header, IsBeforeStart, IsKept, IsRead, refusal, TellsDataset};
 ghost use Rattle.dataset_start.specs.Opening.{IsLeftUnready, IsNotReady, IsReady};

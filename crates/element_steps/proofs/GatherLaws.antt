@@ -5,7 +5,7 @@ use Rattle.std.specs.List.{range_with_len}
 use Rattle.std.proofs.lemmas.List.{drop_all, map-id}
 use Rattle.std.proofs.lemmas.List.FromFn.{map-range_with_len_more}
 use Rattle.serial_spec.specs.File.{at, longer, read}
-use Rattle.vara_extents.proofs.JoinLaws.{drop_at}
+use Rattle.list_laws.proofs.Places.{drop_at}
 
 -- one byte of zero more
 pub longer_push : (f : List ℕ) (n : ℕ) → length f < n → longer (f ++ 0 ∷ []) n ≡ longer f n

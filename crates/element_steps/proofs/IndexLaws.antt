@@ -1,8 +1,7 @@
 -- The index of an element, one dimension after another, and how great its entries are.
-use Rattle.std.proofs.Common.{◌≡◌, ℕ, zero, suc, ◌+◌, ◌-◌, ◌*◌, ◌/◌, ◌%◌, ◌^◌, ◌<◌, ◌≤◌, refl, sym, ap, ◌∙◌, subst, List, [], ◌∷◌, ◌++◌, length, take, drop, get_or, Bool, true, false, Option, Some, arith}
+use Rattle.std.proofs.Common.{◌≡◌, ℕ, ◌+◌, ◌-◌, ◌*◌, ◌/◌, ◌%◌, ◌^◌, ◌<◌, ◌≤◌, refl, sym, ap, ◌∙◌, subst, List, [], ◌∷◌, ◌++◌, length, take, drop, get_or, Bool, true, false, Option, Some, arith}
 use Rattle.std.specs.Prelude.{slice_get}
 use Rattle.std.specs.List.{AllByRecursion}
-use Rattle.std.proofs.lemmas.List.{take_rest}
 use Rattle.std.proofs.lemmas.Nat.{mod_below, mul-le}
 use Rattle.list_laws.proofs.Each.{each_weaker}
 use Rattle.nc_base.specs.declared.header.Header.{Header}
@@ -14,11 +13,12 @@ use Rattle.serial_spec.specs.Place.{row, place, record_of, within_record, HasRec
 use Rattle.serial_spec.specs.Request.{index_at}
 use Rattle.serial_spec.proofs.ApartLaws.{index_fixed, index_record}
 use Rattle.var_layout.proofs.ElementPlaces.{product_pos, place_fixed, place_record, row_below_bytes}
-use Rattle.serial_spec.specs.HeaderGrammar.{is_sound}
+use Rattle.serial_spec.specs.SoundHeaders.{is_sound}
 use Rattle.vara_extents.specs.Accepted.{IsAccepted}
 use Rattle.vara_extents.specs.Numbered.{coordinates_of, index_of}
 use Rattle.vara_extents.proofs.PlaceLaws.{accepted_place, wide_records}
 use Rattle.element_steps.specs.Requests.{AreBelow}
+use Rattle.vara_extents.proofs.RowSteps.{split, some_block}
 
 -- ---- one dimension more
 
@@ -26,20 +26,11 @@ use Rattle.element_steps.specs.Requests.{AreBelow}
 abbrev pub rest : List ℕ → List ℕ
 rest xs = take (length xs - 1) (drop 1 xs)
 
-split : (xs : List ℕ) → 1 ≤ length xs → xs ≡ get_or xs 0 0 ∷ rest xs
-split [] h = absurd (omega arith)
-split (x ∷ xs) h = ap (λ (ys : List ℕ). x ∷ ys) (sym (take_rest (x ∷ xs) 1))
-
 pub record IndexStep (starts counts strides : List ℕ) (number inner s t : ℕ) (starts' counts' strides' : List ℕ) : Type 0 where
   pub is : index_at starts strides (coordinates_of counts number) ≡ (s + number / inner * t) ∷ index_at starts' strides' (coordinates_of counts' (number % inner))
   pub some : 1 ≤ inner
   pub number_low : number % inner < product counts'
   pub few : product counts' ≤ 2 ^ 20
-
-some_block : (n p k : ℕ) → k < n * p → (1 ≤ n) × (1 ≤ p)
-some_block zero p k h = absurd (omega arith)
-some_block (suc n) zero k h = absurd (omega arith)
-some_block (suc n) (suc p) k h = (omega arith, omega arith)
 
 step_of : (number s n t : ℕ) (starts counts strides : List ℕ) → number < product (n ∷ counts) → product (n ∷ counts) ≤ 2 ^ 20
     → IndexStep (s ∷ starts) (n ∷ counts) (t ∷ strides) number (product counts) s t starts counts strides
@@ -66,15 +57,6 @@ index_step starts counts strides number inner a b c below few e =
     (split starts a) (split counts b) (split strides c) below few)
 
 -- ---- none left
-
-pub no_starts : (starts strides c : List ℕ) → length starts < 1 → index_at starts strides c ≡ []
-no_starts [] strides c h = refl
-no_starts (s ∷ starts) strides c h = absurd (omega arith)
-
-pub no_strides : (starts strides c : List ℕ) → length strides < 1 → index_at starts strides c ≡ []
-no_strides [] strides c h = refl
-no_strides (s ∷ starts) [] c h = refl
-no_strides (s ∷ starts) (t ∷ strides) c h = absurd (omega arith)
 
 pub no_counts : (starts counts strides : List ℕ) (number : ℕ) → length counts < 1 → index_at starts strides (coordinates_of counts number) ≡ []
 no_counts [] counts strides number h = refl
@@ -122,11 +104,6 @@ index_below header v index n h wide low = by_kind (is_record header v) refl
         record_below header v index n parts.0 parts.1 (wide e) (omega (arith, whole, low)) (omega (arith, whole, bytes, low))
 
 -- ---- the element with a number
-
-pub some_below : {X : Type 0} (xs : List X) (k : ℕ) (x : X) → slice_get xs k ≡ Some x → k < length xs
-some_below [] k x h = cc
-some_below (y ∷ xs) zero x h = omega arith
-some_below (y ∷ xs) (suc k) x h = let l = some_below xs k x h in omega arith
 
 pub same_one : {X : Type 0} (a b : X) (o : Option X) → o ≡ Some a → o ≡ Some b → a ≡ b
 same_one a b o e f = let s : Some a ≡ Some b = sym e ∙ f in cc

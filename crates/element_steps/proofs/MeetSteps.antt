@@ -1,8 +1,7 @@
 -- The offers of a meeting, one after another.
-use Rattle.std.proofs.Common.{◌≡◌, ℕ, ◌+◌, ◌^◌, ◌<◌, ◌≤◌, ◌⊎◌, inl, inr, refl, sym, ap, ◌∙◌, subst, List, [], ◌∷◌, ◌++◌, length, drop, get_or, map, max, Bool, true, false, cond, Option, Some, None, append-nil, append_assoc, arith}
-use Rattle.std.specs.Prelude.{flat_map, nat_lt, slice_get, ◌==◌}
+use Rattle.std.proofs.Common.{◌≡◌, ℕ, ◌+◌, ◌<◌, ◌≤◌, ◌⊎◌, inl, inr, refl, sym, ap, ◌∙◌, subst, List, [], ◌∷◌, ◌++◌, length, drop, get_or, map, max, cond, Option, Some, None, append-nil, append_assoc, arith}
+use Rattle.std.specs.Prelude.{flat_map, nat_lt, slice_get}
 use Rattle.std.specs.List.{enumerate_from}
-use Rattle.std.proofs.lemmas.Bool.Decides.{nat_tests}
 use Rattle.std.proofs.lemmas.List.{drop_all}
 use Rattle.nc_base.specs.declared.answer.Pair.{Pair}
 use Rattle.nc_base.specs.declared.header.Header.{Header}
@@ -13,10 +12,7 @@ use Rattle.nc_base.specs.declared.step.Offer.{Offer}
 use Rattle.nc_base.specs.declared.step.Reply.{Reply}
 use Rattle.overlay_laws.specs.Entries.{In}
 use Rattle.overlay_laws.proofs.Members.{map_in}
-use Rattle.nc_base.specs.declared.step.MeetKind.TheVariants as meets
-use Rattle.nc_base.specs.declared.step.OfferKind.{OfferKind}
-use Rattle.nc_base.specs.declared.step.OfferKind.TheVariants as offer
-use Rattle.serial_spec.specs.FileStep.{after_puts, get_post, known_by, meeting, needs, puts_of, raised, told, Counted, Setting}
+use Rattle.serial_spec.specs.FileStep.{after_puts, get_post, known_by, meeting, needs, puts_of, told, Setting}
 use Rattle.serial_spec.specs.Layout.{greatest}
 use Rattle.serial_spec.specs.Limits.{record_limit}
 use Rattle.serial_spec.specs.Records.{needed, needed_by, records_of_some, with_records}
@@ -26,6 +22,8 @@ use Rattle.vara_extents.specs.Accepted.{IsAccepted}
 use Rattle.vara_extents.proofs.AcceptedLaws.{passed, records_below}
 use Rattle.element_steps.specs.Requests.{reply_to, IsPut, IsRight}
 use Rattle.element_steps.proofs.PairSteps.{next_left}
+use Rattle.serial_spec.proofs.CountLaws.{some_limit, known_less, raised_records, raised_file}
+use Rattle.overlay_laws.proofs.HullLaws.{in_either}
 
 -- ---- the count that ranks know
 
@@ -41,29 +39,13 @@ known_end offers i n w l h =
     let none : greatest (map (λ o. known_by o.kind o.known) (drop i offers)) ≡ 0 = ap (λ (os : List Offer). greatest (map (λ o. known_by o.kind o.known) os)) (drop_all i offers l) in
     omega (arith, none, h)
 
-no_more : (kind : OfferKind) (m : ℕ) → known_by kind m ≤ m
-no_more (offer.Meet meets.Put) m = omega arith
-no_more (offer.Meet meets.Get) m = omega arith
-no_more (offer.Meet meets.Wait) m = omega arith
-no_more (offer.Meet meets.Begin) m = omega arith
-no_more (offer.Meet meets.End) m = omega arith
-no_more (offer.Meet meets.Sync) m = omega arith
-no_more offer.Solo m = omega arith
-
 pub known_low : (offers : List Offer) (n : ℕ) → 0 < n → ((o : Offer) → In offers o → o.known < n) → greatest (map (λ o. known_by o.kind o.known) offers) < n
 known_low [] n some all = omega (arith, some)
 known_low (o ∷ offers) n some all =
     let rest = known_low offers n some (λ p m. all p (inr m)) in
-    let own = no_more o.kind o.known in
+    let own = known_less o.kind o.known in
     let low = all o (inl refl) in
     omega (arith, rest, own, low)
-
-pub some_limit : (version : ℕ) → 0 < record_limit version
-some_limit version = by_test (version == 5)
-  where
-    by_test : (t : Bool) → 0 < cond t (2 ^ 62) (2 ^ 31)
-    by_test true = omega arith
-    by_test false = omega arith
 
 one_low : (header : Header) (post : Post) → IsAccepted header post.var post.region → needed header post < record_limit header.version
 one_low header post a = by_var (slice_get header.vars post.var) refl a.2
@@ -85,15 +67,6 @@ needs_low s puts None all = puts_low s.header puts all
 
 -- ---- the puts
 
-in_either : {X : Type 0} (xs ys : List X) (x : X) → In (xs ++ ys) x → In xs x ⊎ In ys x
-in_either [] ys x h = inr h
-in_either (y ∷ xs) ys x (inl e) = inl (inl e)
-in_either (y ∷ xs) ys x (inr h) = by_side (in_either xs ys x h)
-  where
-    by_side : In xs x ⊎ In ys x → In (y ∷ xs) x ⊎ In ys x
-    by_side (inl m) = inl (inr m)
-    by_side (inr m) = inr m
-
 pub own_right : (header : Header) (rank : ℕ) (o : Offer) (p : ℕ × Post) → IsRight header o → In (puts_of (rank, o)) p → IsPut header p.1
 own_right header rank o p right m =
     let from = map_in (λ post. (rank, post)) o.batch.puts p m in
@@ -111,20 +84,6 @@ puts_right header n (o ∷ offers) p right m =
     by_side (inr h) others = others h
 
 -- ---- file and count
-
-raised_file : (s : Setting) (c : Counted) (n : ℕ) → (raised s c n).file ≡ cond (nat_lt c.records n) (with_records s.header.version c.file n) c.file
-raised_file s c n = by_test (nat_lt c.records n)
-  where
-    by_test : (t : Bool) → (cond t (record { file = with_records s.header.version c.file n; records = n }) c).file ≡ cond t (with_records s.header.version c.file n) c.file
-    by_test true = refl
-    by_test false = refl
-
-raised_records : (s : Setting) (c : Counted) (n : ℕ) → (raised s c n).records ≡ max c.records n
-raised_records s c n = by_test (nat_lt c.records n) refl
-  where
-    by_test : (t : Bool) → nat_lt c.records n ≡ t → (cond t (record { file = with_records s.header.version c.file n; records = n }) c).records ≡ max c.records n
-    by_test true e = grind (arith, nat_tests)
-    by_test false e = grind (arith, nat_tests)
 
 pub record Done (s : Setting) (offers : List Offer) (old mid : List ℕ) (n k : ℕ) (puts : Puts) (pair : Option Pair) : Type 0 where
   pub puts_are : puts ≡ flat_map puts_of (enumerate_from 0 offers)

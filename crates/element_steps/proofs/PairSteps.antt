@@ -1,6 +1,6 @@
 -- The requests that hold a byte, and the least byte that two hold, one holding after another.
-use Rattle.std.proofs.Common.{◌≡◌, ℕ, ◌+◌, ◌-◌, ◌<◌, ◌≤◌, refl, sym, ap, ◌∙◌, List, [], ◌∷◌, ◌++◌, length, map, drop, get_or, filter, fold, min, Bool, true, false, cond, Option, Some, None, arith}
-use Rattle.std.proofs.lemmas.List.{drop_all, drop_more}
+use Rattle.std.proofs.Common.{◌≡◌, ℕ, ◌+◌, ◌-◌, ◌<◌, refl, sym, ap, ◌∙◌, List, [], ◌∷◌, ◌++◌, length, map, drop, get_or, filter, fold, min, Bool, true, false, cond, Option, Some, None}
+use Rattle.std.proofs.lemmas.List.{drop_more}
 use Rattle.std.proofs.lemmas.List.Elements.{filter-append}
 use Rattle.std.specs.List.{list_any}
 use Rattle.serial_spec.specs.SharedByte.{Holding, Key, all_bytes, distinct, has_byte, holders, least, same_key}
@@ -52,25 +52,6 @@ least_joined (x ∷ xs) known ys = least_joined xs (Some (lesser_of known x)) ys
 pub next_left : {A : Type 0} (xs : List A) (i : ℕ) (x d : A) → i < length xs → x ≡ get_or xs i d → drop i xs ≡ x ∷ drop (i + 1) xs
 next_left {A} xs i x d h e = drop_more xs i d h ∙ ap (λ (y : A). y ∷ drop (i + 1) xs) (sym e)
 
-pub holders_step : (held : List Holding) (k x : ℕ) (h : Holding) (keys keys' : List Key) → k < length held → h ≡ get_or held (length held - 1 - k) h
-    → ((rest : List Holding) → keys ≡ holders rest x → keys' ≡ holders (h ∷ rest) x)
-    → keys ≡ holders (drop (length held - k) held) x → keys' ≡ holders (drop (length held - (k + 1)) held) x
-holders_step held k x h keys keys' below e add so_far =
-    let i : ℕ = length held - (k + 1) in
-    let here : length held - 1 - k ≡ i = omega arith in
-    let next : length held - k ≡ i + 1 = omega arith in
-    let left = next_left held i h h (omega arith) (e ∙ ap (λ (n : ℕ). get_or held n h) here) in
-    add (drop (i + 1) held) (so_far ∙ ap (λ (n : ℕ). holders (drop n held) x) next)
-    ∙ sym (ap (λ (l : List Holding). holders l x) left)
-
-pub holders_all : (held : List Holding) (k x : ℕ) (keys : List Key) → length held ≤ k → keys ≡ holders (drop (length held - k) held) x → keys ≡ holders held x
-holders_all held k x keys l e =
-    let none : length held - k ≡ 0 = omega arith in
-    e ∙ ap (λ (n : ℕ). holders (drop n held) x) none
-
-pub holders_none : (held : List Holding) (x : ℕ) (keys : List Key) → keys ≡ [] → keys ≡ holders (drop (length held - 0) held) x
-holders_none held x keys e = e ∙ sym (ap (λ (l : List Holding). holders l x) (drop_all (length held - 0) held (omega arith)))
-
 pub least_step : (p : ℕ → Bool) (xs : List ℕ) (i b : ℕ) (s : Bool) (known known' whole : Option ℕ) → i < length xs → b ≡ get_or xs i 0 → s ≡ p b
     → known' ≡ cond s (Some (lesser_of known b)) known → least_with known (filter p (drop i xs)) ≡ whole → least_with known' (filter p (drop (i + 1) xs)) ≡ whole
 least_step p xs i b s known known' whole h e t k w =
@@ -94,7 +75,3 @@ held_step p held i h known known' whole l e k w =
     ∙ ap (λ (ys : List ℕ). least_with known ys) (sym (filter-append p h.1 (all_bytes rest)))
     ∙ sym (ap (λ (hs : List Holding). least_with known (filter p (all_bytes hs))) (next_left held i h h l e))
     ∙ w
-
-pub held_end : (p : ℕ → Bool) (held : List Holding) (i : ℕ) (known whole : Option ℕ) → length held ≤ i
-    → least_with known (filter p (all_bytes (drop i held))) ≡ whole → known ≡ whole
-held_end p held i known whole l w = sym (ap (λ (hs : List Holding). least_with known (filter p (all_bytes hs))) (drop_all i held l)) ∙ w

@@ -10,7 +10,8 @@ use Rattle.nc_base.specs.declared.answer.Code.TheVariants as code
 use Rattle.overlay_laws.specs.Entries.{In}
 use Rattle.serial_spec.specs.File.{longer}
 use Rattle.serial_spec.specs.FileStep.{after_puts, put_post, put_some, Setting}
-use Rattle.serial_spec.specs.HeaderGrammar.{header_len, is_sound}
+use Rattle.serial_spec.specs.HeaderBytes.{header_len}
+use Rattle.serial_spec.specs.SoundHeaders.{is_sound}
 use Rattle.serial_spec.specs.Layout.{end_of}
 use Rattle.serial_spec.specs.Records.{needed, needed_by, records_of, records_of_some}
 use Rattle.serial_spec.specs.RegionCheck.{check_some}

@@ -5,7 +5,7 @@ use Rattle.std.proofs.lemmas.List.{drop-drop, drop_all}
 use Rattle.serial_spec.specs.File.{written}
 use Rattle.serial_spec.specs.Request.{cells}
 use Rattle.serial_spec.specs.Said.{write_cells}
-use Rattle.vara_extents.proofs.JoinLaws.{drop_at}
+use Rattle.list_laws.proofs.Places.{drop_at}
 
 pub put_step : (size : ℕ) (ps bytes file file' whole part : List ℕ) (k x : ℕ) → slice_get ps k ≡ Some x → part ≡ take size (drop (k * size) bytes)
     → file' ≡ written file x part → write_cells file (cells size (drop k ps) (drop (k * size) bytes)) ≡ whole

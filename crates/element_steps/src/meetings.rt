@@ -5,7 +5,7 @@ ghost use Rattle.nc_base.specs.declared.step.Offer.{Offer};
 ghost use Rattle.overlay_laws.specs.Entries.{In};
 ghost use Rattle.serial_spec.specs.FileStep as step;
 ghost use Rattle.serial_spec.specs.FileStep.{Setting};
-ghost use Rattle.serial_spec.specs.HeaderGrammar.{is_sound};
+ghost use Rattle.serial_spec.specs.SoundHeaders.{is_sound};
 ghost use Rattle.serial_spec.specs.Layout.{greatest};
 ghost use Rattle.serial_spec.specs.Limits.{record_limit};
 ghost use Rattle.element_steps.specs.Requests.{counted, reply_to, setting, IsRight};

@@ -3,7 +3,7 @@ ghost use Rattle.std.specs.Prelude.{◌≡◌, ℕ, List, [], ◌∷◌, ◌++�
 ghost use Rattle.std.specs.List.{list_any};
 ghost use Rattle.nc_base.specs.declared.plan.Post.{Post};
 ghost use Rattle.overlay_laws.specs.Entries.{In};
-ghost use Rattle.serial_spec.specs.HeaderGrammar.{is_sound};
+ghost use Rattle.serial_spec.specs.SoundHeaders.{is_sound};
 ghost use Rattle.serial_spec.specs.SharedByte as spec;
 ghost use Rattle.serial_spec.specs.SharedByte.{all_bytes};
 ghost use Rattle.vara_extents.specs.Accepted.{IsAccepted};

@@ -5,7 +5,7 @@ ghost use Rattle.nc_base.specs.declared.plan.Post.{Post};
 ghost use Rattle.overlay_laws.specs.Entries.{In};
 ghost use Rattle.serial_spec.specs.FileStep as step;
 ghost use Rattle.serial_spec.specs.FileStep.{get_post, Setting};
-ghost use Rattle.serial_spec.specs.HeaderGrammar.{is_sound};
+ghost use Rattle.serial_spec.specs.SoundHeaders.{is_sound};
 ghost use Rattle.serial_spec.specs.Limits.{record_limit};
 ghost use Rattle.serial_spec.specs.Records.{with_records};
 ghost use Rattle.vara_extents.specs.Accepted.{IsAccepted};

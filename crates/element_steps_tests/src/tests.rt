@@ -2,7 +2,7 @@
 ghost use Rattle.std.specs.Prelude.{◌≡◌, [], ◌∷◌, true, IfOk, IfSome};
 ghost use Rattle.nc_base.specs.declared.step.MeetKind.TheVariants.{Put};
 ghost use Rattle.nc_base.specs.declared.step.OfferKind.TheVariants as kind;
-ghost use Rattle.serial_spec.specs.HeaderGrammar.{is_sound};
+ghost use Rattle.serial_spec.specs.SoundHeaders.{is_sound};
 ghost use Rattle.serial_spec.specs.Layout.{product};
 ghost use Rattle.serial_spec.specs.RankSide.{wanted};
 ghost use Rattle.var_layout.specs.Unplaced.{is_unplaced};

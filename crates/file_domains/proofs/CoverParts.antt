@@ -1,6 +1,6 @@
 -- What is left of a cover from a place on, by how many extents begin before the place.
 use Rattle.std.proofs.Common.{◌≡◌, ℕ, zero, suc, ◌+◌, ◌-◌, ◌<◌, ◌≤◌, refl, sym, ◌∙◌, ap, subst, inl, inr, List, [], ◌∷◌, ◌++◌, length, take, drop, get_or, length-drop, ◌^◌, Bool, true, false, cond, min, Some, slice_get, arith}
-use Rattle.std.proofs.lemmas.List.{take_all}
+use Rattle.std.proofs.lemmas.List.{take_all, get_or_default}
 use borrow.Author.Tests.{ltb-true, ltb-false}
 use Rattle.std.specs.Prelude.{filter, nat_lt, nat_le, ◌==◌}
 use Rattle.std.specs.List.{range_with_len, AllWithin}
@@ -14,9 +14,9 @@ use Rattle.nc_base.specs.declared.plan.Extent.{Extent}
 use Rattle.overlay_laws.specs.Entries.{In}
 use Rattle.overlay_laws.specs.Lines.{EndBelow}
 use Rattle.overlay_laws.specs.Walks.{spans, below, IsCover, end_after, is_single, first_at}
-use Rattle.overlay_laws.proofs.WalkLaws.{filter_joined}
 use Rattle.overlay_laws.proofs.CoverLaws.{range_above_none}
 use Rattle.file_domains.specs.Rounds.{IsLeft}
+use Rattle.std.proofs.lemmas.List.Elements.{filter-append}
 
 pub in_dropped : {X : Type 0} (k : ℕ) (xs : List X) (e : X) → In (drop k xs) e → In xs e
 in_dropped zero xs e h = h
@@ -47,7 +47,7 @@ dropped_bytes zero place cover h = refl
 dropped_bytes (suc k) place [] h = refl
 dropped_bytes (suc k) place (e ∷ cover) h =
     dropped_bytes k place cover (λ i d l g. h (suc i) d (omega arith) g)
-    ∙ sym (filter_joined (λ y. nat_le place y) (range_with_len e.at e.len) (spans cover)
+    ∙ sym (filter-append (λ y. nat_le place y) (range_with_len e.at e.len) (spans cover)
     ∙ ap (λ r. r ++ filter (λ y. nat_le place y) (spans cover)) (range_above_none place e.at e.len (h zero e (omega arith) refl)))
 
 pub dropped_left : (k place : ℕ) (cover : List Extent) → IsCover cover → ((e : Extent) → slice_get cover k ≡ Some e → place < e.at + e.len)
@@ -142,16 +142,11 @@ begun_high cover place k h e g =
     let past = leb-false e.at place (subst (λ (z : Extent). nat_le z.at place ≡ false) r.1 (h k e (omega arith) r.0)) in
     omega arith
 
-any_default : {X : Type 0} (xs : List X) (i : ℕ) (d e : X) → i < length xs → get_or xs i d ≡ get_or xs i e
-any_default [] i d e h = absurd (omega arith)
-any_default (x ∷ xs) zero d e h = refl
-any_default (x ∷ xs) (suc i) d e h = any_default xs i d e (omega arith)
-
 -- a half below a place where an extent has begun, and a half from a place on where one has not
 pub half_begun : (cover : List Extent) (place middle i : ℕ) (none d : Extent) → IsPartitionedBy (λ e. nat_le e.at place) cover → middle < length cover
     → (get_or cover middle none).at ≤ place → i ≤ middle → nat_le (get_or cover i d).at place ≡ true
 half_begun cover place middle i none d h room e l =
-    h i middle d l room (subst (λ (z : Extent). nat_le z.at place ≡ true) (any_default cover middle none d room) (le-leb (get_or cover middle none).at place e))
+    h i middle d l room (subst (λ (z : Extent). nat_le z.at place ≡ true) (get_or_default cover middle none d room) (le-leb (get_or cover middle none).at place e))
 
 pub half_left : (cover : List Extent) (place middle i : ℕ) (none d : Extent) → IsPartitionedBy (λ e. nat_le e.at place) cover → i < length cover
     → place < (get_or cover middle none).at → middle ≤ i → nat_le (get_or cover i d).at place ≡ false
@@ -161,7 +156,7 @@ half_left cover place middle i none d h room e l = by_test (nat_le (get_or cover
     by_test false f = f
     by_test true f =
         let low = leb-true (get_or cover middle none).at place
-        (h middle i none l room (subst (λ (z : Extent). nat_le z.at place ≡ true) (any_default cover i d none room) f)) in
+        (h middle i none l room (subst (λ (z : Extent). nat_le z.at place ≡ true) (get_or_default cover i d none room) f)) in
         absurd (omega arith)
 
 -- ---- the hull of the extents of which k + 1 begin before a place

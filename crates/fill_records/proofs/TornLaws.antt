@@ -1,22 +1,17 @@
 -- What a filling that was refused leaves: each byte is old, or that of the filled file.
-use Rattle.std.proofs.Common.{◌≡◌, ℕ, zero, suc, ◌+◌, ◌-◌, ◌<◌, ◌≤◌, ◌⊎◌, inl, inr, refl, sym, ◌∙◌, ap, subst, List, [], ◌∷◌, ◌++◌, length, take, Bool, true, false, not, cond, Option, Some, None, Result, Ok, Err, arith}
-use Rattle.std.specs.Prelude.{fold, find, nat_lt, nat_le, slice_get, IfSome, OnErr}
-use Rattle.std.specs.Int.{Width, byte_len, to_be_bytes, w8, w16, w32, w64, w128}
+use Rattle.std.proofs.Common.{◌≡◌, ℕ, zero, suc, ◌+◌, ◌-◌, ◌<◌, ◌≤◌, ◌⊎◌, inl, inr, refl, sym, ◌∙◌, ap, subst, List, [], ◌∷◌, ◌++◌, length, take, Bool, true, false, not, cond, Option, Some, None, arith}
+use Rattle.std.specs.Prelude.{fold, nat_lt, nat_le, slice_get, IfSome}
 use Rattle.std.proofs.lemmas.Bool.{cases_lt}
 use Rattle.std.proofs.lemmas.Bool.Decides.{nat_tests}
-use borrow.Author.Tests.{eqb-true}
-use Rattle.list_laws.proofs.Truth.{and_second}
 use Rattle.list_laws.proofs.Optional.{told_else, both_none}
-use Rattle.nc_base.specs.declared.header.Attr.{Attr}
 use Rattle.nc_base.specs.declared.header.Header.{Header}
-use Rattle.nc_base.specs.declared.header.NcType.{NcType}
 use Rattle.nc_base.specs.declared.header.Var.{Var}
 use Rattle.nc_outside.specs.DiskState.{PartlyWritten}
 use Rattle.nc_outside.specs.Told.{after, BothTold}
-use Rattle.serial_spec.specs.ExternalForm.{size_of, width_of, code_of, ext}
 use Rattle.serial_spec.specs.File.{at, written}
-use Rattle.serial_spec.specs.Fill.{default_fill, fill_bytes, fill_var, filled, is_fill_value}
-use Rattle.serial_spec.specs.HeaderGrammar.{header_len, is_sound}
+use Rattle.serial_spec.specs.Fill.{fill_bytes, fill_var, filled}
+use Rattle.serial_spec.specs.HeaderBytes.{header_len}
+use Rattle.serial_spec.specs.SoundHeaders.{is_sound}
 use Rattle.serial_spec.specs.Layout.{end_of, fixed_variables, is_record, meet, records_meet, share, sharing_from, sharing_with, slab}
 use Rattle.serial_spec.proofs.ApartLaws.{none_shared, none_with}
 use Rattle.serial_spec.proofs.FileLaws.{length-written_inside, get_or-written_below, get_or-written_within, get_or-written_above}
@@ -26,20 +21,9 @@ use Rattle.fill_records.proofs.RepeatedLaws.{repeated_long, at_repeated}
 use Rattle.fill_records.proofs.VariableLaws.{filled_more, fixed_end}
 use Rattle.fill_records.proofs.WindowLaws.{for_told}
 use Rattle.fill_records.proofs.WriteLaws.{var_filled}
+use Rattle.serial_spec.proofs.ValueLaws.{found_long}
 
 -- ---- files
-
-pub on_err : {T E P : Type 0} (r : Result T E) → P → OnErr r P
-on_err (Ok x) p = tt
-on_err (Err e) p = p
-
-pub err_weaker : {T E P Q : Type 0} (r : Result T E) → (P → Q) → OnErr r P → OnErr r Q
-err_weaker (Ok x) f p = tt
-err_weaker (Err e) f p = f p
-
--- nothing was written
-pub between_still : (old whole : List ℕ) → IsBetween old whole old
-between_still old whole = record { len = refl; each = λ x. inl refl }
 
 -- a change more that was cut off, from one file between to another
 pub between_next : (old whole mid next left : List ℕ) → IsBetween old whole mid → IsBetween old whole next → IsBetween mid next left → IsBetween old whole left
@@ -77,10 +61,6 @@ some_written value file begin n len h room = record {
     by_low x (inr l) = by_high x l (cases_lt x (begin + n))
 
 -- ---- files that may be told
-
-pub none_changed : (held : Option (List ℕ)) (whole : List ℕ → List ℕ) → BothTold (λ old left. IsBetween old (whole old) left) held held
-none_changed None whole = refl
-none_changed (Some file) whole = (file, refl, between_still file (whole file))
 
 -- a change more was cut off
 pub change_refused : (held mid now : Option (List ℕ)) (f g whole : List ℕ → List ℕ) → mid ≡ after f held
@@ -121,22 +101,6 @@ whole_same None now f g same b = b
 whole_same (Some file) now f g same b = (b.0, b.1, subst (λ (w : List ℕ). IsBetween file w b.0) same b.2)
 
 -- ---- one variable
-
-be_long : (w : Width) (n : ℕ) → length (to_be_bytes w n) ≡ byte_len w
-be_long w8 n = refl
-be_long w16 n = refl
-be_long w32 n = refl
-be_long w64 n = refl
-be_long w128 n = refl
-
-found_long : (kind : NcType) (attrs : List Attr) → length {A = ℕ} (elim (find (is_fill_value kind) attrs) [ None ↦ ext kind (default_fill kind) | Some a ↦ a.bytes ]) ≡ size_of kind
-found_long kind [] = be_long (width_of kind) (code_of (width_of kind) (default_fill kind))
-found_long kind (a ∷ attrs) = by_test (is_fill_value kind a) refl (found_long kind attrs)
-  where
-    by_test : (b : Bool) → is_fill_value kind a ≡ b → length {A = ℕ} (elim (find (is_fill_value kind) attrs) [ None ↦ ext kind (default_fill kind) | Some a ↦ a.bytes ]) ≡ size_of kind
-        → length {A = ℕ} (elim (cond b (Some a) (find (is_fill_value kind) attrs)) [ None ↦ ext kind (default_fill kind) | Some a ↦ a.bytes ]) ≡ size_of kind
-    by_test true e h = eqb-true (length a.bytes) (size_of kind) (and_second _ _ e)
-    by_test false e h = h
 
 -- what the filling of a fixed variable writes
 fill_written : (header : Header) (v : Var) (file : List ℕ) → is_record header v ≡ false → v.begin + slab header v ≤ length file

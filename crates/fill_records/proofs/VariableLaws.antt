@@ -15,9 +15,9 @@ use Rattle.serial_spec.specs.ExternalForm.{size_of}
 use Rattle.serial_spec.specs.File.{written}
 use Rattle.serial_spec.specs.Fill.{fill_bytes, fill_var}
 use Rattle.serial_spec.specs.Layout.{is_record, slab, vsize, end_of, end_of_var, fixed_variables, recsize, last_share}
-use Rattle.serial_spec.proofs.ElementLaws.{get_map}
 use Rattle.fill_records.specs.Filling.{repeated, filled_variable, variable_stores}
 use Rattle.fill_records.proofs.WriteLaws.{var_filled}
+use Rattle.list_laws.proofs.Maps.{entry_map}
 
 -- ---- items of a list
 
@@ -50,7 +50,7 @@ fixed_end header first k v h e =
     let own : end_of_var header 0 v ≡ v.begin + vsize header v =
     ap (λ (b : Bool). cond b (cond (0 == 0) 0 (v.begin + (0 - 1) * recsize header + last_share header v)) (v.begin + vsize header v)) e in
     let below = slab_below header v in
-    let all = greatest_holds (map (λ w. end_of_var header 0 w) header.vars) k (end_of_var header 0 v) (get_map (λ w. end_of_var header 0 w) header.vars k v h) in
+    let all = greatest_holds (map (λ w. end_of_var header 0 w) header.vars) k (end_of_var header 0 v) (entry_map (λ w. end_of_var header 0 w) header.vars k v h) in
     omega arith
 
 -- ---- one variable

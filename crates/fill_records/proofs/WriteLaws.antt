@@ -2,7 +2,7 @@
 use Rattle.std.proofs.Common.{◌≡◌, ℕ, zero, suc, ◌+◌, ◌*◌, ◌≤◌, refl, sym, ◌∙◌, ap, List, [], ◌∷◌, ◌++◌, length, map, take, drop, false, append_assoc, length-append, arith}
 use Rattle.std.specs.Prelude.{flat_map, fold}
 use Rattle.std.specs.List.{range_with_len}
-use Rattle.std.proofs.lemmas.List.{append-nil, take_at, map-append, drop-drop, take-append-drop, places}
+use Rattle.std.proofs.lemmas.List.{take_at, map-append, drop-drop, places}
 use Rattle.std.proofs.Math.Seq.{drop-append-add}
 use Rattle.std.proofs.lemmas.List.Folds.{fold-map}
 use Rattle.list_laws.proofs.Maps.{map_map}
@@ -14,19 +14,12 @@ use Rattle.serial_spec.specs.Fill.{fill_bytes, fill_var}
 use Rattle.serial_spec.specs.Layout.{product, inner_lengths, is_record, slab}
 use Rattle.serial_spec.specs.Place.{row, place}
 use Rattle.serial_spec.specs.Request.{coordinates}
-use Rattle.serial_spec.proofs.FileLaws.{written-inside, length-written_inside}
+use Rattle.serial_spec.proofs.FileLaws.{written-inside, length-written_inside, write_none}
 use Rattle.var_layout.proofs.ElementPlaces.{place_fixed}
 use Rattle.fill_records.specs.Filling.{repeated}
 use Rattle.fill_records.proofs.RepeatedLaws.{repeated_long, value_first}
 
 -- ---- two writes
-
-pub write_none : (file : List ℕ) (place : ℕ) → place ≤ length file → written file place [] ≡ file
-write_none file place h =
-    let same : place + 0 ≡ place = omega arith in
-    written-inside file place [] (omega arith)
-    ∙ (λ t. append-nil (take place file) t ++ drop (same t) file)
-    ∙ take-append-drop place file
 
 -- the second write begins where the first one ends
 pub write_next : (file xs ys : List ℕ) (place next : ℕ) → next ≡ place + length xs → next + length ys ≤ length file

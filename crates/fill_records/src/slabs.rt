@@ -7,7 +7,8 @@ ghost use Rattle.overlay_laws.specs.Changes.{IsBetween};
 ghost use Rattle.serial_spec.specs.DeviceCalls.{stores};
 ghost use Rattle.serial_spec.specs.File.{written};
 ghost use Rattle.serial_spec.specs.Fill.{filled};
-ghost use Rattle.serial_spec.specs.HeaderGrammar.{header_len, is_sound};
+ghost use Rattle.serial_spec.specs.HeaderBytes.{header_len};
+ghost use Rattle.serial_spec.specs.SoundHeaders.{is_sound};
 ghost use Rattle.serial_spec.specs.Layout.{end_of};
 
 use crate::fill_value;

@@ -3,7 +3,7 @@ ghost use Rattle.std.specs.Prelude.{◌≡◌, ◌<◌, true, length, slice_get,
 ghost use Rattle.serial_spec.specs.ExternalForm.{size_of, ext};
 ghost use Rattle.serial_spec.specs.Fill as fill;
 ghost use Rattle.serial_spec.specs.Fill.{fill_bytes};
-ghost use Rattle.serial_spec.specs.HeaderGrammar.{is_sound};
+ghost use Rattle.serial_spec.specs.SoundHeaders.{is_sound};
 
 use nc_base::{Attr, Header, NcType, Var};
 use type_external::size_of;

@@ -5,7 +5,7 @@ use Rattle.nc_base.specs.declared.header.Header as head
 use Rattle.nc_base.specs.declared.request.Call.{Call}
 use Rattle.nc_base.specs.declared.script.Extra.{Extra}
 use Rattle.nc_base.specs.declared.script.Script as script_type
-use Rattle.serial_spec.specs.HeaderGrammar.{canon}
+use Rattle.serial_spec.specs.HeaderBytes.{canon}
 use Rattle.serial_spec.specs.Redefinition.{layout_fault}
 use Rattle.script_spec.specs.Generator.{default_hints, made_calls, made_header, made_script}
 use Rattle.generated_run.specs.Made.{calls_of_rank}

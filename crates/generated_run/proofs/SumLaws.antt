@@ -1,7 +1,8 @@
 -- Sums and products that go on by one item.
 use Rattle.std.proofs.Common.{◌≡◌, ℕ, ◌+◌, ◌*◌, ◌%◌, ◌^◌, ◌<◌, ◌≤◌, List, [], ◌∷◌, ◌++◌, length, map, sum, take, get_or, fold, sym, ap, ◌∙◌, arith}
-use Rattle.std.specs.Prelude.{ℤ, pos, ◌+ℤ◌, ◌*ℤ◌}
+use Rattle.std.specs.Prelude.{ℤ, pos, ◌+ℤ◌, ◌*ℤ◌, Some, slice_get}
 use Rattle.std.proofs.lemmas.List.{take_all, take_more}
+use Rattle.std.proofs.lemmas.Option.{get_or_from_slice_get, slice_get_within}
 use Rattle.std.proofs.lemmas.List.Sums.{fold-append, fold_push, sum_by-append, sum_by_push}
 use Rattle.nc_base.specs.declared.bits.BitRun.{BitRun}
 use Rattle.nc_base.specs.declared.numbers.NumberRun.{NumberRun}
@@ -11,21 +12,23 @@ use Rattle.nc_base.proofs.BitLaws as bit
 use Rattle.nc_base.proofs.BitLaws.{bit_steps_more}
 use Rattle.nc_base.proofs.RunLaws as number
 use Rattle.nc_base.proofs.RunLaws.{steps_more}
-use Rattle.serial_spec.specs.Layout.{product}
 use Rattle.script_laws.proofs.ListLaws.{sum_more}
 
 pub mapped_more : {A : Type 0} (f : A → ℕ) (xs : List A) (i : ℕ) (d : A) → i < length xs → sum (map f (take (i + 1) xs)) ≡ sum (map f (take i xs)) + f (get_or xs i d)
 mapped_more {A} f xs i d h = ap (λ (ys : List A). sum (map f ys)) (take_more xs i d h) ∙ sum_more f (take i xs) (get_or xs i d)
 
-pub plain_more : (ns : List ℕ) (i d : ℕ) → i < length ns → sum (take (i + 1) ns) ≡ sum (take i ns) + get_or ns i d
-plain_more ns i d h = ap (λ (ms : List ℕ). sum ms) (take_more ns i d h) ∙ sum_by_push (λ n. n) (take i ns) (get_or ns i d)
+-- ---- over a list that is read by its places
 
-product_push : (ns : List ℕ) (n : ℕ) → product (ns ++ n ∷ []) ≡ product ns * n
-product_push [] n = omega arith
-product_push (m ∷ ns) n = ap (λ (p : ℕ). m * p) (product_push ns n) ∙ omega arith
+one_more : {X : Type 0} (xs : List X) (k : ℕ) (x : X) → slice_get xs k ≡ Some x → take (k + 1) xs ≡ take k xs ++ x ∷ []
+one_more {X} xs k x there = take_more xs k x (slice_get_within xs k x there) ∙ ap (λ (y : X). take k xs ++ y ∷ []) (get_or_from_slice_get xs k x x there)
 
-pub product_more : (ns : List ℕ) (i d : ℕ) → i < length ns → product (take (i + 1) ns) ≡ product (take i ns) * get_or ns i d
-product_more ns i d h = ap (λ (ms : List ℕ). product ms) (take_more ns i d h) ∙ product_push (take i ns) (get_or ns i d)
+pub number_summed : (start : ℤ) (zs : List ℤ) (k : ℕ) (z : ℤ) → slice_get zs k ≡ Some z
+    → fold (λ s x. s +ℤ x) start (take (k + 1) zs) ≡ fold (λ s x. s +ℤ x) start (take k zs) +ℤ z
+number_summed start zs k z there =
+    ap (λ (xs : List ℤ). fold (λ s x. s +ℤ x) start xs) (one_more zs k z there) ∙ fold_push (λ s x. s +ℤ x) start (take k zs) z
+
+pub pattern_summed : (ns : List ℕ) (k n : ℕ) → slice_get ns k ≡ Some n → sum (take (k + 1) ns) ≡ sum (take k ns) + n
+pattern_summed ns k n there = ap (λ (ms : List ℕ). sum ms) (one_more ns k n there) ∙ sum_by_push (λ m. m) (take k ns) n
 
 -- ---- over what an iterator yields
 

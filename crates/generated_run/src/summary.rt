@@ -1,7 +1,8 @@
 // The text that sums a run up.
 ghost use Rattle.std.specs.Prelude.{◌≡◌, ◌++◌, ◌∷◌, [], IfOk, OnOk, codes, count_by, decimal, fold, length, map, pos, sum, true, ◌+ℤ◌};
 ghost use Rattle.std.specs.Fmt.{signed_decimal};
-ghost use Rattle.serial_spec.specs.HeaderGrammar.{header_len, is_sound};
+ghost use Rattle.serial_spec.specs.HeaderBytes.{header_len};
+ghost use Rattle.serial_spec.specs.SoundHeaders.{is_sound};
 ghost use Rattle.serial_spec.specs.Layout.{end_of};
 ghost use Rattle.script_spec.specs.Generator.{call_got, call_put, has_counts, is_meeting, over_calls, refusals, sum_given, summary_text};
 ghost use Rattle.script_spec.specs.Texts.{line};

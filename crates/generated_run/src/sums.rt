@@ -1,49 +1,19 @@
 // The sum of all that gets gave.
 ghost use Rattle.std.specs.Prelude.{◌≡◌, IfOk, fold, pos, sum, ◌+ℤ◌};
-ghost use Rattle.nc_base.specs.BitForms.{bits_in, bits_of_run, bits_of_runs};
-ghost use Rattle.nc_base.specs.NumberForms.{numbers_in, numbers_of_run, numbers_of_runs};
+ghost use Rattle.nc_base.specs.BitForms.{bits_of_run, bits_of_runs};
+ghost use Rattle.nc_base.specs.NumberForms.{numbers_of_run, numbers_of_runs};
 ghost use Rattle.script_spec.specs.Generator.{sum_given, sum_of};
 
-use nc_base::{Answer, AnswerList, BitRun, BitWords, Item, Memory, NumberRun, NumberWords, Values};
+use nc_base::{
+    Answer, AnswerList, BitList, BitRun, BitWords, Item, Memory, NumberList, NumberRun,
+    NumberWords, Values,
+};
 
 /// The sum, where it is a number that can be told.
 fn plus(a: i128, b: i128) -> Result<i128, Memory>
     ensures { IfOk result (λ z. z ≡ a +ℤ b) }
 {
     a.checked_add(b).ok_or(Memory)
-}
-
-#[tactic(auto, using(std::proofs::lemmas::List::Sums::fold_more))]
-fn sum_narrow(words: &[i32]) -> Result<i128, Memory>
-    ensures { IfOk result (λ z. z ≡ fold (λ a z. a +ℤ z) (pos 0) words.now) }
-{
-    let mut total = 0;
-    for word in words {
-        total = plus(total, i128::from(*word))?;
-    }
-    Ok(total)
-}
-
-#[tactic(auto, using(std::proofs::lemmas::List::Sums::fold_more))]
-fn sum_wide(words: &[i64]) -> Result<i128, Memory>
-    ensures { IfOk result (λ z. z ≡ fold (λ a z. a +ℤ z) (pos 0) words.now) }
-{
-    let mut total = 0;
-    for word in words {
-        total = plus(total, i128::from(*word))?;
-    }
-    Ok(total)
-}
-
-#[tactic(auto, using(std::proofs::lemmas::List::Sums::fold_more))]
-fn sum_widest(words: &[i128]) -> Result<i128, Memory>
-    ensures { IfOk result (λ z. z ≡ fold (λ a z. a +ℤ z) (pos 0) words.now) }
-{
-    let mut total = 0;
-    for word in words {
-        total = plus(total, *word)?;
-    }
-    Ok(total)
 }
 
 #[tactic(auto, using(crate::proofs::SumLaws::steps_summed))]
@@ -68,35 +38,17 @@ fn sum_runs(runs: &[NumberRun]) -> Result<i128, Memory>
     Ok(total)
 }
 
-fn sum_numbers(words: NumberWords<'_>) -> Result<i128, Memory>
-    ensures { IfOk result (λ z. z ≡ fold (λ a z. a +ℤ z) (pos 0) (numbers_in words.entry)) }
+/// The sum of numbers; runs are summed one after another.
+#[tactic(auto, using(crate::proofs::SumLaws::number_summed))]
+fn sum_numbers(numbers: &NumberList) -> Result<i128, Memory>
+    ensures { IfOk result (λ z. z ≡ fold (λ a z. a +ℤ z) (pos 0) numbers.now) }
 {
-    match words {
-        NumberWords::Narrow(words) => sum_narrow(words),
-        NumberWords::Wide(words) => sum_wide(words),
-        NumberWords::Widest(words) => sum_widest(words),
-        NumberWords::Runs(runs) => sum_runs(runs),
+    if let NumberWords::Runs(runs) = numbers.words() {
+        return sum_runs(runs);
     }
-}
-
-#[tactic(auto, using(crate::proofs::SumLaws::plain_more))]
-fn sum_narrow_bits(words: &[u32]) -> Result<i128, Memory>
-    ensures { IfOk result (λ z. z ≡ pos (sum words.now)) }
-{
     let mut total = 0;
-    for word in words {
-        total = plus(total, i128::from(*word))?;
-    }
-    Ok(total)
-}
-
-#[tactic(auto, using(crate::proofs::SumLaws::plain_more))]
-fn sum_wide_bits(words: &[u64]) -> Result<i128, Memory>
-    ensures { IfOk result (λ z. z ≡ pos (sum words.now)) }
-{
-    let mut total = 0;
-    for word in words {
-        total = plus(total, i128::from(*word))?;
+    for k in 0..numbers.len() {
+        total = plus(total, numbers.at(k))?;
     }
     Ok(total)
 }
@@ -123,14 +75,19 @@ fn sum_bit_runs(runs: &[BitRun]) -> Result<i128, Memory>
     Ok(total)
 }
 
-fn sum_bits(words: BitWords<'_>) -> Result<i128, Memory>
-    ensures { IfOk result (λ z. z ≡ pos (sum (bits_in words.entry))) }
+/// The sum of bits, each read as a number.
+#[tactic(auto, using(crate::proofs::SumLaws::pattern_summed))]
+fn sum_bits(patterns: &BitList) -> Result<i128, Memory>
+    ensures { IfOk result (λ z. z ≡ pos (sum patterns.now)) }
 {
-    match words {
-        BitWords::Narrow(words) => sum_narrow_bits(words),
-        BitWords::Wide(words) => sum_wide_bits(words),
-        BitWords::Runs(runs) => sum_bit_runs(runs),
+    if let BitWords::Runs(runs) = patterns.words() {
+        return sum_bit_runs(runs);
     }
+    let mut total = 0;
+    for k in 0..patterns.len() {
+        total = plus(total, i128::from(patterns.at(k)))?;
+    }
+    Ok(total)
 }
 
 /// The sum of the numbers or bits that a get read, if any.
@@ -139,8 +96,8 @@ fn sum_of(values: &Option<Values>) -> Result<i128, Memory>
 {
     match values {
         None | Some(Values::Text(_)) => Ok(0),
-        Some(Values::Numbers(numbers)) => sum_numbers(numbers.words()),
-        Some(Values::Bits(patterns)) => sum_bits(patterns.words()),
+        Some(Values::Numbers(numbers)) => sum_numbers(numbers),
+        Some(Values::Bits(patterns)) => sum_bits(patterns),
     }
 }
 

@@ -18,7 +18,8 @@ use Rattle.serial_spec.specs.Lawful.{is_lawful}
 use Rattle.run_laws.specs.Standing.{is_solo_of}
 use Rattle.run_laws.specs.Ways.{is_meeting, meetings, kinds_of}
 use Rattle.run_laws.proofs.LawfulLaws.{own_lawful, ranks_lawful}
-use Rattle.list_laws.proofs.Truth.{and_first, and_second}
+use Rattle.list_laws.proofs.Truth.{and_first, and_second, equal_itself}
+use Rattle.run_laws.proofs.WayLaws.{others_filter}
 
 -- ---- what is left to a rank: its own steps, and n meetings from the k-th on
 
@@ -30,9 +31,6 @@ IsRest r k (suc n) xs =
 rest_solo : (r k n : ℕ) (m : Mark) (xs : List Mark) → is_solo_of r m ≡ true → IsRest r k n xs → IsRest r k n (m ∷ xs)
 rest_solo r k zero m xs e h = and_from _ _ e h
 rest_solo r k (suc n) m xs e h = (m ∷ h.0, h.1, ap (λ (ys : List Mark). m ∷ ys) h.2, and_from _ _ e h.3, h.4)
-
-same_self : (r : ℕ) → (r == r) ≡ true
-same_self r = grind (arith, nat_tests)
 
 pub collective_kind : (c : Call) → is_collective c ≡ is_some (kind_of_call c)
 collective_kind (call.Put true name given vs) = refl
@@ -56,7 +54,7 @@ marks_rest r c k ind (x ∷ calls) =
 
     alone : IsRest r k (length (kinds calls)) (marks_from r (suc c) k ind calls) → (t : Bool)
         → IsRest r k (length (kinds calls)) (cond t (Solo r c ∷ []) [] ++ marks_from r (suc c) k ind calls)
-    alone h true = rest_solo r k (length (kinds calls)) (Solo r c) (marks_from r (suc c) k ind calls) (same_self r) h
+    alone h true = rest_solo r k (length (kinds calls)) (Solo r c) (marks_from r (suc c) k ind calls) (equal_itself r) h
     alone h false = h
 
     by_kind : (o : Option MeetKind) → is_collective x ≡ is_some o → IsRest r k (length (kinds calls)) (marks_from r (suc c) k ind calls)
@@ -125,13 +123,6 @@ not_same q r s e n = by_tells (eqb_tells q r)
     by_tells (inl (f, g)) = absurd (n (sym (eqb-true _ _ e) ∙ g))
     by_tells (inr (f, g)) = f
 
-others_dropped : (s r : ℕ) (xs : List Mark) → s ≢ r → list_all (is_solo_of s) xs ≡ true → filter (concerns r) xs ≡ []
-others_dropped s r [] n h = refl
-others_dropped s r (Meet k ∷ xs) n h = cc
-others_dropped s r (Solo q c ∷ xs) n h =
-    ap (λ (b : Bool). cond b (Solo q c ∷ filter (concerns r) xs) (filter (concerns r) xs)) (not_same q r s (and_first (q == s) _ h) n)
-    ∙ others_dropped s r xs n (and_second (q == s) _ h)
-
 own_known : (s ranks : ℕ) (xs : List Mark) → s < ranks → list_all (is_solo_of s) xs ≡ true → list_all (is_of_rank_below ranks) xs ≡ true
 own_known s ranks [] l h = refl
 own_known s ranks (Meet k ∷ xs) l h = cc
@@ -140,7 +131,7 @@ own_known s ranks (Solo q c ∷ xs) l h =
     let low : nat_lt s ranks ≡ true = grind (arith, nat_tests) in
     and_from _ _ (ap (λ (j : ℕ). nat_lt j ranks) same ∙ low) (own_known s ranks xs l (and_second (q == s) _ h))
 
-all_joined : (f : Mark → Bool) (xs ys : List Mark) → list_all f xs ≡ true → list_all f ys ≡ true → list_all f (xs ++ ys) ≡ true
+pub all_joined : (f : Mark → Bool) (xs ys : List Mark) → list_all f xs ≡ true → list_all f ys ≡ true → list_all f (xs ++ ys) ≡ true
 all_joined f [] ys h k = k
 all_joined f (x ∷ xs) ys h k = and_from _ _ (and_first (f x) _ h) (all_joined f xs ys (and_second (f x) _ h) k)
 
@@ -160,7 +151,7 @@ solos_of (suc m) ranks fronts h l = more (solos_of m ranks fronts h (omega arith
       known = all_joined (is_of_rank_below ranks) s.all (fronts m) s.known (own_known m ranks (fronts m) (omega arith) (h m));
       own = λ r k. by_place r k (nat_lt r m) refl;
       others = λ r k. filter-append (concerns r) s.all (fronts m) ∙ ap (λ (ys : List Mark). ys ++ filter (concerns r) (fronts m)) (s.others r (omega arith))
-          ∙ others_dropped m r (fronts m) (λ e. absurd (omega arith)) (h m);
+          ∙ others_filter m r (fronts m) (λ e. absurd (omega arith)) (h m);
     }
       where
         no_more : (xs : List Mark) → xs ++ [] ≡ xs
@@ -170,7 +161,7 @@ solos_of (suc m) ranks fronts h l = more (solos_of m ranks fronts h (omega arith
         by_place : (r : ℕ) → r < suc m → (t : Bool) → nat_lt r m ≡ t → filter (concerns r) (s.all ++ fronts m) ≡ fronts r
         by_place r k true e =
             let low : r < m = ltb-true _ _ e in
-            filter-append (concerns r) s.all (fronts m) ∙ ap (λ (ys : List Mark). filter (concerns r) s.all ++ ys) (others_dropped m r (fronts m) (λ f. absurd (omega arith)) (h m))
+            filter-append (concerns r) s.all (fronts m) ∙ ap (λ (ys : List Mark). filter (concerns r) s.all ++ ys) (others_filter m r (fronts m) (λ f. absurd (omega arith)) (h m))
             ∙ no_more (filter (concerns r) s.all) ∙ s.own r low
         by_place r k false e =
             let high : m ≤ r = ltb-false _ _ e in

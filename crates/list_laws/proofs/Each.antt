@@ -1,5 +1,5 @@
 -- What holds of each entry of a list, and the tests that tell it.
-use Rattle.std.proofs.Common.{◌≡◌, ℕ, zero, suc, List, [], ◌∷◌, ◌++◌, drop, map, Bool, true, false, refl, subst, Some, slice_get}
+use Rattle.std.proofs.Common.{◌≡◌, ℕ, zero, suc, List, [], ◌∷◌, ◌++◌, drop, map, Bool, true, false, refl, subst, Some, slice_get, ◌||◌, inl, inr, ◌⊎◌}
 use Rattle.std.specs.List.{AllByRecursion, list_any, list_all}
 use Rattle.std.specs.Prelude.{flat_map}
 use Rattle.std.proofs.lemmas.Bool.{and_from, or_from}
@@ -57,3 +57,21 @@ passes_at p xs h k x e = each_at (λ y. p y ≡ true) xs k x (passes_each p xs h
 
 pub fails_at : {X : Type 0} (p : X → Bool) (xs : List X) (k : ℕ) (x : X) → list_any p xs ≡ false → slice_get xs k ≡ Some x → p x ≡ false
 fails_at p xs k x h e = each_at (λ y. p y ≡ false) xs k x (fails_each p xs h) e
+
+pub none_any : {X : Type 0} (p : X → Bool) (xs : List X) → ((q : ℕ) (x : X) → slice_get xs q ≡ Some x → p x ≡ false) → list_any p xs ≡ false
+none_any p [] f = refl
+none_any p (x ∷ xs) f =
+    let a = f 0 x refl in
+    let b = none_any p xs (λ q y e. f (suc q) y e) in
+    λ i. (a i || b i)
+
+-- one that is, or none
+pub any_or_none : {X : Type 0} (p : X → Bool) (xs : List X) → (list_any p xs ≡ false) ⊎ ((q : ℕ) × ((x : X) × ((slice_get xs q ≡ Some x) × (p x ≡ true))))
+any_or_none p [] = inl refl
+any_or_none p (x ∷ xs) = by (p x) refl (any_or_none p xs)
+  where
+    by : (t : Bool) → p x ≡ t → (list_any p xs ≡ false) ⊎ ((q : ℕ) × ((y : _) × ((slice_get xs q ≡ Some y) × (p y ≡ true))))
+        → ((p x || list_any p xs) ≡ false) ⊎ ((q : ℕ) × ((y : _) × ((slice_get (x ∷ xs) q ≡ Some y) × (p y ≡ true))))
+    by true e other = inr (0, (x, (refl, e)))
+    by false e (inl n) = inl (λ i. (e i || n i))
+    by false e (inr (q, (y, (g, h)))) = inr (suc q, (y, (g, h)))

@@ -5,3 +5,6 @@ pub mod Each
 pub mod Maps
 pub mod Ranges
 pub mod Numbers
+pub mod Results
+pub mod Appends
+pub mod Fronts

@@ -1,8 +1,8 @@
 -- Lists that are mapped, searched or filtered.
-use Rattle.std.proofs.Common.{◌≡◌, ◌≤◌, refl, sym, ◌∙◌, ap, List, [], ◌∷◌, length, map, Bool, true, false, cond, not, ◌||◌, Some, arith}
-use Rattle.std.specs.Prelude.{filter}
-use Rattle.std.specs.List.{list_any, position, prefix_len, find}
-use Rattle.std.proofs.lemmas.List.{length-map}
+use Rattle.std.proofs.Common.{◌≡◌, ◌≤◌, refl, sym, ◌∙◌, ap, List, [], ◌∷◌, length, map, Bool, true, false, cond, not, ◌||◌, Some, arith, ℕ, zero, suc, None, ◌+◌, ◌<◌, ◌++◌, take, get_or, drop}
+use Rattle.std.specs.Prelude.{filter, slice_get, flat_map}
+use Rattle.std.specs.List.{list_any, position, prefix_len, find, enumerate_from}
+use Rattle.std.proofs.lemmas.List.{length-map, append_assoc, drop_more}
 
 pub map_map : {A B C : Type 0} (f : B → C) (g : A → B) (xs : List A) → map f (map g xs) ≡ map (λ x. f (g x)) xs
 map_map f g [] = refl
@@ -34,3 +34,48 @@ found_passes {A} p (y ∷ ys) x e = by_test (found_passes p ys x) (p y) refl e
     by_test : (find p ys ≡ Some x → p x ≡ true) → (t : Bool) → p y ≡ t → cond t (Some y) (find p ys) ≡ Some x → p x ≡ true
     by_test later true h g = let same : y ≡ x = cc in ap p (sym same) ∙ h
     by_test later false h g = later g
+
+pub entry_map : {A B : Type 0} (f : A → B) (xs : List A) (k : ℕ) (x : A) → slice_get xs k ≡ Some x → slice_get (map f xs) k ≡ Some (f x)
+entry_map f [] k x h = cc
+entry_map f (y ∷ xs) zero x h = let e : y ≡ x = cc in ap (λ z. Some (f z)) e
+entry_map f (y ∷ xs) (suc k) x h = entry_map f xs k x h
+
+pub entry_map_none : {X Y : Type 0} (f : X → Y) (xs : List X) (r : ℕ) → slice_get xs r ≡ None → slice_get (map f xs) r ≡ None
+entry_map_none f [] r e = refl
+entry_map_none f (z ∷ xs) zero e = cc
+entry_map_none f (z ∷ xs) (suc r) e = entry_map_none f xs r e
+
+pub mapped_entry : {X Y : Type 0} (f : X → Y) (xs : List X) (r : ℕ) (y : Y) → slice_get (map f xs) r ≡ Some y → (x : X) × ((slice_get xs r ≡ Some x) × (f x ≡ y))
+mapped_entry f [] r y e = absurd cc
+mapped_entry f (x ∷ xs) zero y e = let a : f x ≡ y = cc in (x, (refl, a))
+mapped_entry f (x ∷ xs) (suc r) y e = mapped_entry f xs r y e
+
+-- a map of one element more
+pub map_more : {X Y : Type 0} (f : X → Y) (xs : List X) (i : ℕ) (x : X) → i < length xs → x ≡ get_or xs i x → map f (take (i + 1) xs) ≡ map f (take i xs) ++ f x ∷ []
+map_more f [] i x h e = absurd (omega arith)
+map_more f (z ∷ xs) zero x h e = let a : x ≡ z = e in ap (λ (y : _). f y ∷ []) (sym a)
+map_more f (z ∷ xs) (suc i) x h e = let k : suc i + 1 ≡ suc (i + 1) = omega arith in
+    ap (λ (n : ℕ). map f (take n (z ∷ xs))) k ∙ ap (λ (ys : List _). f z ∷ ys) (map_more f xs i x (omega arith) e)
+
+pub rows_same : {A B X : Type 0} (f : A → X) (h : ℕ × B → X) (xs : List A) (ys : List B) (from : ℕ) → length xs ≡ length ys
+    → ((r : ℕ) (a : A) (b : B) → slice_get xs r ≡ Some a → slice_get ys r ≡ Some b → f a ≡ h (from + r, b)) → map f xs ≡ map h (enumerate_from from ys)
+rows_same f h [] [] from l e = refl
+rows_same f h [] (b ∷ ys) from l e = absurd (omega arith)
+rows_same f h (a ∷ xs) [] from l e = absurd (omega arith)
+rows_same f h (a ∷ xs) (b ∷ ys) from l e =
+    let zero_more : from + 0 ≡ from = omega arith in
+    let one = e 0 a b refl refl ∙ ap (λ (n : ℕ). h (n, b)) zero_more in
+    let more = rows_same f h xs ys (from + 1) (omega arith) (λ r a' b' p q. let next : from + suc r ≡ (from + 1) + r = omega arith in e (suc r) a' b' p q ∙ ap (λ (n : ℕ). h (n, b')) next) in
+    λ i. one i ∷ more i
+
+-- One more is done: with those that are left it is still the whole.
+pub next_numbered : {X Y : Type 0} (f : ℕ × X → List Y) (xs : List X) (i m next : ℕ) (x d : X) (done now whole : List Y) → i < length xs → get_or xs i d ≡ x → next ≡ m + 1
+    → now ≡ done ++ f (m, x) → done ++ flat_map f (enumerate_from m (drop i xs)) ≡ whole
+    → now ++ flat_map f (enumerate_from next (drop (i + 1) xs)) ≡ whole
+next_numbered {X} {Y} f xs i m next x d done now whole there is more step all =
+    ap (λ (ys : List Y). ys ++ flat_map f (enumerate_from next (drop (i + 1) xs))) step
+    ∙ ap (λ (n : ℕ). (done ++ f (m, x)) ++ flat_map f (enumerate_from n (drop (i + 1) xs))) more
+    ∙ append_assoc done (f (m, x)) (flat_map f (enumerate_from (m + 1) (drop (i + 1) xs)))
+    ∙ ap (λ (y : X). done ++ flat_map f (enumerate_from m (y ∷ drop (i + 1) xs))) (sym is)
+    ∙ ap (λ (ys : List X). done ++ flat_map f (enumerate_from m ys)) (sym (drop_more xs i d there))
+    ∙ all

@@ -63,3 +63,7 @@ option_or_assoc (Some a) q r = refl
 pub none_last : {A : Type 0} (o : Option A) → o ≡ option_or o None
 none_last None = refl
 none_last (Some a) = refl
+
+pub not_some : {A : Type 0} (o : Option A) → is_some o ≡ false → o ≡ None
+not_some None h = refl
+not_some (Some x) h = absurd (cc)

@@ -1,9 +1,11 @@
 -- The entries of a list by their places.
-use Rattle.std.proofs.Common.{◌≡◌, ℕ, zero, suc, ◌<◌, ◌≤◌, refl, ap, List, [], ◌∷◌, length, take, set, Some, arith, Bool, subst, nat_lt, position}
+use Rattle.std.proofs.Common.{◌≡◌, ℕ, zero, suc, ◌<◌, ◌≤◌, refl, ap, List, [], ◌∷◌, length, take, set, Some, arith, Bool, subst, nat_lt, position, drop, replicate, sym, get_or, ◌+◌, ◌∙◌, ◌++◌, true, false}
 use Rattle.std.specs.List.{position_or_len}
+use Rattle.std.specs.Prelude.{slice_get, zip}
 use Rattle.std.proofs.lemmas.Bool.{ltb-true}
-use Rattle.std.proofs.lemmas.Option.{cond_some}
-use Rattle.std.specs.Prelude.{slice_get}
+use Rattle.std.proofs.lemmas.Option.{cond_some, slice_get_within, get_or_from_slice_get, same_Some}
+use Rattle.std.proofs.lemmas.List.{take_more}
+use Rattle.std.proofs.lemmas.Bool.Decides.{nat_tests}
 
 pub entry_below : {X : Type 0} (xs : List X) (k : ℕ) → k < length xs → (x : X) × (slice_get xs k ≡ Some x)
 entry_below [] k l = absurd (omega arith)
@@ -32,3 +34,66 @@ pub position_below : {A : Type 0} (p : A → Bool) (xs : List A) (n : ℕ) → p
 position_below p xs n e =
     let k = cond_some (nat_lt (position_or_len p xs) (length xs)) (position_or_len p xs) n e in
     subst (λ (m : ℕ). m < length xs) k.1 (ltb-true _ _ k.0)
+
+pub drop_at : {A : Type 0} (xs : List A) (k : ℕ) (x : A) → slice_get xs k ≡ Some x → drop k xs ≡ x ∷ drop (suc k) xs
+drop_at [] k x h = cc
+drop_at (y ∷ xs) zero x h = let same : y ≡ x = cc in ap (λ z. z ∷ xs) same
+drop_at (y ∷ xs) (suc k) x h = drop_at xs k x h
+
+pub first_same : {X : Type 0} (x y : X) (xs ys : List X) → x ∷ xs ≡ y ∷ ys → x ≡ y
+first_same x y xs ys e = cc
+
+pub set_own : {X : Type 0} (xs : List X) (r : ℕ) (x : X) → slice_get xs r ≡ Some x → set xs r x ≡ xs
+set_own [] r x e = cc
+set_own (z ∷ xs) zero x e = let a : x ≡ z = cc in ap (λ (y : _). y ∷ xs) a
+set_own (z ∷ xs) (suc r) x e = ap (λ (ys : List _). z ∷ ys) (set_own xs r x e)
+
+pub entry_replicate : {X : Type 0} (n r : ℕ) (x y : X) → slice_get (replicate n x) r ≡ Some y → y ≡ x
+entry_replicate zero r x y e = absurd cc
+entry_replicate (suc n) zero x y e = cc
+entry_replicate (suc n) (suc r) x y e = entry_replicate n r x y e
+
+-- an element that is read by its index
+pub entry_read : {X : Type 0} (xs : List X) (n : ℕ) (x : X) → n < length xs → x ≡ get_or xs n x → slice_get xs n ≡ Some x
+entry_read [] n x h e = absurd (omega arith)
+entry_read (z ∷ xs) zero x h e = ap (λ (y : _). Some y) (sym e)
+entry_read (z ∷ xs) (suc n) x h e = entry_read xs n x (omega arith) e
+
+pub take_next : {X : Type 0} (xs : List X) (i : ℕ) (x : X) → slice_get xs i ≡ Some x → take (i + 1) xs ≡ take i xs ++ x ∷ []
+take_next xs i x e = take_more xs i x (slice_get_within xs i x e) ∙ ap (λ (y : _). take i xs ++ y ∷ []) (get_or_from_slice_get xs i x x e)
+
+pub left_more : {X : Type 0} (old now : List X) (i : ℕ) (y : X) → ((r : ℕ) → i ≤ r → slice_get now r ≡ slice_get old r) → (r : ℕ) → i + 1 ≤ r
+    → slice_get (set now i y) r ≡ slice_get old r
+left_more old now i y left r l = entry_set_other now i r y (λ e. absurd (omega arith)) ∙ left r (omega arith)
+
+pub each_more : {X : Type 0} (P : ℕ → X → X → Type 0) (old now : List X) (i : ℕ) (x y : X) → slice_get old i ≡ Some x → slice_get now i ≡ Some x → P i x y
+    → ((r : ℕ) (a b : X) → r < i → slice_get old r ≡ Some a → slice_get now r ≡ Some b → P r a b)
+    → (r : ℕ) (a b : X) → r < i + 1 → slice_get old r ≡ Some a → slice_get (set now i y) r ≡ Some b → P r a b
+each_more {X} P old now i x y e f p each r a b l g h = by_order (nat_lt r i) refl
+  where
+    at : r ≡ i → P r a b
+    at s =
+        let first : x ≡ a = same_Some x a (sym e ∙ ap (slice_get old) (sym s) ∙ g) in
+        let second : y ≡ b = same_Some y b (sym (entry_set now i x y f) ∙ ap (slice_get (set now i y)) (sym s) ∙ h) in
+        subst (λ (k : ℕ). P k a b) (sym s) (subst (λ (c : X). P i c b) first (subst (λ (d : X). P i x d) second p))
+
+    by_order : (t : Bool) → nat_lt r i ≡ t → P r a b
+    by_order true t =
+        let below : r < i = grind (arith, nat_tests) in
+        each r a b below g (sym (entry_set_other now i r y (λ s. absurd (omega arith))) ∙ h)
+    by_order false t = at (grind (arith, nat_tests))
+
+-- an entry of one of two lists that are as long has its like in the other
+pub entry_beside : {X Y : Type 0} (xs : List X) (ys : List Y) (q : ℕ) (x : X) → length xs ≡ length ys → slice_get xs q ≡ Some x
+    → (y : Y) × (slice_get ys q ≡ Some y)
+entry_beside [] ys q x l e = cc
+entry_beside (x' ∷ xs) [] q x l e = absurd (omega arith)
+entry_beside (x' ∷ xs) (y ∷ ys) zero x l e = (y, refl)
+entry_beside (x' ∷ xs) (y ∷ ys) (suc q) x l e = entry_beside xs ys q x (omega arith) e
+
+pub entry_zip : {X Y : Type 0} (xs : List X) (ys : List Y) (q : ℕ) (x : X) (y : Y) → slice_get xs q ≡ Some x → slice_get ys q ≡ Some y
+    → slice_get (zip xs ys) q ≡ Some (x, y)
+entry_zip [] ys q x y e f = cc
+entry_zip (x' ∷ xs) [] q x y e f = cc
+entry_zip (x' ∷ xs) (y' ∷ ys) zero x y e f = let a : x' ≡ x = cc in let b : y' ≡ y = cc in λ i. Some (a i, b i)
+entry_zip (x' ∷ xs) (y' ∷ ys) (suc q) x y e f = entry_zip xs ys q x y e f

@@ -1,8 +1,9 @@
 -- Numbers one after another.
-use Rattle.std.proofs.Common.{◌≡◌, ℕ, zero, suc, ◌+◌, ◌*◌, ◌∙◌, ap, List, ◌∷◌, ◌++◌, length, arith}
-use Rattle.std.specs.Prelude.{flat_map}
+use Rattle.std.proofs.Common.{◌≡◌, ℕ, zero, suc, ◌+◌, ◌*◌, ◌∙◌, ap, List, ◌∷◌, ◌++◌, length, arith, [], ◌-◌, ◌<◌, Some}
+use Rattle.std.specs.Prelude.{flat_map, slice_get}
 use Rattle.std.specs.List.{range_with_len}
 use Rattle.std.proofs.lemmas.List.{length-append}
+use Rattle.std.proofs.lemmas.List.FromFn.{length-range_with_len}
 
 pub range_append : (a m n : ℕ) → range_with_len a (m + n) ≡ range_with_len a m ++ range_with_len (a + m) n
 range_append a zero n =
@@ -22,3 +23,26 @@ pieces_long f m h a (suc n) =
     let rest : length (flat_map f (range_with_len (a + 1) n)) ≡ n * m = pieces_long f m h (a + 1) n in
     let whole = length-append (f a) (flat_map f (range_with_len (a + 1) n)) in
     omega arith
+
+pub range_push : (a k b : ℕ) → a + k ≡ b → range_with_len a (suc k) ≡ range_with_len a k ++ b ∷ []
+range_push a zero b e = ap (λ (x : ℕ). x ∷ []) (omega arith)
+range_push a (suc k) b e = ap (λ (xs : List ℕ). a ∷ xs) (range_push (a + 1) k b (omega arith))
+
+pub spans_long : (size : ℕ) (xs : List ℕ) → length (flat_map (λ x. range_with_len x size) xs) ≡ length xs * size
+spans_long size [] = omega arith
+spans_long size (x ∷ xs) =
+    let rest = spans_long size xs in
+    let both = length-append (range_with_len x size) (flat_map (λ x. range_with_len x size) xs) in
+    let first = length-range_with_len x size in
+    omega arith
+
+pub range_first : (a n : ℕ) (ys : List ℕ) (i : ℕ) → i < n → slice_get (range_with_len a n ++ ys) i ≡ Some (a + i)
+range_first a zero ys i h = absurd (omega arith)
+range_first a (suc n) ys zero h = let same : a ≡ a + 0 = omega arith in ap Some same
+range_first a (suc n) ys (suc i) h = let next : a + 1 + i ≡ a + suc i = omega arith in range_first (a + 1) n ys i (omega arith) ∙ ap Some next
+
+pub range_rest : (a n : ℕ) (ys : List ℕ) (j x : ℕ) → slice_get ys j ≡ Some x → slice_get (range_with_len a n ++ ys) (n + j) ≡ Some x
+range_rest a zero ys j x h = let same : 0 + j ≡ j = omega arith in ap (λ (k : ℕ). slice_get ys k) same ∙ h
+range_rest a (suc n) ys j x h =
+    let next : suc n + j ≡ suc (n + j) = omega arith in
+    ap (λ (k : ℕ). slice_get (a ∷ (range_with_len (a + 1) n ++ ys)) k) next ∙ range_rest (a + 1) n ys j x h

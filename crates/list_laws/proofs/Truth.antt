@@ -1,5 +1,5 @@
 -- The parts of a test: of a conjunction that holds, of a disjunction that doesn't.
-use Rattle.std.proofs.Common.{◌≡◌, ℕ, suc, ◌<◌, Bool, true, false, ◌&&◌, ◌||◌, refl, arith}
+use Rattle.std.proofs.Common.{◌≡◌, ℕ, suc, ◌<◌, Bool, true, false, ◌&&◌, ◌||◌, refl, arith, zero, ◌≤◌}
 use Rattle.std.specs.Prelude.{◌==◌}
 use Rattle.std.proofs.lemmas.Bool.Decides.{nat_tests}
 
@@ -40,3 +40,14 @@ equal_zero h = absurd cc
 
 pub equal_suc : (n : ℕ) → (suc n == 0) ≡ false
 equal_suc n = grind (arith, nat_tests)
+
+pub or_false : (b : Bool) → (b || false) ≡ b
+or_false true = refl
+or_false false = refl
+
+pub all_three : (s t u : Bool) → s ≡ true → t ≡ true → u ≡ true → (s && t && u) ≡ true
+all_three s t u h k l = rw (h, k, l) refl
+
+pub not_zero : (n : ℕ) → (n == 0) ≡ false → 1 ≤ n
+not_zero zero h = absurd cc
+not_zero (suc n) h = omega arith

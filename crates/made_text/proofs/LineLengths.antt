@@ -1,10 +1,10 @@
 -- How long the lines are that are printed.
-use Rattle.std.proofs.Common.{◌≡◌, ℕ, zero, suc, ◌+◌, ◌*◌, ◌/◌, ◌%◌, ◌^◌, ◌≤◌, ◌<◌, List, [], ◌∷◌, ◌++◌, map, length, Bool, true, ℤ, pos, negsuc, unsigned_abs, refl, length-append, arith, decimal}
+use Rattle.std.proofs.Common.{◌≡◌, ℕ, suc, ◌+◌, ◌*◌, ◌^◌, ◌≤◌, ◌<◌, List, [], ◌∷◌, ◌++◌, map, length, Bool, true, ℤ, pos, negsuc, unsigned_abs, length-append, arith, decimal}
 use Rattle.std.specs.Fmt.{signed_decimal}
 use Rattle.std.specs.List.{list_all}
 use Rattle.std.proofs.lemmas.Bool.{and_parts}
 use Rattle.std.proofs.lemmas.Fmt.{decimal_nonempty, length-decimal-le_wide}
-use Rattle.script_spec.specs.Texts.{hex, hex_digit, joined, line}
+use Rattle.script_spec.specs.Texts.{joined, line}
 use Rattle.script_spec.specs.Shown.{size_list}
 
 -- the bytes of words, and one behind each
@@ -24,10 +24,6 @@ words_joined [] ys = omega arith
 words_joined (x ∷ xs) ys = omega (arith, words_joined xs ys)
 
 -- ---- numbers
-
-pub hex_long : (n x : ℕ) → length (hex n x) ≡ n
-hex_long zero x = refl
-hex_long (suc n) x = omega (arith, length-append (hex n (x / 16)) (hex_digit (x % 16) ∷ []), hex_long n (x / 16))
 
 pub small_long : (n : ℕ) → n < 10 ^ 3 → length (decimal n) ≤ 3
 small_long n h = length-decimal-le_wide 3 n (omega arith) h (omega arith)

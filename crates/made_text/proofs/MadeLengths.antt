@@ -24,7 +24,8 @@ use Rattle.script_text.specs.Expressible.{is_expressible_call}
 use Rattle.generated_run.specs.Made.{calls_of_rank, calls_of_record, columns_of, precip_band, region_of_band, temp_band}
 use Rattle.generated_run.proofs.CallLaws.{rank_is, record_is}
 use Rattle.generated_run.proofs.Ranges.{pieces_pass, range_passes}
-use Rattle.made_text.proofs.LineLengths.{hex_long, line_long, number_long, number_some, sizes_long, small_long, words_joined, words_least, words_most, words_size}
+use Rattle.made_text.proofs.LineLengths.{line_long, number_long, number_some, sizes_long, small_long, words_joined, words_least, words_most, words_size}
+use Rattle.script_text.proofs.Numerals.{length-hex}
 
 -- ---- the values of a rank's rows
 
@@ -128,7 +129,7 @@ temp_words : (seed r t : ℕ) → r < 8 → Between 142560 149040 (words_size (s
 temp_words seed r t h =
     let word = λ (n : ℕ). 120 ∷ hex 16 n in
     let long = temps_long seed r t h in
-    let each : (n : ℕ) → length (word n) ≡ 17 = λ n. omega (arith, hex_long 16 n) in
+    let each : (n : ℕ) → length (word n) ≡ 17 = λ n. omega (arith, length-hex 16 n) in
     record {
       least = let least = words_least word (λ n. nat_lt n (2 ^ 64)) 17 (λ n k. omega (arith, each n)) (temp_band seed r t) (temps_fit seed r t) in omega (arith, least, long.0);
       most = let most = words_most word (λ n. nat_lt n (2 ^ 64)) 17 (λ n k. omega (arith, each n)) (temp_band seed r t) (temps_fit seed r t) in omega (arith, most, long.1);

@@ -1,4 +1,3 @@
 pub mod BitForms
 pub mod Lends
 pub mod NumberForms
-pub mod UsualHints

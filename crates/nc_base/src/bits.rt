@@ -22,7 +22,8 @@ impl BitRun {
     pub fn at(&self, k: u32) -> u64
         ensures { result ≡ (self.now.first + self.now.step * k) % 2 ^ 64 }
     {
-        ((u128::from(self.first) + u128::from(self.step) * u128::from(k)) % (1 << 64)) as u64
+        self.first
+            .wrapping_add(self.step.wrapping_mul(u64::from(k)))
     }
 }
 

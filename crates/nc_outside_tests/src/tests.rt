@@ -49,7 +49,7 @@ fn split<R: Abort>(rt: &R, alloc: Global, disk: &mut MemDisk, at: u64) -> Option
 fn grow<R: Abort>(rt: &R, alloc: Global, disk: &mut MemDisk, size: u64) -> bool {
     let from = disk.first_place();
     let len = disk.size();
-    assert!(rt; from == 0 && len <= size);
+    assert!(rt; from == 0 && len <= size && size < 1 << 63);
     disk.grow(alloc, size).is_ok()
 }
 

@@ -2,7 +2,7 @@
 use Rattle.std.proofs.Common.{◌≡◌, ℕ, List, Option, Some, None, inl, inr, ◌⊎◌, refl, arith}
 use Rattle.std.specs.Prelude.{IfSome}
 use Rattle.nc_base.specs.declared.errors.HeaderErr.{HeaderErr}
-use Rattle.serial_spec.specs.HeaderGrammar.{HasFault}
+use Rattle.serial_spec.specs.HeaderFaults.{HasFault}
 use Rattle.script_spec.specs.Texts.{header_line}
 use Rattle.dataset_start.specs.Dataset.{front, TellsHeader}
 use Rattle.ncmpi_cli.specs.Listing.{IsFaultyFront, IsSoundFront}

@@ -1,10 +1,9 @@
 -- What the top call tells, by how a run ended.
-use Rattle.std.proofs.Common.{◌≡◌, ℕ, ◌≤◌, Bool, true, false, List, Option, Some, None, option_map, inl, inr, ◌⊎◌, refl, sym, ap, subst, ◌∙◌, arith}
+use Rattle.std.proofs.Common.{◌≡◌, ℕ, Bool, true, false, List, Option, Some, None, option_map, inl, inr, ◌⊎◌, refl, sym, ap, subst, ◌∙◌, arith}
 use Rattle.std.specs.Prelude.{IfSome, IsSomeAnd, Result, is_some}
 use Rattle.nc_base.specs.declared.errors.LayoutErr.{LayoutErr}
 use Rattle.nc_base.specs.declared.errors.ScriptErr.{ScriptErr}
 use Rattle.nc_base.specs.declared.script.Script.{Script}
-use Rattle.nc_outside.specs.Cause.{Rose}
 use Rattle.script_spec.specs.ScriptGrammar.{fault_of, Reads}
 use Rattle.script_spec.specs.Texts.{script_line}
 use Rattle.serial_spec.specs.Redefinition.{layout_fault}
@@ -13,7 +12,8 @@ use Rattle.dataset_start.specs.Opening.{IsFaultless}
 use Rattle.dataset_start.specs.Stops.{line_of, status_of}
 use Rattle.dataset_start.specs.declared.stop.Stop.{Stop}
 use Rattle.dataset_start.specs.declared.stop.Stop.TheVariants as stops
-use Rattle.dataset_start.proofs.Ready.{false-true, same_script}
+use Rattle.dataset_start.proofs.Ready.{same_script}
+use Rattle.std.proofs.lemmas.Bool.{both_ways}
 
 -- ---- a text that is read is refused by nothing
 
@@ -129,7 +129,7 @@ refused None held stop status (inl e) u s d k r = absurd r
 refused (Some text) held stop status (inl e) u s d k r = by_stop stop refl
   where
     none-some : (script : Script) → Asks (Some text) script → ⊥
-    none-some script a = false-true (is_some (refusal text)) (ap (λ (o : Option (List ℕ)). is_some o) (not_refused text script a)) r
+    none-some script a = both_ways (is_some (refusal text)) (ap (λ (o : Option (List ℕ)). is_some o) (not_refused text script a)) r
 
     by_stop : (other : Stop) → stop ≡ other → (status ≡ 3) ⊎ (status ≡ 8)
     by_stop stops.Usage x = absurd (u x)
@@ -181,8 +181,4 @@ pub not_unread : {Q : Type 0} (left : Option (List ℕ)) (script : Script) → A
     → IsSomeAnd left (λ text. is_some (refusal text) ≡ true) → Q
 not_unread None script a r = absurd r
 not_unread (Some text) script a r =
-    absurd (false-true (is_some (refusal text)) (ap (λ (o : Option (List ℕ)). is_some o) (not_refused text script a)) r)
-
--- a count that rose later rose
-pub rose_later : (before middle now : ℕ) → before ≤ middle → Rose middle now → Rose before now
-rose_later before middle now h r = omega (arith, h, r)
+    absurd (both_ways (is_some (refusal text)) (ap (λ (o : Option (List ℕ)). is_some o) (not_refused text script a)) r)

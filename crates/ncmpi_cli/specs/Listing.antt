@@ -6,7 +6,7 @@ use Rattle.std.specs.Prelude.{ℕ, ◌≡◌, ◌⊎◌, List, take, Option, IsS
 use Rattle.nc_base.specs.declared.errors.HeaderErr.{HeaderErr}
 use Rattle.nc_base.specs.declared.header.Header.{Header}
 use Rattle.nc_outside.specs.Told.{with_end}
-use Rattle.serial_spec.specs.HeaderGrammar.{HasFault}
+use Rattle.serial_spec.specs.HeaderFaults.{HasFault}
 use Rattle.script_spec.specs.Texts.{offsets_text}
 use Rattle.dataset_start.specs.Dataset.{front}
 use Rattle.dataset_start.specs.Opening.{IsOpened}

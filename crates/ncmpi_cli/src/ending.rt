@@ -2,7 +2,7 @@
 ghost use Rattle.std.specs.Prelude.{◌≡◌, ◌⊎◌, ℕ, [], None, Some, true, take, is_some, IfOk, IfSome, IsSome};
 ghost use Rattle.nc_outside.specs.Told.{with_end};
 ghost use Rattle.nc_outside.specs.Cause.{Rose};
-ghost use Rattle.serial_spec.specs.HeaderGrammar.{is_sound};
+ghost use Rattle.serial_spec.specs.SoundHeaders.{is_sound};
 ghost use Rattle.ncmpi_cli.specs.Headline.{GivesLine, GivesText};
 ghost use Rattle.ncmpi_cli.specs.Readings as spec;
 ghost use Rattle.dataset_start.specs.Stops.{fixed_line_of, line_of, status_of};

@@ -4,7 +4,7 @@ ghost use Rattle.nc_base.specs.declared.errors.HeaderErr.{HeaderErr};
 ghost use Rattle.nc_outside.specs.Told.{after};
 ghost use Rattle.nc_outside.specs.Cause.{Rose};
 ghost use Rattle.serial_spec.specs.DeviceCalls.{head_load};
-ghost use Rattle.serial_spec.specs.HeaderGrammar.{HasFault};
+ghost use Rattle.serial_spec.specs.HeaderFaults.{HasFault};
 ghost use Rattle.ncmpi_cli.specs.Headline.{GivesLine};
 ghost use Rattle.dataset_start.specs.Dataset.{front, TellsHeader};
 ghost use Rattle.ncmpi_cli.specs.Listing.{IsFaultyFront, IsListStatus, IsOfReadHeader, IsSoundFront, Lists, ListsFront, ListsWhole};

@@ -1,7 +1,8 @@
 // A run that is watched: threads beside it read how far it has come.
 ghost use Rattle.std.specs.Prelude.{◌≡◌, ◌≤◌, ◌<◌, ◌+◌, [], ℕ, length, map, slice_index, vec_len, vec_capacity, true, None, Some, All, IfOk, IfSome};
 ghost use Rattle.nc_base.specs.declared.step.StepErr.TheVariants as fault;
-ghost use Rattle.serial_spec.specs.HeaderGrammar.{header_len, is_sound};
+ghost use Rattle.serial_spec.specs.HeaderBytes.{header_len};
+ghost use Rattle.serial_spec.specs.SoundHeaders.{is_sound};
 ghost use Rattle.serial_spec.specs.Lawful.{is_lawful};
 ghost use Rattle.serial_spec.specs.Layout.{end_of};
 ghost use Rattle.serial_spec.specs.Reading.{told_of};

@@ -1,1 +1,2 @@
 pub mod TopWords
+pub mod LineFaults

@@ -3,6 +3,9 @@ ghost use Rattle.std.specs.Prelude.{◌≡◌, ◌≤◌, IfOk, IfSome};
 ghost use Rattle.script_spec.specs.ScriptWords.{significant_of};
 ghost use Rattle.script_spec.specs.ScriptGrammar.{head, data_line, definition_step, definitions, call_step, data_part, at_line};
 ghost use Rattle.script_words.specs.Reading.{Gives, GivesAt, word_of};
+ghost use Rattle.script_words.specs.Seen.{line_seen};
+ghost use Rattle.ncmpi_script.specs.LineFaults.{TakesLine, on_line};
+ghost use Rattle.ncmpi_script.specs.TopWords.{head_by};
 
 use nc_base::{ScriptErr, ScriptKind};
 use script_calls::RankTable;
@@ -30,20 +33,45 @@ fn head(first: &Token<'_>, words: &mut Words<'_>) -> Result<u8, ReadErr>
     Err(ReadErr::Fault(ScriptKind::NoHead))
 }
 
+/// The same, and where it is on this line.
+fn on_line(number: u32, fault: ReadErr) -> LineErr
+    ensures { result ≡ on_line number fault }
+{
+    match fault {
+        ReadErr::Memory => LineErr::Memory,
+        ReadErr::Fault(kind) => LineErr::Fault(ScriptErr { line: number, kind }),
+    }
+}
+
+/// The next significant line of a text that has not come to its end; `past` is the number past the last line.
+fn line_before_end<'a>(
+    alloc: Global,
+    past: u32,
+    lines: &mut TextLines<'a>,
+) -> Result<Line<'a>, LineErr>
+    ensures { TakesLine past result (significant_of lines.old) (significant_of lines.new) }
+{
+    match significant_line(alloc, lines) {
+        Ok(Some(line)) => Ok(line),
+        Ok(None) => Err(LineErr::Fault(ScriptErr {
+            line: past,
+            kind: ScriptKind::NoEnd,
+        })),
+        Err(_) => Err(LineErr::Memory),
+    }
+}
+
 /// Reads the first significant line.
+#[tactic(auto, using(crate::proofs::FaultLaws::given_at), unfolding(crate::specs::TopWords::head_by))]
 pub fn head_line(line: Line<'_>) -> Result<u8, LineErr>
-    ensures { GivesAt (λ version. version) result (at_line line.entry.number (head (word_of line.entry.first) line.entry.rest)) }
+    ensures { GivesAt (λ version. version) result (head_by (line_seen line.entry)) }
 {
     let Line {
         number,
         first,
         mut rest,
     } = line;
-    match head(&first, &mut rest) {
-        Ok(version) => Ok(version),
-        Err(ReadErr::Memory) => Err(LineErr::Memory),
-        Err(ReadErr::Fault(kind)) => Err(LineErr::Fault(ScriptErr { line: number, kind })),
-    }
+    head(&first, &mut rest).map_err(|fault| on_line(number, fault))
 }
 
 /// Reads the rest of the line `data`: the number of ranks.
@@ -78,6 +106,7 @@ fn definition_step<'a>(
 }
 
 /// The same with the line's number at a fault.
+#[tactic(auto, using(crate::proofs::FaultLaws::given_at))]
 fn definition_line<'a>(
     version: u8,
     draft: &mut Draft<'a>,
@@ -92,11 +121,7 @@ fn definition_line<'a>(
         first,
         mut rest,
     } = line;
-    match definition_step(version, draft, first, &mut rest) {
-        Ok(ranks) => Ok(ranks),
-        Err(ReadErr::Memory) => Err(LineErr::Memory),
-        Err(ReadErr::Fault(kind)) => Err(LineErr::Fault(ScriptErr { line: number, kind })),
-    }
+    definition_step(version, draft, first, &mut rest).map_err(|fault| on_line(number, fault))
 }
 
 /// Reads the definitions, up to `data`: the number of ranks.
@@ -112,16 +137,7 @@ pub fn definitions<'a>(
     ensures bound { IfOk result (λ n. n ≤ 64) }
 {
     loop {
-        let line = match significant_line(alloc, lines) {
-            Ok(Some(line)) => line,
-            Ok(None) => {
-                return Err(LineErr::Fault(ScriptErr {
-                    line: past,
-                    kind: ScriptKind::NoEnd,
-                }));
-            }
-            Err(_) => return Err(LineErr::Memory),
-        };
+        let line = line_before_end(alloc, past, lines)?;
         if let Some(ranks) = definition_line(version, draft, line)? {
             return Ok(ranks);
         }
@@ -147,6 +163,7 @@ fn call_step<'a>(
 }
 
 /// The same with the line's number at a fault.
+#[tactic(auto, using(crate::proofs::FaultLaws::given_at))]
 fn call_line<'a>(alloc: Global, table: &mut RankTable, line: Line<'a>) -> Result<bool, LineErr>
     ensures { GivesAt (λ ends. (ends, table.new)) result
         (at_line line.entry.number (call_step table.old (word_of line.entry.first) line.entry.rest)) }
@@ -156,11 +173,7 @@ fn call_line<'a>(alloc: Global, table: &mut RankTable, line: Line<'a>) -> Result
         first,
         mut rest,
     } = line;
-    match call_step(alloc, table, first, &mut rest) {
-        Ok(ends) => Ok(ends),
-        Err(ReadErr::Memory) => Err(LineErr::Memory),
-        Err(ReadErr::Fault(kind)) => Err(LineErr::Fault(ScriptErr { line: number, kind })),
-    }
+    call_step(alloc, table, first, &mut rest).map_err(|fault| on_line(number, fault))
 }
 
 /// Reads the calls, up to `end`: its line.
@@ -174,16 +187,7 @@ pub fn data_part<'a>(
         (data_part past table.old (significant_of lines.old)) }
 {
     loop {
-        let line = match significant_line(alloc, lines) {
-            Ok(Some(line)) => line,
-            Ok(None) => {
-                return Err(LineErr::Fault(ScriptErr {
-                    line: past,
-                    kind: ScriptKind::NoEnd,
-                }));
-            }
-            Err(_) => return Err(LineErr::Memory),
-        };
+        let line = line_before_end(alloc, past, lines)?;
         let number = line.number;
         if call_line(alloc, table, line)? {
             return Ok(number);

@@ -1,8 +1,8 @@
 // A whole text.
 ghost use Rattle.std.specs.Prelude.{◌≡◌, ◌≢◌, ◌≤◌, ◌<◌, ◌^◌, ◌+◌, IfOk, IfErr, length, filter, Ok};
 ghost use Rattle.script_spec.specs.ScriptWords.{text_lines, significant_of, is_newline};
-ghost use Rattle.script_spec.specs.ScriptGrammar.{finish, is_mismatch, newlines, without_head, Reads, script_fault};
-ghost use Rattle.ncmpi_script.specs.TopWords.{head_by, definitions_by, data_part_by, finish_by, made_by, end_by, calls_by, rest_by, headed_by, lines_by, utf8_by, text_by};
+ghost use Rattle.script_spec.specs.ScriptGrammar.{is_mismatch, newlines, without_head, Reads, script_fault};
+ghost use Rattle.ncmpi_script.specs.TopWords.{definitions_by, data_part_by, finish_by, made_by, end_by, calls_by, rest_by, headed_by, lines_by, utf8_by, text_by};
 ghost use Rattle.script_words.specs.Seen.{line_seen};
 ghost use Rattle.nc_base.specs.declared.errors.ScriptKind.TheVariants as kind;
 ghost use Rattle.script_words.specs.Reading.{GivesAt};
@@ -48,13 +48,14 @@ fn newlines(text: &[u8]) -> u32
 }
 
 /// What follows `end`, which stands on this line: nothing, and the ranks agree.
+#[tactic(auto, unfolding(crate::specs::TopWords::finish_by))]
 fn finish<'a>(
     alloc: Global,
     number: u32,
     table: &RankTable,
     lines: &mut TextLines<'a>,
 ) -> Result<(), LineErr>
-    ensures { GivesAt (λ _. tt) result (finish number table.now.calls (significant_of lines.old)) }
+    ensures { GivesAt (λ _. tt) result (finish_by number table.now.calls (significant_of lines.old)) }
 {
     match significant_line(alloc, lines) {
         Ok(None) => {}
@@ -73,18 +74,6 @@ fn finish<'a>(
         None => Ok(()),
         Some(kind) => Err(LineErr::Fault(ScriptErr { line: number, kind })),
     }
-}
-
-#[tactic(auto, unfolding(crate::specs::TopWords::finish_by))]
-fn read_end(
-    alloc: Global,
-    number: u32,
-    table: &RankTable,
-    lines: &mut TextLines<'_>,
-) -> Result<(), LineErr>
-    ensures { GivesAt (λ _. tt) result (finish_by number table.now.calls (significant_of lines.old)) }
-{
-    finish(alloc, number, table, lines)
 }
 
 /// What a script says before its calls: its version, or 0 for an existing dataset, how many ranks it has, and what it defines.
@@ -120,13 +109,6 @@ fn script_of(opening: Opening<'_>, calls: CallTable) -> Script
         extra: added.into_extras(),
         calls,
     }
-}
-
-#[tactic(auto, unfolding(crate::specs::TopWords::head_by))]
-fn read_head(line: Line<'_>) -> Result<u8, LineErr>
-    ensures { GivesAt (λ version. version) result (head_by (line_seen line.entry)) }
-{
-    head_line(line)
 }
 
 /// Reads the definitions into a new draft: the number of ranks, and the draft.
@@ -185,7 +167,7 @@ fn read_after_end(
 ) -> Result<Script, LineErr>
     ensures { GivesAt (λ script. script) result (end_by opening.entry.version opening.entry.ranks opening.entry.draft number table.calls (significant_of lines.old)) }
 {
-    match read_end(alloc, number, &table, lines) {
+    match finish(alloc, number, &table, lines) {
         Ok(()) => made(alloc, opening, table),
         Err(fault) => Err(fault),
     }
@@ -241,7 +223,7 @@ fn read_from_head<'a>(
 ) -> Result<Script, LineErr>
     ensures { GivesAt (λ script. script) result (headed_by past (line_seen line.entry) (significant_of lines.old)) }
 {
-    match read_head(line) {
+    match head_line(line) {
         Ok(version) => read_rest(alloc, past, version, lines),
         Err(fault) => Err(fault),
     }

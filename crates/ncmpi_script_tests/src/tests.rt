@@ -1,10 +1,11 @@
 // Texts of scripts, and what is read of them.
+mod calls;
 mod faults;
 mod limits;
 mod values;
 mod whole;
 
-use nc_base::{Call, Script, ScriptKind};
+use nc_base::{Call, IdList, Name, Script, ScriptKind};
 use ncmpi_script::read_script;
 use std::alloc::Global;
 use std::process::Abort;
@@ -64,6 +65,14 @@ fn line_refused<R: Abort>(
             "{line}"
         );
     }
+}
+
+fn name(rt: &impl Abort, alloc: Global, text: &str) -> Name {
+    Name::from_vec(Vec::from_slice(alloc, text.as_bytes()).expect(rt, NO_MEMORY))
+}
+
+fn ids(rt: &impl Abort, alloc: Global, list: &[u32]) -> IdList {
+    IdList::from_vec(Vec::from_slice(alloc, list).expect(rt, NO_MEMORY))
 }
 
 // The calls of a rank.

@@ -13,13 +13,13 @@ use Rattle.std.proofs.lemmas.Bool.Decides.{nat_tests}
 use borrow.Author.Tests.{ltb-true, ltb-false}
 use Rattle.nc_base.specs.declared.plan.Owned.{Owned}
 use Rattle.overlay_laws.specs.Entries.{In}
-use Rattle.overlay_laws.proofs.EntryLaws.{same_permuted}
+use Rattle.overlay_laws.proofs.EntryLaws.{same_permuted, in_extents}
 use Rattle.overlap_report.specs.declared.serial.Claim.{Claim}
 use Rattle.overlap_report.specs.Parts.{IsPartOfOne}
 use Rattle.overlap_report.specs.Sweep.{owned_of, entries_of, part_of, claim_cmp, AreFit, StandsBy, Swept, IsTop}
 use Rattle.overlap_report.proofs.SweepSteps.{swept_empty, swept_without, swept_part, swept_more}
 use Rattle.overlap_report.proofs.OriginSteps.{resolved_by}
-use Rattle.overlap_report.proofs.KeySteps.{IsNext, in_extents}
+use Rattle.overlap_report.proofs.KeySteps.{IsNext}
 use Rattle.std.proofs.lemmas.List.{take_all}
 use Rattle.std.proofs.lemmas.Bool.{lt-ltb}
 use Rattle.nc_base.specs.declared.plan.Extent.{Extent}

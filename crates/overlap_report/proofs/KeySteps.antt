@@ -1,9 +1,9 @@
 -- Requests that are the same or not, and entries among the first of a list.
 use Rattle.std.proofs.Common.{◌≡◌, ℕ, zero, suc, ◌+◌, ◌-◌, ◌<◌, ◌≤◌, ◌⊎◌, refl, sym, ◌∙◌, ap, subst, inl, inr, List, [], ◌∷◌, ◌++◌, length, take, get_or, Bool, true, false, arith}
 use Rattle.std.proofs.lemmas.Bool.Decides.{nat_tests}
-use Rattle.std.proofs.lemmas.List.{take_more, take_all, map-append}
+use Rattle.std.proofs.lemmas.List.{take_more, take_all, map-append, get_or_default}
 use Rattle.overlay_laws.proofs.Members.{entry_in}
-use Rattle.serial_spec.proofs.PairLaws.{key_itself}
+use Rattle.serial_spec.proofs.KeyLaws.{key_itself}
 use Rattle.overlay_laws.proofs.WalkLaws.{no_both}
 use Rattle.nc_base.specs.declared.plan.Extent.{Extent}
 use Rattle.nc_base.specs.declared.plan.Owned.{Owned}
@@ -12,6 +12,7 @@ use Rattle.overlay_laws.specs.Entries.{In}
 use Rattle.overlay_laws.specs.Lines.{extents, IsByPlace, EndBelow}
 use Rattle.overlay_laws.proofs.HullLaws.{in_either, in_left, in_right}
 use Rattle.overlay_laws.proofs.HolderLaws.{same_keys, keys_same}
+use Rattle.overlay_laws.proofs.EntryLaws.{in_extents}
 
 -- ---- keys
 
@@ -45,11 +46,6 @@ pub below_or_above : (a b : Key) → same_key a b ≡ false → key_below a b �
 below_or_above a b h k = grind (arith, nat_tests)
 
 -- ---- the first entries of a list
-
-pub in_extents : (list : List Owned) (o : Owned) → In list o → In (extents list) o.extent
-in_extents [] o h = absurd h
-in_extents (p ∷ list) o (inl h) = inl (ap (λ (z : Owned). z.extent) h)
-in_extents (p ∷ list) o (inr h) = inr (in_extents list o h)
 
 -- one more entry
 pub record IsNext (seen more : List Owned) (o : Owned) : Type 0 where
@@ -96,13 +92,8 @@ at_or_before (a ∷ list) (suc i) o p h is sorted (inr m) =
 abbrev pub nothing : Owned
 nothing = record { extent = record { at = 0; len = 0 }; rank = 0; request = 0; slot = 0; from = 0 }
 
-pub at_index : {X : Type 0} (xs : List X) (i : ℕ) (d e : X) → i < length xs → get_or xs i d ≡ get_or xs i e
-at_index [] i d e h = absurd (omega arith)
-at_index (x ∷ xs) zero d e h = refl
-at_index (x ∷ xs) (suc i) d e h = at_index xs i d e (omega arith)
-
 pub next_at : (list : List Owned) (i : ℕ) → i < length list → IsNext (take i list) (take (i + 1) list) (get_or list i nothing)
-next_at list i h = next_taken list i (get_or list i nothing) h (at_index list i nothing (get_or list i nothing) h)
+next_at list i h = next_taken list i (get_or list i nothing) h (get_or_default list i nothing (get_or list i nothing) h)
 
 -- entries that end below a place, and one more
 pub ends_next : (list : List Owned) (i n : ℕ) → i < length list → EndBelow n (extents (take i list))

@@ -1,7 +1,8 @@
 -- The two least requests of the entries so far that hold a byte.
 use Rattle.std.proofs.Common.{◌≡◌, ℕ, ◌≤◌, ◌⊎◌, refl, sym, ◌∙◌, ap, subst, inl, inr, List, length, take, Bool, true, false, cond}
 use Rattle.std.proofs.lemmas.List.{take_all}
-use Rattle.serial_spec.proofs.PairLaws.{key_equal, below_through}
+use Rattle.serial_spec.proofs.KeyLaws.{key_equal}
+use Rattle.serial_spec.proofs.PairLaws.{below_through}
 use Rattle.nc_base.specs.declared.plan.Owned.{Owned}
 use Rattle.serial_spec.specs.SharedByte.{Key, same_key, key_below}
 use Rattle.overlap_report.specs.declared.holders.Request.{Request}

@@ -9,7 +9,8 @@ use Rattle.overlay_laws.proofs.WalkLaws.{no_both}
 use Rattle.nc_base.specs.declared.plan.Owned.{Owned}
 use Rattle.nc_base.specs.declared.answer.Pair.{Pair}
 use Rattle.serial_spec.specs.SharedByte.{Key, same_key, key_below, Holds, holdings_of_entries, shared_pair_of, first_end, second_end}
-use Rattle.serial_spec.proofs.PairLaws.{pair_found, pair_only, key_itself, key_equal}
+use Rattle.serial_spec.proofs.KeyLaws.{key_itself, key_equal}
+use Rattle.serial_spec.proofs.PairLaws.{pair_found, pair_only}
 use Rattle.overlay_laws.specs.Entries.{In}
 use Rattle.overlay_laws.specs.Lines.{extents, IsByPlace}
 use Rattle.overlay_laws.proofs.HullLaws.{in_range, range_low, range_high}

@@ -14,7 +14,8 @@ use Rattle.overlay_laws.specs.Entries.{In, HaveSame}
 use Rattle.overlay_laws.specs.Hulls.{IsAscending}
 use Rattle.overlay_laws.specs.Walks.{walked, round_end, spans, below, above, IsCover, end_after, is_single, first_at, hull_of, extents_walked, told_of}
 use Rattle.overlay_laws.proofs.HullLaws.{range_low, range_high, in_either, in_in_order, in_order_in, in_order_ascends}
-use Rattle.overlay_laws.proofs.WalkLaws.{filter_none, filter_all, filter_joined, drop_first, windows_walked, sieved_walked}
+use Rattle.overlay_laws.proofs.WalkLaws.{filter_none, filter_all, drop_first, windows_walked, sieved_walked}
+use Rattle.std.proofs.lemmas.List.Elements.{filter-append}
 
 -- ---- bytes of a cover
 
@@ -53,7 +54,7 @@ no_more (x ∷ xs) = ap (λ r. x ∷ r) (no_more xs)
 range_below_cut : (stop a n : ℕ) → a < stop → stop < a + n → filter (λ y. nat_lt y stop) (range_with_len a n) ≡ range_with_len a (stop - a)
 range_below_cut stop a n h k =
     ap (λ r. filter (λ y. nat_lt y stop) r) (cut_range stop a n h k)
-    ∙ filter_joined (λ y. nat_lt y stop) (range_with_len a (stop - a)) (range_with_len stop (a + n - stop))
+    ∙ filter-append (λ y. nat_lt y stop) (range_with_len a (stop - a)) (range_with_len stop (a + n - stop))
     ∙ ap (λ r. r ++ filter (λ y. nat_lt y stop) (range_with_len stop (a + n - stop))) (range_below_all stop a (stop - a) (omega arith))
     ∙ ap (λ r. range_with_len a (stop - a) ++ r) (range_below_none stop stop (a + n - stop) (omega arith))
     ∙ no_more (range_with_len a (stop - a))
@@ -61,7 +62,7 @@ range_below_cut stop a n h k =
 range_above_cut : (stop a n : ℕ) → a < stop → stop < a + n → filter (λ y. nat_le stop y) (range_with_len a n) ≡ range_with_len stop (a + n - stop)
 range_above_cut stop a n h k =
     ap (λ r. filter (λ y. nat_le stop y) r) (cut_range stop a n h k)
-    ∙ filter_joined (λ y. nat_le stop y) (range_with_len a (stop - a)) (range_with_len stop (a + n - stop))
+    ∙ filter-append (λ y. nat_le stop y) (range_with_len a (stop - a)) (range_with_len stop (a + n - stop))
     ∙ ap (λ r. r ++ filter (λ y. nat_le stop y) (range_with_len stop (a + n - stop))) (range_above_none stop a (stop - a) (omega arith))
     ∙ range_above_all stop stop (a + n - stop) (omega arith)
 
@@ -70,14 +71,14 @@ range_above_cut stop a n h k =
 pub spans_below_none : (stop : ℕ) (cover : List Extent) → ((d : Extent) → In cover d → stop ≤ d.at) → filter (λ y. nat_lt y stop) (spans cover) ≡ []
 spans_below_none stop [] h = refl
 spans_below_none stop (e ∷ cover) h =
-    filter_joined (λ y. nat_lt y stop) (range_with_len e.at e.len) (spans cover)
+    filter-append (λ y. nat_lt y stop) (range_with_len e.at e.len) (spans cover)
     ∙ ap (λ r. r ++ filter (λ y. nat_lt y stop) (spans cover)) (range_below_none stop e.at e.len (h e (inl refl)))
     ∙ spans_below_none stop cover (λ d k. h d (inr k))
 
 pub spans_above_all : (stop : ℕ) (cover : List Extent) → ((d : Extent) → In cover d → stop ≤ d.at) → filter (λ y. nat_le stop y) (spans cover) ≡ spans cover
 spans_above_all stop [] h = refl
 spans_above_all stop (e ∷ cover) h =
-    filter_joined (λ y. nat_le stop y) (range_with_len e.at e.len) (spans cover)
+    filter-append (λ y. nat_le stop y) (range_with_len e.at e.len) (spans cover)
     ∙ ap (λ r. r ++ filter (λ y. nat_le stop y) (spans cover)) (range_above_all stop e.at e.len (h e (inl refl)))
     ∙ ap (λ r. range_with_len e.at e.len ++ r) (spans_above_all stop cover (λ d k. h d (inr k)))
 
@@ -91,12 +92,12 @@ spans_below stop (e ∷ cover) h = by_start (spans_below stop cover h.2) (nat_le
     by_end : filter (λ y. nat_lt y stop) (spans cover) ≡ spans (below stop cover) → e.at < stop → (t : Bool) → nat_le (e.at + e.len) stop ≡ t
         → filter (λ y. nat_lt y stop) (spans (e ∷ cover)) ≡ spans (cond t (e ∷ below stop cover) (record { at = e.at; len = stop - e.at } ∷ []))
     by_end ih l true g =
-        filter_joined (λ y. nat_lt y stop) (range_with_len e.at e.len) (spans cover)
+        filter-append (λ y. nat_lt y stop) (range_with_len e.at e.len) (spans cover)
         ∙ ap (λ r. r ++ filter (λ y. nat_lt y stop) (spans cover)) (range_below_all stop e.at e.len (leb-true (e.at + e.len) stop g))
         ∙ ap (λ r. range_with_len e.at e.len ++ r) ih
     by_end ih l false g =
         let m : stop < e.at + e.len = leb-false (e.at + e.len) stop g in
-        filter_joined (λ y. nat_lt y stop) (range_with_len e.at e.len) (spans cover)
+        filter-append (λ y. nat_lt y stop) (range_with_len e.at e.len) (spans cover)
         ∙ ap (λ r. r ++ filter (λ y. nat_lt y stop) (spans cover)) (range_below_cut stop e.at e.len l m)
         ∙ ap (λ r. range_with_len e.at (stop - e.at) ++ r) (rest_none m)
 
@@ -119,12 +120,12 @@ spans_above stop (e ∷ cover) h = by_start (spans_above stop cover h.2) (nat_le
     by_end : filter (λ y. nat_le stop y) (spans cover) ≡ spans (above stop cover) → e.at < stop → (t : Bool) → nat_le (e.at + e.len) stop ≡ t
         → filter (λ y. nat_le stop y) (spans (e ∷ cover)) ≡ spans (cond t (above stop cover) (record { at = stop; len = e.at + e.len - stop } ∷ cover))
     by_end ih l true g =
-        filter_joined (λ y. nat_le stop y) (range_with_len e.at e.len) (spans cover)
+        filter-append (λ y. nat_le stop y) (range_with_len e.at e.len) (spans cover)
         ∙ ap (λ r. r ++ filter (λ y. nat_le stop y) (spans cover)) (range_above_none stop e.at e.len (leb-true (e.at + e.len) stop g))
         ∙ ih
     by_end ih l false g =
         let m : stop < e.at + e.len = leb-false (e.at + e.len) stop g in
-        filter_joined (λ y. nat_le stop y) (range_with_len e.at e.len) (spans cover)
+        filter-append (λ y. nat_le stop y) (range_with_len e.at e.len) (spans cover)
         ∙ ap (λ r. r ++ filter (λ y. nat_le stop y) (spans cover)) (range_above_cut stop e.at e.len l m)
         ∙ ap (λ r. range_with_len stop (e.at + e.len - stop) ++ r) (spans_above_all stop cover (λ d k. let b = h.1 d k in omega arith))
 

@@ -23,6 +23,7 @@ use Rattle.serial_spec.specs.Said.{byte_or, said_at, Says, IsOneValued, Cell, wr
 use Rattle.serial_spec.specs.SharedByte.{said_by_puts}
 use Rattle.overlay_laws.specs.Entries.{cells_of_puts, Source, cell_of, ranges, IsRun, IsGathered, got_cell, IsRunFrom, In, HaveSame}
 use Rattle.overlay_laws.proofs.SaidLaws.{said_in_any_order, same_said, cells_long, same_file}
+use Rattle.overlay_laws.specs.Lines.{extents}
 
 -- ---- entries in order
 
@@ -265,3 +266,8 @@ get_collected s post file blob os list run e same long =
     collected file blob os list run same (long ∙ ap (λ (xs : List ℕ). length xs) (sym e))
     ∙ ap (λ xs. map (λ i. at file i) xs) e
     ∙ sym (get_is_bytes s post file)
+
+pub in_extents : (list : List Owned) (o : Owned) → In list o → In (extents list) o.extent
+in_extents [] o h = absurd h
+in_extents (p ∷ list) o (inl h) = inl (ap (λ (z : Owned). z.extent) h)
+in_extents (p ∷ list) o (inr h) = inr (in_extents list o h)

@@ -15,3 +15,4 @@ pub mod RoomLaws
 pub mod OnceLaws
 pub mod RegionLaws
 pub mod ReadLaws
+pub mod WindowCounts

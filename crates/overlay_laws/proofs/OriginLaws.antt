@@ -1,6 +1,6 @@
 -- The bytes of entries by where they come from; where requests overlap, the last in rank order counts.
 use Rattle.std.proofs.Common.{◌≡◌, ℕ, zero, suc, ◌+◌, ◌<◌, ◌≤◌, refl, sym, ◌∙◌, ap, subst, inl, inr, ◌⊎◌, List, [], ◌∷◌, ◌++◌, length, take, drop, Bool, true, false, Option, Some, None, arith}
-use Rattle.std.proofs.lemmas.List.{drop_more}
+use Rattle.std.proofs.lemmas.List.{drop_more, map-append}
 use Rattle.std.specs.Prelude.{fold, flat_map, map, option_map, ◌==◌}
 use Rattle.std.specs.List.{enumerate_from, range_with_len}
 use Rattle.list_laws.proofs.Optional.{no_none_some}
@@ -51,17 +51,13 @@ cell_origins source r k p from (suc n) h =
     ap (λ xs. enumerate_from p xs) (slice_step (source r k) from n (omega arith))
     ∙ ap (λ rest. (p, at (source r k) from) ∷ rest) (cell_origins source r k (p + 1) (from + 1) n (omega arith))
 
-map_joined : {A B : Type 0} (f : A → B) (xs ys : List A) → map f (xs ++ ys) ≡ map f xs ++ map f ys
-map_joined f [] ys = refl
-map_joined f (x ∷ xs) ys = ap (λ rest. f x ∷ rest) (map_joined f xs ys)
-
 pub cells_by_origins : (source : Source) (os : List Owned) → AreFound source os
     → said_by (map (λ o. cell_of source o) os) ≡ map (λ q. (q.0, byte_at source q.1)) (origins os)
 cells_by_origins source [] h = refl
 cells_by_origins source (o ∷ os) h =
     ap (λ rest. enumerate_from o.extent.at (take o.extent.len (drop o.from (source o.rank o.slot))) ++ rest) (cells_by_origins source os h.1)
     ∙ ap (λ first. first ++ map (λ q. (q.0, byte_at source q.1)) (origins os)) (cell_origins source o.rank o.slot o.extent.at o.from o.extent.len h.0)
-    ∙ sym (map_joined (λ q. (q.0, byte_at source q.1)) (origins_of o) (origins os))
+    ∙ sym (map-append (λ q. (q.0, byte_at source q.1)) (origins_of o) (origins os))
 
 -- ---- the greatest is the last
 

@@ -1,5 +1,5 @@
 -- Windows that are each read, overlaid and written, one after another.
-use Rattle.std.proofs.Common.{◌≡◌, ℕ, zero, suc, ◌+◌, ◌-◌, ◌<◌, ◌≤◌, None, refl, sym, ◌∙◌, ap, subst, List, [], ◌∷◌, length, Some, arith}
+use Rattle.std.proofs.Common.{◌≡◌, ℕ, zero, suc, ◌+◌, ◌-◌, ◌<◌, ◌≤◌, None, refl, sym, ◌∙◌, ap, subst, List, [], ◌∷◌, length, Some, arith, take, drop}
 use Rattle.std.specs.Prelude.{fold, map}
 use Rattle.serial_spec.proofs.CellLaws.{read_long}
 use Rattle.serial_spec.specs.File.{at, read, written}
@@ -7,6 +7,7 @@ use Rattle.serial_spec.specs.Said.{Cell, write_cells, IsWithin, IsFrom, moved_do
 use Rattle.overlay_laws.specs.Windows.{clips, IsInOne, HasEach, read_overlaid, all_read_overlaid}
 use Rattle.overlay_laws.proofs.SaidLaws.{cells_long}
 use Rattle.overlay_laws.proofs.WindowLaws.{clips_within, clips_from, within_more, window_done, windows_done}
+use Rattle.overlay_laws.proofs.OriginLaws.{slice_step}
 
 read_at : (file : List ℕ) (x n i : ℕ) → i < n → at (read file x n) i ≡ at file (x + i)
 read_at file x zero i h = absurd (omega arith)
@@ -49,3 +50,9 @@ pub all_read : (file : List ℕ) (cells : List Cell) (windows : List (ℕ × ℕ
     → ((x v : ℕ) → said_at (said_by cells) x ≡ Some v → HasEach windows x)
     → all_read_overlaid file cells windows ≡ write_cells file cells
 all_read file cells windows within each has = windows_read windows file cells each ∙ windows_done file cells windows within each has
+
+-- bytes read within a file, as a slice of it
+pub read_slice : (file : List ℕ) (x n : ℕ) → x + n ≤ length file → read file x n ≡ take n (drop x file)
+read_slice file x zero h = refl
+read_slice file x (suc n) h =
+    ap (λ r. at file x ∷ r) (read_slice file (x + 1) n (omega arith)) ∙ sym (slice_step file x n (omega arith))

@@ -8,10 +8,10 @@ use Rattle.list_laws.proofs.Truth.{equal_true}
 use Rattle.list_laws.proofs.Optional.{no_none_some}
 use Rattle.nc_base.specs.declared.header.Header.{Header}
 use Rattle.nc_base.specs.declared.plan.Post.{Post}
-use Rattle.serial_spec.specs.SharedByte.{Puts, Key, Holding, bytes_of, holdings, same_key, has_byte, Holds, IsUnshared, shared_pair}
-use Rattle.serial_spec.proofs.PairLaws.{pair_none, key_itself}
+use Rattle.serial_spec.specs.SharedByte.{Puts, Key, Holding, bytes_of, holdings, same_key, has_byte, Holds, IsUnshared, shared_pair, said_by_puts, IsOwnOnce}
+use Rattle.serial_spec.proofs.KeyLaws.{key_itself}
+use Rattle.serial_spec.proofs.PairLaws.{pair_none}
 use Rattle.serial_spec.specs.Said.{Says, IsOneValued}
-use Rattle.serial_spec.specs.SharedByte.{said_by_puts, IsOwnOnce}
 use Rattle.overlay_laws.specs.Entries.{HaveOwnKeys, IsOnce}
 use Rattle.overlay_laws.proofs.EntryLaws.{says_cases}
 

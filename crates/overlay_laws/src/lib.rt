@@ -1,7 +1,7 @@
 //! Laws by which the bytes of a step are those of cells, windows and pieces.
 #![tactic(auto)]
 
-ghost use Rattle.std.specs.Prelude.{◌≡◌, ℕ, ◌+◌, ◌-◌, ◌<◌, ◌≤◌, List, length, map, fold, flat_map, Some, None};
+ghost use Rattle.std.specs.Prelude.{◌≡◌, ℕ, ◌+◌, ◌-◌, ◌<◌, ◌≤◌, List, length, map, fold, flat_map, Some, None, true, slice_get, ◌*◌, ◌/◌, ◌==◌, filter, nat_lt, nat_le};
 ghost use Rattle.serial_spec.specs.File.{at, longer, written, read};
 ghost use Rattle.serial_spec.specs.Said.{said_at, said_by, byte_or, Says, IsOneValued, Cell, write_cells, IsWithin, IsFrom, moved_down};
 ghost use Rattle.overlay_laws.specs.Windows.{clips, IsPart, AreParts, SomeSays, IsInOne, HasEach, all_read_overlaid};
@@ -9,29 +9,24 @@ ghost use Rattle.std.specs.List.Sorted.{IsPermutation};
 ghost use Rattle.nc_base.specs.declared.header.Header.{Header};
 ghost use Rattle.nc_base.specs.declared.plan.Post.{Post};
 ghost use Rattle.nc_base.specs.declared.plan.Owned.{Owned};
-ghost use Rattle.serial_spec.specs.SharedByte.{Puts, bytes_of, shared_pair, shared_pair_of, holdings, holdings_of_entries, covered};
+ghost use Rattle.serial_spec.specs.SharedByte.{Puts, bytes_of, shared_pair, shared_pair_of, holdings, holdings_of_entries, covered, said_by_puts, IsOwnOnce};
 ghost use Rattle.serial_spec.specs.DeviceCalls.{in_order, collective_windows, sieving_windows, windows, first_of};
 ghost use Rattle.nc_base.specs.declared.script.Hints.{Hints};
 ghost use Rattle.overlay_laws.specs.Hulls.{hulls, IsAscending, written_over, AreHints};
 ghost use Rattle.serial_spec.specs.FileStep.{Setting, put_post, get_post, end_for, after_puts};
 ghost use Rattle.serial_spec.specs.Records.{needed_by};
 ghost use Rattle.overlay_laws.specs.Steps.{HasRoom, LieApart, HaveStrides};
-ghost use Rattle.std.specs.Prelude.{true};
 ghost use Rattle.nc_base.specs.declared.request.Region.{Region};
 ghost use Rattle.nc_base.specs.declared.header.Var.{Var};
 ghost use Rattle.serial_spec.specs.Request.{elements, places};
 ghost use Rattle.serial_spec.specs.Place.{IsElement};
 ghost use Rattle.serial_spec.specs.ExternalForm.{size_of};
-ghost use Rattle.serial_spec.specs.HeaderGrammar.{is_sound};
-ghost use Rattle.std.specs.Prelude.{slice_get};
+ghost use Rattle.serial_spec.specs.SoundHeaders.{is_sound};
 ghost use Rattle.std.specs.List.{range_with_len};
-ghost use Rattle.std.specs.Prelude.{◌*◌, ◌/◌, ◌==◌};
-ghost use Rattle.serial_spec.specs.SharedByte.{said_by_puts, IsOwnOnce};
 ghost use Rattle.overlay_laws.specs.Entries.{cells_of_puts, Source, cell_of, IsRun, IsGathered, got_cell, IsRunFrom, ranges, In, HaveSame, HaveOwnKeys, IsOnce};
 ghost use Rattle.overlay_laws.specs.Origins.{Origin, origins, byte_at, AreFound, IsGreatest, IsResolved, IsOnceEach, IsInOrder};
 ghost use Rattle.overlay_laws.specs.Walks.{walked, round_end, spans, below, above, IsCover, hull_of, first_at, told_of, extents_walked};
 ghost use Rattle.nc_base.specs.declared.plan.Extent.{Extent};
-ghost use Rattle.std.specs.Prelude.{filter, nat_lt, nat_le};
 ghost use Rattle.overlay_laws.specs.Parts.{joined, written_parts};
 
 /// Cells that are written one after another leave at each place what the last of them that has the place says, else the

@@ -15,12 +15,12 @@ use Rattle.serial_spec.specs.Said.{Cell, write_cells}
 use Rattle.overlay_laws.specs.Entries.{In}
 use Rattle.overlay_laws.proofs.HullLaws.{filter_in}
 use Rattle.overlay_laws.proofs.Members.{in_filter}
-use Rattle.overlay_laws.proofs.WalkLaws.{filter_joined}
 use Rattle.data_sieving.specs.Sieving.{AreFilled}
 use Rattle.data_sieving.specs.Serving.{buffer_cell, part_in}
 use Rattle.piece_exchange.specs.Blobs.{blob_at, of_request, with_blob, AreAsLong, FitTable}
 use Rattle.piece_exchange.specs.Cursor.{AreServed}
 use Rattle.piece_exchange.proofs.TurnLaws.{served_in}
+use Rattle.std.proofs.lemmas.List.Elements.{filter-append}
 
 -- ---- the entries of a request
 
@@ -124,7 +124,7 @@ collected_more lo hi buf old mid now list i o d l e some is h r s = by_test (o.r
     more : (t : Bool) → (o.rank == r && o.slot == s) ≡ t → of_request r s (take (i + 1) list) ≡ of_request r s (take i list) ++ cond t (o ∷ []) []
     more t f =
         ap (λ (os : List Owned). of_request r s os) (take_more list i d l ∙ ap (λ (q : Owned). take i list ++ q ∷ []) (sym e))
-        ∙ filter_joined (λ (q : Owned). q.rank == r && q.slot == s) (take i list) (o ∷ [])
+        ∙ filter-append (λ (q : Owned). q.rank == r && q.slot == s) (take i list) (o ∷ [])
         ∙ ap (λ (b : Bool). of_request r s (take i list) ++ cond b (o ∷ []) []) f
 
     all : (os : List Owned) → of_request r s (take (i + 1) list) ≡ of_request r s (take i list) ++ os

@@ -6,7 +6,6 @@ use Rattle.overlay_laws.specs.Entries.{In, Source}
 use Rattle.overlay_laws.specs.Lines.{extents, EndBelow}
 use Rattle.overlay_laws.proofs.HullLaws.{in_left, in_right, in_either}
 use Rattle.data_sieving.specs.Serving.{IsCovered, AreBegun, IsPast}
-use Rattle.data_sieving.proofs.CoveredBytes.{in_extents}
 use Rattle.data_sieving.proofs.PastSteps.{past_in, past_kept, past_later, past_none, past_twice}
 use Rattle.piece_exchange.specs.Cursor.{AreServed, IsAt}
 use Rattle.piece_exchange.specs.declared.walk.TurnWalk.{TurnWalk}
@@ -14,6 +13,7 @@ use Rattle.piece_exchange.specs.Pieces.{ArePieces}
 use Rattle.piece_exchange.specs.Turns.{Told, turns_ahead, IsTurnWalk}
 use Rattle.piece_exchange.specs.Hulls.{AreTurns, IsTurn, LieOnPart}
 use Rattle.piece_exchange.proofs.PutLaws.{ArePicked}
+use Rattle.overlay_laws.proofs.EntryLaws.{in_extents}
 
 pub turn_end : (list : List Owned) (room : ℕ) (t : Told) → EndBelow (2 ^ 62) (extents list) → IsTurn list room t → t.0 + t.1 < 2 ^ 62
 turn_end list room t ends h =

@@ -1,4 +1,3 @@
-pub mod Appends
 pub mod DigitLaws
 pub mod OffsetLaws
 pub mod WordLaws

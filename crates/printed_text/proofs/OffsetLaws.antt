@@ -8,7 +8,7 @@ use Rattle.std.proofs.lemmas.Option.{slice_get-get_or}
 use Rattle.serial_spec.proofs.RoomLaws.{slab_below}
 use Rattle.nc_base.specs.declared.header.Header.{Header}
 use Rattle.nc_base.specs.declared.header.Var.{Var}
-use Rattle.serial_spec.specs.HeaderGrammar.{is_sound}
+use Rattle.serial_spec.specs.SoundHeaders.{is_sound}
 use Rattle.serial_spec.specs.Layout.{slab, vsize}
 use Rattle.var_layout.proofs.Soundness.{var_kept}
 

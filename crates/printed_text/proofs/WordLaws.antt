@@ -2,7 +2,7 @@
 use Rattle.std.proofs.Common.{◌≡◌, ℕ, zero, suc, ◌+◌, ◌-◌, ◌/◌, ◌%◌, ◌<◌, ◌≤◌, List, [], ◌∷◌, ◌++◌, length, map, take, get_or, sym, ap, ◌∙◌, inl, inr, ◌⊎◌, Some, None, arith}
 use Rattle.std.proofs.lemmas.List.{append-nil, append_assoc, flat_map_more, map_more, take_all, take_more}
 use Rattle.std.proofs.lemmas.List.Concat.{flat_map-append}
-use Rattle.std.proofs.lemmas.Option.{slice_get_cases}
+use Rattle.std.proofs.lemmas.Option.{slice_get_cases, same_Some}
 use Rattle.std.specs.Prelude.{slice_get}
 use Rattle.std.specs.List.{flat_map}
 use Rattle.script_spec.specs.Texts.{joined, hex, hex_digit}
@@ -26,9 +26,6 @@ pub spaced_more : {A : Type 0} (f : A → List ℕ) (front : List ℕ) (xs : Lis
     → front ++ spaced (map f (take (i + 1) xs)) ≡ (front ++ spaced (map f (take i xs))) ++ 32 ∷ f (get_or xs i d)
 spaced_more f front xs i d h = mapped_more (λ w. 32 ∷ w) f front xs i d h
 
-same_some : {A : Type 0} (x y : A) → Some x ≡ Some y → x ≡ y
-same_some x y h = cc
-
 pub spaced_next : {A : Type 0} (f : A → List ℕ) (front : List ℕ) (xs : List A) (i : ℕ) (x : A) → slice_get xs i ≡ Some x
     → front ++ spaced (map f (take (i + 1) xs)) ≡ (front ++ spaced (map f (take i xs))) ++ 32 ∷ f x
 spaced_next {A} f front xs i x there = by_case (slice_get_cases xs i).1
@@ -37,7 +34,7 @@ spaced_next {A} f front xs i x there = by_case (slice_get_cases xs i).1
         → front ++ spaced (map f (take (i + 1) xs)) ≡ (front ++ spaced (map f (take i xs))) ++ 32 ∷ f x
     by_case (inl h) =
         spaced_more f front xs i h.0 h.1
-        ∙ ap (λ (y : A). (front ++ spaced (map f (take i xs))) ++ 32 ∷ f y) (h.3 ∙ same_some h.0 x (sym h.2 ∙ there))
+        ∙ ap (λ (y : A). (front ++ spaced (map f (take i xs))) ++ 32 ∷ f y) (h.3 ∙ same_Some h.0 x (sym h.2 ∙ there))
     by_case (inr h) = let none : None ≡ Some x = sym h.1 ∙ there in absurd cc
 
 pub hex_last : (n x : ℕ) → 0 < n → hex n x ≡ hex (n - 1) (x / 16) ++ hex_digit (x % 16) ∷ []

@@ -6,6 +6,7 @@
 #![tactic(auto)]
 
 mod digits;
+pub mod dimensions;
 mod faults;
 mod offsets;
 mod runs;

@@ -1,11 +1,13 @@
 // Where the variables of a dataset lie.
 ghost use Rattle.std.specs.Prelude.{◌≡◌, ◌+◌, ◌<◌, ◌^◌, ◌++◌, ◌∷◌, IfOk, OnOk, codes, decimal, filter, flat_map, map, true};
-ghost use Rattle.serial_spec.specs.HeaderGrammar.{header_len, is_sound};
+ghost use Rattle.serial_spec.specs.HeaderBytes.{header_len};
+ghost use Rattle.serial_spec.specs.SoundHeaders.{is_sound};
 ghost use Rattle.serial_spec.specs.Layout.{slab};
 ghost use Rattle.script_spec.specs.Shown.{dim_name};
 ghost use Rattle.script_spec.specs.Texts.{dim_line, extent_of, in_brackets, offsets_text, text_line, var_lines};
 ghost use Rattle.printed_text.specs.Offsets.{head_lines, is_listed, length_words, title_line};
 
+use crate::dimensions::push_dim_names;
 use crate::words::{push_bytes, push_number_line, push_numbered, type_word};
 use nc_base::{Blob, Dim, Header, Memory, Var};
 use std::alloc::Global;
@@ -195,30 +197,7 @@ fn push_bracketed(
     ensures { OnOk result (out.new.items ≡ out.old.items ++ in_brackets (dim_name header.now first ∷ map (dim_name header.now) others.now)) }
 {
     out.push(b'(')?;
-    push_bytes(out, dim_name(header, first))?;
-    push_other_names(out, header, others)?;
+    push_dim_names(out, header, b", ", first, others)?;
     out.push(b')')?;
     Ok(())
-}
-
-/// The names, each with a comma and a blank before it.
-#[tactic(auto, using(crate::proofs::WordLaws::mapped_more))]
-fn push_other_names(out: &mut Vec<u8>, header: &Header, ids: &[u32]) -> Result<(), Memory>
-    ensures { OnOk result (out.new.items ≡ out.old.items ++ flat_map (λ name. 44 ∷ 32 ∷ name) (map (dim_name header.now) ids.now)) }
-{
-    for id in ids {
-        push_bytes(out, b", ")?;
-        push_bytes(out, dim_name(header, *id))?;
-    }
-    Ok(())
-}
-
-/// The name of a dimension, empty for an id that none has.
-fn dim_name(header: &Header, id: u32) -> &[u8]
-    ensures { result.now ≡ dim_name header.now id }
-{
-    match header.dims.as_slice().get(id as usize) {
-        Some(dim) => dim.name.as_slice(),
-        None => b"",
-    }
 }

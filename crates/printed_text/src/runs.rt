@@ -1,7 +1,7 @@
 // The text of a run.
 ghost use Rattle.std.specs.Prelude.{◌≡◌, ◌++◌, ◌∷◌, [], IfOk, OnOk, codes, decimal, flat_map, map, true, zip};
 ghost use Rattle.std.specs.List.{enumerate_from};
-ghost use Rattle.serial_spec.specs.HeaderGrammar.{is_sound};
+ghost use Rattle.serial_spec.specs.SoundHeaders.{is_sound};
 ghost use Rattle.script_spec.specs.Texts.{call_lines, call_word, code_word, item_line, line, mark_word, option_words, outcome, pair_words, rank_lines, run_text, value_words};
 ghost use Rattle.printed_text.specs.Spaced.{spaced};
 

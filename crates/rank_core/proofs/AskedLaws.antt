@@ -13,8 +13,8 @@ use Rattle.nc_base.specs.declared.answer.Code.{Code}
 use Rattle.nc_base.specs.declared.answer.Code.TheVariants as code
 use Rattle.overlay_laws.specs.Entries.{In}
 use Rattle.serial_spec.specs.Layout.{product}
-use Rattle.serial_spec.specs.RankMachine as machine
-use Rattle.serial_spec.specs.RankMachine.{looked, look_region, look_parts, look_at, part_posts, parts_code, data_code, data_bytes, direction_of, is_varn, find_var}
+use Rattle.serial_spec.specs.Looking as looks
+use Rattle.serial_spec.specs.Looking.{looked, look_region, look_parts, look_at, part_posts, parts_code, data_code, data_bytes, direction_of, is_varn, find_var}
 use Rattle.serial_spec.specs.RegionCheck.{widen, check_var, check_parts, part_regions, elements_of_all, has_element, is_ok_code}
 use Rattle.rank_core.proofs.LookLaws.{length-part_posts}
 use Rattle.rank_core.specs.Looked as rank
@@ -28,8 +28,8 @@ pub record IsOneRequest (id : ℕ) (posts : List Post) : Type 0 where
   pub ids : HaveId id posts
   pub var : (p q : Post) → In posts p → In posts q → p.var ≡ q.var
 
-abbrev IsOneLook : ℕ → machine.Look → Type 0
-IsOneLook id (machine.Asks posts) = IsOneRequest id posts
+abbrev IsOneLook : ℕ → looks.Look → Type 0
+IsOneLook id (looks.Asks posts) = IsOneRequest id posts
 IsOneLook id _ = Unit {0}
 
 looked_one : (id : ℕ) (asked : List Post) (c : Code) (b : Bool) (d : Code) → IsOneRequest id asked → IsOneLook id (looked asked c b d)
@@ -107,10 +107,10 @@ at_one header known id k given values (Some var) = by_form (is_varn given.form)
     by_form true = parts_one header known id k given values var
     by_form false = region_one header known id k given values var
 
-look_one : (header : Header) (known id : ℕ) (name : List ℕ) (given : Given) (values : Option Values) → IsOneLook id (machine.look header known id name given values)
+look_one : (header : Header) (known id : ℕ) (name : List ℕ) (given : Given) (values : Option Values) → IsOneLook id (looks.look header known id name given values)
 look_one header known id name given values = by_place (find_var header name)
   where
-    by_place : (o : Option ℕ) → IsOneLook id (elim o [ None ↦ machine.Refused code.ENotVar | Some k ↦ look_at header known id k given values (slice_get header.vars k) ])
+    by_place : (o : Option ℕ) → IsOneLook id (elim o [ None ↦ looks.Refused code.ENotVar | Some k ↦ look_at header known id k given values (slice_get header.vars k) ])
     by_place None = tt
     by_place (Some k) = at_one header known id k given values (slice_get header.vars k)
 
@@ -126,5 +126,5 @@ of_look id variant.Empty h = record { some = tt; ids = λ p m. absurd m; var = �
 of_look id (variant.Asks posts) h = record { some = h.some; ids = h.ids; var = h.var }
 
 pub look_is : (header : Header) (known id : ℕ) (name : List ℕ) (given : Given) (values : Option Values) (l : Look)
-    → rank.as_look l ≡ machine.look header known id name given values → IsLookOf id l
+    → rank.as_look l ≡ looks.look header known id name given values → IsLookOf id l
 look_is header known id name given values l e = of_look id l (subst (IsOneLook id) (sym e) (look_one header known id name given values))

@@ -12,8 +12,8 @@ use Rattle.overlay_laws.proofs.HullLaws.{div_grows}
 use Rattle.serial_spec.specs.Fill.{boxes, share_begin}
 use Rattle.serial_spec.specs.Layout.{inner_lengths, is_record, product}
 use Rattle.serial_spec.specs.Limits.{most_elements}
-use Rattle.serial_spec.specs.RankMachine as machine
-use Rattle.serial_spec.specs.RankMachine.{box_post, fills, find_var, is_record_past}
+use Rattle.serial_spec.specs.Looking as looks
+use Rattle.serial_spec.specs.Looking.{box_post, fills, find_var, is_record_past}
 use Rattle.rank_core.specs.declared.looking.target.Target.{Target}
 use Rattle.rank_core.specs.Looked.{look_of}
 use Rattle.rank_core.specs.Targets.{look_record, IsTarget}
@@ -32,9 +32,9 @@ share_within total rank ranks h =
 
 -- ---- the cases
 
-abbrev pub record_outcome : Bool → Bool → machine.Look → machine.Look
+abbrev pub record_outcome : Bool → Bool → looks.Look → looks.Look
 record_outcome record_variable large filled =
-    elim record_variable [ false ↦ machine.Refused code.ENotRec | true ↦ elim large [ true ↦ machine.Refused code.ETooLarge | false ↦ filled ] ]
+    elim record_variable [ false ↦ looks.Refused code.ENotRec | true ↦ elim large [ true ↦ looks.Refused code.ETooLarge | false ↦ filled ] ]
 
 filled_is : (k : ℕ) (v : Var) (number : ℕ) (parts : List Part) → look_of (map (box_post k v number) parts) ≡ fills k v number parts
 filled_is k v number [] = refl
@@ -44,16 +44,16 @@ module _ (t : Target) (number rank ranks : ℕ) where
   abbrev large_of : ℕ → ℕ → Bool
   large_of a b = ltb most_elements (b - a) || is_record_past t.header.now number
 
-  abbrev filled_of : ℕ → ℕ → machine.Look
+  abbrev filled_of : ℕ → ℕ → looks.Look
   filled_of a b = fills t.place t.var.now number (boxes (inner_lengths t.header.now t.var.now) a b)
 
-  abbrev outcome_of : Bool → ℕ → ℕ → machine.Look
+  abbrev outcome_of : Bool → ℕ → ℕ → looks.Look
   outcome_of is a b = record_outcome is (large_of a b) (filled_of a b)
 
   abbrev begin_of : ℕ → ℕ
   begin_of r = share_begin (product (inner_lengths t.header.now t.var.now)) r ranks
 
-  pub not_record : is_record t.header.now t.var.now ≡ false → machine.Refused code.ENotRec ≡ look_record t number rank ranks
+  pub not_record : is_record t.header.now t.var.now ≡ false → looks.Refused code.ENotRec ≡ look_record t number rank ranks
   unfolding look_record
   not_record e = sym (ap (λ (is : Bool). outcome_of is (begin_of rank) (begin_of (rank + 1))) e)
 
@@ -65,7 +65,7 @@ module _ (t : Target) (number rank ranks : ℕ) where
         (λ i. outcome_of true ((begins ∙ ap (λ (n : ℕ). share_begin n rank ranks) whole) i) ((ends ∙ ap (λ (n : ℕ). share_begin n (rank + 1) ranks) whole) i))
         ∙ sym (ap (λ (b : Bool). outcome_of b (begin_of rank) (begin_of (rank + 1))) is)
 
-    pub record_too_large : large_of from to ≡ true → machine.Refused code.ETooLarge ≡ look_record t number rank ranks
+    pub record_too_large : large_of from to ≡ true → looks.Refused code.ETooLarge ≡ look_record t number rank ranks
     record_too_large e = sym (ap (λ (b : Bool). record_outcome true b (filled_of from to)) e) ∙ outcome_is
 
     pub record_filled : (lengths : List ℕ) (parts : List Part) (posts : List Post) → large_of from to ≡ false
@@ -78,14 +78,14 @@ module _ (t : Target) (number rank ranks : ℕ) where
 
 -- ---- by name
 
-abbrev at_var : Header → ℕ → ℕ → ℕ → ℕ → Option Var → machine.Look
-at_var header k number rank ranks o = elim o [ None ↦ machine.Refused code.ENotVar | Some v ↦ machine.look_record header k number rank ranks v ]
+abbrev at_var : Header → ℕ → ℕ → ℕ → ℕ → Option Var → looks.Look
+at_var header k number rank ranks o = elim o [ None ↦ looks.Refused code.ENotVar | Some v ↦ looks.look_record header k number rank ranks v ]
 
-abbrev by_place : Header → ℕ → ℕ → ℕ → Option ℕ → machine.Look
-by_place header number rank ranks o = elim o [ None ↦ machine.Refused code.ENotVar | Some k ↦ at_var header k number rank ranks (slice_get header.vars k) ]
+abbrev by_place : Header → ℕ → ℕ → ℕ → Option ℕ → looks.Look
+by_place header number rank ranks o = elim o [ None ↦ looks.Refused code.ENotVar | Some k ↦ at_var header k number rank ranks (slice_get header.vars k) ]
 
 pub fill_found : (header : Header) (k : ℕ) (name : List ℕ) (number rank ranks : ℕ) (t : Target) → Some k ≡ find_var header name
-    → t.header.now ≡ header → t.place ≡ k → IsTarget t → look_record t number rank ranks ≡ machine.look_fill header name number rank ranks
+    → t.header.now ≡ header → t.place ≡ k → IsTarget t → look_record t number rank ranks ≡ looks.look_fill header name number rank ranks
 unfolding look_record
 fill_found header k name number rank ranks t e h p there =
     ap (λ (o : Option Var). at_var t.header.now t.place number rank ranks o) (sym there)

@@ -1,16 +1,13 @@
 -- The posts that fill a share of a record are puts that a step takes, and hold no byte twice.
 use Rattle.std.proofs.Common.{◌≡◌, ℕ, zero, suc, ◌+◌, ◌-◌, ◌*◌, ◌<◌, ◌≤◌, refl, sym, ap, subst, ◌∙◌, List, [], ◌∷◌, length, map, replicate, Bool, true, false, not, cond, ltb, leb, eqb, ◌&&◌, ◌||◌, Option, None, Some, add-one, arith}
-use Rattle.std.specs.Prelude.{find, flat_map, slice_get, slice_index}
-use Rattle.std.specs.Int.{Width, byte_len, to_be_bytes, w8, w16, w32, w64, w128}
+use Rattle.std.specs.Prelude.{flat_map, slice_get, slice_index}
 use Rattle.std.specs.List.{list_all, list_any, range_with_len}
 use Rattle.std.proofs.lemmas.Bool.{and_from, and_left, and_parts, and_right, eq-eqb, eqb-true, le-ltb, leb-false, leb-true, lt-leb, ne_eqb, not_from_true, or_from, or_parts}
 use Rattle.std.proofs.lemmas.List.{length-map, length-replicate}
 use Rattle.overlay_laws.proofs.Members.{each_in, map_in}
 use Rattle.list_laws.proofs.Ranges.{pieces_long}
 use Rattle.nc_base.specs.declared.answer.Code.TheVariants as code
-use Rattle.nc_base.specs.declared.header.Attr.{Attr}
 use Rattle.nc_base.specs.declared.header.Header.{Header}
-use Rattle.nc_base.specs.declared.header.NcType.{NcType}
 use Rattle.nc_base.specs.declared.header.Var.{Var}
 use Rattle.nc_base.specs.declared.plan.Post.{Post}
 use Rattle.nc_base.specs.declared.request.Direction.TheVariants.{Put}
@@ -18,13 +15,15 @@ use Rattle.nc_base.specs.declared.request.Part.{Part}
 use Rattle.nc_base.specs.declared.request.Region.{Region}
 use Rattle.fill_records.proofs.CutLaws.{boxes_few}
 use Rattle.overlay_laws.specs.Entries.{In}
-use Rattle.serial_spec.specs.ExternalForm.{code_of, ext, size_of, width_of}
-use Rattle.serial_spec.specs.Fill.{boxes, default_fill, fill_bytes, is_fill_value, share_begin}
-use Rattle.serial_spec.specs.HeaderGrammar.{header_len, is_sound}
+use Rattle.serial_spec.specs.ExternalForm.{size_of}
+use Rattle.serial_spec.specs.Fill.{boxes, fill_bytes, share_begin}
+use Rattle.serial_spec.specs.HeaderBytes.{header_len}
+use Rattle.serial_spec.specs.SoundHeaders.{is_sound}
 use Rattle.serial_spec.specs.Layout.{end_of, inner_lengths, is_record, lengths, length_of, product, starts_with_zero, without_record}
 use Rattle.serial_spec.specs.Limits.{file_limit, most_elements, record_limit}
+use Rattle.serial_spec.specs.Looking as looks
 use Rattle.serial_spec.specs.RankMachine as machine
-use Rattle.serial_spec.specs.RankMachine.{box_post, box_region, fills, find_var, is_record_past, look_fill}
+use Rattle.serial_spec.specs.Looking.{box_post, box_region, fills, find_var, is_record_past, look_fill}
 use Rattle.serial_spec.specs.Records.{records_of}
 use Rattle.serial_spec.specs.RegionCheck.{bad_edge, bad_start, bound, bounds, check_var, first_code, is_too_large, other_shape, some_edge, some_start}
 use Rattle.serial_spec.proofs.RoomLaws.{end_grows}
@@ -36,6 +35,7 @@ use Rattle.rank_core.proofs.FillLaws.{record_outcome, share_grows, share_within}
 use Rattle.rank_core.proofs.FillPostLaws.{boxes_fit, boxes_once, boxes_small, separate_boxes, Fits, FitsPart}
 use Rattle.rank_core.proofs.LookLaws.{alike, no_puts, put_right, puts_looked, ArePuts}
 use Rattle.rank_core.proofs.SeparateLaws.{own_once, AreSeparate, IsPostOf}
+use Rattle.serial_spec.proofs.ValueLaws.{found_long}
 
 -- ---- starts and ends within the lengths
 
@@ -145,22 +145,6 @@ module _ (header : Header) (v : Var) (number : ℕ) (is : is_record header v ≡
 
 -- ---- its bytes
 
-pub be_long : (w : Width) (n : ℕ) → length (to_be_bytes w n) ≡ byte_len w
-be_long w8 n = refl
-be_long w16 n = refl
-be_long w32 n = refl
-be_long w64 n = refl
-be_long w128 n = refl
-
-pub found_long : (kind : NcType) (attrs : List Attr) → length {A = ℕ} (elim (find (is_fill_value kind) attrs) [ None ↦ ext kind (default_fill kind) | Some a ↦ a.bytes ]) ≡ size_of kind
-found_long kind [] = be_long (width_of kind) (code_of (width_of kind) (default_fill kind))
-found_long kind (a ∷ attrs) = by_test (is_fill_value kind a) refl (found_long kind attrs)
-  where
-    by_test : (b : Bool) → is_fill_value kind a ≡ b → length {A = ℕ} (elim (find (is_fill_value kind) attrs) [ None ↦ ext kind (default_fill kind) | Some a ↦ a.bytes ]) ≡ size_of kind
-        → length {A = ℕ} (elim (cond b (Some a) (find (is_fill_value kind) attrs)) [ None ↦ ext kind (default_fill kind) | Some a ↦ a.bytes ]) ≡ size_of kind
-    by_test true e h = eqb-true (length a.bytes) (size_of kind) (and_parts _ _ e).1
-    by_test false e h = h
-
 pub box_bytes_long : (v : Var) (p : Part) → length (flat_map (λ m. fill_bytes v) (range_with_len 0 (product p.count))) ≡ product (1 ∷ p.count) * size_of v.kind
 box_bytes_long v p =
     let all = pieces_long (λ m. fill_bytes v) (size_of v.kind) (λ m. found_long v.kind v.attrs) 0 (product p.count) in
@@ -186,13 +170,13 @@ few_dims header k v sound there =
     let small = and_parts _ _ one.1 in
     leb-true (length v.dims) 32 (all_at (λ w. leb (length w.dims) 32) header.vars k v small.1 there)
 
-abbrev Right : Header → machine.Look → Type 0
+abbrev Right : Header → looks.Look → Type 0
 Right header m = ArePuts header 0 (machine.posts_of m) × (length (machine.posts_of m) ≤ 65)
 
-none_right : (header : Header) (m : machine.Look) → machine.posts_of m ≡ [] → Right header m
+none_right : (header : Header) (m : looks.Look) → machine.posts_of m ≡ [] → Right header m
 none_right header m e = (subst (ArePuts header 0) (sym e) (no_puts header 0), subst (λ (l : List Post). length l ≤ 65) (sym e) (omega arith))
 
-posts_filled : (k : ℕ) (v : Var) (number : ℕ) (parts : List Part) → machine.posts_of (fills k v number parts) ≡ map (box_post k v number) parts
+pub posts_filled : (k : ℕ) (v : Var) (number : ℕ) (parts : List Part) → machine.posts_of (fills k v number parts) ≡ map (box_post k v number) parts
 posts_filled k v number [] = refl
 posts_filled k v number (p ∷ parts) = refl
 
@@ -239,35 +223,35 @@ module _ (header : Header) (k : ℕ) (v : Var) (number : ℕ) (sound : is_sound 
     abbrev total : ℕ
     total = product (inner_lengths header v)
 
-    abbrev filled : machine.Look
+    abbrev filled : looks.Look
     filled = fills k v number (boxes (inner_lengths header v) (share_begin total rank ranks) (share_begin total (rank + 1) ranks))
 
     abbrev large : Bool
     large = ltb most_elements (share_begin total (rank + 1) ranks - share_begin total rank ranks) || is_record_past header number
 
     by_size : is_record header v ≡ true → (b : Bool) → large ≡ b → Right header (record_outcome true b filled)
-    by_size is true e = none_right header (machine.Refused code.ETooLarge) refl
+    by_size is true e = none_right header (looks.Refused code.ETooLarge) refl
     by_size is false e =
         boxes_right is (share_begin total rank ranks) (share_begin total (rank + 1) ranks) (share_grows total rank ranks less) (share_within total rank ranks less) e
 
     by_kind : (b : Bool) → is_record header v ≡ b → Right header (record_outcome b large filled)
-    by_kind false e = none_right header (machine.Refused code.ENotRec) refl
+    by_kind false e = none_right header (looks.Refused code.ENotRec) refl
     by_kind true e = by_size e large refl
 
-    record_right : Right header (machine.look_record header k number rank ranks v)
+    record_right : Right header (looks.look_record header k number rank ranks v)
     record_right = by_kind (is_record header v) refl
 
 module _ (header : Header) (number rank ranks : ℕ) (sound : is_sound header ≡ true) (less : rank < ranks) where
   var_right : (k : ℕ) (o : Option Var) → slice_get header.vars k ≡ o
-      → Right header (elim o [ None ↦ machine.Refused code.ENotVar | Some v ↦ machine.look_record header k number rank ranks v ])
-  var_right k None e = none_right header (machine.Refused code.ENotVar) refl
+      → Right header (elim o [ None ↦ looks.Refused code.ENotVar | Some v ↦ looks.look_record header k number rank ranks v ])
+  var_right k None e = none_right header (looks.Refused code.ENotVar) refl
   var_right k (Some v) e = record_right header k v number sound e rank ranks less
 
   place_right : (o : Option ℕ) → Right header (elim o [
-    | None ↦ machine.Refused code.ENotVar
-    | Some k ↦ elim (slice_get header.vars k) [ None ↦ machine.Refused code.ENotVar | Some v ↦ machine.look_record header k number rank ranks v ]
+    | None ↦ looks.Refused code.ENotVar
+    | Some k ↦ elim (slice_get header.vars k) [ None ↦ looks.Refused code.ENotVar | Some v ↦ looks.look_record header k number rank ranks v ]
   ])
-  place_right None = none_right header (machine.Refused code.ENotVar) refl
+  place_right None = none_right header (looks.Refused code.ENotVar) refl
   place_right (Some k) = var_right k (slice_get header.vars k) refl
 
 pub fill_posts : (header : Header) (name : List ℕ) (number rank ranks : ℕ) (l : Look) → is_sound header ≡ true → rank < ranks

@@ -21,11 +21,12 @@ use Rattle.nc_base.specs.declared.request.Values.{Values}
 use Rattle.overlay_laws.specs.Entries.{In}
 use Rattle.overlay_laws.proofs.HullLaws.{filter_in}
 use Rattle.serial_spec.specs.ExternalForm.{class_of, size_of}
-use Rattle.serial_spec.specs.HeaderGrammar.{is_sound}
+use Rattle.serial_spec.specs.SoundHeaders.{is_sound}
 use Rattle.serial_spec.specs.Layout.{product}
 use Rattle.serial_spec.specs.Limits.{most_elements}
+use Rattle.serial_spec.specs.Looking as looks
 use Rattle.serial_spec.specs.RankMachine as machine
-use Rattle.serial_spec.specs.RankMachine.{data_bytes, data_code, direction_of, find_var, is_varn, kind_code, look_at, look_parts, look_region, part_posts, parts_code, values_bytes}
+use Rattle.serial_spec.specs.Looking.{data_bytes, data_code, direction_of, find_var, is_varn, kind_code, look_at, look_parts, look_region, part_posts, parts_code, values_bytes}
 use Rattle.serial_spec.specs.RegionCheck.{check_parts, check_some, check_var, elements_of_all, first_refusal, has_element, is_ok_code, is_put, part_region, part_regions, share_element, widen}
 use Rattle.serial_spec.specs.Request.{count_of}
 use Rattle.serial_spec.specs.SharedByte.{holdings, IsOwnOnce}
@@ -211,10 +212,10 @@ has_values kind (Some values) n h =
     (both.0, ltb-false (count_of values) n both.1)
 
 module _ (header : Header) (known id : ℕ) (given : Given) (values : Option Values) where
-  abbrev Right : machine.Look → Type 0
+  abbrev Right : looks.Look → Type 0
   Right m = ArePosts header known values (machine.posts_of m) × (length (machine.posts_of m) ≤ max 1 (length given.parts))
 
-  none_right : (m : machine.Look) → machine.posts_of m ≡ [] → Right m
+  none_right : (m : looks.Look) → machine.posts_of m ≡ [] → Right m
   none_right m e =
       (subst (ArePosts header known values) (sym e) (no_posts header known values), subst (λ (l : List Post). length l ≤ max 1 (length given.parts)) (sym e) (omega arith))
 
@@ -256,15 +257,15 @@ module _ (header : Header) (known id : ℕ) (given : Given) (values : Option Val
     form_right false = region_right
 
   var_right : (k : ℕ) (o : Option Var) → is_sound header ≡ true → slice_get header.vars k ≡ o → Right (look_at header known id k given values o)
-  var_right k None sound e = none_right (machine.Refused code.ENotVar) refl
+  var_right k None sound e = none_right (looks.Refused code.ENotVar) refl
   var_right k (Some v) sound e = form_right k v sound e (is_varn given.form)
 
   place_right : (o : Option ℕ) → is_sound header ≡ true
-      → Right (elim o [ None ↦ machine.Refused code.ENotVar | Some k ↦ look_at header known id k given values (slice_get header.vars k) ])
-  place_right None sound = none_right (machine.Refused code.ENotVar) refl
+      → Right (elim o [ None ↦ looks.Refused code.ENotVar | Some k ↦ look_at header known id k given values (slice_get header.vars k) ])
+  place_right None sound = none_right (looks.Refused code.ENotVar) refl
   place_right (Some k) sound = var_right k (slice_get header.vars k) sound refl
 
-  look_right : (name : List ℕ) → is_sound header ≡ true → Right (machine.look header known id name given values)
+  look_right : (name : List ℕ) → is_sound header ≡ true → Right (looks.look header known id name given values)
   look_right name sound = place_right (find_var header name) sound
 
 -- ---- in words of a look
@@ -281,17 +282,17 @@ looked_of : (header : Header) (known : ℕ) (values : Option Values) (l : Look) 
 looked_of header known None l h = h
 looked_of header known (Some values) l h = puts_looked header known l h
 
-pub alike : (m : machine.Look) (l : Look) → as_look l ≡ m → machine.posts_of m ≡ posts_of l
+pub alike : (m : looks.Look) (l : Look) → as_look l ≡ m → machine.posts_of m ≡ posts_of l
 alike m l e = ap machine.posts_of (sym e) ∙ posts_alike l
 
 pub look_posts : (header : Header) (known id : ℕ) (name : List ℕ) (given : Given) (values : Option Values) (l : Look) → is_sound header ≡ true
-    → as_look l ≡ machine.look header known id name given values → AreLooked header known values l
+    → as_look l ≡ looks.look header known id name given values → AreLooked header known values l
 look_posts header known id name given values l sound e =
     looked_of header known values l
-    (subst (ArePosts header known values) (alike (machine.look header known id name given values) l e) (look_right header known id given values name sound).0)
+    (subst (ArePosts header known values) (alike (looks.look header known id name given values) l e) (look_right header known id given values name sound).0)
 
 pub look_few : (header : Header) (known id : ℕ) (name : List ℕ) (given : Given) (values : Option Values) (l : Look) → is_sound header ≡ true
-    → as_look l ≡ machine.look header known id name given values → posts_looked l ≤ max 1 (length given.parts)
+    → as_look l ≡ looks.look header known id name given values → posts_looked l ≤ max 1 (length given.parts)
 look_few header known id name given values l sound e =
-    subst (λ (posts : List Post). length posts ≤ max 1 (length given.parts)) (alike (machine.look header known id name given values) l e)
+    subst (λ (posts : List Post). length posts ≤ max 1 (length given.parts)) (alike (looks.look header known id name given values) l e)
     (look_right header known id given values name sound).1

@@ -9,7 +9,7 @@ use Rattle.nc_base.specs.declared.header.Header.{Header}
 use Rattle.nc_base.specs.declared.header.Var.{Var}
 use Rattle.nc_base.specs.declared.request.Direction.{Direction}
 use Rattle.nc_base.specs.declared.request.Region.{Region}
-use Rattle.serial_spec.specs.HeaderGrammar.{header_len}
+use Rattle.serial_spec.specs.HeaderBytes.{header_len}
 use Rattle.serial_spec.specs.Layout.{end_of, greatest, product}
 use Rattle.serial_spec.specs.Limits.{file_limit, most_elements, record_limit}
 use Rattle.serial_spec.specs.Place.{IsIndex}

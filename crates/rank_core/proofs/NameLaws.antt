@@ -1,5 +1,5 @@
 -- Names in order: what a search finds is the first of a name.
-use Rattle.std.proofs.Common.{◌≡◌, ℕ, ◌<◌, ◌≤◌, refl, sym, ap, ◌∙◌, inl, inr, ◌⊎◌, List, [], length, get_or, Bool, true, false, cond, ltb, eqb, Some, None, arith}
+use Rattle.std.proofs.Common.{◌≡◌, ℕ, ◌<◌, ◌≤◌, refl, sym, ap, ◌∙◌, inl, inr, ◌⊎◌, List, [], length, get_or, Bool, true, false, cond, ltb, Some, None, arith}
 use Rattle.std.specs.Prelude.{position, bytes_eq}
 use Rattle.std.specs.Cmp.{nat_cmp_total, on_total, then_total, IsStrictWeakOrder, IsTotalOrder}
 use Rattle.std.specs.Cmp.Lexicographic.{nat_list_cmp_total, slice_cmp}
@@ -16,6 +16,7 @@ use Rattle.std.proofs.lemmas.List.FromFn.{get_or-range_with_len, length-range_wi
 use Rattle.std.proofs.lemmas.Map.Text.{is_eq-slice_cmp}
 use Rattle.std.proofs.lemmas.Slice.Eq.{bytes_eq-Decides}
 use Rattle.rank_core.specs.Indexed.{name_at, place_cmp, IsInOrder}
+use Rattle.std.proofs.lemmas.Map.Keys.{ge_from_not_lt}
 
 -- ---- the order
 
@@ -37,13 +38,6 @@ between : (o : Ordering) → is_lt o ≡ false → is_lt (ordering_reverse o) �
 between Less h k = absurd cc
 between Equal h k = refl
 between Greater h k = absurd cc
-
-not_less : (a b : ℕ) → is_lt (nat_cmp a b) ≡ false → b ≤ a
-not_less a b h = by_case (cases_lt a b)
-  where
-    by_case : (a < b) ⊎ (b ≤ a) → b ≤ a
-    by_case (inl l) = absurd (both_ways _ h (ap (λ (t : Bool). is_lt (cond t Less (cond (eqb a b) Equal Greater))) (lt-ltb a b l)))
-    by_case (inr l) = l
 
 same_cmp : (a b : List ℕ) → a ≡ b → slice_cmp nat_cmp a b ≡ Equal
 same_cmp a b e = is_equal (slice_cmp nat_cmp a b) (is_eq-slice_cmp a b ∙ (bytes_eq-Decides a b).1 e)
@@ -139,7 +133,7 @@ module _ (names : List (List ℕ)) (places : List ℕ) (order : IsInOrder names 
         false_from_ne_true (test (name_at names p)) (λ t.
         let same : name_at names p ≡ name = (bytes_eq-Decides (name_at names p) name).0 t in
         let s = stands p (omega arith) in
-        let least = not_less p place (then_second _ (nat_cmp p place) (same_cmp (name_at names p) (name_at names place) (same ∙ sym n)) (far place p l e same s)) in
+        let least = ge_from_not_lt p place (then_second _ (nat_cmp p place) (same_cmp (name_at names p) (name_at names place) (same ∙ sym n)) (far place p l e same s)) in
         omega arith)
 
     pub first_found : (place : ℕ) → at < length places → get_or places at 0 ≡ place → name_at names place ≡ name → Some place ≡ position test names

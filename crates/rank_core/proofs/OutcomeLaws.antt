@@ -8,42 +8,43 @@ use Rattle.nc_base.specs.declared.header.NcType.{NcType}
 use Rattle.nc_base.specs.declared.plan.Post.{Post}
 use Rattle.nc_base.specs.declared.request.Region.{Region}
 use Rattle.nc_base.specs.declared.request.Values.{Values}
+use Rattle.serial_spec.specs.Looking as looks
 use Rattle.serial_spec.specs.RankMachine as machine
-use Rattle.serial_spec.specs.RankMachine.{looked, part_posts}
+use Rattle.serial_spec.specs.Looking.{looked, part_posts}
 use Rattle.serial_spec.specs.RegionCheck.{is_ok_code}
 use Rattle.rank_core.specs.Looked.{look_of, settled, ComesTo}
 
-abbrev pub outcome : Code → Bool → List Post → Code → machine.Look
+abbrev pub outcome : Code → Bool → List Post → Code → looks.Look
 outcome checked some asked last =
     elim (is_ok_code checked && some) [ true ↦ looked asked code.Ok true last | false ↦ looked [] checked false code.Ok ]
 
-pub outcome_refused : (c : Code) (some : Bool) (asked : List Post) (last : Code) → (c ≡ code.Ok → ⊥) → machine.Refused c ≡ outcome c some asked last
+pub outcome_refused : (c : Code) (some : Bool) (asked : List Post) (last : Code) → (c ≡ code.Ok → ⊥) → looks.Refused c ≡ outcome c some asked last
 outcome_refused code.Ok some asked last n = absurd (n refl)
 outcome_refused c some asked last n = refl
 
-pub outcome_unfit : (c : Code) (asked : List Post) → (c ≡ code.Ok → ⊥) → machine.Refused c ≡ outcome code.Ok true asked c
+pub outcome_unfit : (c : Code) (asked : List Post) → (c ≡ code.Ok → ⊥) → looks.Refused c ≡ outcome code.Ok true asked c
 outcome_unfit code.Ok asked n = absurd (n refl)
 outcome_unfit c asked n = refl
 
 -- the code of a check that is not Ok
 pub checked_refused : (checked : Code) (some : Bool) (asked : List Post) (last c : Code) → c ≡ checked → (c ≡ code.Ok → ⊥)
-    → machine.Refused c ≡ outcome checked some asked last
+    → looks.Refused c ≡ outcome checked some asked last
 checked_refused checked some asked last c e n = outcome_refused c some asked last n ∙ ap (λ (d : Code). outcome d some asked last) e
 
 pub no_element : (checked : Code) (some : Bool) (asked : List Post) (last : Code) → checked ≡ code.Ok → some ≡ false
-    → machine.Empty ≡ outcome checked some asked last
+    → looks.Empty ≡ outcome checked some asked last
 no_element checked some asked last e f =
     sym (ap (λ (d : Code). outcome d some asked last) e ∙ ap (λ (b : Bool). outcome code.Ok b asked last) f)
 
 pub data_refused : (checked : Code) (some : Bool) (asked : List Post) (last c : Code) → checked ≡ code.Ok → some ≡ true → c ≡ last → (c ≡ code.Ok → ⊥)
-    → machine.Refused c ≡ outcome checked some asked last
+    → looks.Refused c ≡ outcome checked some asked last
 data_refused checked some asked last c e f g n =
     outcome_unfit c asked n
     ∙ ap (λ (d : Code). outcome code.Ok true asked d) g
     ∙ sym (ap (λ (d : Code). outcome d some asked last) e ∙ ap (λ (b : Bool). outcome code.Ok b asked last) f)
 
 pub all_right : (checked : Code) (some : Bool) (asked : List Post) (last : Code) → checked ≡ code.Ok → some ≡ true → last ≡ code.Ok
-    → machine.Asks asked ≡ outcome checked some asked last
+    → looks.Asks asked ≡ outcome checked some asked last
 all_right checked some asked last e f g =
     sym (ap (λ (d : Code). outcome d some asked last) e ∙ ap (λ (b : Bool). outcome code.Ok b asked last) f ∙ ap (λ (d : Code). outcome code.Ok true asked d) g)
 
@@ -56,19 +57,19 @@ outcome_posts code.Ok false asked last = inl refl
 outcome_posts checked some asked last = inl refl
 
 pub parts_ask : (id var : ℕ) (kind : NcType) (values : Option Values) (k : ℕ) (regions : List Region) → ltb 0 (length regions) ≡ true
-    → look_of (part_posts id var kind values k regions) ≡ machine.Asks (part_posts id var kind values k regions)
+    → look_of (part_posts id var kind values k regions) ≡ looks.Asks (part_posts id var kind values k regions)
 parts_ask id var kind values k [] h = absurd cc
 parts_ask id var kind values k (g ∷ regions) h = refl
 
 -- ---- what posts or a refusal come to
 
-pub settled_is : (r : Result (List Post) CallErr) (m l : machine.Look) → ComesTo m r → settled r ≡ Some l → l ≡ m
+pub settled_is : (r : Result (List Post) CallErr) (m l : looks.Look) → ComesTo m r → settled r ≡ Some l → l ≡ m
 settled_is (Ok posts) m l h e = let f : look_of posts ≡ l = cc in sym f ∙ h
-settled_is (Err (refusal.Code c)) m l h e = let f : machine.Refused c ≡ l = cc in sym f ∙ h
+settled_is (Err (refusal.Code c)) m l h e = let f : looks.Refused c ≡ l = cc in sym f ∙ h
 settled_is (Err refusal.Memory) m l h e = absurd cc
 
-pub is_refused : (m : machine.Look) (r : Result (List Post) CallErr) (e : CallErr) (c : Code) → r ≡ Err e → e ≡ refusal.Code c → machine.Refused c ≡ m → ComesTo m r
+pub is_refused : (m : looks.Look) (r : Result (List Post) CallErr) (e : CallErr) (c : Code) → r ≡ Err e → e ≡ refusal.Code c → looks.Refused c ≡ m → ComesTo m r
 is_refused m r e c is code right = subst (λ (x : Result (List Post) CallErr). ComesTo m x) (sym (is ∙ ap (λ (d : CallErr). Err d) code)) right
 
-pub is_error : (m : machine.Look) (r : Result (List Post) CallErr) (e d : CallErr) → r ≡ Err e → e ≡ d → ComesTo m (Err d) → ComesTo m r
+pub is_error : (m : looks.Look) (r : Result (List Post) CallErr) (e d : CallErr) → r ≡ Err e → e ≡ d → ComesTo m (Err d) → ComesTo m r
 is_error m r e d is same right = subst (λ (x : Result (List Post) CallErr). ComesTo m x) (sym (is ∙ ap (λ (y : CallErr). Err y) same)) right

@@ -14,7 +14,7 @@ use Rattle.nc_base.specs.declared.request.Region.{Region}
 use Rattle.overlay_laws.specs.Entries.{In}
 use Rattle.overlay_laws.proofs.HullLaws.{filter_in, flat_in, in_flat, range_high, range_low}
 use Rattle.serial_spec.specs.ExternalForm.{size_of}
-use Rattle.serial_spec.specs.HeaderGrammar.{is_sound}
+use Rattle.serial_spec.specs.SoundHeaders.{is_sound}
 use Rattle.serial_spec.specs.Place.{place, AreApart, IsElement, IsElementBelow}
 use Rattle.serial_spec.specs.Records.{records_of}
 use Rattle.serial_spec.specs.RegionCheck.{check_some, check_var, has_element, has_index, share_element}

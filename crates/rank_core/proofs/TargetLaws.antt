@@ -19,8 +19,8 @@ use Rattle.imap_extents.specs.Mapped.{IsMapped}
 use Rattle.imap_extents.specs.Refusals.{IsRangeRefusal, IsRefusal}
 use Rattle.serial_spec.specs.Layout.{product}
 use Rattle.serial_spec.specs.Limits.{most_elements}
-use Rattle.serial_spec.specs.RankMachine as machine
-use Rattle.serial_spec.specs.RankMachine.{data_bytes, data_code, direction_of, find_var, is_varn, part_posts, parts_code}
+use Rattle.serial_spec.specs.Looking as looks
+use Rattle.serial_spec.specs.Looking.{data_bytes, data_code, direction_of, find_var, is_varn, part_posts, parts_code}
 use Rattle.serial_spec.specs.RegionCheck.{check, check_parts, check_some, check_var, elements_of_all, has_element, part_regions, widen}
 use Rattle.vara_extents.specs.Parts as parts
 use Rattle.vara_extents.specs.Parts.{parts_code_at}
@@ -38,7 +38,7 @@ module _ (t : Target) (given : Given) (values : Option Values) (there : IsTarget
   post : Region → Post
   post g = record { id = t.id; var = t.place; region = g; bytes = data_bytes t.var.now.kind g values }
 
-  region_outcome : Region → machine.Look
+  region_outcome : Region → looks.Look
   region_outcome g = outcome (check_var t.header.now t.var.now g t.known (direction_of values)) (has_element g) (post g ∷ []) (data_code t.var.now.kind g values)
 
   module _ (g : Region) (wide : IfSome (slice_get t.header.now.vars t.place) (λ v. g ≡ widen t.header.now v given t.known)) where
@@ -54,11 +54,11 @@ module _ (t : Target) (given : Given) (values : Option Values) (there : IsTarget
     pub region_mapped : check t.header.now t.place g t.known way ≡ code.Ok → IsMapped g
     region_mapped h = accepted_mapped t.header.now t.var.now g t.known (direction_of values) (sym checked ∙ h)
 
-    pub region_refused : (c : Code) → c ≡ check t.header.now t.place g t.known way → (c ≡ code.Ok → ⊥) → machine.Refused c ≡ look_region t given values
+    pub region_refused : (c : Code) → c ≡ check t.header.now t.place g t.known way → (c ≡ code.Ok → ⊥) → looks.Refused c ≡ look_region t given values
     unfolding region_outcome
     region_refused c e n = checked_refused _ _ _ _ c (e ∙ checked) n ∙ region_is
 
-    pub region_empty : check t.header.now t.place g t.known way ≡ code.Ok → ltb 0 (product g.count) ≡ false → machine.Empty ≡ look_region t given values
+    pub region_empty : check t.header.now t.place g t.known way ≡ code.Ok → ltb 0 (product g.count) ≡ false → looks.Empty ≡ look_region t given values
     unfolding region_outcome
     region_empty h e = no_element _ _ _ _ (sym checked ∙ h) e ∙ region_is
 
@@ -86,7 +86,7 @@ module _ (t : Target) (given : Given) (values : Option Values) (there : IsTarget
       ap (λ (o : Option Var). parts_code_at o t.header.now given t.known way) there
       ∙ ap (λ (d : Direction). check_parts t.header.now t.var.now (part_regions t.var.now given) t.known d) is_way
 
-  parts_outcome : List Region → machine.Look
+  parts_outcome : List Region → looks.Look
   parts_outcome gs =
       outcome (check_parts t.header.now t.var.now (part_regions t.var.now given) t.known (direction_of values)) (ltb 0 (length gs))
       (part_posts t.id t.place t.var.now.kind values 0 gs) (parts_code t.var.now.kind (elements_of_all gs) values)
@@ -104,16 +104,16 @@ module _ (t : Target) (given : Given) (values : Option Values) (there : IsTarget
     pub regions_few : elements_of_all gs ≤ most_elements
     regions_few = subst (λ (rs : List Region). elements_of_all rs ≤ most_elements) (sym is) (asked_few t.header.now t.var.now (part_regions t.var.now given) t.known (direction_of values) (sym parts_checked ∙ ok))
 
-    pub parts_empty : length gs ≡ 0 → machine.Empty ≡ look_parts t given values
+    pub parts_empty : length gs ≡ 0 → looks.Empty ≡ look_parts t given values
     unfolding parts_outcome
     parts_empty none = no_element _ _ _ _ (sym parts_checked ∙ ok) (le-ltb 0 (length gs) (omega (arith, none))) ∙ parts_is
 
     module _ (some : 0 < length gs) where
-      short : (c : Code) → IsCode (parts_code t.var.now.kind (elements_of_all gs) values) c → machine.Refused c ≡ look_parts t given values
+      short : (c : Code) → IsCode (parts_code t.var.now.kind (elements_of_all gs) values) c → looks.Refused c ≡ look_parts t given values
       unfolding parts_outcome
       short c r = data_refused _ _ _ _ c (sym parts_checked ∙ ok) (lt-ltb 0 (length gs) some) r.0 r.1 ∙ parts_is
 
-      pub parts_short : (n : ℕ) (c : Code) → n ≡ elements_of_all gs → IsCode (parts_code t.var.now.kind n values) c → machine.Refused c ≡ look_parts t given values
+      pub parts_short : (n : ℕ) (c : Code) → n ≡ elements_of_all gs → IsCode (parts_code t.var.now.kind n values) c → looks.Refused c ≡ look_parts t given values
       parts_short n c e r = short c (subst (λ (m : ℕ). IsCode (parts_code t.var.now.kind m values) c) e r)
 
       range_code : HasValues t.var.now.kind values (elements_of_all gs) → (b : Bool) → some_unfit t.var.now.kind values 0 (elements_of_all gs) ≡ b
@@ -152,32 +152,32 @@ pub at_parts : (t : Target) (given : Given) (values : Option Values) (r : Result
 unfolding look_at look_parts
 at_parts t given values r e h =
     subst (λ (b : Bool). ComesTo (elim b [
-      | true ↦ machine.look_parts t.header.now t.known t.id t.place given values t.var.now
-      | false ↦ machine.look_region t.header.now t.known t.id t.place given values t.var.now
+      | true ↦ looks.look_parts t.header.now t.known t.id t.place given values t.var.now
+      | false ↦ looks.look_region t.header.now t.known t.id t.place given values t.var.now
     ]) r) (sym (ap is_varn e)) h
 
 pub at_region : (t : Target) (given : Given) (values : Option Values) (r : Result (List Post) CallErr) → (given.form ≡ form.Varn → ⊥) → ComesTo (look_region t given values) r → ComesTo (look_at t given values) r
 unfolding look_at look_region
 at_region t given values r n h =
     subst (λ (b : Bool). ComesTo (elim b [
-      | true ↦ machine.look_parts t.header.now t.known t.id t.place given values t.var.now
-      | false ↦ machine.look_region t.header.now t.known t.id t.place given values t.var.now
+      | true ↦ looks.look_parts t.header.now t.known t.id t.place given values t.var.now
+      | false ↦ looks.look_region t.header.now t.known t.id t.place given values t.var.now
     ]) r) (sym (varn_form given.form n)) h
 
 -- ---- by name
 
-abbrev by_place : Header → ℕ → ℕ → Given → Option Values → Option ℕ → machine.Look
+abbrev by_place : Header → ℕ → ℕ → Given → Option Values → Option ℕ → looks.Look
 by_place header known id given values o =
-    elim o [ None ↦ machine.Refused code.ENotVar | Some k ↦ machine.look_at header known id k given values (slice_get header.vars k) ]
+    elim o [ None ↦ looks.Refused code.ENotVar | Some k ↦ looks.look_at header known id k given values (slice_get header.vars k) ]
 
 pub look_missing : (header : Header) (known id : ℕ) (name : List ℕ) (given : Given) (values : Option Values) → None ≡ find_var header name
-    → machine.Refused code.ENotVar ≡ machine.look header known id name given values
+    → looks.Refused code.ENotVar ≡ looks.look header known id name given values
 look_missing header known id name given values e = ap (by_place header known id given values) e
 
 pub look_found : (header : Header) (known id k : ℕ) (name : List ℕ) (given : Given) (values : Option Values) (t : Target) → Some k ≡ find_var header name
-    → t.header.now ≡ header → t.place ≡ k → t.known ≡ known → t.id ≡ id → IsTarget t → look_at t given values ≡ machine.look header known id name given values
+    → t.header.now ≡ header → t.place ≡ k → t.known ≡ known → t.id ≡ id → IsTarget t → look_at t given values ≡ looks.look header known id name given values
 unfolding look_at
 look_found header known id k name given values t e h p n i there =
-    ap (λ (o : Option Var). machine.look_at t.header.now t.known t.id t.place given values o) (sym there)
-    ∙ (λ j. machine.look_at (h j) (n j) (i j) (p j) given values (slice_get (h j).vars (p j)))
+    ap (λ (o : Option Var). looks.look_at t.header.now t.known t.id t.place given values o) (sym there)
+    ∙ (λ j. looks.look_at (h j) (n j) (i j) (p j) given values (slice_get (h j).vars (p j)))
     ∙ ap (by_place header known id given values) e

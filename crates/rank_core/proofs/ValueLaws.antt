@@ -1,7 +1,6 @@
 -- The values of a put and their bytes, one after another and part by part.
 use Rattle.std.proofs.Common.{◌≡◌, ℕ, zero, suc, ◌+◌, ◌-◌, ◌*◌, ◌<◌, ◌≤◌, refl, sym, ap, ◌∙◌, List, [], ◌∷◌, ◌++◌, length, map, append-nil, Bool, true, false, not, cond, leb, ltb, ◌||◌, Option, Some, None, is_none, arith}
 use Rattle.std.specs.Prelude.{flat_map}
-use Rattle.std.specs.Int.{Width, byte_len, to_be_bytes, w8, w16, w32, w64, w128}
 use Rattle.std.specs.List.{list_any, range_with_len}
 use Rattle.std.proofs.lemmas.Bool.{le-ltb, or_parts, or_from, or_left, or_right, lt-leb}
 use Rattle.std.proofs.lemmas.List.{length-append}
@@ -21,22 +20,17 @@ use Rattle.nc_base.specs.declared.request.Value.{Value}
 use Rattle.nc_base.specs.declared.request.Values.{Values}
 use Rattle.serial_spec.specs.ExternalForm.{class_of, code_of, size_of, width_of}
 use Rattle.serial_spec.specs.Layout.{product}
-use Rattle.serial_spec.specs.RankMachine.{kind_code, part_posts, parts_code, values_bytes, values_code}
+use Rattle.serial_spec.specs.Looking.{kind_code, part_posts, parts_code, values_bytes, values_code}
 use Rattle.serial_spec.specs.RegionCheck.{elements_of_all, is_ok_code}
 use Rattle.serial_spec.specs.Request.{count_of, ext_of, packed_bytes, positions, value_at}
 use Rattle.imap_extents.specs.Refusals.{IsRangeRefusal}
 use Rattle.imap_extents.proofs.PositionLaws.{length-positions, range_more}
 use Rattle.imap_extents.proofs.RefusalLaws.{lacks}
 use Rattle.rank_core.specs.Looked.{ext_at, some_unfit, unfit_at, HasValues}
+use Rattle.list_laws.proofs.Truth.{or_false}
+use Rattle.serial_spec.proofs.ValueLaws.{be_long}
 
 -- ---- how long they are
-
-be_long : (w : Width) (n : ℕ) → length (to_be_bytes w n) ≡ byte_len w
-be_long w8 n = refl
-be_long w16 n = refl
-be_long w32 n = refl
-be_long w64 n = refl
-be_long w128 n = refl
 
 one_long : (kind : NcType) (o : Option Value) → is_none o ≡ false → length (ext_of kind o) ≡ size_of kind
 one_long kind None h = absurd (cc)
@@ -88,10 +82,6 @@ values_more kind values k n j h =
     ap (λ (l : List ℕ). flat_map f l) (range_more k n j h)
     ∙ flat_map-append f (range_with_len k n) (j ∷ [])
     ∙ ap (λ (l : List ℕ). flat_map f (range_with_len k n) ++ l) (append-nil (f j))
-
-or_false : (b : Bool) → (b || false) ≡ b
-or_false true = refl
-or_false false = refl
 
 pub unfit_more : (kind : NcType) (values : Values) (k n j : ℕ) → k + n ≡ j
     → some_unfit kind (Some values) k (n + 1) ≡ (some_unfit kind (Some values) k n || unfit_at kind values j)

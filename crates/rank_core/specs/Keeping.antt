@@ -2,7 +2,7 @@
 --     ranked a     the rank as contracts see it
 --     IsKept a     what stands between its calls
 use Rattle.std.specs.Prelude.{◌≡◌, true, option_map, IfSome}
-use Rattle.serial_spec.specs.HeaderGrammar.{is_sound}
+use Rattle.serial_spec.specs.SoundHeaders.{is_sound}
 use Rattle.serial_spec.specs.RankMachine as machine
 use Rattle.rank_core.specs.Indexed.{IsIndexOf}
 use Rattle.rank_core.specs.Offering.{as_open}

@@ -17,18 +17,18 @@ use Rattle.nc_base.specs.declared.plan.Post.{Post}
 use Rattle.nc_base.specs.declared.request.Values.{Values}
 use Rattle.overlay_laws.specs.Entries.{In}
 use Rattle.serial_spec.specs.ExternalForm.{class_of}
-use Rattle.serial_spec.specs.RankMachine as machine
-use Rattle.serial_spec.specs.RankMachine.{kind_code, some_fits}
+use Rattle.serial_spec.specs.Looking as looks
+use Rattle.serial_spec.specs.Looking.{kind_code, some_fits}
 use Rattle.serial_spec.specs.Request.{count_of, ext_of, value_at}
 use Rattle.serial_spec.specs.SharedByte.{holdings, IsOwnOnce}
 use Rattle.rank_core.specs.declared.looking.Look.{Look}
 use Rattle.rank_core.specs.declared.looking.Look.TheVariants.{Refused, Empty, Asks}
 use Rattle.rank_core.specs.Offered.{IsPut, IsGet}
 
-abbrev pub as_look : Look → machine.Look
-as_look (Refused code) = machine.Refused code
-as_look Empty = machine.Empty
-as_look (Asks posts) = machine.Asks posts
+abbrev pub as_look : Look → looks.Look
+as_look (Refused code) = looks.Refused code
+as_look Empty = looks.Empty
+as_look (Asks posts) = looks.Asks posts
 
 abbrev pub posts_of : Look → List Post
 posts_of (Asks posts) = posts
@@ -48,18 +48,18 @@ AreLooked header known (Some values) l = ArePutsLooked header known l
 -- ---- posts, or a refusal
 
 -- no post stands for no element
-abbrev pub look_of : List Post → machine.Look
-look_of [] = machine.Empty
-look_of (p ∷ posts) = machine.Asks (p ∷ posts)
+abbrev pub look_of : List Post → looks.Look
+look_of [] = looks.Empty
+look_of (p ∷ posts) = looks.Asks (p ∷ posts)
 
-abbrev pub settled : Result (List Post) CallErr → Option machine.Look
+abbrev pub settled : Result (List Post) CallErr → Option looks.Look
 settled (Ok posts) = Some (look_of posts)
-settled (Err (refusal.Code c)) = Some (machine.Refused c)
+settled (Err (refusal.Code c)) = Some (looks.Refused c)
 settled (Err refusal.Memory) = None
 
-abbrev pub ComesTo : machine.Look → Result (List Post) CallErr → Type 0
+abbrev pub ComesTo : looks.Look → Result (List Post) CallErr → Type 0
 ComesTo l (Ok posts) = look_of posts ≡ l
-ComesTo l (Err (refusal.Code c)) = machine.Refused c ≡ l
+ComesTo l (Err (refusal.Code c)) = looks.Refused c ≡ l
 ComesTo l (Err refusal.Memory) = Unit {0}
 
 -- it refuses, by this code

@@ -9,6 +9,7 @@ use Rattle.nc_base.specs.declared.request.Direction.{Direction}
 use Rattle.nc_base.specs.declared.request.Call.{Call}
 use Rattle.nc_base.specs.declared.request.Call.TheVariants as call
 use Rattle.nc_base.specs.declared.request.Given.{Given}
+use Rattle.serial_spec.specs.Looking as looks
 use Rattle.serial_spec.specs.RankMachine as machine
 use Rattle.rank_core.specs.Offering.{batch_towards}
 use Rattle.rank_core.specs.Offered.{posts_offered, IsSoundWant}
@@ -33,7 +34,7 @@ most_posts (call.Post id kind name given values) = most_of given
 most_posts (call.FillRec name number share ranks) = 65
 most_posts _ = 0
 
-abbrev pub offers_towards : machine.Rank → OfferKind → Direction → machine.Look → machine.Rank × Want
+abbrev pub offers_towards : machine.Rank → OfferKind → Direction → looks.Look → machine.Rank × Want
 offers_towards r kind direction l =
     machine.offers r kind (batch_towards direction (machine.posts_of l)) (machine.code_of_look l) [] true r.independent
 

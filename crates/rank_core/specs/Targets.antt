@@ -10,7 +10,7 @@ use Rattle.nc_base.specs.declared.request.Part.{Part}
 use Rattle.nc_base.specs.declared.request.Values.{Values}
 use Rattle.serial_spec.specs.Layout.{length_of, product}
 use Rattle.serial_spec.specs.Limits.{most_elements}
-use Rattle.serial_spec.specs.RankMachine as machine
+use Rattle.serial_spec.specs.Looking as looks
 use Rattle.var_layout.specs.Measures.{AreMeasures}
 use Rattle.rank_core.specs.declared.looking.target.Target.{Target}
 
@@ -20,17 +20,17 @@ IsTarget t = slice_get t.header.now.vars t.place ≡ Some t.var.now
 abbrev pub IsMeasured : Target → Type 0
 IsMeasured t = AreMeasures t.header.now t.measures.now
 
-unfoldable pub look_at : Target → Given → Option Values → machine.Look
-look_at t given values = machine.look_at t.header.now t.known t.id t.place given values (Some t.var.now)
+unfoldable pub look_at : Target → Given → Option Values → looks.Look
+look_at t given values = looks.look_at t.header.now t.known t.id t.place given values (Some t.var.now)
 
-unfoldable pub look_region : Target → Given → Option Values → machine.Look
-look_region t given values = machine.look_region t.header.now t.known t.id t.place given values t.var.now
+unfoldable pub look_region : Target → Given → Option Values → looks.Look
+look_region t given values = looks.look_region t.header.now t.known t.id t.place given values t.var.now
 
-unfoldable pub look_parts : Target → Given → Option Values → machine.Look
-look_parts t given values = machine.look_parts t.header.now t.known t.id t.place given values t.var.now
+unfoldable pub look_parts : Target → Given → Option Values → looks.Look
+look_parts t given values = looks.look_parts t.header.now t.known t.id t.place given values t.var.now
 
-unfoldable pub look_record : Target → ℕ → ℕ → ℕ → machine.Look
-look_record t number rank ranks = machine.look_record t.header.now t.place number rank ranks t.var.now
+unfoldable pub look_record : Target → ℕ → ℕ → ℕ → looks.Look
+look_record t number rank ranks = looks.look_record t.header.now t.place number rank ranks t.var.now
 
 -- the lengths of dimensions
 abbrev pub lengths_of : Header → List ℕ → List ℕ

@@ -6,8 +6,10 @@ ghost use Rattle.nc_base.specs.declared.request.Call.TheVariants as call;
 ghost use Rattle.nc_base.specs.declared.header.Dim.{Dim};
 ghost use Rattle.nc_base.specs.declared.request.Direction.TheVariants as way;
 ghost use Rattle.nc_base.specs.declared.request.PostKind.TheVariants as kind;
+ghost use Rattle.serial_spec.specs.Looking as looks;
 ghost use Rattle.serial_spec.specs.RankMachine as machine;
-ghost use Rattle.serial_spec.specs.RankMachine.{posts, buffer_code, bytes_in, wants, dim_at, direction_of, status_of, with_posted, without_chosen, chosen, batch_chosen, items_of, Empty, Waiting};
+ghost use Rattle.serial_spec.specs.Looking.{direction_of, Empty};
+ghost use Rattle.serial_spec.specs.RankMachine.{posts, buffer_code, bytes_in, wants, dim_at, status_of, with_posted, without_chosen, chosen, batch_chosen, items_of, Waiting};
 ghost use Rattle.request_queue.specs.Queued.{IsRefusal};
 ghost use Rattle.rank_core.specs.Looked.{as_look, posts_of};
 ghost use Rattle.rank_core.specs.Offering.{as_open};
@@ -45,7 +47,7 @@ impl<'a> Rank<'a> {
         given: &Given,
         values: Option<&Values>,
     ) -> Result<Look, Memory>
-        ensures looked { IfOk result (λ l. as_look l ≡ machine.look self.now.header self.now.state.known id name.now given.now (option_copied values.entry)) }
+        ensures looked { IfOk result (λ l. as_look l ≡ looks.look self.now.header self.now.state.known id name.now given.now (option_copied values.entry)) }
         ensures posts { IfOk result (λ l. AreTowards (direction_of (option_copied values.entry)) self.now.header self.now.state.known (posts_of l)) }
         ensures ids { IfOk result (λ l. HaveId id (posts_of l)) }
         ensures few { IfOk result (λ l. length (posts_of l) ≤ most_of given.now) }
@@ -73,7 +75,7 @@ impl<'a> Rank<'a> {
     ) -> Result<Look, Memory>
         requires share { share < of }
         requires ranks { of ≤ 64 }
-        ensures looked { IfOk result (λ l. as_look l ≡ machine.look_fill self.now.header name.now number share of) }
+        ensures looked { IfOk result (λ l. as_look l ≡ looks.look_fill self.now.header name.now number share of) }
         ensures posts { IfOk result (λ l. AreTowards way.Put self.now.header self.now.state.known (posts_of l)) }
         ensures few { IfOk result (λ l. length (posts_of l) ≤ 65) }
     {
@@ -174,7 +176,7 @@ impl<'a> Rank<'a> {
 
     /// The length of the dimension of that name; that of the record dimension is the record count.
     pub(crate) fn dim_len(&self, name: &[u8]) -> Option<u64>
-        ensures { result ≡ option_map (λ (d : Dim). if d.len == 0 then self.now.state.known else d.len) (dim_at self.now.header (machine.find_dim self.now.header name.now)) }
+        ensures { result ≡ option_map (λ (d : Dim). if d.len == 0 then self.now.state.known else d.len) (dim_at self.now.header (looks.find_dim self.now.header name.now)) }
     {
         let place = self.names.find_dim(self.header, name)?;
         let dim = &self.header.dims.as_slice()[place];

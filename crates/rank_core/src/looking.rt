@@ -1,8 +1,8 @@
 // What a call on a region comes to.
 ghost use Rattle.std.specs.Prelude.{◌≡◌, ◌≤◌, ◌<◌, max, true, length, slice_get, Some, IfOk};
 ghost use Rattle.std.specs.Option.{option_copied};
-ghost use Rattle.serial_spec.specs.HeaderGrammar.{is_sound};
-ghost use Rattle.serial_spec.specs.RankMachine as machine;
+ghost use Rattle.serial_spec.specs.SoundHeaders.{is_sound};
+ghost use Rattle.serial_spec.specs.Looking as looks;
 ghost use Rattle.rank_core.specs.Indexed.{IsIndexOf};
 ghost use Rattle.rank_core.specs.Looked.{as_look, posts_looked, settled, AreLooked, ArePutsLooked, ComesTo};
 ghost use Rattle.rank_core.specs.Targets as targets;
@@ -48,7 +48,7 @@ pub(crate) fn look_over(
 ) -> Result<Look, Memory>
     requires sound { is_sound header.now ≡ true }
     requires names { IsIndexOf header.now names.now }
-    ensures looked { IfOk result (λ l. as_look l ≡ machine.look header.now known id name.now given.now (option_copied values.entry)) }
+    ensures looked { IfOk result (λ l. as_look l ≡ looks.look header.now known id name.now given.now (option_copied values.entry)) }
     ensures posts { IfOk result (AreLooked header.now known (option_copied values.entry)) }
     ensures few { IfOk result (λ l. posts_looked l ≤ max 1 (length given.now.parts)) }
 {
@@ -105,7 +105,7 @@ pub(crate) fn look_fill(
     requires names { IsIndexOf header.now names.now }
     requires rank { rank < ranks }
     requires ranks { ranks ≤ 64 }
-    ensures looked { IfOk result (λ l. as_look l ≡ machine.look_fill header.now name.now number rank ranks) }
+    ensures looked { IfOk result (λ l. as_look l ≡ looks.look_fill header.now name.now number rank ranks) }
     ensures posts { IfOk result (ArePutsLooked header.now 0) }
     ensures few { IfOk result (λ l. posts_looked l ≤ 65) }
 {

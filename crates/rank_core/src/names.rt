@@ -4,7 +4,7 @@ ghost use Rattle.std.specs.List.{range_with_len};
 ghost use Rattle.std.specs.Cmp.Lexicographic.{slice_cmp};
 ghost use Rattle.std.specs.List.Sorted.{IsPermutation, IsSorted};
 ghost use Rattle.std.specs.Ordering.{nat_cmp};
-ghost use Rattle.serial_spec.specs.RankMachine as machine;
+ghost use Rattle.serial_spec.specs.Looking as looks;
 ghost use Rattle.var_layout.specs.Measures.{AreMeasures};
 ghost use Rattle.rank_core.specs.Indexed.{is_below, name_at, place_cmp, IsIndexOf, IsInOrder, IsSplitAt};
 
@@ -46,7 +46,7 @@ impl Names {
     /// The place of the first variable of this name.
     pub(crate) fn find_var(&self, header: &Header, name: &[u8]) -> Option<usize>
         requires names { IsIndexOf header.now self.now }
-        ensures found { result ≡ machine.find_var header.now name.now }
+        ensures found { result ≡ looks.find_var header.now name.now }
         ensures there { IfSome result (λ place. place < length header.now.vars) }
     {
         first_named(header.vars.as_slice(), self.vars.as_slice(), name)
@@ -55,7 +55,7 @@ impl Names {
     /// The place of the first dimension of this name.
     pub(crate) fn find_dim(&self, header: &Header, name: &[u8]) -> Option<usize>
         requires names { IsIndexOf header.now self.now }
-        ensures found { result ≡ machine.find_dim header.now name.now }
+        ensures found { result ≡ looks.find_dim header.now name.now }
         ensures there { IfSome result (λ place. place < length header.now.dims) }
     {
         first_named(header.dims.as_slice(), self.dims.as_slice(), name)

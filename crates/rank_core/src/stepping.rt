@@ -5,8 +5,10 @@ ghost use Rattle.nc_base.specs.declared.answer.Code.TheVariants as code;
 ghost use Rattle.nc_base.specs.declared.request.Call.TheVariants as call;
 ghost use Rattle.nc_base.specs.declared.step.OfferKind.TheVariants as offer;
 ghost use Rattle.nc_base.specs.declared.step.MeetKind.TheVariants as meets;
+ghost use Rattle.serial_spec.specs.Looking as looks;
 ghost use Rattle.serial_spec.specs.RankMachine as machine;
-ghost use Rattle.serial_spec.specs.RankMachine.{blocks, posts, waits, offers, no_posts, fills_record, direction_of, status_of, values_of_post, Asks};
+ghost use Rattle.serial_spec.specs.Looking.{direction_of, Asks};
+ghost use Rattle.serial_spec.specs.RankMachine.{blocks, posts, waits, offers, no_posts, fills_record, status_of, values_of_post};
 ghost use Rattle.rank_core.specs.Looked.{as_look, posts_of};
 ghost use Rattle.rank_core.specs.Requests.{AreTowards, HaveId, direction_of_kind};
 ghost use Rattle.rank_core.specs.Stepped.{most_of, offers_towards, IsStepTo};
@@ -52,7 +54,7 @@ impl<'a> Rank<'a> {
     ) -> Result<Want, Memory>
         ensures step { IfOk result (IsStepTo self.old self.new (most_of given.now)
             (offers_towards self.old.state kind (direction_of (option_copied values.entry))
-            (machine.look self.old.header self.old.state.known 0 name.now given.now (option_copied values.entry)))) }
+            (looks.look self.old.header self.old.state.known 0 name.now given.now (option_copied values.entry)))) }
         ensures header { self.new.header ≡ self.old.header }
     {
         let look = self.look(0, name, given, values)?;
@@ -69,7 +71,7 @@ impl<'a> Rank<'a> {
     ) -> Result<Want, Memory>
         requires share { share < of }
         requires ranks { of ≤ 64 }
-        ensures step { IfOk result (IsStepTo self.old self.new 65 (fills_record self.old.state (machine.look_fill self.old.header name.now number share of))) }
+        ensures step { IfOk result (IsStepTo self.old self.new 65 (fills_record self.old.state (looks.look_fill self.old.header name.now number share of))) }
         ensures header { self.new.header ≡ self.old.header }
     {
         if self.is_independent() {
@@ -127,7 +129,7 @@ impl<'a> Rank<'a> {
     ) -> Result<Want, Memory>
         requires fresh { status_of self.old.state.posted id ≡ None }
         ensures step { IfOk result (IsStepTo self.old self.new (most_of given.now)
-            (posts self.old.state id kind (machine.look self.old.header self.old.state.known id name.now given.now (values_of_post kind values.now)))) }
+            (posts self.old.state id kind (looks.look self.old.header self.old.state.known id name.now given.now (values_of_post kind values.now)))) }
         ensures header { self.new.header ≡ self.old.header }
     {
         match self.look(id, name, given, values_of_post(kind, values))? {

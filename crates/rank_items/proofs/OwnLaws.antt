@@ -12,8 +12,9 @@ use Rattle.serial_spec.specs.ExternalForm.{size_of}
 use Rattle.serial_spec.specs.Place.{place}
 use Rattle.serial_spec.specs.Request.{elements, places}
 use Rattle.serial_spec.specs.SharedByte.{bytes_of, bytes_of_some, holdings, Holding, IsOwnOnce}
-use Rattle.serial_spec.proofs.ElementLaws.{get_left, get_map, get_right}
+use Rattle.serial_spec.proofs.ElementLaws.{get_left, get_right}
 use Rattle.rank_items.specs.Own.{HasOwnElements}
+use Rattle.list_laws.proofs.Maps.{entry_map}
 
 -- ---- blocks of one length
 
@@ -42,12 +43,12 @@ byte_there : (header : Header) (p : Post) (v : Var) (k : ℕ) (index : List ℕ)
     → slice_get (bytes_of header p) (k * size_of v.kind) ≡ Some (place header v index)
 byte_there header p v k index e f =
     ap (λ (m : Option Var). slice_get (bytes_of_some header m p) (k * size_of v.kind)) e
-    ∙ block_first (size_of v.kind) (size_pos v.kind) (places header v p.region) k (k * size_of v.kind) (place header v index) refl (get_map (λ i. place header v i) (elements p.region) k index f)
+    ∙ block_first (size_of v.kind) (size_pos v.kind) (places header v p.region) k (k * size_of v.kind) (place header v index) refl (entry_map (λ i. place header v i) (elements p.region) k index f)
 
 held_at : (header : Header) (rank : ℕ) (puts : List Post) (i : ℕ) (p : Post) → slice_get puts i ≡ Some p
     → slice_get (holdings header (map (λ p. (rank, p)) puts)) i ≡ Some ((rank, p.id), bytes_of header p)
 held_at header rank puts i p e =
-    get_map (λ (r : ℕ × Post). let held : Holding = ((r.0, r.1.id), bytes_of header r.1) in held) (map (λ q. (rank, q)) puts) i (rank, p) (get_map (λ q. (rank, q)) puts i p e)
+    entry_map (λ (r : ℕ × Post). let held : Holding = ((r.0, r.1.id), bytes_of header r.1) in held) (map (λ q. (rank, q)) puts) i (rank, p) (entry_map (λ q. (rank, q)) puts i p e)
 
 pub own_elements : (header : Header) (puts : List Post) (rank : ℕ) → ((i : ℕ) (p : Post) → slice_get puts i ≡ Some p → is_some (slice_get header.vars p.var) ≡ true)
     → IsOwnOnce (holdings header (map (λ p. (rank, p)) puts)) → HasOwnElements puts

@@ -3,7 +3,7 @@
 ghost use Rattle.std.specs.Prelude.{◌≡◌, ℕ, List, map, true, is_some, Some, slice_get};
 ghost use Rattle.nc_base.specs.declared.header.Header.{Header};
 ghost use Rattle.nc_base.specs.declared.plan.Post.{Post};
-ghost use Rattle.serial_spec.specs.HeaderGrammar.{is_sound};
+ghost use Rattle.serial_spec.specs.SoundHeaders.{is_sound};
 ghost use Rattle.serial_spec.specs.SharedByte.{holdings, IsOwnOnce};
 ghost use Rattle.vara_extents.specs.Accepted.{IsAccepted};
 ghost use Rattle.rank_items.specs.Own.{HasOwnElements};

@@ -9,11 +9,12 @@ use Rattle.nc_base.specs.declared.header.Header.{Header}
 use Rattle.nc_base.specs.declared.header.Var.{Var}
 use Rattle.nc_base.specs.declared.script.Extra.{Extra}
 use Rattle.serial_spec.specs.Layout.{is_record, slab, vsize, recsize, share, sharing}
-use Rattle.serial_spec.specs.HeaderGrammar.{header_len, is_sound}
+use Rattle.serial_spec.specs.HeaderBytes.{header_len}
+use Rattle.serial_spec.specs.SoundHeaders.{is_sound}
 use Rattle.serial_spec.specs.Place.{AreApart}
 use Rattle.serial_spec.specs.Redefinition.{added, fixed_order, begins_by_number, begin_of_number, redefined_header}
 use Rattle.var_layout.proofs.CreatedFiles.{at_begin}
-use Rattle.var_layout.proofs.LaidOut.{shares_by, fixed_then_record, record_then_fixed, no_sharing_from}
+use Rattle.var_layout.proofs.LaidApart.{shares_by, fixed_then_record, record_then_fixed, no_sharing_from}
 use Rattle.redef_laws.proofs.GrownLaws.{IsFitVar, IsFit}
 use Rattle.redef_laws.proofs.RebegunLaws.{rebegun, rebegun_at, rebegun_recsize, rebegun_len}
 use Rattle.redef_laws.proofs.BeginLaws.{at_number, found_is, front_grows, vsizes}

@@ -5,14 +5,14 @@ use Rattle.nc_base.specs.declared.header.Header.{Header}
 use Rattle.nc_base.specs.declared.script.Extra.{Extra}
 use Rattle.nc_base.specs.declared.step.DiskCall.{DiskCall}
 use Rattle.serial_spec.specs.DeviceCalls.{highest_first, slabs, stores, zero_calls}
-use Rattle.serial_spec.specs.HeaderGrammar.{header_len}
+use Rattle.serial_spec.specs.HeaderBytes.{header_len}
 use Rattle.serial_spec.specs.Redefinition.{redefined}
 use Rattle.redef_laws.specs.Applied.{IsApplied}
 use Rattle.redef_laws.specs.Rising.{changes, gaps, rising, IsRisen}
 use Rattle.redef_laws.specs.Shifted.{new_end, AreShifted, IsMoved}
 use Rattle.redef_laws.proofs.MovedLaws.{moved_is_redefined, writable_is_sound}
-use Rattle.redef_laws.proofs.RisingLaws.{rising_risen, rising_falls, rising_zeros, redefinable_sound}
-use Rattle.redef_laws.proofs.ShiftLaws.{shifts}
+use Rattle.redef_laws.proofs.RisingLaws.{rising_risen, rising_falls, rising_zeros}
+use Rattle.redef_laws.proofs.ShiftLaws.{shifts, sound_before}
 use Rattle.redef_laws.proofs.WrittenLaws.{written}
 
 module _ (old new : Header) (extras : List Extra) (applied : IsApplied old extras new) where
@@ -20,13 +20,13 @@ module _ (old new : Header) (extras : List Extra) (applied : IsApplied old extra
   applied_shifted = shifts old new extras applied (writable_is_sound new (written old new extras applied))
 
   pub applied_risen : IsRisen (header_len old) (header_len new) (rising old new)
-  applied_risen = rising_risen old new (redefinable_sound old applied.redefinable) applied_shifted
+  applied_risen = rising_risen old new (sound_before old applied.redefinable) applied_shifted
 
   pub applied_falls : highest_first (filter changes (slabs old new)) ≡ filter changes (reverse (rising old new))
-  applied_falls = rising_falls old new (redefinable_sound old applied.redefinable) applied_shifted
+  applied_falls = rising_falls old new (sound_before old applied.redefinable) applied_shifted
 
   pub applied_zeros : (z : ℕ) → 0 < z → zero_calls z old new ≡ flat_map {A = DiskCall} (λ g. stores z g.0 g.1) (gaps (header_len new) (new_end old new) (rising old new))
-  applied_zeros z some = rising_zeros old new z (redefinable_sound old applied.redefinable) applied_shifted some
+  applied_zeros z some = rising_zeros old new z (sound_before old applied.redefinable) applied_shifted some
 
   pub applied_moved : (file left : List ℕ) → IsMoved old new file left → left ≡ redefined file old new
   applied_moved file left m = moved_is_redefined old new extras file left (writable_is_sound new (written old new extras applied)) applied m

@@ -10,7 +10,7 @@ use Rattle.nc_base.specs.declared.header.Header.{Header}
 use Rattle.nc_base.specs.declared.header.Var.{Var}
 use Rattle.serial_spec.specs.DeviceCalls.{Slab, slabs, slabs_of}
 use Rattle.serial_spec.specs.ExternalForm.{size_of}
-use Rattle.serial_spec.specs.HeaderGrammar.{is_sound}
+use Rattle.serial_spec.specs.SoundHeaders.{is_sound}
 use Rattle.serial_spec.specs.Layout.{product, lengths, starts_with_zero, without_record, is_record, inner_lengths, recsize}
 use Rattle.serial_spec.specs.Place.{place, row, record_of, within_record, HasRecord, IsIndex, IsElementBelow}
 use Rattle.serial_spec.specs.RegionCheck.{known_lengths}

@@ -4,7 +4,8 @@ use Rattle.std.specs.Prelude.{◌==◌}
 use Rattle.std.specs.List.{AllByRecursion}
 use Rattle.std.specs.Int.{w32, w64}
 use Rattle.var_layout.proofs.LaidWritable.{small_field}
-use Rattle.serial_spec.specs.HeaderGrammar.{begin_width, fits_field, fits_count}
+use Rattle.serial_spec.specs.HeaderBytes.{begin_width}
+use Rattle.serial_spec.specs.SoundHeaders.{fits_field, fits_count}
 
 -- ---- tests
 

@@ -16,7 +16,10 @@ use Rattle.nc_base.specs.declared.errors.HeaderErr.TheVariants as fault
 use Rattle.serial_spec.specs.Limits.{most_dims, most_dims_of_var, file_limit, record_limit}
 use Rattle.serial_spec.specs.ExternalForm.{size_of}
 use Rattle.serial_spec.specs.Layout.{sharing}
-use Rattle.serial_spec.specs.HeaderGrammar.{is_sound, first_check, first_with, fault_if, two_record_dims, record_later, is_record_id, bad_id, is_too_large, all_ones, measure, counts_are_small, is_version, header_len, fits_count, is_writable_dim, is_writable_attr, is_writable_list}
+use Rattle.serial_spec.specs.HeaderBytes.{is_version, header_len}
+use Rattle.serial_spec.specs.HeaderGrammar.{all_ones}
+use Rattle.serial_spec.specs.HeaderFaults.{first_check, first_with, fault_if, two_record_dims, record_later, is_record_id, bad_id, is_too_large, measure}
+use Rattle.serial_spec.specs.SoundHeaders.{is_sound, counts_are_small, fits_count, is_writable_dim, is_writable_attr, is_writable_list}
 use Rattle.serial_spec.specs.Redefinition.{is_redefinable, is_redefinable_var}
 use Rattle.cdf_header.proofs.Pieces.{no_fault}
 use Rattle.redef_laws.proofs.GrownLaws.{IsTyped, HasFitLength, IsFitVar, IsFit, is_record_dim}

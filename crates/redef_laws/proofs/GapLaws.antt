@@ -4,7 +4,7 @@ use Rattle.std.proofs.lemmas.Nat.{div_below}
 use Rattle.std.specs.Prelude.{filter, map, flat_map, nat_le, nat_lt, ◌==◌}
 use Rattle.std.specs.List.{range_with_len, list_any}
 use Rattle.std.proofs.lemmas.List.FromFn.{length-range_with_len}
-use Rattle.std.proofs.lemmas.Bool.{or_left, or_right, or_cases, lt-ltb, le-ltb, le-leb, lt-leb}
+use Rattle.std.proofs.lemmas.Bool.{or_left, or_right, or_cases, lt-ltb, le-ltb, le-leb, lt-leb, and_right}
 use Rattle.list_laws.proofs.Truth.{equal_above, equal_true}
 use Rattle.list_laws.proofs.Ranges.{range_append}
 use Rattle.nc_base.specs.declared.step.DiskCall.{DiskCall}
@@ -12,9 +12,10 @@ use Rattle.nc_base.specs.declared.step.DiskCall.TheVariants.{Store}
 use Rattle.serial_spec.specs.DeviceCalls.{Slab, run_before, runs, stores, first_of, window_count}
 use Rattle.overlay_laws.specs.Entries.{In, HaveSame}
 use Rattle.overlay_laws.proofs.HullLaws.{range_low, range_high, in_either}
-use Rattle.overlay_laws.proofs.WalkLaws.{filter_same, filter_none, filter_all, filter_joined}
+use Rattle.overlay_laws.proofs.WalkLaws.{filter_same, filter_none, filter_all}
 use Rattle.redef_laws.specs.Rising.{gaps, IsRisen}
 use Rattle.redef_laws.proofs.ChainLaws.{risen_past}
+use Rattle.std.proofs.lemmas.List.Elements.{filter-append}
 
 -- x is one of the slab's bytes in the new file
 abbrev pub covers : ℕ → Slab → Bool
@@ -36,12 +37,8 @@ covered_inside x s h k = ap (λ b. b && nat_lt x (s.to + s.len)) (le-leb s.to x 
 uncovered_before : (x : ℕ) (s : Slab) → x < s.to → covers x s ≡ false
 uncovered_before x s h = ap (λ b. b && nat_lt x (s.to + s.len)) (lt-leb s.to x h)
 
-and_false : (a b : Bool) → b ≡ false → (a && b) ≡ false
-and_false true b h = h
-and_false false b h = refl
-
 uncovered_past : (x : ℕ) (s : Slab) → s.to + s.len ≤ x → covers x s ≡ false
-uncovered_past x s h = and_false (nat_le s.to x) (nat_lt x (s.to + s.len)) (le-ltb x (s.to + s.len) h)
+uncovered_past x s h = and_right (nat_le s.to x) (nat_lt x (s.to + s.len)) (le-ltb x (s.to + s.len) h)
 
 bare_before : (a b x : ℕ) (ss : List Slab) → IsRisen a b ss → x < b → is_bare ss x ≡ true
 bare_before a b x ss h k = ap not (none_covers ss (λ s g. uncovered_before x s (let r = risen_past a b ss s h g in let l = r.1 in omega arith)))
@@ -64,8 +61,8 @@ bare_gaps a b end [] h k l =
 bare_gaps a b end (s ∷ ss) h k l =
     ap (λ n. filter (is_bare (s ∷ ss)) (range_with_len b n)) parts
     ∙ ap (filter (is_bare (s ∷ ss))) (three_parts b (s.to - b) s.len left)
-    ∙ filter_joined (is_bare (s ∷ ss)) before (inside ++ past)
-    ∙ (λ i. none_before i ++ filter_joined (is_bare (s ∷ ss)) inside past i)
+    ∙ filter-append (is_bare (s ∷ ss)) before (inside ++ past)
+    ∙ (λ i. none_before i ++ filter-append (is_bare (s ∷ ss)) inside past i)
     ∙ (λ i. before ++ (all_inside i ++ filter (is_bare (s ∷ ss)) past))
     ∙ ap (λ r. before ++ r)
     (same_past ∙ bare_gaps (s.from + s.len) (s.to + s.len) end ss h.4 (l s (inl refl)) (λ t m. l t (inr m)))

@@ -15,7 +15,7 @@ use Rattle.nc_base.specs.declared.script.Extra.{Extra}
 use Rattle.nc_base.specs.declared.script.Extra.TheVariants as extra
 use Rattle.serial_spec.specs.ExternalForm.{size_of}
 use Rattle.serial_spec.specs.Layout.{product, lengths, starts_with_zero, without_record, is_record, round_up, slab, vsize, recsize, record_share, record_variables}
-use Rattle.serial_spec.specs.HeaderGrammar.{is_sound}
+use Rattle.serial_spec.specs.SoundHeaders.{is_sound}
 use Rattle.serial_spec.specs.Redefinition.{Numbered, with_attr, with_extra, added, records_in, old_of, begins_by_number}
 use Rattle.serial_spec.proofs.AddedLaws.{redefined_keeps, in_front}
 use Rattle.var_layout.proofs.Soundness.{recsize_below}

@@ -8,7 +8,8 @@ use Rattle.nc_base.specs.declared.header.Header.{Header}
 use Rattle.nc_base.specs.declared.script.Extra.{Extra}
 use Rattle.serial_spec.specs.DeviceCalls.{Slab, slabs}
 use Rattle.serial_spec.specs.File.{at}
-use Rattle.serial_spec.specs.HeaderGrammar.{header_len, is_sound, is_writable}
+use Rattle.serial_spec.specs.HeaderBytes.{header_len}
+use Rattle.serial_spec.specs.SoundHeaders.{is_sound, is_writable}
 use Rattle.serial_spec.specs.Place.{AreApart}
 use Rattle.serial_spec.specs.Redefinition.{redefined, KeepsVars, Moves, IsRedefined}
 use Rattle.serial_spec.proofs.AddedLaws.{redefined_keeps}

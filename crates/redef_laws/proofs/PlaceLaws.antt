@@ -13,7 +13,7 @@ use Rattle.overlay_laws.proofs.Members.{in_filter, in_map, map_in}
 use Rattle.nc_base.specs.declared.header.Header.{Header}
 use Rattle.nc_base.specs.declared.header.Var.{Var}
 use Rattle.serial_spec.specs.Layout.{slab, vsize, is_record, round_up}
-use Rattle.serial_spec.specs.HeaderGrammar.{header_len}
+use Rattle.serial_spec.specs.HeaderBytes.{header_len}
 use Rattle.serial_spec.specs.SharedByte.{least}
 use Rattle.serial_spec.specs.Place.{AreApart}
 use Rattle.serial_spec.specs.Redefinition.{Numbered, fixed_of, records_in, old_of, new_of, by_begin, fixed_order, fixed_begins, front_after, first_record, record_begins, begins_by_number, begin_of_number}

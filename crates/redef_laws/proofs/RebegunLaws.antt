@@ -6,7 +6,7 @@ use Rattle.std.proofs.lemmas.List.Sums.{sum_by-cons}
 use Rattle.nc_base.specs.declared.header.Header.{Header}
 use Rattle.nc_base.specs.declared.header.Var.{Var}
 use Rattle.serial_spec.specs.Layout.{slab, is_record, recsize, record_size, record_variables}
-use Rattle.serial_spec.specs.HeaderGrammar.{header_len, variable}
+use Rattle.serial_spec.specs.HeaderBytes.{header_len, variable}
 use Rattle.serial_spec.specs.Redefinition.{begin_of_number, with_begins}
 use Rattle.var_layout.proofs.WrittenLengths.{list_len, variable_len, canon_len}
 use Rattle.var_layout.proofs.CreatedFiles.{at_begin}

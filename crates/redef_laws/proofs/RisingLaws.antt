@@ -8,14 +8,13 @@ use Rattle.std.specs.List.{range_with_len}
 use Rattle.std.proofs.lemmas.Bool.{not-true}
 use borrow.Author.Tests.{ltb-true, ltb-false}
 use Rattle.redef_laws.proofs.ElementSlabs.{slabs_fixed}
-use Rattle.list_laws.proofs.Truth.{and_first}
 use Rattle.nc_base.specs.declared.header.Header.{Header}
 use Rattle.nc_base.specs.declared.header.Var.{Var}
 use Rattle.serial_spec.specs.DeviceCalls.{Slab, highest_first, slabs, slabs_of, stores, zero_calls}
-use Rattle.serial_spec.specs.HeaderGrammar.{header_len, is_sound}
+use Rattle.serial_spec.specs.HeaderBytes.{header_len}
+use Rattle.serial_spec.specs.SoundHeaders.{is_sound}
 use Rattle.serial_spec.specs.Layout.{is_record, recsize, slab, share}
 use Rattle.serial_spec.proofs.ApartLaws.{none_shared, slab_fits}
-use Rattle.serial_spec.specs.Redefinition.{is_redefinable}
 use Rattle.overlay_laws.specs.Entries.{In}
 use Rattle.overlay_laws.proofs.HullLaws.{filter_in, in_left, in_right, in_flat, flat_in, in_range, range_low, range_high}
 use Rattle.redef_laws.specs.Rising.{first_slab, lowest_first, fixed_slabs, record_slabs, in_record, slabs_of_record, rising, changes, gaps, IsRisen}
@@ -273,9 +272,6 @@ rising_ascends old new h =
         subst (λ (n : ℕ). Ascends (flat_map (slabs_of_record old new) (range_with_len 0 n))) none tt
 
 -- ---- the law
-
-pub redefinable_sound : (old : Header) → is_redefinable old ≡ true → is_sound old ≡ true
-redefinable_sound old h = and_first _ _ (and_first _ _ (and_first _ _ (and_first _ _ h)))
 
 -- both lists of slabs have the same members
 pub rising_all : (old new : Header) (s : Slab) → In (rising old new) s ↔ In (slabs old new) s

@@ -18,11 +18,12 @@ use Rattle.nc_base.specs.declared.header.NcType.TheVariants.{Byte, Char, Short, 
 use Rattle.nc_base.specs.declared.script.Extra.{Extra}
 use Rattle.serial_spec.specs.ExternalForm.{size_of}
 use Rattle.serial_spec.specs.Layout.{product, length_of, lengths, without_record, is_record, slab, vsize, recsize, record_slabs, record_variables, share}
-use Rattle.serial_spec.specs.HeaderGrammar.{header_len, is_sound}
+use Rattle.serial_spec.specs.HeaderBytes.{header_len}
+use Rattle.serial_spec.specs.SoundHeaders.{is_sound}
 use Rattle.serial_spec.specs.Redefinition.{Numbered, added, records_in}
 use Rattle.serial_spec.proofs.ApartLaws.{none_from}
 use Rattle.var_layout.proofs.Soundness.{recsize_shared}
-use Rattle.var_layout.proofs.LaidOut.{shares_by, count_two}
+use Rattle.var_layout.proofs.LaidApart.{shares_by, count_two}
 use Rattle.overlay_laws.specs.Entries.{In}
 use Rattle.overlay_laws.proofs.HullLaws.{filter_in}
 use Rattle.redef_laws.proofs.FieldLaws.{opposite}

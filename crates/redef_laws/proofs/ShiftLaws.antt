@@ -10,17 +10,18 @@ use Rattle.nc_base.specs.declared.header.Attr.{Attr}
 use Rattle.nc_base.specs.declared.script.Extra.{Extra}
 use Rattle.nc_base.specs.declared.script.Extra.TheVariants as extra
 use Rattle.serial_spec.specs.DeviceCalls.{slabs}
-use Rattle.serial_spec.specs.HeaderGrammar.{is_sound, header_len}
+use Rattle.serial_spec.specs.HeaderBytes.{header_len}
+use Rattle.serial_spec.specs.SoundHeaders.{is_sound}
 use Rattle.serial_spec.specs.Layout.{is_record}
 use Rattle.serial_spec.specs.Redefinition.{with_attr, with_extra, added, begins_by_number, begin_of_number, with_begins, redefined_header, is_redefinable}
 use Rattle.serial_spec.proofs.AddedLaws.{redefined_keeps}
-use Rattle.serial_spec.proofs.ElementLaws.{get_map}
 use Rattle.redef_laws.specs.Applied.{IsApplied}
 use Rattle.redef_laws.specs.Shifted.{AreShifted, new_end}
 use Rattle.overlay_laws.proofs.Members.{numbered_at}
 use Rattle.redef_laws.proofs.PlacedLaws.{begin_rises, fixed_begins_rise, record_begins_rise}
 use Rattle.redef_laws.proofs.SlabLaws.{IsRaised, pair_at}
 use Rattle.redef_laws.proofs.SlabOrder.{raised_shifts}
+use Rattle.list_laws.proofs.Maps.{entry_map}
 
 -- ---- what is added keeps the begins
 
@@ -71,7 +72,7 @@ pub record IsOnWay (old : Header) (extras : List Extra) (k : ℕ) (v w : Var) : 
 
 placed_at : (header : Header) (found : List (ℕ × ℕ)) (k : ℕ) (u : Var) → slice_get header.vars k ≡ Some u
     → slice_get (with_begins header found).vars k ≡ Some (record u { begin = begin_of_number found k })
-placed_at header found k u h = get_map (λ p. record p.1 { begin = begin_of_number found p.0 }) (enumerate_from 0 header.vars) k (k, u) (numbered_at header.vars k u h)
+placed_at header found k u h = entry_map (λ p. record p.1 { begin = begin_of_number found p.0 }) (enumerate_from 0 header.vars) k (k, u) (numbered_at header.vars k u h)
 
 pub on_way : (old : Header) (extras : List Extra) (k : ℕ) (v w : Var) → is_sound old ≡ true → slice_get old.vars k ≡ Some v
     → slice_get (redefined_header old extras).vars k ≡ Some w → IsOnWay old extras k v w
@@ -122,7 +123,7 @@ redefined_raised old extras sound sound_new =
             (one.kind ∙ e) (two.kind ∙ sym same ∙ e) (omega (arith, low, one.begin, two.begin)) in
             omega (arith, rise, one.now, two.now)
 
-sound_before : (header : Header) → is_redefinable header ≡ true → is_sound header ≡ true
+pub sound_before : (header : Header) → is_redefinable header ≡ true → is_sound header ≡ true
 sound_before header h = and_first _ _ (and_first _ _ (and_first _ _ (and_first _ _ h)))
 
 pub shifts : (old new : Header) (extras : List Extra) → IsApplied old extras new → is_sound new ≡ true

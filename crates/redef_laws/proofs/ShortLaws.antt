@@ -14,7 +14,8 @@ use Rattle.nc_base.specs.declared.header.Attr.{Attr}
 use Rattle.nc_base.specs.declared.header.Var.{Var}
 use Rattle.serial_spec.specs.ExternalForm.{size_of}
 use Rattle.serial_spec.specs.Layout.{round_up}
-use Rattle.serial_spec.specs.HeaderGrammar.{name, padded, count, tag, number_of, list_of, dimension, attribute, variable, header_len, is_writable_attr, is_writable_list, fits_count, is_type}
+use Rattle.serial_spec.specs.HeaderBytes.{name, padded, count, tag, number_of, list_of, dimension, attribute, variable, header_len}
+use Rattle.serial_spec.specs.SoundHeaders.{is_writable_attr, is_writable_list, fits_count, is_type}
 use Rattle.var_layout.proofs.WrittenLengths.{list_len, variable_len, canon_len}
 use Rattle.redef_laws.proofs.FieldLaws.{each_both}
 use Rattle.redef_laws.proofs.GrownLaws.{IsTyped}

@@ -6,7 +6,8 @@ use Rattle.std.specs.List.{range_with_len}
 use Rattle.nc_base.specs.declared.header.Header.{Header}
 use Rattle.nc_base.specs.declared.header.Var.{Var}
 use Rattle.serial_spec.specs.DeviceCalls.{Slab, slabs, slabs_of}
-use Rattle.serial_spec.specs.HeaderGrammar.{is_sound, header_len}
+use Rattle.serial_spec.specs.HeaderBytes.{header_len}
+use Rattle.serial_spec.specs.SoundHeaders.{is_sound}
 use Rattle.serial_spec.specs.Layout.{is_record, slab, vsize, recsize, last_share, end_of_var, lengths}
 use Rattle.serial_spec.specs.Redefinition.{KeepsVars}
 use Rattle.serial_spec.proofs.RoomLaws.{end_holds, slab_below, slab_shared, some_record}

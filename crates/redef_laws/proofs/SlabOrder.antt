@@ -1,15 +1,15 @@
 -- No slab of an old variable passes another.
 use Rattle.std.proofs.Common.{◌≡◌, ℕ, ◌+◌, ◌*◌, ◌<◌, ◌≤◌, sym, ◌∙◌, ap, subst, inl, inr, ◌⊎◌, Bool, true, false, Some, arith}
-use Rattle.std.proofs.lemmas.Bool.{cases_lt}
+use Rattle.std.proofs.lemmas.Bool.{cases_lt, cases_eq}
 use Rattle.std.proofs.lemmas.Nat.{row_fits, mul-le}
 use Rattle.std.specs.Prelude.{slice_get}
 use Rattle.nc_base.specs.declared.header.Header.{Header}
 use Rattle.nc_base.specs.declared.header.Var.{Var}
 use Rattle.serial_spec.specs.DeviceCalls.{Slab, slabs}
-use Rattle.serial_spec.specs.HeaderGrammar.{is_sound, header_len}
+use Rattle.serial_spec.specs.HeaderBytes.{header_len}
+use Rattle.serial_spec.specs.SoundHeaders.{is_sound}
 use Rattle.serial_spec.specs.Layout.{is_record, slab, recsize}
 use Rattle.serial_spec.proofs.ApartLaws.{slab_fits}
-use Rattle.serial_spec.proofs.CellLaws.{same_number}
 use Rattle.redef_laws.specs.Shifted.{IsLower, AreShifted, new_end}
 use Rattle.redef_laws.proofs.RecordSizes.{record_grows}
 use Rattle.redef_laws.proofs.SoundVars.{slab_holds, vars_apart, IsApart, InTurn, swapped}
@@ -114,7 +114,7 @@ apart_before old new k m v w x y sound p q differ = vars_apart old k m v x sound
 -- ---- two slabs
 
 fixed_lower : (old new : Header) → IsRaised old new → (s t : Slab) → IsFixedSlab old new s → IsFixedSlab old new t → s.from < t.from → IsLower s t
-fixed_lower old new raised s t p q h = by_number (same_number p.number q.number)
+fixed_lower old new raised s t p q h = by_number (cases_eq p.number q.number)
   where
     by_number : (p.number ≡ q.number) ⊎ (p.number ≡ q.number → ⊥) → IsLower s t
     by_number (inl e) =
@@ -186,7 +186,7 @@ two_lower old new raised s t p q differ h =
         record { before = omega (arith, p.from, p.len, q.from, old_ends, old_rows); after = omega (arith, p.to, p.len, q.to, new_ends, new_rows) }
 
 records_lower : (old new : Header) → IsRaised old new → (s t : Slab) → IsRecordSlab old new s → IsRecordSlab old new t → s.from < t.from → IsLower s t
-records_lower old new raised s t p q h = by_number (same_number p.number q.number)
+records_lower old new raised s t p q h = by_number (cases_eq p.number q.number)
   where
     by_number : (p.number ≡ q.number) ⊎ (p.number ≡ q.number → ⊥) → IsLower s t
     by_number (inl e) =
@@ -204,7 +204,7 @@ slabs_lower old new raised s t (inr p) (inr q) h = records_lower old new raised 
 -- ---- no two slabs are at one place
 
 fixed_same : (old new : Header) → IsRaised old new → (s t : Slab) → IsFixedSlab old new s → IsFixedSlab old new t → s.from ≡ t.from → s ≡ t
-fixed_same old new raised s t p q h = by_number (same_number p.number q.number)
+fixed_same old new raised s t p q h = by_number (cases_eq p.number q.number)
   where
     by_number : (p.number ≡ q.number) ⊎ (p.number ≡ q.number → ⊥) → s ≡ t
     by_number (inl e) =
@@ -219,7 +219,7 @@ fixed_same old new raised s t p q h = by_number (same_number p.number q.number)
         absurd (omega (arith, one, ends, same))
 
 records_same : (old new : Header) → IsRaised old new → (s t : Slab) → IsRecordSlab old new s → IsRecordSlab old new t → s.from ≡ t.from → s ≡ t
-records_same old new raised s t p q h = by_number (same_number p.number q.number)
+records_same old new raised s t p q h = by_number (cases_eq p.number q.number)
   where
     holds : 0 < slab old p.was
     holds = slab_holds old p.number p.was raised.sound_old p.pair.at_old

@@ -11,7 +11,8 @@ use Rattle.nc_base.specs.declared.header.Header.{Header}
 use Rattle.nc_base.specs.declared.header.Var.{Var}
 use Rattle.serial_spec.specs.ExternalForm.{size_of}
 use Rattle.serial_spec.specs.Layout.{product, without_record, lengths, inner_lengths, is_record, slab, recsize, meet}
-use Rattle.serial_spec.specs.HeaderGrammar.{is_sound, header_len}
+use Rattle.serial_spec.specs.HeaderBytes.{header_len}
+use Rattle.serial_spec.specs.SoundHeaders.{is_sound}
 use Rattle.serial_spec.proofs.ApartLaws.{none_from, none_shared, past_header}
 use Rattle.serial_spec.proofs.RoomLaws.{none_later}
 

@@ -6,7 +6,7 @@ use Rattle.std.specs.Option.{option_or}
 use Rattle.std.proofs.lemmas.Bool.Decides.{nat_tests}
 use Rattle.std.proofs.lemmas.List.Sums.{length-filter}
 use Rattle.std.proofs.lemmas.Bool.{and_from, not-true, not-false, le-leb, ltb-true, ltb-false, leb-false}
-use Rattle.var_layout.proofs.LaidOut.{past_none}
+use Rattle.var_layout.proofs.LaidPlaces.{past_none}
 use Rattle.var_layout.proofs.LaidWritable.{small_count, vsize_fits}
 use Rattle.list_laws.proofs.Each.{each_passes, each_fails, each_weaker, each_at}
 use Rattle.list_laws.proofs.Truth.{and_first, and_second}
@@ -20,7 +20,10 @@ use Rattle.nc_base.specs.declared.errors.RedefErr.{RedefErr}
 use Rattle.nc_base.specs.declared.errors.RedefErr.TheVariants as redef
 use Rattle.serial_spec.specs.Limits.{most_dims, most_vars, most_dims_of_var, most_header_bytes, file_limit, record_limit}
 use Rattle.serial_spec.specs.Layout.{vsize, record_share, sharing}
-use Rattle.serial_spec.specs.HeaderGrammar.{attribute, list_of, is_sound, is_version, counts_are_small, header_len, record_later, is_record_id, bad_id, all_ones, measure, keeps_bound, fits_count, is_type, is_writable, is_writable_dim, is_writable_attr, is_writable_list, is_writable_var}
+use Rattle.serial_spec.specs.HeaderBytes.{attribute, list_of, is_version, header_len}
+use Rattle.serial_spec.specs.HeaderGrammar.{all_ones}
+use Rattle.serial_spec.specs.HeaderFaults.{record_later, is_record_id, bad_id, measure, keeps_bound}
+use Rattle.serial_spec.specs.SoundHeaders.{is_sound, counts_are_small, fits_count, is_type, is_writable, is_writable_dim, is_writable_attr, is_writable_list, is_writable_var}
 use Rattle.serial_spec.specs.Redefinition.{added, extras_fault, begins_by_number, with_begins, redefined_header, redefined_fault, is_large_var, is_far_begin, is_bad_begin, size_fault}
 use Rattle.redef_laws.specs.Applied.{IsApplied}
 use Rattle.redef_laws.proofs.FieldLaws.{not_both, each_both, begin_fits}

@@ -6,7 +6,8 @@ ghost use Rattle.std.specs.Prelude.{◌≡◌, ◌↔◌, ℕ, ◌<◌, List, fi
 ghost use Rattle.nc_base.specs.declared.header.Header.{Header};
 ghost use Rattle.nc_base.specs.declared.script.Extra.{Extra};
 ghost use Rattle.serial_spec.specs.DeviceCalls.{Slab, highest_first, slabs, stores, zero_calls};
-ghost use Rattle.serial_spec.specs.HeaderGrammar.{header_len, is_sound, is_writable};
+ghost use Rattle.serial_spec.specs.HeaderBytes.{header_len};
+ghost use Rattle.serial_spec.specs.SoundHeaders.{is_sound, is_writable};
 ghost use Rattle.serial_spec.specs.Redefinition.{is_redefinable, redefined};
 ghost use Rattle.cdf_header.specs.Decoding.{BeginsWith};
 ghost use Rattle.overlay_laws.specs.Entries.{In};

@@ -7,7 +7,8 @@ use Rattle.nc_base.specs.declared.script.Extra.{Extra}
 use Rattle.nc_base.specs.declared.script.Extra.TheVariants as extra
 use Rattle.nc_base.specs.declared.step.DiskCall.TheVariants.{Store}
 use Rattle.serial_spec.specs.DeviceCalls.{Slab, grow_to, highest_first, move_calls, slabs, zero_calls}
-use Rattle.serial_spec.specs.HeaderGrammar.{header_len, is_writable}
+use Rattle.serial_spec.specs.HeaderBytes.{header_len}
+use Rattle.serial_spec.specs.SoundHeaders.{is_writable}
 use Rattle.serial_spec.specs.Redefinition.{added, redefined, with_extra}
 use Rattle.var_layout.proofs.ElementPlaces.{sound_end}
 use Rattle.overlay_laws.specs.Entries.{In}

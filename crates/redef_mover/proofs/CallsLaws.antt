@@ -6,12 +6,12 @@ use Rattle.nc_base.specs.declared.step.DiskCall.{DiskCall}
 use Rattle.nc_base.specs.declared.step.DiskCall.TheVariants.{Store}
 use Rattle.nc_outside.specs.Told.{with_end}
 use Rattle.serial_spec.specs.DeviceCalls.{Slab, grow_to}
-use Rattle.serial_spec.specs.HeaderGrammar.{header_len}
+use Rattle.serial_spec.specs.HeaderBytes.{header_len}
 use Rattle.redef_laws.specs.Rising.{gaps, rising}
 use Rattle.redef_laws.specs.Shifted.{new_end}
 use Rattle.redef_mover.specs.Moves.{all_calls, gap_calls}
 use Rattle.redef_mover.specs.Carried.{carry_calls}
-use Rattle.redef_mover.proofs.ToldSteps.{calls_more}
+use Rattle.nc_outside.proofs.ToldLaws.{calls_more}
 
 pub four_parts : (told first second third last : Option (List DiskCall)) (a b c d : List DiskCall) → first ≡ with_end told a → second ≡ with_end first b
     → third ≡ with_end second c → last ≡ with_end third d → last ≡ with_end told (a ++ b ++ c ++ d)

@@ -1,14 +1,14 @@
 -- What a relocation makes of a file, byte by byte.
 use Rattle.std.proofs.Common.{◌≡◌, ℕ, ◌+◌, ◌-◌, ◌<◌, ◌≤◌, max, ◌⊎◌, inl, inr, refl, sym, ◌∙◌, ap, subst, List, [], ◌∷◌, ◌++◌, length, take, drop, Bool, true, false, cond, arith}
 use Rattle.std.specs.Prelude.{filter, fold, not, ◌==◌, reverse}
-use Rattle.std.proofs.lemmas.Grind.{common_steps, fold-append}
+use Rattle.std.proofs.lemmas.Grind.{fold-append}
 use Rattle.std.proofs.lemmas.List.{reverse-append, take_at}
 use borrow.Author.Tests.{eqb-true}
 use Rattle.nc_base.specs.declared.header.Header.{Header}
 use Rattle.serial_spec.specs.DeviceCalls.{Slab, slabs}
 use Rattle.serial_spec.specs.File.{at, longer}
-use Rattle.serial_spec.specs.HeaderGrammar.{canon, header_len}
-use Rattle.serial_spec.proofs.FileLaws.{at-longer, at-written_after, length-written_inside, written-inside}
+use Rattle.serial_spec.specs.HeaderBytes.{canon, header_len}
+use Rattle.serial_spec.proofs.FileLaws.{at-longer, at-written_after, length-written_inside, written-inside, longer_long}
 use Rattle.overlay_laws.specs.Entries.{In}
 use Rattle.redef_laws.specs.Rising.{changes, gaps, rising, IsRisen}
 use Rattle.redef_laws.specs.Shifted.{new_end, IsMoved}
@@ -24,7 +24,7 @@ risen_spaced a b end [] h l inside = l
 risen_spaced a b end (s ∷ ss) h l inside =
     (h.2, risen_spaced (s.from + s.len) (s.to + s.len) end ss h.4 (inside s (inl refl)) (λ t i. inside t (inr i)))
 
-spaced_from : (b end : ℕ) (ss : List Slab) (s : Slab) → AreSpaced b end ss → In ss s → b ≤ s.to
+pub spaced_from : (b end : ℕ) (ss : List Slab) (s : Slab) → AreSpaced b end ss → In ss s → b ≤ s.to
 spaced_from b end [] s h i = absurd i
 spaced_from b end (t ∷ ss) s h (inl e) = subst (λ (u : Slab). b ≤ u.to) e h.0
 spaced_from b end (t ∷ ss) s h (inr i) = let low : b ≤ t.to = h.0 in let rest = spaced_from (t.to + t.len) end ss s h.1 i in omega arith
@@ -144,9 +144,6 @@ bare_zero file b end (s ∷ ss) x h l m bare = elim (bare s (inl refl)) [
 ]
 
 -- ---- the whole
-
-pub longer_long : (file : List ℕ) (n : ℕ) → length (longer file n) ≡ max (length file) n
-longer_long file n = grind (arith, common_steps)
 
 -- the file before the header is written
 abbrev bodied : Header → Header → List ℕ → List ℕ

@@ -4,11 +4,9 @@ use Rattle.std.specs.Prelude.{flat_map, replicate}
 use Rattle.std.proofs.lemmas.Grind.{flat_map-append, fold-append}
 use Rattle.std.specs.List.{range_with_len}
 use Rattle.std.proofs.Math.ListN.{drop_of_length-le}
-use Rattle.std.proofs.lemmas.List.{drop_more, length-replicate, map-append, take-replicate}
+use Rattle.std.proofs.lemmas.List.{drop_more, length-replicate, take-replicate}
 use Rattle.overlay_laws.proofs.SaidLaws.{same_file}
-use Rattle.list_laws.proofs.Ranges.{range_append}
 use Rattle.nc_base.specs.declared.step.DiskCall.{DiskCall}
-use Rattle.nc_base.specs.declared.step.DiskCall.TheVariants.{Store}
 use Rattle.serial_spec.specs.DeviceCalls.{Slab, stores}
 use Rattle.serial_spec.specs.File.{at, written}
 use Rattle.serial_spec.proofs.FileLaws.{at-written_before, at-written_after, length-written_inside}
@@ -20,8 +18,8 @@ use Rattle.redef_mover.specs.declared.slabs.Shift.{Shift}
 use Rattle.redef_mover.specs.declared.slabs.Slabs.{Slabs}
 use Rattle.redef_mover.specs.Moves.{all_cleared, behind, cleared, further, gap_calls, gaps_before, listed, slab_of, slabs_at, AreClearable, AreSpaced}
 use Rattle.redef_mover.proofs.MovesLaws.{map_id, no_further}
-use Rattle.redef_mover.proofs.SlabLaws.{below_or}
-use Rattle.redef_mover.proofs.WindowLaws.{count_is, windows_of}
+use Rattle.overlay_laws.proofs.WindowCounts.{windows_of, count_is, stores_before}
+use Rattle.std.proofs.lemmas.Bool.{cases_lt}
 
 -- ---- one gap
 
@@ -56,11 +54,11 @@ both_cleared file x a b c e h =
     room = let long = cleared_long file x a (omega arith) in omega arith
 
     each : (y : ℕ) → at (cleared (cleared file (x, a)) (x + a, b)) y ≡ at (cleared file (x, c)) y
-    each y = elim (below_or y x) [
+    each y = elim (cases_lt y x) [
       | inl l ↦ cleared_before (cleared file (x, a)) (x + a) b y (omega arith) ∙ cleared_before file x a y l ∙ sym (cleared_before file x c y l)
-      | inr l ↦ elim (below_or y (x + a)) [
+      | inr l ↦ elim (cases_lt y (x + a)) [
         | inl m ↦ cleared_before (cleared file (x, a)) (x + a) b y m ∙ cleared_inside file x a y l m ∙ sym (cleared_inside file x c y l (omega arith))
-        | inr m ↦ elim (below_or y (x + c)) [
+        | inr m ↦ elim (cases_lt y (x + c)) [
           | inl n ↦ cleared_inside (cleared file (x, a)) (x + a) b y m (omega arith) ∙ sym (cleared_inside file x c y l n)
           | inr n ↦ cleared_after (cleared file (x, a)) (x + a) b y (omega arith) ∙ cleared_after file x a y m ∙ sym (cleared_after file x c y n)
         ]
@@ -83,18 +81,6 @@ window_cleared file bytes x len z j n place from h l k b f e =
     ∙ both_cleared file x (min len (j * z)) n (min len ((j + 1) * z)) (omega arith) (omega arith)
 
 -- ---- the stores so far
-
-abbrev pub stores_before : ℕ → ℕ → ℕ → ℕ → List DiskCall
-stores_before z x len j = map (λ i. Store (x + i * z) (min z (len - i * z))) (range_with_len 0 j)
-
-pub stores_more : (z x len j place n : ℕ) (bytes : List ℕ) → place ≡ x + j * z → n ≡ min z (len - j * z) → length bytes ≡ n
-    → stores_before z x len j ++ Store place (length bytes) ∷ [] ≡ stores_before z x len (j + 1)
-stores_more z x len j place n bytes e k long =
-    let first : j ≡ 0 + j = omega arith in
-    (λ t. stores_before z x len j ++ Store (e t) ((long ∙ k) t) ∷ [])
-    ∙ ap (λ (i : ℕ). stores_before z x len j ++ Store (x + i * z) (min z (len - i * z)) ∷ []) first
-    ∙ sym (map-append (λ i. Store (x + i * z) (min z (len - i * z))) (range_with_len 0 j) (range_with_len (0 + j) 1))
-    ∙ ap (λ js. map (λ i. Store (x + i * z) (min z (len - i * z))) js) (sym (range_append 0 j 1))
 
 pub all_stored : (z x len j count : ℕ) → 0 < z → j ≡ count → count ≡ windows_of z len → stores_before z x len j ≡ stores z x len
 all_stored z x len j count h e k = ap (λ (i : ℕ). stores_before z x len i) (e ∙ k ∙ count_is z len h)

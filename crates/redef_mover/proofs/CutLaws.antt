@@ -1,6 +1,6 @@
 -- A relocation that was cut off: what it may have changed of a file.
-use Rattle.std.proofs.Common.{◌≡◌, ℕ, ◌+◌, ◌-◌, ◌<◌, ◌≤◌, max, ◌⊎◌, inl, inr, refl, sym, ◌∙◌, ap, subst, List, [], ◌∷◌, length, take, get_or, Bool, true, false, Option, Some, None, Result, Ok, Err, arith}
-use Rattle.std.specs.Prelude.{not, ◌==◌, IfSome, OnErr, IsTrue}
+use Rattle.std.proofs.Common.{◌≡◌, ℕ, ◌+◌, ◌-◌, ◌<◌, ◌≤◌, max, ◌⊎◌, inl, inr, refl, sym, ◌∙◌, ap, subst, List, [], ◌∷◌, length, take, get_or, Bool, true, false, Option, Some, None, arith}
+use Rattle.std.specs.Prelude.{not, ◌==◌, IfSome, IsTrue}
 use Rattle.std.proofs.lemmas.Bool.Decides.{nat_tests}
 use Rattle.std.proofs.lemmas.Grind.{common_steps}
 use Rattle.nc_base.specs.declared.header.Header.{Header}
@@ -11,21 +11,18 @@ use Rattle.redef_laws.specs.Rising.{changes, gaps, rising}
 use Rattle.redef_laws.specs.Shifted.{new_end, IsMoved}
 use Rattle.serial_spec.specs.DeviceCalls.{Slab}
 use Rattle.serial_spec.specs.File.{at, longer, written}
-use Rattle.serial_spec.specs.HeaderGrammar.{canon, header_len}
+use Rattle.serial_spec.specs.HeaderBytes.{canon, header_len}
 use Rattle.serial_spec.specs.Redefinition.{redefined}
 use Rattle.serial_spec.specs.Torn.{IsLengthened, IsTornRedefinition}
-use Rattle.serial_spec.proofs.FileLaws.{at-longer, at-written_after, get_or-written_within, length-written_inside}
+use Rattle.serial_spec.proofs.FileLaws.{at-longer, at-written_after, get_or-written_within, length-written_inside, longer_long}
 use Rattle.redef_mover.specs.Kept.{IsBeside, IsKept, IsOutside, IsUnmoved}
 use Rattle.redef_mover.specs.Moves.{AreSpaced}
 use Rattle.redef_mover.specs.Carried.{IsCarriable, IsPartlyCarried}
 use Rattle.redef_mover.specs.Relocation.{KeepsPlaces}
 use Rattle.redef_mover.proofs.ClearLaws.{spaced_low}
-use Rattle.redef_mover.proofs.CarryLaws.{carriable_spaced, carried_is, longer_long}
+use Rattle.redef_mover.proofs.CarryLaws.{carriable_spaced, carried_is, spaced_from}
 use Rattle.redef_mover.proofs.AppliedLaws.{HasLaws, relocated}
-
-pub on_err : {T E P : Type 0} (r : Result T E) → P → OnErr r P
-on_err (Ok x) p = tt
-on_err (Err e) p = p
+use Rattle.nc_outside.proofs.ToldLaws.{told_as}
 
 -- ---- bytes that neither moves nor zeros change
 
@@ -34,11 +31,6 @@ pub data Spared (b end : ℕ) (ss : List Slab) (x : ℕ) : Type 0 where
   before : x < b → Spared b end ss x
   past : end ≤ x → Spared b end ss x
   in_place : (s : Slab) → In ss s → s.from ≡ s.to → s.to ≤ x → x < s.to + s.len → Spared b end ss x
-
-low_of : (b end : ℕ) (ss : List Slab) (s : Slab) → AreSpaced b end ss → In ss s → b ≤ s.to
-low_of b end [] s h i = absurd i
-low_of b end (t ∷ ss) s h (inl e) = subst (λ (u : Slab). b ≤ u.to) e h.0
-low_of b end (t ∷ ss) s h (inr i) = let low : b ≤ t.to = h.0 in let rest = low_of (t.to + t.len) end ss s h.1 i in omega arith
 
 high_of : (b end : ℕ) (ss : List Slab) (s : Slab) → AreSpaced b end ss → In ss s → s.to + s.len ≤ end
 high_of b end [] s h i = absurd i
@@ -61,19 +53,19 @@ two_beside : (b end : ℕ) (ss : List Slab) (s t : Slab) (x : ℕ) → AreSpaced
 two_beside b end [] s t x h i j e c l k = absurd i
 two_beside b end (u ∷ ss) s t x h (inl i) (inl j) e c l k = absurd (stays_same t (subst (λ (v : Slab). v.from ≡ v.to) (sym i ∙ j) e) c)
 two_beside b end (u ∷ ss) s t x h (inl i) (inr j) e c l k =
-    let low = low_of (u.to + u.len) end ss t h.1 j in
+    let low = spaced_from (u.to + u.len) end ss t h.1 j in
     let first : u.to ≡ s.to = ap (λ (v : Slab). v.to) i in
     let long : u.len ≡ s.len = ap (λ (v : Slab). v.len) i in
     inl (omega arith)
 two_beside b end (u ∷ ss) s t x h (inr i) (inl j) e c l k =
-    let low = low_of (u.to + u.len) end ss s h.1 i in
+    let low = spaced_from (u.to + u.len) end ss s h.1 i in
     let first : u.to ≡ t.to = ap (λ (v : Slab). v.to) j in
     let long : u.len ≡ t.len = ap (λ (v : Slab). v.len) j in
     inr (omega arith)
 two_beside b end (u ∷ ss) s t x h (inr i) (inr j) e c l k = two_beside (u.to + u.len) end ss s t x h.1 i j e c l k
 
 spared_unmoved : (b end : ℕ) (ss : List Slab) (x : ℕ) → AreSpaced b end ss → Spared b end ss x → IsUnmoved ss x
-spared_unmoved b end ss x h (before l) t i c = let low = low_of b end ss t h i in inl (omega arith)
+spared_unmoved b end ss x h (before l) t i c = let low = spaced_from b end ss t h i in inl (omega arith)
 spared_unmoved b end ss x h (past l) t i c = let high = high_of b end ss t h i in inr (omega arith)
 spared_unmoved b end ss x h (in_place s i e l k) t j c = two_beside b end ss s t x h i j e c l k
 
@@ -94,7 +86,7 @@ gap_high b end (s ∷ ss) g h (inr i) = gap_high (s.to + s.len) end ss g h.1 i
 gap_beside : (b end : ℕ) (ss : List Slab) (s : Slab) (g : ℕ × ℕ) (x : ℕ) → AreSpaced b end ss → In ss s → In (gaps b end ss) g → s.to ≤ x → x < s.to + s.len → IsOutside g.0 g.1 x
 gap_beside b end [] s g x h i j l k = absurd i
 gap_beside b end (t ∷ ss) s g x h i (inl e) l k =
-    subst (λ (f : ℕ × ℕ). IsOutside f.0 f.1 x) e (let low : b ≤ t.to = h.0 in let first = low_of t.to end (t ∷ ss) s (omega arith, h.1) i in inr (omega arith))
+    subst (λ (f : ℕ × ℕ). IsOutside f.0 f.1 x) e (let low : b ≤ t.to = h.0 in let first = spaced_from t.to end (t ∷ ss) s (omega arith, h.1) i in inr (omega arith))
 gap_beside b end (t ∷ ss) s g x h (inl e) (inr j) l k =
     let low = gap_low (t.to + t.len) end ss g h.1 j in
     let first : t.to ≡ s.to = ap (λ (v : Slab). v.to) e in
@@ -147,7 +139,7 @@ way_headed old new file mid left bytes place b p spaced room w q = record {
   short = (let same = length_same in let short = w.short in omega arith);
   head = λ x l. by_head x l (plain.each x);
   past = λ x l. by_rest x (let low = spaced_low (header_len new) (new_end old new) (rising old new) spaced in omega arith) (plain.each x) ∙ w.spared x (past l);
-  stays = λ s i e x l k. by_rest x (let low = low_of (header_len new) (new_end old new) (rising old new) s spaced i in omega arith) (plain.each x) ∙ w.spared x (in_place s i e l k);
+  stays = λ s i e x l k. by_rest x (let low = spaced_from (header_len new) (new_end old new) (rising old new) s spaced i in omega arith) (plain.each x) ∙ w.spared x (in_place s i e l k);
 }
   where
     plain : PartlyWritten 0 (canon new) mid left
@@ -167,10 +159,6 @@ way_headed old new file mid left bytes place b p spaced room w q = record {
     by_rest x l (inr e) = e ∙ at-written_after mid (canon new) 0 x (omega arith)
 
 -- ---- files that may be told
-
-pub told_as : {A : Type 0} (R S : A → A → Type 0) (held now : Option A) → ((old left : A) → R old left → S old left) → BothTold R held now → BothTold S held now
-told_as R S None now f b = b
-told_as R S (Some old) now f b = (b.0, b.1, f old b.0 b.2)
 
 told_twice : {A : Type 0} (R S T : A → A → Type 0) (held mid now : Option A) → ((old one two : A) → R old one → S one two → T old two)
     → BothTold R held mid → BothTold S mid now → BothTold T held now

@@ -20,14 +20,14 @@ use Rattle.std.proofs.lemmas.Map.Text.{btree_map_updates_str, is_eq-slice_cmp}
 use Rattle.std.proofs.lemmas.Option.{get_or_from_slice_get, slice_get_past}
 use Rattle.std.proofs.lemmas.Slice.Eq.{bytes_eq-Decides}
 use Rattle.list_laws.proofs.Maps.{position_map}
-use Rattle.list_laws.proofs.Optional.{value_of_some, second_counts, first_counts, none_last}
+use Rattle.list_laws.proofs.Optional.{second_counts, none_last}
 use Rattle.list_laws.proofs.Truth.{no_false, equal_below, equal_suc}
 use Rattle.list_laws.proofs.Places.{entry_below, entry_set, entry_set_other, position_below}
 use Rattle.nc_base.specs.declared.header.Attr.{Attr}
 use Rattle.nc_base.specs.declared.header.Dim.{Dim}
 use Rattle.nc_base.specs.declared.header.Header.{Header}
 use Rattle.nc_base.specs.declared.header.Var.{Var}
-use Rattle.serial_spec.specs.RankMachine.{find_var}
+use Rattle.serial_spec.specs.Looking.{find_var}
 use Rattle.serial_spec.specs.Redefinition.{attrs_of_var, has_attr, with_attr}
 use Rattle.redef_mover.specs.Indexed.{place_of, has_name, is_same, attrs_among, attrs_at, given, IsIndexOf}
 use Rattle.redef_mover.specs.declared.name_index.NameIndex.{NameIndex}
@@ -60,17 +60,6 @@ put_new old new name place none updates q = btree_map_updates_str name old new (
   where
     by_test : (t : Bool) → bytes_eq name q ≡ t → cond t (Some place) (place_of old q) ≡ option_or (place_of old q) (cond t (Some place) None)
     by_test true e = sym (second_counts (place_of old q) (Some place) (ap (place_of old) (sym ((bytes_eq-Decides name q).0 e)) ∙ none))
-    by_test false e = none_last (place_of old q)
-
--- one that has a place keeps it
-pub put_known : (old : BTreeMap (Bor (List ℕ)) ℕ) (name : List ℕ) (place : ℕ) → is_some (place_of old name) ≡ true
-    → (q : List ℕ) → place_of old q ≡ option_or (place_of old q) (cond (bytes_eq name q) (Some place) None)
-put_known old name place there q = by_test (bytes_eq name q) refl
-  where
-    by_test : (t : Bool) → bytes_eq name q ≡ t → place_of old q ≡ option_or (place_of old q) (cond t (Some place) None)
-    by_test true e =
-        let found = value_of_some (place_of old q) (ap (λ (n : List ℕ). is_some (place_of old n)) (sym ((bytes_eq-Decides name q).0 e)) ∙ there) in
-        found.1 ∙ sym (first_counts (place_of old q) (Some place) found.0 found.1)
     by_test false e = none_last (place_of old q)
 
 pub absent : {A : Type 0} (o : Option A) (t : Bool) → t ≡ is_some o → t ≡ false → o ≡ None

@@ -9,7 +9,7 @@ use Rattle.std.proofs.lemmas.List.FromFn.{get_or-enumerate_from, length-enumerat
 use Rattle.nc_base.specs.declared.header.Header.{Header}
 use Rattle.nc_base.specs.declared.header.Var.{Var}
 use Rattle.nc_base.specs.declared.header.NcType.TheVariants.{Byte}
-use Rattle.serial_spec.specs.HeaderGrammar.{header_len}
+use Rattle.serial_spec.specs.HeaderBytes.{header_len}
 use Rattle.serial_spec.specs.Layout.{is_record, slab, vsize}
 use Rattle.serial_spec.specs.SharedByte.{least}
 use Rattle.serial_spec.specs.Redefinition.{Numbered, fixed_begins, front_after, begin_at, first_record, record_begins, inserted, by_begin, fixed_order, begins_by_number}

@@ -17,7 +17,8 @@ use Rattle.nc_base.specs.declared.errors.LayoutErr.TheVariants as layout
 use Rattle.nc_base.specs.declared.errors.RedefErr.{RedefErr}
 use Rattle.nc_base.specs.declared.errors.RedefErr.TheVariants as redef
 use Rattle.serial_spec.specs.Limits.{most_header_bytes, file_limit}
-use Rattle.serial_spec.specs.HeaderGrammar.{header_len, keeps_bound}
+use Rattle.serial_spec.specs.HeaderBytes.{header_len}
+use Rattle.serial_spec.specs.HeaderFaults.{keeps_bound}
 use Rattle.serial_spec.specs.Layout.{is_record, slab, vsize, record_share, record_slabs, record_size, record_variables}
 use Rattle.serial_spec.specs.Redefinition.{Numbered, is_large_var, size_fault, is_far_begin, is_bad_begin, begin_of_number, with_begins, begins_by_number, extras_fault, added, redefined_header, redefined_fault}
 use Rattle.var_layout.specs.Capped.{capped}

@@ -1,31 +1,13 @@
 -- The bytes of a file in which a slab was moved.
-use Rattle.std.proofs.Common.{◌≡◌, ℕ, ◌+◌, ◌-◌, ◌<◌, ◌≤◌, ◌⊎◌, inl, inr, refl, sym, ◌∙◌, ap, List, [], ◌++◌, length, take, drop, Bool, true, false, arith}
-use Rattle.std.specs.Prelude.{nat_lt}
-use Rattle.std.proofs.lemmas.List.{append-nil, take-append-drop}
-use borrow.Author.Tests.{ltb-true, ltb-false}
+use Rattle.std.proofs.Common.{◌≡◌, ℕ, ◌+◌, ◌-◌, ◌<◌, ◌≤◌, inl, inr, sym, ◌∙◌, ap, List, length, arith}
 use Rattle.overlay_laws.proofs.SaidLaws.{same_file}
 use Rattle.serial_spec.specs.DeviceCalls.{Slab}
-use Rattle.serial_spec.specs.File.{at, read, written}
+use Rattle.serial_spec.specs.File.{at, read}
 use Rattle.serial_spec.proofs.CellLaws.{read_long, read_at}
-use Rattle.serial_spec.proofs.FileLaws.{at-written_before, at-written_after, length-written_inside, written-inside}
+use Rattle.serial_spec.proofs.FileLaws.{at-written_before, at-written_after, length-written_inside}
 use Rattle.serial_spec.proofs.SaidLaws.{at-written_inside}
 use Rattle.redef_mover.specs.Moves.{slab_moved}
-
-pub below_or : (a b : ℕ) → (a < b) ⊎ (b ≤ a)
-below_or a b = by_test (nat_lt a b) refl
-  where
-    by_test : (t : Bool) → nat_lt a b ≡ t → (a < b) ⊎ (b ≤ a)
-    by_test true e = inl (ltb-true _ _ e)
-    by_test false e = inr (ltb-false _ _ e)
-
--- ---- a write
-
-pub write_none : (file : List ℕ) (place : ℕ) → place ≤ length file → written file place [] ≡ file
-write_none file place h =
-    let same : place + 0 ≡ place = omega arith in
-    written-inside file place [] (omega arith)
-    ∙ (λ t. append-nil (take place file) t ++ drop (same t) file)
-    ∙ take-append-drop place file
+use Rattle.std.proofs.lemmas.Bool.{cases_lt}
 
 -- ---- one slab
 
@@ -47,17 +29,14 @@ moved_inside file s x h k =
     let bytes = read_long file s.from s.len in
     at-written_inside file (read file s.from s.len) s.to x h (omega arith) ∙ read_at file s.from s.len (x - s.to) (omega arith)
 
-pub moved_none : (file : List ℕ) (s : Slab) → s.len ≡ 0 → s.to ≤ length file → slab_moved file s ≡ file
-moved_none file s e h = ap (λ (n : ℕ). written file s.to (read file s.from n)) e ∙ write_none file s.to h
-
 -- a slab that stays
 pub moved_nowhere : (file : List ℕ) (s : Slab) → s.from ≡ s.to → s.to + s.len ≤ length file → slab_moved file s ≡ file
 moved_nowhere file s e h = same_file (slab_moved file s) file (moved_long file s h) each
   where
     each : (x : ℕ) → at (slab_moved file s) x ≡ at file x
-    each x = elim (below_or x s.to) [
+    each x = elim (cases_lt x s.to) [
       | inl l ↦ moved_before file s x l
-      | inr l ↦ elim (below_or x (s.to + s.len)) [
+      | inr l ↦ elim (cases_lt x (s.to + s.len)) [
         | inl m ↦ (let same : s.from + (x - s.to) ≡ x = omega arith in moved_inside file s x l m ∙ ap (λ (y : ℕ). at file y) same)
         | inr m ↦ moved_after file s x m
       ]
@@ -95,11 +74,11 @@ both_moved file low high whole p h =
         ∙ sym (moved_inside file whole x (omega arith) (omega arith) ∙ ap (λ (y : ℕ). at file y) place)
 
     each : (x : ℕ) → at (slab_moved (slab_moved file high) low) x ≡ at (slab_moved file whole) x
-    each x = elim (below_or x low.to) [
+    each x = elim (cases_lt x low.to) [
       | inl l ↦ moved_before (slab_moved file high) low x l ∙ moved_before file high x (omega arith) ∙ sym (moved_before file whole x (omega arith))
-      | inr l ↦ elim (below_or x (low.to + low.len)) [
+      | inr l ↦ elim (cases_lt x (low.to + low.len)) [
         | inl m ↦ in_low x l m
-        | inr m ↦ elim (below_or x (whole.to + whole.len)) [
+        | inr m ↦ elim (cases_lt x (whole.to + whole.len)) [
           | inl n ↦ in_high x m n
           | inr n ↦ moved_after (slab_moved file high) low x m ∙ moved_after file high x (omega arith) ∙ sym (moved_after file whole x n)
         ]

@@ -17,7 +17,8 @@ use Rattle.serial_spec.specs.DeviceCalls.{Slab}
 use Rattle.redef_laws.specs.Rising.{lowest_first, put_in}
 use Rattle.redef_mover.specs.declared.slabs.Shift.{Shift}
 use Rattle.redef_mover.specs.Moves.{is_kind, slab_of}
-use Rattle.redef_mover.proofs.SlabLaws.{below_or}
+use Rattle.list_laws.proofs.Places.{first_same}
+use Rattle.std.proofs.lemmas.Bool.{cases_lt}
 
 -- ---- listing
 
@@ -107,9 +108,6 @@ up_less : (m n : ℕ) (ss : List Slab) → m ≤ n → AreUp n ss → AreUp m ss
 up_less m n [] l h = tt
 up_less m n (s ∷ ss) l h = let low : n ≤ s.from = h.0 in (omega arith, h.1)
 
-cons_first : {A : Type 0} (x y : A) (xs ys : List A) → x ∷ xs ≡ y ∷ ys → x ≡ y
-cons_first x y xs ys e = cc
-
 cons_rest : {A : Type 0} (x y : A) (xs ys : List A) → x ∷ xs ≡ y ∷ ys → xs ≡ ys
 cons_rest x y xs ys e = cc
 
@@ -119,7 +117,7 @@ nil_cons x xs e = absurd cc
 -- both begin with the same slab
 same_first : (n : ℕ) (s t : Slab) (ss ts : List Slab) → AreUp n (s ∷ ss) → AreUp n (t ∷ ts)
     → ((k : ℕ) → filter (at_place k) (s ∷ ss) ≡ filter (at_place k) (t ∷ ts)) → s ≡ t
-same_first n s t ss ts h g e = by_order (below_or s.from t.from) (below_or t.from s.from)
+same_first n s t ss ts h g e = by_order (cases_lt s.from t.from) (cases_lt t.from s.from)
   where
     by_order : (s.from < t.from) ⊎ (t.from ≤ s.from) → (t.from < s.from) ⊎ (s.from ≤ t.from) → s ≡ t
     by_order (inl l) q =
@@ -130,7 +128,7 @@ same_first n s t ss ts h g e = by_order (below_or s.from t.from) (below_or t.fro
         (sym (one_more t.from s ss false (away t.from s m) ∙ none_below s.from t.from ss h.1 m) ∙ e t.from ∙ one_more t.from t ts true (here t.from t refl))
     by_order (inr l) (inr m) =
         let same : t.from ≡ s.from = omega arith in
-        cons_first s t (filter (at_place s.from) ss) (filter (at_place s.from) ts)
+        first_same s t (filter (at_place s.from) ss) (filter (at_place s.from) ts)
         (sym (one_more s.from s ss true (here s.from s refl)) ∙ e s.from ∙ one_more s.from t ts true (here s.from t same))
 
 same_rest : (k : ℕ) (s t : Slab) (ss ts : List Slab) (b : Bool) → at_place k s ≡ b → s ≡ t → filter (at_place k) (s ∷ ss) ≡ filter (at_place k) (t ∷ ts)

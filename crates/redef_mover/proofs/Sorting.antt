@@ -8,6 +8,7 @@ use Rattle.std.specs.declared.cmp.Ordering.TheVariants.{Less, Equal, Greater}
 use Rattle.std.proofs.lemmas.Bool.Decides.{nat_tests}
 use Rattle.std.proofs.lemmas.Bool.{cases_lt, and_parts}
 use Rattle.serial_spec.specs.Lists.{inserted_by, sorted_by as in_order_by}
+use Rattle.std.proofs.lemmas.List.Elements.{filter_agree}
 
 abbrev pub put_by : {A : Type 0} → (A → ℕ) → A → List A → List A
 put_by key x xs = inserted_by (λ a b. nat_le (key a) (key b)) x xs
@@ -166,10 +167,6 @@ pub sorted_map : {A B : Type 0} (key : B → ℕ) (f : A → B) (xs : List A) �
 sorted_map key f [] = refl
 sorted_map key f (x ∷ xs) = ap (λ ys. put_by key (f x) ys) (sorted_map key f xs) ∙ put_map key f x (sorted_by (λ a. key (f a)) xs)
 
-same_filter : {A : Type 0} (p q : A → Bool) → ((x : A) → p x ≡ q x) → (xs : List A) → filter p xs ≡ filter q xs
-same_filter p q same [] = refl
-same_filter p q same (x ∷ xs) = ap (λ (t : Bool). cond t (x ∷ filter p xs) (filter p xs)) (same x) ∙ ap (λ ys. cond (q x) (x ∷ ys) ys) (same_filter p q same xs)
-
 tie_is : (a b : ℕ) → (not (is_lt (nat_cmp a b)) && not (is_lt (nat_cmp b a))) ≡ (b == a)
 tie_is a b = by_tests (nat_lt a b) (a == b) (nat_lt b a) (b == a) refl refl refl refl
   where
@@ -191,4 +188,4 @@ pub stable_is : {A : Type 0} (key : A → ℕ) (xs ys : List A) (at : ℕ → A)
 stable_is {A} key xs ys at e stable n = sym (ties_are ys) ∙ stable (at n) ∙ ties_are xs
   where
     ties_are : (zs : List A) → filter (ties (λ x y. is_lt (nat_cmp (key x) (key y))) (at n)) zs ≡ of_key key n zs
-    ties_are zs = same_filter (ties (λ x y. is_lt (nat_cmp (key x) (key y))) (at n)) (λ x. key x == n) (λ y. tie_is (key (at n)) (key y) ∙ ap (λ (m : ℕ). key y == m) (e n)) zs
+    ties_are zs = filter_agree (ties (λ x y. is_lt (nat_cmp (key x) (key y))) (at n)) (λ x. key x == n) (λ y. tie_is (key (at n)) (key y) ∙ ap (λ (m : ℕ). key y == m) (e n)) zs

@@ -1,9 +1,7 @@
 -- What is told of a disk after one change more, and what is left to be done.
-use Rattle.std.proofs.Common.{◌≡◌, ◌∙◌, ap, List, ◌++◌, Option, Some, None, Result, Ok, Err}
+use Rattle.std.proofs.Common.{◌≡◌, ◌∙◌, ap, Option, Some, None, Result, Ok, Err}
 use Rattle.std.specs.Prelude.{is_ok, if◌then◌else◌, IfSome, OnOk}
-use Rattle.nc_base.specs.declared.step.DiskCall.{DiskCall}
-use Rattle.nc_outside.specs.Told.{after, with_end}
-use Rattle.nc_outside.proofs.ToldLaws.{with_end-with_end}
+use Rattle.nc_outside.specs.Told.{after}
 
 -- ---- what holds of bytes that are told
 
@@ -22,8 +20,3 @@ pub told_end : {A : Type 0} {P : A → Type 0} (held now : Option A) (f h : A �
     → now ≡ after f held → now ≡ after h held
 told_end None now f h p same e = e
 told_end (Some x) now f h p same e = e ∙ ap Some (same x p)
-
--- ---- calls
-
-pub calls_more : (old mid now : Option (List DiskCall)) (a b all : List DiskCall) → a ++ b ≡ all → mid ≡ with_end old a → now ≡ with_end mid b → now ≡ with_end old all
-calls_more old mid now a b all s e k = k ∙ ap (λ m. with_end m b) e ∙ with_end-with_end old a b ∙ ap (λ calls. with_end old calls) s

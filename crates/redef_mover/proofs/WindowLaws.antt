@@ -1,63 +1,20 @@
 -- The windows of a slab from its top.
-use Rattle.std.proofs.Common.{◌≡◌, ℕ, zero, suc, ◌+◌, ◌-◌, ◌*◌, ◌/◌, ◌%◌, ◌<◌, ◌≤◌, min, refl, sym, ◌∙◌, ap, List, ◌∷◌, ◌++◌, length, take, drop, Option, Some, None, arith}
+use Rattle.std.proofs.Common.{◌≡◌, ℕ, ◌+◌, ◌-◌, ◌*◌, ◌<◌, ◌≤◌, sym, ◌∙◌, ap, List, ◌++◌, length, take, drop, Option, Some, None, arith}
 use Rattle.std.specs.Prelude.{flat_map, IfSome}
 use Rattle.std.specs.List.{range_with_len}
-use Rattle.std.proofs.Math.Nat.{mul-le-mul_right}
-use Rattle.std.proofs.lemmas.Grind.{div_ceil_times, flat_map-append}
+use Rattle.std.proofs.lemmas.Grind.{flat_map-append}
 use Rattle.std.proofs.lemmas.List.{append-nil}
-use Rattle.std.proofs.lemmas.Nat.{div-add-mod', div-mul-add, mod_below}
-use Rattle.overlay_laws.proofs.OriginLaws.{slice_step}
 use Rattle.list_laws.proofs.Ranges.{range_append}
 use Rattle.nc_base.specs.declared.step.DiskCall.{DiskCall}
-use Rattle.serial_spec.specs.DeviceCalls.{Slab, move_window, window_count}
-use Rattle.serial_spec.specs.File.{at, read, written}
+use Rattle.serial_spec.specs.DeviceCalls.{Slab, move_window}
+use Rattle.serial_spec.specs.File.{read, written}
 use Rattle.nc_outside.specs.Told.{after}
 use Rattle.redef_mover.specs.Moves.{slab_calls, slab_moved, window, window_calls}
 use Rattle.redef_mover.proofs.SlabLaws.{both_moved}
-
--- ---- how many windows
-
--- the count that the code takes
-abbrev pub windows_of : ℕ → ℕ → ℕ
-windows_of z len = len / z + min 1 (len % z)
-
-count_by_rest : (z len q r : ℕ) → 0 < z → r < z → q * z + r ≡ len → q + min 1 r ≡ (len + (z - 1)) / z
-count_by_rest z len q zero h l e =
-    let whole : q * z + (z - 1) ≡ len + (z - 1) = omega arith in
-    let none : q + min 1 0 ≡ q = omega arith in
-    none ∙ sym (div-mul-add q z (z - 1) (omega arith)) ∙ ap (λ (n : ℕ). n / z) whole
-count_by_rest z len q (suc r) h l e =
-    let more : (q + 1) * z ≡ q * z + z = omega arith in
-    let whole : (q + 1) * z + r ≡ len + (z - 1) = omega arith in
-    let one : q + min 1 (suc r) ≡ q + 1 = omega arith in
-    one ∙ sym (div-mul-add (q + 1) z r (omega arith)) ∙ ap (λ (n : ℕ). n / z) whole
-
-pub count_is : (z len : ℕ) → 0 < z → windows_of z len ≡ window_count z len
-count_is z len h = count_by_rest z len (len / z) (len % z) h (mod_below len z h) (div-add-mod' len z)
-
-pub window_inside : (z len j count : ℕ) → 0 < z → count ≡ windows_of z len → j < count → j * z < len
-window_inside z len j count h e l =
-    let bounds = div_ceil_times len z h in
-    let next : j + 1 ≤ windows_of z len = omega arith in
-    let far : (j + 1) * z ≤ windows_of z len * z = mul-le-mul_right z next in
-    let more : (j + 1) * z ≡ j * z + z = omega arith in
-    let high = bounds.1 in
-    omega arith
-
-pub windows_reach : (z len count : ℕ) → 0 < z → count ≡ windows_of z len → len ≤ count * z
-windows_reach z len count h e =
-    let bounds = div_ceil_times len z h in
-    let low = bounds.0 in
-    let same : count * z ≡ windows_of z len * z = ap (λ (n : ℕ). n * z) e in
-    omega arith
+use Rattle.overlay_laws.proofs.ReadLaws.{read_slice}
+use Rattle.overlay_laws.proofs.WindowCounts.{windows_of, count_is}
 
 -- ---- a read
-
--- bytes read within a file, as a slice of it
-pub read_slice : (file : List ℕ) (x n : ℕ) → x + n ≤ length file → read file x n ≡ take n (drop x file)
-read_slice file x zero h = refl
-read_slice file x (suc n) h =
-    ap (λ r. at file x ∷ r) (read_slice file (x + 1) n (omega arith)) ∙ sym (slice_step file x n (omega arith))
 
 -- a window that is written as it was read
 pub window_told : (held mid now : Option (List ℕ)) (bytes : List ℕ) (w : Slab) (m begin again size : ℕ) → IfSome held (λ b. length b ≡ size) → w.from + w.len ≤ size

@@ -8,7 +8,7 @@ use Rattle.std.proofs.lemmas.List.{take_more, take_all, map-append}
 use Rattle.std.proofs.lemmas.List.Sums.{sum_by-cons, sum_by-append}
 use Rattle.nc_base.specs.declared.header.Header.{Header}
 use Rattle.nc_base.specs.declared.header.Var.{Var}
-use Rattle.serial_spec.specs.HeaderGrammar.{header_len}
+use Rattle.serial_spec.specs.HeaderBytes.{header_len}
 use Rattle.serial_spec.specs.Layout.{is_record, slab, vsize}
 use Rattle.serial_spec.specs.SharedByte.{least}
 use Rattle.serial_spec.specs.Redefinition.{Numbered, fixed_of, records_in, old_of, new_of, inserted, by_begin, begin_at, fixed_begins, fixed_order, record_begins, front_after, first_record, begins_by_number, begin_of_number}

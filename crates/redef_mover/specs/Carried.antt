@@ -9,7 +9,8 @@ use Rattle.nc_base.specs.declared.step.DiskCall.{DiskCall}
 use Rattle.nc_base.specs.declared.step.DiskCall.TheVariants.{Store}
 use Rattle.serial_spec.specs.DeviceCalls.{Slab, grow_to}
 use Rattle.serial_spec.specs.File.{at, longer, written}
-use Rattle.serial_spec.specs.HeaderGrammar.{canon, header_len, is_sound, is_writable}
+use Rattle.serial_spec.specs.HeaderBytes.{canon, header_len}
+use Rattle.serial_spec.specs.SoundHeaders.{is_sound, is_writable}
 use Rattle.overlay_laws.specs.Entries.{In}
 use Rattle.redef_laws.specs.Rising.{gaps, rising, IsRisen}
 use Rattle.redef_laws.specs.Shifted.{new_end}

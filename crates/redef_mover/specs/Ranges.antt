@@ -6,7 +6,7 @@
 use Rattle.std.specs.Prelude.{◌≡◌, ℕ, ◌+◌, ◌-◌, ◌*◌, length, take, sum_by, Bool, not, ◌&&◌, ◌||◌, nat_lt, ◌==◌}
 use Rattle.nc_base.specs.declared.header.Header.{Header}
 use Rattle.nc_base.specs.declared.header.Var.{Var}
-use Rattle.serial_spec.specs.HeaderGrammar.{keeps_bound}
+use Rattle.serial_spec.specs.HeaderFaults.{keeps_bound}
 use Rattle.serial_spec.specs.Layout.{record_share, record_slabs, recsize, last_share}
 use Rattle.serial_spec.specs.Limits.{file_limit}
 use Rattle.serial_spec.specs.Redefinition.{is_far_begin}

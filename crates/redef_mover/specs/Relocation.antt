@@ -5,7 +5,7 @@ use Rattle.nc_base.specs.declared.step.DiskCall.{DiskCall}
 use Rattle.nc_base.specs.declared.step.DiskCall.TheVariants.{Store}
 use Rattle.serial_spec.specs.DeviceCalls.{Slab, grow_to, move_calls, slabs, zero_calls}
 use Rattle.serial_spec.specs.File.{at}
-use Rattle.serial_spec.specs.HeaderGrammar.{header_len}
+use Rattle.serial_spec.specs.HeaderBytes.{header_len}
 use Rattle.overlay_laws.specs.Entries.{In}
 use Rattle.redef_laws.specs.Shifted.{new_end}
 

@@ -1,5 +1,5 @@
 // A whole relocation, of headers whose slabs rise.
-ghost use Rattle.std.specs.Prelude.{◌≡◌, ◌≤◌, ◌^◌, max, length, IfSome, OnOk, OnErr};
+ghost use Rattle.std.specs.Prelude.{◌≡◌, ◌≤◌, ◌<◌, ◌^◌, max, length, IfSome, OnOk, OnErr};
 ghost use Rattle.nc_outside.specs.Cause.{HasDiskCause};
 ghost use Rattle.nc_outside.specs.Told.{after, with_end, BothTold};
 ghost use Rattle.redef_laws.specs.Shifted.{new_end};
@@ -57,6 +57,7 @@ pub(crate) fn carry<D: Disk>(
 // Makes the file longer, if it is too short.
 fn grow_to<D: Disk>(alloc: Global, disk: &mut D, end: u64) -> Result<(), DiskErr>
     requires from { D.from disk.old ≡ 0 }
+    requires below { end < 2 ^ 63 }
     ensures bytes { OnOk result (D.held disk.new ≡ after (λ file. longer file end) (D.held disk.old)) }
     ensures grown { BothTold (IsLengthened end) (D.held disk.old) (D.held disk.new) }
     ensures calls { OnOk result (IfSome (D.held disk.old) (λ file. D.calls disk.new ≡ with_end (D.calls disk.old) (grow_to (length file) end))) }

@@ -3,8 +3,8 @@ ghost use Rattle.std.specs.Prelude.{◌≡◌, ◌==◌, is_none};
 ghost use Rattle.std.specs.List.{list_any};
 ghost use Rattle.std.specs.Result.{result_err};
 ghost use Rattle.nc_base.specs.declared.header.Dim.{Dim};
-ghost use Rattle.serial_spec.specs.HeaderGrammar.{is_record_id};
-ghost use Rattle.serial_spec.specs.RankMachine.{find_dim};
+ghost use Rattle.serial_spec.specs.HeaderFaults.{is_record_id};
+ghost use Rattle.serial_spec.specs.Looking.{find_dim};
 ghost use Rattle.serial_spec.specs.Redefinition as spec;
 
 use crate::indexed_header::IndexedHeader;

@@ -1,6 +1,6 @@
 // A header that grows by additions, whose names are found by an index.
 ghost use Rattle.std.specs.Prelude.{◌≡◌, ◌<◌, ◌++◌, ◌∷◌, [], length, IfOk, OnOk};
-ghost use Rattle.serial_spec.specs.RankMachine as machine;
+ghost use Rattle.serial_spec.specs.Looking as looks;
 ghost use Rattle.serial_spec.specs.Redefinition as spec;
 ghost use Rattle.redef_mover.specs.Indexed.{attrs_at, given};
 
@@ -52,14 +52,14 @@ impl<'a> IndexedHeader<'a> {
 
     /// The first dimension of this name.
     pub(crate) fn find_dim(&self, name: &[u8]) -> Option<usize>
-        ensures { result ≡ machine.find_dim self.now name.now }
+        ensures { result ≡ looks.find_dim self.now name.now }
     {
         self.index.dims.get(name).copied()
     }
 
     /// The first variable of this name.
     pub(crate) fn find_var(&self, name: &[u8]) -> Option<usize>
-        ensures { result ≡ machine.find_var self.now name.now }
+        ensures { result ≡ looks.find_var self.now name.now }
     {
         self.index.vars.get(name).copied()
     }

@@ -4,7 +4,8 @@ ghost use Rattle.std.specs.List.{enumerate_from};
 ghost use Rattle.std.specs.Result.{result_err};
 ghost use Rattle.nc_base.specs.declared.errors.LayoutErr.TheVariants as layout_fault;
 ghost use Rattle.nc_base.specs.declared.errors.RedefErr.TheVariants as fault;
-ghost use Rattle.serial_spec.specs.HeaderGrammar as grammar;
+ghost use Rattle.serial_spec.specs.HeaderBytes as header_bytes;
+ghost use Rattle.serial_spec.specs.HeaderFaults as faults;
 ghost use Rattle.serial_spec.specs.Layout as layout;
 ghost use Rattle.serial_spec.specs.Redefinition.{size_fault, is_large_var, is_bad_begin, is_far_begin};
 ghost use Rattle.var_layout.specs.Capped.{capped};
@@ -44,7 +45,7 @@ fn first_large(header: &Header) -> Option<usize>
 /// The length of the header; refuses a variable or a header that is too large.
 pub(crate) fn check_sizes(header: &Header) -> Result<u64, RedefErr>
     ensures fault { result_err result ≡ option_map (λ e. fault.Layout e) (size_fault header.now) }
-    ensures len { IfOk result (λ len. len ≡ capped (grammar.header_len header.now)) }
+    ensures len { IfOk result (λ len. len ≡ capped (header_bytes.header_len header.now)) }
 {
     if let Some(k) = first_large(header) {
         return Err(RedefErr::Layout(LayoutErr::VarSize(k)));
@@ -122,7 +123,7 @@ fn is_far(header: &Header, var: &Var) -> bool
 /// Whether the variable keeps its bound, where the variables before it add `before` to a record.
 fn keeps_bound(header: &Header, records: &Records, before: u64, var: &Var) -> bool
     requires { AreRecordsOf header.now records.now }
-    ensures { (n : ℕ) → before ≡ capped n → result ≡ grammar.keeps_bound header.now n var.now }
+    ensures { (n : ℕ) → before ≡ capped n → result ≡ faults.keeps_bound header.now n var.now }
 {
     let bytes = vsize_of(header, var);
     let fits = bytes < FILE_LIMIT && capped::sum(var.begin, bytes) < FILE_LIMIT;

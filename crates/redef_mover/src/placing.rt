@@ -2,7 +2,7 @@
 ghost use Rattle.std.specs.Prelude.{◌≡◌, ◌+◌, ◌-◌, ◌++◌, ◌^◌, ◌≤◌, ◌&&◌, ℕ, List, Some, map, min, not, sum_by, unwrap_or, MatchOption, OnOk, IfOk};
 ghost use Rattle.nc_base.specs.declared.header.Header.{Header};
 ghost use Rattle.nc_base.specs.declared.header.Var.{Var};
-ghost use Rattle.serial_spec.specs.HeaderGrammar.{header_len};
+ghost use Rattle.serial_spec.specs.HeaderBytes.{header_len};
 ghost use Rattle.serial_spec.specs.Layout as layout;
 ghost use Rattle.serial_spec.specs.Redefinition.{Numbered};
 ghost use Rattle.serial_spec.specs.Redefinition as spec;

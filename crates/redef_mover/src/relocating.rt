@@ -3,7 +3,7 @@ ghost use Rattle.std.specs.Prelude.{◌≡◌, ◌≤◌, ◌^◌, ℕ, List, On
 ghost use Rattle.nc_base.specs.declared.script.Extra.{Extra};
 ghost use Rattle.nc_outside.specs.Cause.{HasDiskCause};
 ghost use Rattle.nc_outside.specs.Told.{after, with_end, BothTold};
-ghost use Rattle.serial_spec.specs.HeaderGrammar.{header_len};
+ghost use Rattle.serial_spec.specs.HeaderBytes.{header_len};
 ghost use Rattle.serial_spec.specs.Redefinition.{redefined};
 ghost use Rattle.serial_spec.specs.Torn.{IsTornRedefinition};
 ghost use Rattle.redef_laws.specs.Applied.{IsApplied};

@@ -7,7 +7,7 @@ ghost use Rattle.overlay_laws.specs.Entries.{In};
 ghost use Rattle.redef_laws.specs.Rising.{first_slab, lowest_first, rising, IsRisen};
 ghost use Rattle.redef_mover.specs.Moves.{first_slabs, further, listed, slab_of, window, AreSteps};
 ghost use Rattle.serial_spec.specs.DeviceCalls.{Slab};
-ghost use Rattle.serial_spec.specs.HeaderGrammar.{is_sound};
+ghost use Rattle.serial_spec.specs.SoundHeaders.{is_sound};
 
 use nc_base::{Header, Memory, Var};
 use std::alloc::Global;

@@ -4,7 +4,7 @@ use Rattle.nc_base.specs.declared.header.Header.{Header}
 use Rattle.nc_base.specs.declared.header.NcType.TheVariants.{Int, Short}
 use Rattle.nc_base.specs.declared.script.Extra.{Extra}
 use Rattle.serial_spec.specs.Examples.{defined, dim, more_var, var}
-use Rattle.serial_spec.specs.HeaderGrammar.{canon}
+use Rattle.serial_spec.specs.HeaderBytes.{canon}
 use Rattle.redef_laws.specs.Applied.{IsApplied}
 
 abbrev pub four_ints : Header

@@ -1,19 +1,16 @@
 -- A list of sending ends, with one more.
-use Rattle.std.proofs.Common.{◌≡◌, ◌+◌, ℕ, zero, suc, List, [], ◌∷◌, ◌++◌, map, All, sym, ap, ◌∙◌, arith}
+use Rattle.std.proofs.Common.{◌≡◌, ◌+◌, ℕ, suc, List, [], ◌∷◌, ◌++◌, map, All, sym, ap, ◌∙◌, arith}
 use Rattle.std.specs.List.{range_with_len}
 use Rattle.std.proofs.lemmas.List.{map-append}
 use Rattle.std.proofs.lemmas.List.Elements.{All-push}
 use Rattle.ruled_line.specs.Ends.{Line, Sender}
-
-range_with_len-more : (a n last : ℕ) → a + n ≡ last → range_with_len a (suc n) ≡ range_with_len a n ++ last ∷ []
-range_with_len-more a zero last is = ap (λ k. k ∷ []) (omega (arith, is))
-range_with_len-more a (suc n) last is = ap (λ l. a ∷ l) (range_with_len-more (a + 1) n last (omega (arith, is)))
+use Rattle.list_laws.proofs.Ranges.{range_push}
 
 module _ {T : Type 0} where
   pub numbers-push : (senders : List (Sender T)) (n : ℕ) (s : Sender T) → map (λ u. u.number) senders ≡ range_with_len 0 n → s.number ≡ n → map (λ u. u.number) (senders ++ s ∷ []) ≡ range_with_len 0 (n + 1)
   numbers-push senders n s old is =
       let more : suc n ≡ n + 1 = omega arith in
-      map-append (λ (u : Sender T). u.number) senders (s ∷ []) ∙ ap (λ l. l ++ s.number ∷ []) old ∙ ap (λ k. range_with_len 0 n ++ k ∷ []) is ∙ sym (range_with_len-more 0 n n (omega arith)) ∙ ap (range_with_len 0) more
+      map-append (λ (u : Sender T). u.number) senders (s ∷ []) ∙ ap (λ l. l ++ s.number ∷ []) old ∙ ap (λ k. range_with_len 0 n ++ k ∷ []) is ∙ sym (range_push 0 n n (omega arith)) ∙ ap (range_with_len 0) more
 
   pub same-push : (of : Line (ℕ × T)) (senders : List (Sender T)) (s : Sender T) → All (λ u. u.of ≡ of) senders → s.of ≡ of → All (λ u. u.of ≡ of) (senders ++ s ∷ [])
   same-push of = All-push (λ (u : Sender T). u.of ≡ of)

@@ -1,19 +1,21 @@
 -- What a lawful script has of the calls of one rank.
 use Rattle.std.proofs.Common.{◌≡◌, ℕ, zero, suc, ◌+◌, ◌≤◌, refl, sym, ap, List, [], ◌∷◌, length, map, true, Option, Some, None, arith}
 use Rattle.std.proofs.lemmas.Slice.Eq.{bytes_eq-Decides}
-use Rattle.std.specs.Prelude.{slice_get, ◌==◌, nat_le, bytes_eq, fold, sum}
+use Rattle.std.specs.Prelude.{slice_get, bytes_eq, fold}
 use Rattle.std.specs.List.{list_all, enumerate_from, cons_option}
 use Rattle.std.proofs.lemmas.Bool.{eqb-true, leb-true}
 use Rattle.std.proofs.lemmas.Option.{same_Some}
 use Rattle.list_laws.proofs.Each.{passes_at}
-use Rattle.list_laws.proofs.Truth.{and_first, and_second}
+use Rattle.list_laws.proofs.Truth.{and_second}
 use Rattle.nc_base.specs.declared.request.Call.{Call}
 use Rattle.nc_base.specs.declared.script.Script.{Script}
 use Rattle.nc_base.specs.declared.step.MeetKind.{MeetKind}
 use Rattle.nc_base.specs.declared.step.MeetKind.TheVariants as meets
 use Rattle.serial_spec.specs.History.{kinds, kind_number, kind_of_call}
-use Rattle.serial_spec.specs.Lawful.{is_lawful, is_lawful_call, agree, kind_numbers, are_different, posted_ids, most_calls, most_ranks, is_within}
+use Rattle.serial_spec.specs.Lawful.{is_lawful, is_lawful_call, agree, kind_numbers, are_different, posted_ids, most_calls}
 use Rattle.run_laws.specs.Ways.{kinds_of}
+use Rattle.list_laws.proofs.Numbers.{le_two}
+use Rattle.serial_spec.proofs.LawfulTests.{Tests, tests_of}
 
 -- ---- tests and lists
 
@@ -86,39 +88,6 @@ pub record Ranks (script : Script) : Type 0 where
   pub one_each : length script.calls ≡ script.ranks
   pub most : script.ranks ≤ 64
   pub kinds_few : length (kinds_of script) ≤ most_calls
-
--- the tests from the last back
-pub record Tests (script : Script) : Type 0 where
-  pub agreed : agree script.calls ≡ true
-  pub few : nat_le (sum (map (λ own. length own) script.calls)) most_calls ≡ true
-  pub different : list_all (λ own. are_different (posted_ids own)) script.calls ≡ true
-  pub lawful : list_all (λ own. list_all (is_lawful_call script.ranks own.0) own.1) (enumerate_from 0 script.calls) ≡ true
-  pub one_each : (length script.calls == script.ranks) ≡ true
-  pub within : is_within 1 most_ranks script.ranks ≡ true
-
-tests_of : (script : Script) → is_lawful script ≡ true → Tests script
-tests_of script h =
-    let t11 = and_first _ _ h in
-    let t10 = and_first _ _ t11 in
-    let t9 = and_first _ _ t10 in
-    let t8 = and_first _ _ t9 in
-    let t7 = and_first _ _ t8 in
-    let t6 = and_first _ _ t7 in
-    let t5 = and_first _ _ t6 in
-    let t4 = and_first _ _ t5 in
-    let t3 = and_first _ _ t4 in
-    let t2 = and_first _ _ t3 in
-    record {
-      agreed = and_second _ _ h;
-      few = and_second _ _ t10;
-      different = and_second _ _ t9;
-      lawful = and_second _ _ t8;
-      one_each = and_second _ _ t2;
-      within = and_first _ _ t2;
-    }
-
-pub le_two : (a b c : ℕ) → a ≤ b → b ≤ c → a ≤ c
-le_two a b c h k = omega arith
 
 own_few : (script : Script) (r : ℕ) (own : List Call) → Tests script → slice_get script.calls r ≡ Some own → length own ≤ most_calls
 own_few script r own t e =

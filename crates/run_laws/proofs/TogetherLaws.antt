@@ -6,7 +6,7 @@ use Rattle.std.proofs.lemmas.Bool.Decides.{nat_tests}
 use Rattle.std.specs.Prelude.{slice_get, ◌==◌, nat_lt, filter}
 use Rattle.std.specs.List.{list_all}
 use Rattle.std.proofs.lemmas.Bool.{and_from, eqb-true}
-use Rattle.list_laws.proofs.Places.{entry_below}
+use Rattle.list_laws.proofs.Places.{entry_below, first_same}
 use Rattle.list_laws.proofs.Optional.{none_of_test}
 use Rattle.list_laws.proofs.Truth.{and_first, and_second}
 use Rattle.nc_base.specs.declared.request.Call.{Call}
@@ -107,9 +107,6 @@ pub together_all : (script : Script) (order : List Mark) (r q : ℕ) (s t : Goin
 together_all script order r q s t o w v =
     let h = holds script order r s o w in
     not_over t.calls h.0 (kinds s.calls) (h.1.1 ∙ sym v.kinds)
-
-first_same : {X : Type 0} (x y : X) (xs ys : List X) → x ∷ xs ≡ y ∷ ys → x ≡ y
-first_same x y xs ys e = cc
 
 pub together_kind : (script : Script) (order : List Mark) (r q : ℕ) (s t : Going) (o p : Offer) → IsOnWay script order r s (Some o) → IsOnWay script order q t (Some p)
     → p.kind ≡ o.kind

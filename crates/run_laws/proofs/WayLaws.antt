@@ -323,7 +323,7 @@ way_same script order order' r s held e f w = record {
   posts = w.posts;
 }
 
-one_of : (q n : ℕ) → list_all (is_solo_of q) (Solo q n ∷ []) ≡ true
+pub one_of : (q n : ℕ) → list_all (is_solo_of q) (Solo q n ∷ []) ≡ true
 one_of q n = and_from (q == q) true (eq-eqb q q refl) refl
 
 pub others_filter : (q r : ℕ) (more : List Mark) → q ≢ r → list_all (is_solo_of q) more ≡ true → filter (concerns r) more ≡ []
@@ -334,7 +334,7 @@ others_filter q r (Solo p m ∷ more) n h =
     ap (λ (b : Bool). cond b (Solo p m ∷ filter (concerns r) more) (filter (concerns r) more)) (not_own p r (λ z. n (sym p_is ∙ z)))
     ∙ others_filter q r more n (and_second (p == q) _ h)
 
-others_meetings : (q : ℕ) (more : List Mark) → list_all (is_solo_of q) more ≡ true → meetings more ≡ 0
+pub others_meetings : (q : ℕ) (more : List Mark) → list_all (is_solo_of q) more ≡ true → meetings more ≡ 0
 others_meetings q [] h = refl
 others_meetings q (Meet k ∷ more) h = cc
 others_meetings q (Solo p m ∷ more) h = others_meetings q more (and_second (p == q) _ h)

@@ -1,7 +1,7 @@
 // The calls that name a region of a variable: puts, gets and posts.
 ghost use Rattle.std.specs.Prelude.{◌≡◌, ◌≤◌, ◌^◌, ◌+◌, [], IfOk, None, option_map, false};
 ghost use Rattle.serial_spec.specs.Lawful.{values_in_call};
-ghost use Rattle.script_spec.specs.ScriptCalls.{after_prefix, before_suffix, form_and_all, post_values, posted, id_of_post, post_of_text, new_id, is_posted};
+ghost use Rattle.script_spec.specs.ScriptCalls.{after_prefix, before_suffix, form_and_all, posted, id_of_post, post_of_text, is_posted};
 ghost use Rattle.serial_spec.specs.Request.{count_of};
 ghost use Rattle.script_calls.specs.CallWords.{region_by, values_by, post_values_by, new_id_by, put_by, get_by, post_by};
 ghost use Rattle.script_words.specs.Reading.{Gives};
@@ -104,6 +104,7 @@ pub fn get_call(
 }
 
 /// Reads the values of a post; a get has none.
+#[tactic(auto, unfolding(crate::specs::CallWords::post_values_by))]
 fn post_values(
     alloc: Global,
     kind: PostKind,
@@ -111,7 +112,7 @@ fn post_values(
     words: &mut Words<'_>,
 ) -> Result<Values, ReadErr>
     requires { before ≤ 2 ^ 24 }
-    ensures read { Gives (λ vs. vs) result (post_values kind before words.old) }
+    ensures read { Gives (λ vs. vs) result (post_values_by kind before words.old) }
     ensures bound { IfOk result (λ vs. before + count_of vs ≤ 2 ^ 24) }
 {
     match kind {
@@ -124,8 +125,9 @@ fn post_values(
 }
 
 /// Reads the id of a post, which the rank has not posted.
+#[tactic(auto, unfolding(crate::specs::CallWords::new_id_by))]
 fn new_id(own: &RankCalls, words: &mut Words<'_>) -> Result<u32, ReadErr>
-    ensures read { Gives (λ id. (id, words.new)) result (new_id (posted own.now) words.old) }
+    ensures read { Gives (λ id. (id, words.new)) result (new_id_by (posted own.now) words.old) }
     ensures new { IfOk result (λ id. is_posted id (posted own.now) ≡ false) }
 {
     let id = id(words)?;
@@ -133,29 +135,6 @@ fn new_id(own: &RankCalls, words: &mut Words<'_>) -> Result<u32, ReadErr>
         return Err(ReadErr::Fault(ScriptKind::TwiceNamed));
     }
     Ok(id)
-}
-
-/// The same under a name that proofs keep shut.
-#[tactic(auto, unfolding(crate::specs::CallWords::post_values_by))]
-fn values_of_post(
-    alloc: Global,
-    kind: PostKind,
-    before: u64,
-    words: &mut Words<'_>,
-) -> Result<Values, ReadErr>
-    requires { before ≤ 2 ^ 24 }
-    ensures read { Gives (λ vs. vs) result (post_values_by kind before words.old) }
-    ensures bound { IfOk result (λ vs. before + count_of vs ≤ 2 ^ 24) }
-{
-    post_values(alloc, kind, before, words)
-}
-
-#[tactic(auto, unfolding(crate::specs::CallWords::new_id_by))]
-fn id_of_new_post(own: &RankCalls, words: &mut Words<'_>) -> Result<u32, ReadErr>
-    ensures read { Gives (λ id. (id, words.new)) result (new_id_by (posted own.now) words.old) }
-    ensures new { IfOk result (λ id. is_posted id (posted own.now) ≡ false) }
-{
-    new_id(own, words)
 }
 
 #[tactic(auto, unfolding(crate::specs::CallWords::post_by))]
@@ -172,10 +151,10 @@ pub fn post_call(
     ensures bound { IfOk result (λ c. before + values_in_call c ≤ 2 ^ 24) }
     ensures new { IfOk result (λ c. IsNew (posted own.now) c) }
 {
-    let id = id_of_new_post(own, words)?;
+    let id = new_id(own, words)?;
     let var = name(words)?;
     let given = call_region(alloc, form, words)?;
-    let values = values_of_post(alloc, kind, before, words)?;
+    let values = post_values(alloc, kind, before, words)?;
     Ok(Call::Post {
         id,
         kind,

@@ -2,7 +2,7 @@
 ghost use Rattle.std.specs.Prelude.{◌≡◌, ◌≤◌, ◌^◌, ◌+◌, [], IfOk, None, option_map, false};
 ghost use Rattle.serial_spec.specs.Lawful.{values_in_call};
 ghost use Rattle.script_spec.specs.ScriptSteps.{whole};
-ghost use Rattle.script_spec.specs.ScriptCalls.{posted, id_of_post, choice, one_id, ids, fill_call, attach_call, inquiry, lone_call, other_call, plain_call, call_of};
+ghost use Rattle.script_spec.specs.ScriptCalls.{posted, id_of_post, choice, one_id, ids, fill_call, attach_call, inquiry, lone_call, other_call, call_of};
 ghost use Rattle.script_calls.specs.CallWords.{plain_by, post_or_plain_by, call_by};
 ghost use Rattle.script_words.specs.Reading.{Gives, word_of};
 ghost use Rattle.script_calls.specs.Posts.{IsNew};
@@ -149,6 +149,8 @@ fn other_call(
     lone_call(word, words)
 }
 
+/// Reads a call whose word names no form.
+#[tactic(auto, unfolding(crate::specs::CallWords::plain_by))]
 fn plain_call(
     alloc: Global,
     ranks: u32,
@@ -156,7 +158,7 @@ fn plain_call(
     word: &[u8],
     words: &mut Words<'_>,
 ) -> Result<Call, ReadErr>
-    ensures read { Gives (λ c. c) result (plain_call ranks rank word.now words.old) }
+    ensures read { Gives (λ c. c) result (plain_by ranks rank word.now words.old) }
     ensures none { IfOk result (λ c. (values_in_call c ≡ 0) × (id_of_post c ≡ None)) }
 {
     if word == b"wait".as_slice() {
@@ -174,20 +176,6 @@ fn plain_call(
     other_call(alloc, ranks, rank, word, words)
 }
 
-#[tactic(auto, unfolding(crate::specs::CallWords::plain_by))]
-fn call_without_form(
-    alloc: Global,
-    ranks: u32,
-    rank: u32,
-    word: &[u8],
-    words: &mut Words<'_>,
-) -> Result<Call, ReadErr>
-    ensures read { Gives (λ c. c) result (plain_by ranks rank word.now words.old) }
-    ensures none { IfOk result (λ c. (values_in_call c ≡ 0) × (id_of_post c ≡ None)) }
-{
-    plain_call(alloc, ranks, rank, word, words)
-}
-
 /// Reads a call that is no put or get.
 #[tactic(auto, unfolding(crate::specs::CallWords::post_or_plain_by))]
 fn post_or_plain(
@@ -203,7 +191,7 @@ fn post_or_plain(
     ensures new { IfOk result (λ c. IsNew (posted own.now) c) }
 {
     let Some((kind, form)) = post_of_text(word) else {
-        return call_without_form(alloc, place.ranks, place.rank, word, words);
+        return plain_call(alloc, place.ranks, place.rank, word, words);
     };
     let Some(form) = form_of_text(form) else {
         return Err(ReadErr::Fault(ScriptKind::UnknownWord));

@@ -11,7 +11,7 @@ use Rattle.nc_base.specs.declared.request.Values.TheVariants.{Numbers, Text, Bit
 use Rattle.serial_spec.specs.ExternalForm.{ext}
 use Rattle.serial_spec.specs.Request.{count_of, ext_of, value_at}
 use Rattle.script_spec.specs.ScriptDefinitions.{external_bytes}
-use Rattle.script_values.proofs.RangeLaws.{range_push}
+use Rattle.list_laws.proofs.Ranges.{range_push}
 
 pub bytes_more : (t : NcType) (values : Values) (now next : List ℕ) (n : ℕ) → now ≡ flat_map (λ k. ext_of t (value_at values k)) (range_with_len 0 n)
     → next ≡ now ++ ext_of t (value_at values n) → next ≡ flat_map (λ k. ext_of t (value_at values k)) (range_with_len 0 (n + 1))

@@ -1,2 +1,1 @@
-pub mod HintPlaces
 pub mod DraftWords

@@ -6,7 +6,7 @@ ghost use Rattle.script_words.specs.Reading.{Gives};
 
 use crate::added::Additions;
 use crate::defined::Definitions;
-use crate::hints::HintTable;
+use crate::hints::GivenHints;
 use nc_base::ScriptKind;
 use script_words::reading::{ended, size_within};
 use script_words::{ReadErr, Words};
@@ -17,7 +17,7 @@ use std::marker::Model;
 #[derive(Drop)]
 pub struct Draft<'a> {
     ranks: Option<u32>,
-    pub hints: HintTable,
+    pub hints: GivenHints,
     pub defined: Definitions<'a>,
     pub added: Additions<'a>,
     values: u64,
@@ -40,7 +40,7 @@ impl<'a> Draft<'a> {
     {
         Ok(Draft {
             ranks: None,
-            hints: HintTable::new(alloc)?,
+            hints: GivenHints::new(alloc)?,
             defined: Definitions::new(alloc),
             added: Additions::new(alloc),
             values: 0,

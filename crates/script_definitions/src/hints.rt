@@ -1,88 +1,24 @@
 // The hints of a script.
-ghost use Rattle.std.specs.Prelude.{◌≡◌, ◌<◌, option_map, position, bytes_eq, Some, None, replicate, slice_set, IfOk, length};
+ghost use Rattle.std.specs.Prelude.{◌≡◌, Some, slice_set, IfOk};
 ghost use Rattle.nc_base.specs.declared.errors.ScriptKind.TheVariants as kind;
 ghost use Rattle.script_spec.specs.ScriptSteps.{reads_as};
-ghost use Rattle.script_spec.specs.ScriptDefinitions.{hint_of_text, hint_form, hint_value, hint_in, hint_line, one_of_two};
-ghost use Rattle.script_spec.specs.ScriptGrammar.{hint_or, hints_of, rule_of};
+ghost use Rattle.script_spec.specs.HintTable.{hint_of_text, hint_form, hint_in, hints_of, none_given};
+ghost use Rattle.script_spec.specs.ScriptDefinitions.{hint_value, hint_line, one_of_two};
+ghost use Rattle.hint_table.specs.HintNames.{form_of, hint_place, HasUnit};
 ghost use Rattle.script_words.specs.Reading.{Gives};
-ghost use Rattle.script_definitions.specs.HintPlaces.{hint_place};
 
-use nc_base::{Hints, OverlapRule, ScriptKind};
+use hint_table::{HintForm, HintName, hints_of};
+use nc_base::{Hints, ScriptKind};
 use script_words::reading::{ended, next, size_within};
 use script_words::{ReadErr, Words};
 use std::alloc::{AllocError, Global};
 use std::marker::Model;
 
-/// A hint.
-#[derive(Clone, Copy, Debug, PartialEq, Eq)]
-pub enum HintName {
-    CbNodes,
-    CbBuffer,
-    RdBuffer,
-    WrBuffer,
-    LineRoom,
-    Threads,
-    Overlap,
-    HeaderAlign,
-    VarAlign,
-    StripingUnit,
-}
-
-impl HintName {
-    /// The place in the table.
-    fn place(self) -> usize
-        ensures value { result ≡ hint_place self }
-        ensures bound { result < 10 }
-    {
-        match self {
-            HintName::CbNodes => 0,
-            HintName::CbBuffer => 1,
-            HintName::RdBuffer => 2,
-            HintName::WrBuffer => 3,
-            HintName::LineRoom => 4,
-            HintName::Threads => 5,
-            HintName::Overlap => 6,
-            HintName::HeaderAlign => 7,
-            HintName::VarAlign => 8,
-            HintName::StripingUnit => 9,
-        }
-    }
-}
-
-/// The hint of this name.
-fn hint_of_text(word: &[u8]) -> Option<HintName>
-    ensures { option_map hint_place result ≡ hint_of_text word.now }
-{
-    if word == b"cb_nodes".as_slice() {
-        Some(HintName::CbNodes)
-    } else if word == b"cb_buffer_size".as_slice() {
-        Some(HintName::CbBuffer)
-    } else if word == b"ind_rd_buffer_size".as_slice() {
-        Some(HintName::RdBuffer)
-    } else if word == b"ind_wr_buffer_size".as_slice() {
-        Some(HintName::WrBuffer)
-    } else if word == b"line_room".as_slice() {
-        Some(HintName::LineRoom)
-    } else if word == b"threads".as_slice() {
-        Some(HintName::Threads)
-    } else if word == b"overlap".as_slice() {
-        Some(HintName::Overlap)
-    } else if word == b"nc_header_align_size".as_slice() {
-        Some(HintName::HeaderAlign)
-    } else if word == b"nc_var_align_size".as_slice() {
-        Some(HintName::VarAlign)
-    } else if word == b"striping_unit".as_slice() {
-        Some(HintName::StripingUnit)
-    } else {
-        None
-    }
-}
-
 fn hint_name(words: &mut Words<'_>) -> Result<HintName, ReadErr>
     ensures { Gives (λ h. (hint_place h, words.new)) result (reads_as hint_of_text kind.UnknownWord words.old) }
 {
     let word = next(words)?;
-    match hint_of_text(word) {
+    match HintName::of_word(word) {
         Some(name) => Ok(name),
         None => Err(ReadErr::Fault(ScriptKind::UnknownWord)),
     }
@@ -106,24 +42,26 @@ fn one_of_two(zero: &[u8], one: &[u8], words: &mut Words<'_>) -> Result<u32, Rea
 fn hint_value(name: HintName, words: &mut Words<'_>) -> Result<u32, ReadErr>
     ensures { Gives (λ v. (v, words.new)) result (hint_value (hint_form (hint_place name)) words.old) }
 {
-    match name {
-        HintName::CbNodes | HintName::LineRoom => size_within(1, 64, 1, words),
-        HintName::CbBuffer | HintName::RdBuffer | HintName::WrBuffer | HintName::StripingUnit => {
-            size_within(1, 33_554_432, 1, words)
-        }
-        HintName::Threads => one_of_two(b"off".as_slice(), b"on".as_slice(), words),
-        HintName::Overlap => one_of_two(b"refuse".as_slice(), b"serial".as_slice(), words),
-        HintName::HeaderAlign | HintName::VarAlign => size_within(4, 1_048_576, 4, words),
+    value_of_form(name.form(), words)
+}
+
+fn value_of_form(form: HintForm, words: &mut Words<'_>) -> Result<u32, ReadErr>
+    requires { HasUnit form }
+    ensures { Gives (λ v. (v, words.new)) result (hint_value (form_of form) words.old) }
+{
+    match form {
+        HintForm::Within { low, high, unit } => size_within(low, high, unit, words),
+        HintForm::Either { zero, one } => one_of_two(zero, one, words),
     }
 }
 
-/// The hints that were given, one place for each of the table.
+/// The values that are given, one place for each hint of the table.
 #[derive(Drop)]
-pub struct HintTable {
+pub struct GivenHints {
     values: Vec<Option<u32>>,
 }
 
-impl Model for HintTable {
+impl Model for GivenHints {
     ghost use Rattle.std.specs.Prelude.{◌≡◌, List, Option, ℕ, length};
 
     ghost Value = { List (Option ℕ) };
@@ -133,12 +71,12 @@ impl Model for HintTable {
     ghost invariant = { λ t. length t.values.items ≡ 10 };
 }
 
-impl HintTable {
+impl GivenHints {
     /// No hint.
     pub fn new(alloc: Global) -> Result<Self, AllocError>
-        ensures { IfOk result (λ t. t ≡ replicate 10 None) }
+        ensures { IfOk result (λ t. t ≡ none_given) }
     {
-        Ok(HintTable {
+        Ok(GivenHints {
             values: Vec::from_array(alloc, [None; 10])?,
         })
     }
@@ -168,37 +106,10 @@ impl HintTable {
         self.values[name.place()] = Some(value);
     }
 
-    fn or(&self, name: HintName, default: u32) -> u32
-        ensures { result ≡ hint_or self.now (hint_place name) default }
-    {
-        self.get(name).unwrap_or(default)
-    }
-
-    /// The hints, with their defaults, of a script of so many ranks.
+    /// The hints of a script of so many ranks, with their defaults.
     pub fn hints(&self, ranks: u32) -> Hints
         ensures { result ≡ hints_of ranks self.now }
     {
-        Hints {
-            cb_nodes: self.or(HintName::CbNodes, ranks.min(8)),
-            cb_buffer: u64::from(self.or(HintName::CbBuffer, 16_777_216)),
-            rd_buffer: u64::from(self.or(HintName::RdBuffer, 4_194_304)),
-            wr_buffer: u64::from(self.or(HintName::WrBuffer, 524_288)),
-            line_room: self.or(HintName::LineRoom, 2),
-            threads: self.or(HintName::Threads, 1) == 1,
-            overlap: rule_of(self.or(HintName::Overlap, 0)),
-            header_align: u64::from(self.or(HintName::HeaderAlign, 4)),
-            var_align: u64::from(self.or(HintName::VarAlign, 4)),
-            striping_unit: u64::from(self.or(HintName::StripingUnit, 1)),
-        }
-    }
-}
-
-fn rule_of(value: u32) -> OverlapRule
-    ensures { result ≡ rule_of value }
-{
-    if value == 1 {
-        OverlapRule::Serial
-    } else {
-        OverlapRule::Refuse
+        hints_of(ranks, self.values.as_slice())
     }
 }

@@ -13,4 +13,4 @@ mod vars;
 pub use added::Additions;
 pub use defined::Definitions;
 pub use draft::Draft;
-pub use hints::{HintName, HintTable};
+pub use hints::GivenHints;

@@ -6,7 +6,7 @@ use Rattle.std.proofs.lemmas.Bool.{and_from}
 use Rattle.script_spec.proofs.TextLaws.{finished}
 use Rattle.list_laws.proofs.Each.{each_weaker}
 use Rattle.list_laws.proofs.Maps.{found_passes}
-use Rattle.list_laws.proofs.Optional.{none_before_map}
+use Rattle.list_laws.proofs.Optional.{none_before_map, not_some}
 use Rattle.nc_base.specs.declared.errors.ScriptKind.TheVariants as kind
 use Rattle.nc_base.specs.declared.request.Call.{Call}
 use Rattle.nc_base.specs.declared.step.MeetKind.{MeetKind}
@@ -29,10 +29,6 @@ find_none p from (suc len) k h low high = by_first (p from) refl (eq-or-lt_of_le
     by_first true e place g rest = absurd (cc)
     by_first false e (inl same) g rest = subst (λ (i : ℕ). p i ≡ false) same e
     by_first false e (inr less) g rest = rest g (omega arith)
-
-not_some : {A : Type 0} (o : Option A) → is_some o ≡ false → o ≡ None
-not_some None h = refl
-not_some (Some x) h = absurd (cc)
 
 no_difference : (ranks : List (List MeetKind)) (first : List MeetKind) → first_difference ranks first ≡ None → find (is_difference ranks first) (range_with_len 0 (length first + 1)) ≡ None
 no_difference ranks first h =

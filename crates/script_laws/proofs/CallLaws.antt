@@ -25,8 +25,8 @@ use Rattle.script_spec.specs.ScriptValues.{values}
 use Rattle.script_spec.specs.ScriptCalls.{after_prefix, form_and_all, form_of_text, given_of, given_parts, part, part_list, many_regions, region, id_of_text, choice, id_of_post, posted, put_call, get_call, post_values, is_posted, new_id, post_call, fill_call, attach_call, inquiry, lone_calls, lone_call, plain_call, post_of_text, call_of}
 use Rattle.script_laws.proofs.ListLaws.{all_pass, found_all}
 use Rattle.script_laws.proofs.StepLaws.{first_then, then_with, ok_then, by_test, unless_refused, read_as, whole_line}
-use Rattle.script_laws.proofs.WordLaws.{size_read}
 use Rattle.script_laws.proofs.CallValueLaws.{FitsValues, call_values_read}
+use Rattle.script_spec.proofs.NumeralLaws.{size_read}
 
 -- ---- sizes and lists of them
 

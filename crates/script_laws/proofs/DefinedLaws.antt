@@ -11,7 +11,8 @@ use Rattle.serial_spec.specs.Limits.{most_dims, most_vars}
 use Rattle.serial_spec.specs.Lawful.{most_values, attr_values, extra_values}
 use Rattle.script_spec.specs.ScriptWords.{Word}
 use Rattle.script_spec.specs.ScriptSteps.{◌>>=◌, refuse_if, reads_as, ended}
-use Rattle.script_spec.specs.ScriptDefinitions.{HintForm, Within, Either, hint_form, hint_in, hint_of_text, hint_value, hint_line, ranks_line, number_within, one_of_two, is_unlimited, dim_line, var_line, owner_of_text, owner_place, attribute, Defined, no_definition, with_dim, with_var, with_attr, with_title, att_line, dim_definition, var_definition, fill_line, definition, nothing_added, Known, nothing_known, addition, known_after}
+use Rattle.script_spec.specs.HintTable.{HintForm, Within, Either, hint_form, hint_in, hint_of_text}
+use Rattle.script_spec.specs.ScriptDefinitions.{hint_value, hint_line, ranks_line, number_within, one_of_two, is_unlimited, dim_line, var_line, owner_of_text, owner_place, attribute, Defined, no_definition, with_dim, with_var, with_attr, with_title, att_line, dim_definition, var_definition, fill_line, definition, nothing_added, Known, nothing_known, addition, known_after}
 use Rattle.script_laws.proofs.ListLaws.{sum_more}
 use Rattle.script_laws.proofs.StepLaws.{first_then, then_with, by_test, read_as}
 use Rattle.script_laws.proofs.WordLaws.{InRange, within_read, one_of_two_read}

@@ -9,7 +9,9 @@ use Rattle.nc_base.specs.declared.header.Var.{Var}
 use Rattle.nc_base.specs.declared.script.Script.{Script}
 use Rattle.serial_spec.specs.Limits.{most_dims, most_vars, most_dims_of_var}
 use Rattle.serial_spec.specs.Layout.{length_of}
-use Rattle.serial_spec.specs.HeaderGrammar.{is_version, counts_are_small, two_record_dims, record_later, is_record_id, bad_id, is_writable_list, is_writable_dim, is_writable_attr}
+use Rattle.serial_spec.specs.HeaderBytes.{is_version}
+use Rattle.serial_spec.specs.HeaderFaults.{two_record_dims, record_later, is_record_id, bad_id}
+use Rattle.serial_spec.specs.SoundHeaders.{counts_are_small, is_writable_list, is_writable_dim, is_writable_attr}
 use Rattle.var_layout.specs.Unplaced.{is_unplaced, has_writable_names, has_writable_parts}
 use Rattle.script_spec.specs.ScriptDefinitions.{is_unlimited, is_record_dim, Defined}
 use Rattle.script_spec.specs.ScriptGrammar.{header_of, most_lines, Reads}

@@ -3,8 +3,7 @@ use Rattle.std.proofs.Common.{◌≡◌, ℕ, ◌*◌, ◌/◌, ◌%◌, ◌≤�
 use Rattle.std.proofs.lemmas.Bool.{and_from}
 use borrow.Author.Tests.{le-leb, eq-eqb}
 use Rattle.serial_spec.specs.Lawful.{is_within, is_alignment, are_lawful_hints}
-use Rattle.script_spec.specs.ScriptDefinitions.{hint_in}
-use Rattle.script_spec.specs.ScriptGrammar.{hint_or, hints_of}
+use Rattle.script_spec.specs.HintTable.{hint_in, hint_or, hints_of}
 use Rattle.script_laws.proofs.WordLaws.{InRange}
 use Rattle.script_laws.proofs.DefinedLaws.{FitHints}
 use Rattle.script_laws.proofs.RunLaws.{or_default, header_aligned, var_aligned}

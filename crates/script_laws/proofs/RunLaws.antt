@@ -3,8 +3,9 @@ use Rattle.std.proofs.Common.{◌≡◌, ◌∙◌, ℕ, ◌≤◌, List, length
 use Rattle.std.proofs.lemmas.Bool.{not-false}
 use borrow.Author.Tests.{eqb-true}
 use Rattle.nc_base.specs.declared.script.Script.{Script}
-use Rattle.script_spec.specs.ScriptDefinitions.{hint_in, Defined, no_definition}
-use Rattle.script_spec.specs.ScriptGrammar.{header_of, hint_or, Reads}
+use Rattle.script_spec.specs.HintTable.{hint_in, hint_or}
+use Rattle.script_spec.specs.ScriptDefinitions.{Defined, no_definition}
+use Rattle.script_spec.specs.ScriptGrammar.{header_of, Reads}
 use Rattle.script_laws.proofs.WordLaws.{InRange}
 use Rattle.script_laws.proofs.DefinedLaws.{FitHints}
 use Rattle.script_laws.proofs.ReadLaws.{read_script}

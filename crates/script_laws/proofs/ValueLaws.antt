@@ -5,21 +5,20 @@ use Rattle.std.proofs.lemmas.List.FromFn.{length-map-range_with_len}
 use Rattle.nc_base.specs.declared.errors.ScriptKind.TheVariants as kind
 use Rattle.nc_base.specs.declared.errors.LimitName.TheVariants as limit
 use Rattle.nc_base.specs.declared.header.NcType.{NcType}
-use Rattle.nc_base.specs.declared.request.Value.{Value}
 use Rattle.nc_base.specs.declared.request.Value.TheVariants as value
 use Rattle.nc_base.specs.declared.request.Values.{Values}
 use Rattle.nc_base.specs.declared.request.Values.TheVariants.{Numbers, Text, Bits}
 use Rattle.serial_spec.specs.ExternalForm as class
-use Rattle.serial_spec.specs.ExternalForm.{Class, size_of, width_of, code_of, ext}
+use Rattle.serial_spec.specs.ExternalForm.{Class, size_of, ext}
 use Rattle.serial_spec.specs.Limits.{most_elements}
 use Rattle.serial_spec.specs.Lawful.{most_values}
 use Rattle.serial_spec.specs.Request.{count_of}
-use Rattle.serial_spec.proofs.SpellingLaws.{bytes_of_width}
 use Rattle.script_spec.specs.ScriptWords.{Word, Plain, Quoted, Broken, number_of_text, bits_of_text}
 use Rattle.script_spec.specs.ScriptSteps.{refuse_if, or_fault, bare, reads_as, size, ended}
 use Rattle.script_spec.specs.ScriptValues.{within_limits, one_value, each_value, sequence_count, numbers_between, patterns_between, term, pattern_term, is_term, is_pattern_term, last_number, last_pattern, wrong_kind, may_be, are_numbers, are_patterns, are_text, seq_values, seqx_values, pattern_values, text_values, number_values, bits_values, number_for, pattern_for, listed_values, listed_kind, values}
 use Rattle.script_spec.specs.ScriptDefinitions.{external_bytes}
 use Rattle.script_laws.proofs.StepLaws.{first_then, then_with, ok_then, by_test, unless_refused}
+use Rattle.serial_spec.proofs.ValueLaws.{ext_long}
 
 -- ---- how many
 
@@ -114,9 +113,6 @@ values_within t before (Plain w ∷ ws) h =
 flat_long : {A : Type 0} (f : A → List ℕ) (n : ℕ) → ((x : A) → length (f x) ≡ n) → (xs : List A) → length (flat_map f xs) ≡ length xs * n
 flat_long f n h [] = omega arith
 flat_long f n h (x ∷ xs) = length-append (f x) (flat_map f xs) ∙ grind (arith, h x, flat_long f n h xs)
-
-ext_long : (t : NcType) (v : Value) → length (ext t v) ≡ size_of t
-ext_long t v = bytes_of_width (width_of t) (code_of (width_of t) v)
 
 pub bytes_long : (t : NcType) (vs : Values) → length (external_bytes t vs) ≡ count_of vs * size_of t
 bytes_long t (Numbers zs) = flat_long (λ z. ext t (value.Number z)) (size_of t) (λ z. ext_long t (value.Number z)) zs

@@ -9,12 +9,14 @@ use Rattle.list_laws.proofs.Truth.{and_first, and_second}
 use Rattle.nc_base.specs.declared.errors.ScriptKind.TheVariants as kind
 use Rattle.nc_base.specs.declared.header.NcType.{NcType}
 use Rattle.serial_spec.specs.Limits.{file_limit}
-use Rattle.serial_spec.specs.HeaderGrammar.{fits_count, is_type, number_of, last_type}
+use Rattle.serial_spec.specs.HeaderBytes.{number_of, last_type}
+use Rattle.serial_spec.specs.SoundHeaders.{fits_count, is_type}
 use Rattle.script_spec.specs.Texts.{type_word}
-use Rattle.script_spec.specs.ScriptWords.{Word, below, natural_of, size_of_text, is_name, starts_name, in_name}
+use Rattle.script_spec.specs.ScriptWords.{Word, below, size_of_text, is_name, starts_name, in_name}
 use Rattle.script_spec.specs.ScriptSteps.{name, name_of_text}
 use Rattle.script_spec.specs.ScriptDefinitions.{number_within, one_of_two, type_of, types, length_limit, length_of_text}
 use Rattle.script_laws.proofs.StepLaws.{read_as}
+use Rattle.script_spec.proofs.NumeralLaws.{below_read}
 
 -- ---- names
 
@@ -59,13 +61,6 @@ one_of_two_read zero_word one_word w n h = by_words (bytes_eq w zero_word) (byte
     by_words true b e = let same : 0 ≡ n = cc in omega arith
     by_words false true e = let same : 1 ≡ n = cc in omega arith
     by_words false false e = absurd (cc)
-
-below_read : (limit : ℕ) (o : Option ℕ) (n : ℕ) → below limit o ≡ Some n → n < limit
-below_read limit None n h = absurd (cc)
-below_read limit (Some m) n h = let k = cond_some (nat_lt m limit) m n h in subst (λ (x : ℕ). x < limit) k.1 (ltb-true m limit k.0)
-
-pub size_read : (w : List ℕ) (n : ℕ) → size_of_text w ≡ Some n → n < 2 ^ 63
-size_read w n h = below_read (2 ^ 63) (natural_of w) n h
 
 -- ---- types
 

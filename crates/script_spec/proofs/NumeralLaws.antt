@@ -1,10 +1,11 @@
 -- What digits, decimal and hexadecimal, come to at most.
-use Rattle.std.proofs.Common.{◌≡◌, ℕ, zero, suc, ◌+◌, ◌-◌, ◌*◌, ◌^◌, ◌≤◌, ◌<◌, List, [], ◌∷◌, length, fold, true, Some, None, nat_lt, nat_le, refl, subst, zero-add, arith, leb-true, ◌&&◌}
+use Rattle.std.proofs.Common.{◌≡◌, ℕ, zero, suc, ◌+◌, ◌-◌, ◌*◌, ◌^◌, ◌≤◌, ◌<◌, List, [], ◌∷◌, length, fold, true, Some, None, nat_lt, nat_le, refl, subst, zero-add, arith, leb-true, ◌&&◌, Option}
 use Rattle.std.specs.List.{list_all}
 use Rattle.std.proofs.lemmas.Grind.{common_steps}
 use Rattle.std.proofs.lemmas.Option.{cond_some}
 use Rattle.list_laws.proofs.Truth.{and_first, and_second}
-use Rattle.script_spec.specs.ScriptWords.{is_digit, is_digits, digits_value, natural_of, hex_sum}
+use Rattle.script_spec.specs.ScriptWords.{is_digit, is_digits, digits_value, natural_of, hex_sum, below, size_of_text}
+use borrow.Author.Tests.{ltb-true}
 
 abbrev pub tens : ℕ → ℕ
 tens zero = 1
@@ -49,3 +50,10 @@ sixteens-le i (suc k) j e = let more : suc (k + i) ≡ j = omega arith in rw (�
 pub no_sum : (hs : List ℕ) → fold hex_sum None hs ≡ None
 no_sum [] = refl
 no_sum (h ∷ hs) = no_sum hs
+
+pub below_read : (limit : ℕ) (o : Option ℕ) (n : ℕ) → below limit o ≡ Some n → n < limit
+below_read limit None n h = absurd (cc)
+below_read limit (Some m) n h = let k = cond_some (nat_lt m limit) m n h in subst (λ (x : ℕ). x < limit) k.1 (ltb-true m limit k.0)
+
+pub size_read : (w : List ℕ) (n : ℕ) → size_of_text w ≡ Some n → n < 2 ^ 63
+size_read w n h = below_read (2 ^ 63) (natural_of w) n h

@@ -2,7 +2,7 @@
 -- added to one that is opened. (own)
 --     dim_line .. att_line      what the words of a line say, or the first fault among them from the left
 --     known_after               what is known after a line
-use Rattle.std.specs.Prelude.{bytes_eq, ℕ, ◌+◌, ◌%◌, List, [], ◌∷◌, ◌++◌, map, find, replicate, position, drop, length, flat_map, Bool, true, false, not, ◌&&◌, nat_lt, nat_le, ◌==◌, if◌then◌else◌, Option, Some, None, Result, Ok, Err, is_some, slice_get, slice_set, codes}
+use Rattle.std.specs.Prelude.{bytes_eq, ℕ, ◌+◌, ◌%◌, List, [], ◌∷◌, ◌++◌, map, find, position, drop, length, flat_map, Bool, true, false, not, ◌&&◌, nat_lt, nat_le, ◌==◌, if◌then◌else◌, Option, Some, None, Result, Ok, Err, is_some, slice_get, slice_set, codes}
 use Rattle.std.specs.List.{list_any, list_all}
 use Rattle.nc_base.specs.declared.errors.ScriptKind.{ScriptKind}
 use Rattle.nc_base.specs.declared.errors.ScriptKind.TheVariants as kind
@@ -19,38 +19,15 @@ use Rattle.nc_base.specs.declared.script.Extra.{Extra}
 use Rattle.nc_base.specs.declared.script.Extra.TheVariants as extra
 use Rattle.serial_spec.specs.ExternalForm.{ext}
 use Rattle.serial_spec.specs.Limits.{most_dims, most_dims_of_var, most_vars, record_limit}
-use Rattle.serial_spec.specs.HeaderGrammar.{number_of, last_type}
+use Rattle.serial_spec.specs.HeaderBytes.{number_of, last_type}
 use Rattle.serial_spec.specs.Request.{count_of}
 use Rattle.script_spec.specs.Texts.{type_word}
+use Rattle.script_spec.specs.HintTable.{HintForm, Within, Either, hint_of_text, hint_form, hint_in, none_given}
 use Rattle.script_spec.specs.ScriptWords.{Word, below, size_of_text, is_name, between_brackets, parts, all_some}
 use Rattle.script_spec.specs.ScriptSteps.{◌>>=◌, refuse_if, or_fault, reads_as, name_of_text, name, ended, whole}
 use Rattle.script_spec.specs.ScriptValues.{values}
 
 -- ---- hints
-
-pub data HintForm : Type 0 where
-  Within : ℕ → ℕ → ℕ → HintForm  -- from, to, a multiple of
-  Either : List ℕ → List ℕ → HintForm  -- the word for 0, the word for 1
-
-abbrev pub hint_forms : List (List ℕ × HintForm)
-hint_forms =
-    (codes "cb_nodes", Within 1 64 1)
-    ∷ (codes "cb_buffer_size", Within 1 33554432 1)
-    ∷ (codes "ind_rd_buffer_size", Within 1 33554432 1)
-    ∷ (codes "ind_wr_buffer_size", Within 1 33554432 1)
-    ∷ (codes "line_room", Within 1 64 1)
-    ∷ (codes "threads", Either (codes "off") (codes "on"))
-    ∷ (codes "overlap", Either (codes "refuse") (codes "serial"))
-    ∷ (codes "nc_header_align_size", Within 4 1048576 4)
-    ∷ (codes "nc_var_align_size", Within 4 1048576 4)
-    ∷ (codes "striping_unit", Within 1 33554432 1)
-    ∷ []
-
-abbrev pub hint_of_text : List ℕ → Option ℕ
-hint_of_text w = position (λ f. bytes_eq w f.0) hint_forms
-
-abbrev pub hint_form : ℕ → HintForm
-hint_form h = elim (slice_get hint_forms h) [ None ↦ Within 0 0 1 | Some f ↦ f.1 ]
 
 abbrev pub number_within : ℕ → ℕ → ℕ → List ℕ → Option ℕ
 number_within low high unit w = elim (size_of_text w) [ None ↦ None | Some n ↦ if nat_le low n && nat_le n high && n % unit == 0 then Some n else None ]
@@ -62,14 +39,11 @@ abbrev pub hint_value : HintForm → List Word → Result (ℕ × List Word) Scr
 hint_value (Within low high unit) ws = reads_as (number_within low high unit) kind.BadNumber ws
 hint_value (Either zero_word one_word) ws = reads_as (one_of_two zero_word one_word) kind.UnknownWord ws
 
-abbrev pub hint_in : ℕ → List (Option ℕ) → Option ℕ
-hint_in h hints = elim (slice_get hints h) [ None ↦ None | Some o ↦ o ]
-
 -- which of the table, and its value
 abbrev pub hint_line : List (Option ℕ) → List Word → Result (ℕ × ℕ) ScriptKind
-hint_line hints ws = do
+hint_line given ws = do
   h ← reads_as hint_of_text kind.UnknownWord ws
-  _ ← refuse_if (is_some (hint_in h.0 hints)) kind.TwiceNamed
+  _ ← refuse_if (is_some (hint_in h.0 given)) kind.TwiceNamed
   v ← hint_value (hint_form h.0) h.1
   _ ← ended v.1
   Ok (h.0, v.0)
@@ -325,7 +299,7 @@ pub record Known : Type 0 where
   pub values : ℕ  -- of all attributes
 
 abbrev pub nothing_known : Known
-nothing_known = record { ranks = None; hints = replicate 10 None; defined = no_definition; added = nothing_added; values = 0 }
+nothing_known = record { ranks = None; hints = none_given; defined = no_definition; added = nothing_added; values = 0 }
 
 -- the dataset is an existing one, which has version 0 here, or a new one
 abbrev pub definition_or_addition : ℕ → Known → List ℕ → List Word → Result Known ScriptKind

@@ -1,14 +1,12 @@
 -- The canonical text of a script. (own)
 --     shown script
-use Rattle.std.specs.Prelude.{ℕ, zero, suc, List, [], ◌∷◌, ◌++◌, map, take, drop, length, flat_map, zip, ◌==◌, if◌then◌else◌, Some, None, slice_get, codes, decimal}
+use Rattle.std.specs.Prelude.{ℕ, zero, suc, List, [], ◌∷◌, ◌++◌, map, take, drop, length, flat_map, ◌==◌, if◌then◌else◌, Some, None, slice_get, codes, decimal}
 use Rattle.std.specs.List.{enumerate_from}
 use Rattle.nc_base.specs.declared.header.Dim.{Dim}
 use Rattle.nc_base.specs.declared.header.Attr.{Attr}
 use Rattle.nc_base.specs.declared.header.Var.{Var}
 use Rattle.nc_base.specs.declared.header.Header.{Header}
 use Rattle.nc_base.specs.declared.script.Hints.{Hints}
-use Rattle.nc_base.specs.declared.script.OverlapRule.{OverlapRule}
-use Rattle.nc_base.specs.declared.script.OverlapRule.TheVariants.{Refuse, Serial}
 use Rattle.nc_base.specs.declared.request.Values.{Values}
 use Rattle.nc_base.specs.declared.request.Form.{Form}
 use Rattle.nc_base.specs.declared.request.Form.TheVariants as form
@@ -24,7 +22,7 @@ use Rattle.nc_base.specs.declared.script.Script.{Script}
 use Rattle.serial_spec.specs.ExternalForm.{class_of, size_of, val}
 use Rattle.serial_spec.specs.Request.{gathered}
 use Rattle.script_spec.specs.Texts.{type_word, call_word, line, joined, value_words}
-use Rattle.script_spec.specs.ScriptDefinitions.{hint_forms}
+use Rattle.script_spec.specs.HintTable.{HintRow, hint_table, shown_value}
 
 abbrev pub bracketed : List (List ℕ) → List ℕ
 bracketed ws = 91 ∷ joined 44 ws ++ 93 ∷ []  -- [ and ], with commas between
@@ -55,19 +53,11 @@ shown_var header v = line (codes "var" ∷ type_word v.kind ∷ v.name ∷ brack
 abbrev pub shown_attr : List ℕ → Attr → List ℕ
 shown_attr owner a = line (codes "att" ∷ owner ∷ a.name ∷ type_word a.kind ∷ shown_values (attr_values a))
 
-abbrev pub rule_word : OverlapRule → List ℕ
-rule_word Refuse = codes "refuse"
-rule_word Serial = codes "serial"
-
--- the values of the hints, in the order of their table
-abbrev pub hint_words : Hints → List (List ℕ)
-hint_words h =
-    decimal h.cb_nodes ∷ decimal h.cb_buffer ∷ decimal h.rd_buffer ∷ decimal h.wr_buffer ∷ decimal h.line_room
-    ∷ (if h.threads then codes "on" else codes "off") ∷ rule_word h.overlap
-    ∷ decimal h.header_align ∷ decimal h.var_align ∷ decimal h.striping_unit ∷ []
+abbrev pub shown_hint : Hints → HintRow → List ℕ
+shown_hint h row = line (codes "hint" ∷ row.word ∷ shown_value row.form (row.seen h) ∷ [])
 
 abbrev pub shown_hints : Hints → List ℕ
-shown_hints h = flat_map (λ p. line (codes "hint" ∷ p.0.0 ∷ p.1 ∷ [])) (zip hint_forms (hint_words h))
+shown_hints h = flat_map (shown_hint h) hint_table
 
 abbrev pub part_words : Part → List (List ℕ)
 part_words p = size_list p.start ∷ size_list p.count ∷ []

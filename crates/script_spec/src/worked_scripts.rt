@@ -1,13 +1,15 @@
 //! What scripts mean, and which are refused.
 
 ghost use Rattle.std.specs.Prelude.{◌≡◌, ℕ, List, nat_lt, ◌^◌, ◌+◌, [], ◌∷◌, ◌++◌, length, None, true, codes, Ok, Err, false};
-ghost use Rattle.serial_spec.specs.HeaderGrammar.{is_writable};
+ghost use Rattle.serial_spec.specs.SoundHeaders.{is_writable};
 ghost use Rattle.serial_spec.specs.Examples.{laid_out};
 ghost use Rattle.script_spec.specs.TextExamples.{script_halves, halves_read, fault_at, start_lines, script_read};
 ghost use Rattle.script_spec.specs.ScriptGrammar.{fault_of, script_fault, script_of_lines, script_of_utf8, within_lines};
 ghost use Rattle.script_spec.specs.Shown.{shown};
 ghost use Rattle.script_spec.specs.Texts.{text_line};
-ghost use Rattle.script_spec.specs.RunScripts.{script_atts, script_modes, script_varn, script_fill_record, script_extras};
+ghost use Rattle.script_spec.specs.RunScripts.{script_modes};
+ghost use Rattle.script_spec.specs.ManyRegionScripts.{script_varn};
+ghost use Rattle.script_spec.specs.DatasetScripts.{script_atts, script_fill_record, script_extras};
 ghost use Rattle.script_spec.specs.FaultyScripts.{faulty_unclosed, faulty_escape, faulty_glued, faulty_extra, faulty_name, faulty_later_record, faulty_kind, faulty_post_twice, faulty_opened, faulty_fits, faulty_new_type, faulty_extra_twice, faulty_extra_shape, faulty_without_end, faulty_after_end, faulty_dimensions};
 ghost use Rattle.serial_spec.specs.Lawful.{is_lawful};
 ghost use Rattle.nc_base.specs.declared.errors.ScriptKind.TheVariants as kind;
@@ -58,6 +60,15 @@ pub fn worked_limits()
     ensures whole { (s : Script) → fault_of (within_lines (2 ^ 20 + 1) (Ok s)) ≡ fault_at 1048577 (kind.Limit limit.Lines) }
     ensures before { fault_of (within_lines (2 ^ 20 + 1) (script_of_utf8 (text_line (codes "x")))) ≡ fault_at 1 kind.NoHead }
     ensures differ { fault_of (within_lines (2 ^ 20 + 1) (Err (record { line = 8; kind = kind.Mismatch 0 0 1 }))) ≡ fault_at 1048577 (kind.Limit limit.Lines) }
+{}
+
+/// Texts that are not UTF-8: a byte that begins no character, a second byte that can't follow, a character that is cut off. The line is that
+/// of the first byte that is no part of a text.
+pub fn worked_bytes()
+    ensures no_first { script_fault (text_line (codes "create 1") ++ 0xFF ∷ []) ≡ fault_at 2 kind.NotUtf8 }
+    ensures no_second { script_fault (10 ∷ 0xED ∷ 0xA0 ∷ 0x80 ∷ []) ≡ fault_at 2 kind.NotUtf8 }
+    ensures cut_off { script_fault (codes "# " ++ 0xC3 ∷ 0xA9 ∷ 10 ∷ 35 ∷ 0xC3 ∷ 10 ∷ []) ≡ fault_at 2 kind.NotUtf8 }
+    ensures text { script_fault (codes "# " ++ 0xC3 ∷ 0xA9 ∷ 10 ∷ []) ≡ fault_at 1 kind.NoHead }
 {}
 
 /// Where a word is looked at, and what it is then.

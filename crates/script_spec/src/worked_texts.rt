@@ -1,7 +1,8 @@
 //! What is printed, and the generated script.
 
 ghost use Rattle.std.specs.Prelude.{true, ◌≡◌, ◌+◌, [], ◌∷◌, ◌++◌, length, codes, ◌-◌, option_map, Some, take};
-ghost use Rattle.serial_spec.specs.HeaderGrammar.{header_len, field_fault};
+ghost use Rattle.serial_spec.specs.HeaderBytes.{header_len};
+ghost use Rattle.serial_spec.specs.HeaderFaults.{field_fault};
 ghost use Rattle.serial_spec.specs.Examples.{header_a, ended, halves, no_align, thin_script, dataset_b, dim, var, moved, defined};
 ghost use Rattle.serial_spec.specs.Layout.{recsize, begins};
 ghost use Rattle.script_spec.specs.TextExamples.{with_layout, text_of, text_halves, script_read, thin_lines, thin_answers, thin_printed, offsets_of_record, offsets_with_room, script_summed, summed, text_summed};
@@ -38,7 +39,7 @@ pub fn worked_lines()
 {}
 
 /// The generator.
-#[tactic(auto, unfolding(serial_spec::specs::HeaderGrammar::canon))]
+#[tactic(auto, unfolding(serial_spec::specs::HeaderBytes::canon))]
 pub fn worked_generator()
     ensures rows { first_row 8 - first_row 7 ≡ 23 }
     ensures count { length (made_calls 0 12 0) ≡ 40 }

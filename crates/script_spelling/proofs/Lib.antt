@@ -4,5 +4,8 @@ pub mod CallsRead
 pub mod CallLinesRead
 pub mod LinesRead
 pub mod GrownVars
+pub mod TakenLines
+pub mod NewDefinitions
+pub mod AddedDefinitions
 pub mod KnownRead
 pub mod Spelled

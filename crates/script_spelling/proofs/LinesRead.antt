@@ -1,11 +1,11 @@
 -- What the words of a line between the head and `data` say, where they are read, and that it may stand there.
-use Rattle.std.proofs.Common.{◌≡◌, ◌∙◌, ℕ, zero, suc, ◌<◌, ◌≤◌, List, [], ◌∷◌, position, drop, length, Bool, true, false, not, cond, nat_lt, nat_le, ◌==◌, ◌&&◌, Option, Some, None, is_some, is_none, slice_get, map, Ok, refl, sym, ap, subst, arith, bytes_eq, codes}
+use Rattle.std.proofs.Common.{◌≡◌, ◌∙◌, ℕ, zero, suc, ◌<◌, ◌≤◌, List, [], ◌∷◌, position, drop, length, Bool, true, false, not, cond, nat_lt, nat_le, ◌==◌, ◌&&◌, Option, Some, None, is_some, is_none, slice_get, unwrap_or, map, Ok, refl, sym, ap, subst, arith, bytes_eq, codes}
 use Rattle.std.specs.List.{list_any, list_all}
 use borrow.Author.Tests.{not-false, leb-false, ltb-false}
 use Rattle.std.proofs.lemmas.Bool.{and_parts}
 use Rattle.std.proofs.lemmas.List.{length-map}
 use Rattle.std.proofs.lemmas.Option.{cond_some}
-use Rattle.list_laws.proofs.Optional.{none_of_test}
+use Rattle.list_laws.proofs.Optional.{none_of_test, not_some}
 use Rattle.script_spec.proofs.TextLaws.{faultless_some}
 use Rattle.nc_base.specs.declared.errors.ScriptKind.TheVariants as kind
 use Rattle.nc_base.specs.declared.errors.LimitName.TheVariants as limit
@@ -17,7 +17,8 @@ use Rattle.serial_spec.specs.Limits.{most_dims, most_dims_of_var, most_vars}
 use Rattle.script_spec.specs.ScriptWords.{Word, Plain, is_name, between_brackets, parts, all_some}
 use Rattle.script_spec.specs.ScriptSteps.{refuse_if, or_fault, reads_as, name, name_of_text, ended}
 use Rattle.script_spec.specs.ScriptValues.{values}
-use Rattle.script_spec.specs.ScriptDefinitions.{HintForm, Within, Either, hint_forms, hint_form, hint_of_text, hint_value, hint_in, hint_line, ranks_line, number_within, one_of_two, type_of, length_of_text, is_among, dim_names, dim_ids, is_unlimited, is_record_dim, is_added_record, dim_line, var_head, name_list, shape, added_shape, var_names, var_line, owner_of_text, owner_name, Title, same_title, attr_of, attribute_name, attribute}
+use Rattle.script_spec.specs.HintTable.{HintForm, Within, Either, HintRow, hint_table, hint_form, hint_of_text, no_row, hint_in}
+use Rattle.script_spec.specs.ScriptDefinitions.{hint_value, hint_line, ranks_line, number_within, one_of_two, type_of, length_of_text, is_among, dim_names, dim_ids, is_unlimited, is_record_dim, is_added_record, dim_line, var_head, name_list, shape, added_shape, var_names, var_line, owner_of_text, owner_name, Title, same_title, attr_of, attribute_name, attribute}
 use Rattle.script_text.proofs.Steps.{went, same_ok, not_refused, is_end, whole_value}
 use Rattle.script_text.proofs.Places.{bytes_same}
 use Rattle.script_spelling.specs.Statements.{VarLine, RanksAre, HintIs, DimIs, VarIs, AttIs, hint_value_of, owner_word, IsOwner, Says, DimStands, VarStands}
@@ -30,10 +31,6 @@ two_words first one ws a e1 e2 = ap (λ (xs : List Word). Plain first ∷ xs) e1
 three_words : (first one two : List ℕ) (ws a b : List Word) → ws ≡ Plain one ∷ a → a ≡ Plain two ∷ b → b ≡ [] → Plain first ∷ ws ≡ Plain first ∷ Plain one ∷ Plain two ∷ []
 three_words first one two ws a b e1 e2 e3 = ap (λ (xs : List Word). Plain first ∷ xs) e1 ∙ ap (λ (xs : List Word). Plain first ∷ Plain one ∷ xs) (e2 ∙ ap (λ (xs : List Word). Plain two ∷ xs) e3)
 
-no_value : {A : Type 0} (o : Option A) → is_some o ≡ false → o ≡ None
-no_value None h = refl
-no_value (Some x) h = absurd (cc)
-
 -- ---- ranks and hints
 
 pub ranks_said : (version : ℕ) (ranks : Option ℕ) (ws : List Word) (n : ℕ) → ranks_line ranks ws ≡ Ok n → Says version (Plain (codes "ranks") ∷ ws) (RanksAre n) × (ranks ≡ None)
@@ -42,18 +39,18 @@ ranks_said version ranks ws n h =
     let b = went (reads_as (number_within 1 64 1) kind.BadNumber ws) _ n a.rest in
     let w = word_is (number_within 1 64 1) kind.BadNumber ws b.value refl b.first in
     let end = whole_value b.value n b.rest in
-    ((w.word, two_words (codes "ranks") w.word ws b.value.1 w.are end.1, w.says ∙ ap (λ (x : ℕ). Some x) end.0), no_value ranks (not_refused _ _ a.value a.first))
+    ((w.word, two_words (codes "ranks") w.word ws b.value.1 w.are end.1, w.says ∙ ap (λ (x : ℕ). Some x) end.0), not_some ranks (not_refused _ _ a.value a.first))
 
 hint_word : (f : HintForm) (ws : List Word) (r : ℕ × List Word) → hint_value_of f (34 ∷ []) ≡ None → hint_value f ws ≡ Ok r → WordRead (hint_value_of f) ws r
 hint_word (Within low high unit) ws r none h = let w = word_is (number_within low high unit) kind.BadNumber ws r none h in record { word = w.word; are = w.are; says = w.says }
 hint_word (Either a b) ws r none h = let w = word_is (one_of_two a b) kind.UnknownWord ws r none h in record { word = w.word; are = w.are; says = w.says }
 
 -- a text is the value of no hint
-no_quote : (fs : List (List ℕ × HintForm)) (h : ℕ) → list_all (λ f. is_none (hint_value_of f.1 (34 ∷ []))) fs ≡ true
-    → hint_value_of (elim (slice_get fs h) as (λ x. HintForm) [ None ↦ Within 0 0 1 | Some f ↦ f.1 ]) (34 ∷ []) ≡ None
+no_quote : (rows : List HintRow) (h : ℕ) → list_all (λ row. is_none (hint_value_of row.form (34 ∷ []))) rows ≡ true
+    → hint_value_of ((unwrap_or (slice_get rows h) no_row).form) (34 ∷ []) ≡ None
 no_quote [] h all = refl
-no_quote (f ∷ fs) zero all = none_of_test (hint_value_of f.1 (34 ∷ [])) (and_parts _ _ all).0
-no_quote (f ∷ fs) (suc h) all = no_quote fs h (and_parts (is_none (hint_value_of f.1 (34 ∷ []))) _ all).1
+no_quote (row ∷ rows) zero all = none_of_test (hint_value_of row.form (34 ∷ [])) (and_parts _ _ all).0
+no_quote (row ∷ rows) (suc h) all = no_quote rows h (and_parts (is_none (hint_value_of row.form (34 ∷ []))) _ all).1
 
 pub record HintSaid (version : ℕ) (hints : List (Option ℕ)) (words : List Word) (r : ℕ × ℕ) : Type 0 where
   pub says : Says version words (HintIs r.0 r.1)
@@ -66,10 +63,10 @@ hint_said version hints ws r h =
     let c = went (hint_value (hint_form a.value.0) a.value.1) _ r b.rest in
     let d = went (ended c.value.1) _ r c.rest in
     let n = word_is hint_of_text kind.UnknownWord ws a.value refl a.first in
-    let v = hint_word (hint_form a.value.0) a.value.1 c.value (no_quote hint_forms a.value.0 refl) c.first in
+    let v = hint_word (hint_form a.value.0) a.value.1 c.value (no_quote hint_table a.value.0 refl) c.first in
     subst (HintSaid version hints (Plain (codes "hint") ∷ ws)) (same_ok (a.value.0, c.value.0) r d.rest) (record {
       says = (n.word, v.word, three_words (codes "hint") n.word v.word ws a.value.1 c.value.1 n.are v.are (is_end c.value.1 d.value d.first), n.says, v.says);
-      free = no_value (hint_in a.value.0 hints) (not_refused _ _ b.value b.first);
+      free = not_some (hint_in a.value.0 hints) (not_refused _ _ b.value b.first);
     })
 
 -- ---- dimensions

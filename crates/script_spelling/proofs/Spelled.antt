@@ -9,9 +9,10 @@ use Rattle.nc_base.specs.declared.errors.ScriptKind.TheVariants as kind
 use Rattle.nc_base.specs.declared.request.Call.{Call}
 use Rattle.nc_base.specs.declared.script.Script.{Script}
 use Rattle.script_spec.specs.ScriptWords.{Word, Plain, Line, is_word, size_of_text, text_lines, significant}
-use Rattle.serial_spec.specs.HeaderGrammar.{is_version}
+use Rattle.serial_spec.specs.HeaderBytes.{is_version}
 use Rattle.script_spec.specs.ScriptSteps.{reads_as, whole}
-use Rattle.script_spec.specs.ScriptDefinitions.{hint_in, Known, nothing_known}
+use Rattle.script_spec.specs.HintTable.{hint_in}
+use Rattle.script_spec.specs.ScriptDefinitions.{Known, nothing_known}
 use Rattle.script_spec.specs.ScriptCalls.{Called}
 use Rattle.script_spec.specs.ScriptGrammar.{at_line, version_of_text, version_line, head, definitions, data_part, finish, header_of, script_of, no_calls, script_of_lines, Reads}
 use Rattle.script_laws.proofs.LawfulLaws.{read_lawful}
@@ -25,7 +26,8 @@ use Rattle.script_spelling.specs.Spelling.{SpellsHead, version_of_lines, Section
 use Rattle.script_spelling.proofs.WordsRead.{word_is}
 use Rattle.script_spelling.proofs.CallsRead.{plain_word}
 use Rattle.script_spelling.proofs.CallLinesRead.{words_of, from_none, CallsRead, calls_read}
-use Rattle.script_spelling.proofs.KnownRead.{flag, Part, Grown, lines_version, DefinitionsRead, definitions_read}
+use Rattle.script_spelling.proofs.TakenLines.{flag, Part, Grown}
+use Rattle.script_spelling.proofs.KnownRead.{lines_version, DefinitionsRead, definitions_read}
 
 -- ---- the head
 

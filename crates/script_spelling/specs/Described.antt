@@ -10,8 +10,9 @@ use Rattle.nc_base.specs.declared.request.Call.{Call}
 use Rattle.nc_base.specs.declared.script.Extra.{Extra}
 use Rattle.nc_base.specs.declared.script.Extra.TheVariants as extra
 use Rattle.nc_base.specs.declared.script.Script.{Script}
-use Rattle.script_spec.specs.ScriptDefinitions.{hint_in, dim_ids, no_definition}
-use Rattle.script_spec.specs.ScriptGrammar.{header_of, hints_of}
+use Rattle.script_spec.specs.HintTable.{hint_in, hints_of}
+use Rattle.script_spec.specs.ScriptDefinitions.{dim_ids, no_definition}
+use Rattle.script_spec.specs.ScriptGrammar.{header_of}
 use Rattle.script_spelling.specs.Statements.{Statement, RanksAre, HintIs, IsFilled, DimIs, VarIs, AttIs, VarLine}
 
 -- ---- what statements say of one kind, in their order

@@ -9,7 +9,8 @@ use Rattle.nc_base.specs.declared.header.Attr.{Attr}
 use Rattle.nc_base.specs.declared.request.Values.{Values}
 use Rattle.serial_spec.specs.Limits.{most_dims, most_dims_of_var, most_vars}
 use Rattle.script_spec.specs.ScriptWords.{Word, Plain, is_name, between_brackets, parts}
-use Rattle.script_spec.specs.ScriptDefinitions.{HintForm, Within, Either, hint_form, hint_of_text, number_within, one_of_two, type_of, length_of_text, is_among, dim_names, dim_ids, is_unlimited, is_record_dim, is_added_record, Title, same_title, attr_of}
+use Rattle.script_spec.specs.HintTable.{HintForm, Within, Either, hint_form, hint_of_text}
+use Rattle.script_spec.specs.ScriptDefinitions.{number_within, one_of_two, type_of, length_of_text, is_among, dim_names, dim_ids, is_unlimited, is_record_dim, is_added_record, Title, same_title, attr_of}
 use Rattle.script_spelling.specs.SpelledValues.{SpellsValues}
 
 -- a variable as a line defines it: the names of its dimensions, the slowest first

@@ -19,7 +19,8 @@ use Rattle.script_text.proofs.Steps.{went, go_on, same_ok, whole_value, by_false
 use Rattle.script_text.proofs.Lines.{is_line, spelled, numbered, all_joined}
 use Rattle.script_text.proofs.Numerals.{decimal_numeral, decimal_plain, decimal_word}
 use Rattle.script_text.proofs.PrintedValues.{is_read, not_letters}
-use Rattle.script_text.proofs.PrintedCalls.{call_tokens, call_spelled, call_plain, CallAgain, call_read}
+use Rattle.script_text.proofs.CallTokens.{call_tokens, call_spelled, call_plain}
+use Rattle.script_text.proofs.PrintedCalls.{CallAgain, call_read}
 
 -- ---- calls that were read
 

@@ -15,12 +15,12 @@ use Rattle.nc_base.specs.declared.script.Script.{Script}
 use Rattle.nc_base.specs.declared.request.Call.{Call}
 use Rattle.nc_base.specs.declared.step.MeetKind.{MeetKind}
 use Rattle.serial_spec.specs.Limits.{most_dims, most_vars}
-use Rattle.serial_spec.specs.HeaderGrammar.{is_version}
+use Rattle.serial_spec.specs.HeaderBytes.{is_version}
 use Rattle.serial_spec.specs.History.{kinds, kind_number}
 use Rattle.serial_spec.specs.Lawful.{added_dims, added_vars, agree, are_different, are_lawful_hints, is_alignment, is_empty, is_lawful, is_lawful_call, is_lawful_dim, is_lawful_extra, is_lawful_header, is_lawful_var, is_within, kind_numbers, most_calls, most_ranks, most_values, posted_ids, values_in_script}
 use Rattle.script_spec.specs.Shown.{shown}
 use Rattle.script_spec.specs.ScriptWords.{Word, Plain}
-use Rattle.script_spec.specs.ScriptDefinitions.{Within}
+use Rattle.script_spec.specs.HintTable.{Within}
 use Rattle.script_spec.specs.ScriptCalls.{kind_at, differs_at, is_difference, mismatch}
 use Rattle.script_spec.specs.ScriptGrammar.{Reads, most_bytes, most_lines}
 use Rattle.script_text.specs.Expressible.{is_expressible, is_expressible_call, is_expressible_header, printed_lines}
@@ -32,7 +32,8 @@ use Rattle.script_text.proofs.DefinedLines.{line_of_dim, line_of_var, line_of_at
 use Rattle.script_text.proofs.KnownLines.{hint_tokens, HintsFit}
 use Rattle.script_text.proofs.ExpressedDefinitions.{defined_of, header_told, no_attributes}
 use Rattle.script_text.proofs.ExpressedCalls.{chains_told, all_counted}
-use Rattle.script_text.proofs.Whole.{Whole, all_lines, before_data, create_again, fill_lines, from_data, from_drafted, script_with, version_head, whole_from, whole_again, whole_long}
+use Rattle.script_text.proofs.ScriptLines.{all_lines, before_data, fill_lines, from_data, script_with}
+use Rattle.script_text.proofs.Whole.{Whole, create_again, from_drafted, version_head, whole_from, whole_again, whole_long}
 
 -- ---- ranks and hints
 

@@ -1,5 +1,5 @@
 -- The number of ranks and the hints, and what is known before `data` as a whole.
-use Rattle.std.proofs.Common.{◌≡◌, ◌∙◌, ℕ, ◌+◌, ◌%◌, ◌^◌, ◌≤◌, ◌<◌, min, List, [], ◌∷◌, ◌++◌, map, zip, replicate, flat_map, Bool, true, false, cond, nat_le, ◌==◌, ◌&&◌, Option, Some, None, is_some, slice_set, Result, Ok, Err, refl, ap, subst, arith, bytes_eq, codes, decimal}
+use Rattle.std.proofs.Common.{◌≡◌, ◌∙◌, ℕ, ◌+◌, ◌%◌, ◌^◌, ◌≤◌, ◌<◌, min, List, [], ◌∷◌, ◌++◌, map, flat_map, Bool, true, false, cond, nat_le, ◌==◌, ◌&&◌, Option, Some, None, is_some, slice_set, Result, Ok, Err, refl, ap, subst, arith, bytes_eq, codes, decimal}
 use Rattle.std.specs.List.{list_all}
 use Rattle.std.proofs.lemmas.Bool.{and_parts, and_from}
 use borrow.Author.Tests.{leb-true, le-leb, eq-eqb}
@@ -11,12 +11,12 @@ use Rattle.nc_base.specs.declared.script.Hints.{Hints}
 use Rattle.nc_base.specs.declared.script.OverlapRule.{OverlapRule}
 use Rattle.nc_base.specs.declared.script.OverlapRule.TheVariants.{Refuse, Serial}
 use Rattle.serial_spec.specs.Lawful.{most_values}
-use Rattle.script_spec.specs.Texts.{line}
-use Rattle.script_spec.specs.Shown.{rule_word, hint_words, shown_hints}
+use Rattle.script_spec.specs.Shown.{shown_hint, shown_hints}
 use Rattle.script_spec.specs.ScriptWords.{Word, Plain, Line}
 use Rattle.script_spec.specs.ScriptSteps.{◌>>=◌, refuse_if, or_fault, bare, reads_as}
-use Rattle.script_spec.specs.ScriptDefinitions.{Within, Either, hint_forms, hint_of_text, hint_form, number_within, hint_value, hint_in, hint_line, ranks_line, no_definition, definition, nothing_added, addition, Known, nothing_known, definition_or_addition, known_after}
-use Rattle.script_spec.specs.ScriptGrammar.{at_line, data_line, definition_step, definitions, rule_of, hints_of}
+use Rattle.script_spec.specs.HintTable.{Within, HintRow, flag, rule_number, rule_of, off_or_on, refuse_or_serial, hint_table, hint_of_text, hint_form, shown_value, none_given, hint_in, hints_of}
+use Rattle.script_spec.specs.ScriptDefinitions.{number_within, hint_value, hint_line, ranks_line, no_definition, definition, nothing_added, addition, Known, nothing_known, definition_or_addition, known_after}
+use Rattle.script_spec.specs.ScriptGrammar.{at_line, data_line, definition_step, definitions}
 use Rattle.script_text.proofs.Steps.{went, go_on, same_ok, passed, word_read, whole_value}
 use Rattle.script_text.proofs.Lexing.{is_plain}
 use Rattle.script_text.proofs.Lines.{is_line, spelled}
@@ -28,29 +28,24 @@ use Rattle.script_text.proofs.DefinedChains.{DefinedOk, definition_read}
 
 -- ---- the hints as they are printed
 
+abbrev hint_words : Hints → HintRow → List Word
+hint_words h row = Plain (codes "hint") ∷ Plain row.word ∷ Plain (shown_value row.form (row.seen h)) ∷ []
+
 abbrev pub hint_tokens : Hints → List (List Word)
-hint_tokens h = map (λ p. Plain (codes "hint") ∷ Plain p.0.0 ∷ Plain p.1 ∷ []) (zip hint_forms (hint_words h))
+hint_tokens h = map (hint_words h) hint_table
 
 pub mapped_spelled : {A : Type 0} (f : A → List ℕ) (g : A → List Word) → ((x : A) → spelled (g x) ≡ f x) → (xs : List A) → flat_map spelled (map g xs) ≡ flat_map f xs
 mapped_spelled f g same [] = refl
 mapped_spelled f g same (x ∷ xs) = ap (λ (text : List ℕ). text ++ flat_map spelled (map g xs)) (same x) ∙ ap (λ (text : List ℕ). f x ++ text) (mapped_spelled f g same xs)
 
 pub hints_spelled : (h : Hints) → flat_map spelled (hint_tokens h) ≡ shown_hints h
-hints_spelled h = mapped_spelled (λ p. line (codes "hint" ∷ p.0.0 ∷ p.1 ∷ [])) (λ p. Plain (codes "hint") ∷ Plain p.0.0 ∷ Plain p.1 ∷ []) (λ p. refl) (zip hint_forms (hint_words h))
+hints_spelled h = mapped_spelled (shown_hint h) (hint_words h) (λ row. refl) hint_table
 
 -- ---- the hints as numbers
 
-abbrev flag : Bool → ℕ
-flag true = 1
-flag false = 0
-
-abbrev rule_number : OverlapRule → ℕ
-rule_number Refuse = 0
-rule_number Serial = 1
-
 -- one for each of the table
-abbrev pub hint_table : Hints → List (Option ℕ)
-hint_table h = Some h.cb_nodes ∷ Some h.cb_buffer ∷ Some h.rd_buffer ∷ Some h.wr_buffer ∷ Some h.line_room ∷ Some (flag h.threads) ∷ Some (rule_number h.overlap) ∷ Some h.header_align ∷ Some h.var_align ∷ Some h.striping_unit ∷ []
+abbrev pub all_given : Hints → List (Option ℕ)
+all_given h = map (λ (row : HintRow). Some (row.seen h)) hint_table
 
 flag_again : (b : Bool) → (flag b == 1) ≡ b
 flag_again true = refl
@@ -60,7 +55,7 @@ rule_again : (o : OverlapRule) → rule_of (rule_number o) ≡ o
 rule_again Refuse = refl
 rule_again Serial = refl
 
-pub hints_again : (ranks : ℕ) (h : Hints) → hints_of ranks (hint_table h) ≡ h
+pub hints_again : (ranks : ℕ) (h : Hints) → hints_of ranks (all_given h) ≡ h
 hints_again ranks h = ap (λ (b : Bool). record h { threads = b; overlap = rule_of (rule_number h.overlap) }) (flag_again h.threads) ∙ ap (λ (o : OverlapRule). record h { overlap = o }) (rule_again h.overlap)
 
 -- those that are numbers are within their ranges
@@ -80,16 +75,16 @@ nodes_fit n h =
     let unit : min n 8 % 1 ≡ 0 = omega arith in
     and_from _ _ (and_from _ _ (le-leb 1 (min n 8) (omega arith)) (le-leb (min n 8) 64 (omega arith))) (eq-eqb (min n 8 % 1) 0 unit)
 
-pub hints_fit : (ranks : ℕ) (hints : List (Option ℕ)) → is_value_of (Within 1 64 1) ranks ≡ true → are_hints hint_forms hints ≡ true → HintsFit (hints_of ranks hints)
+pub hints_fit : (ranks : ℕ) (hints : List (Option ℕ)) → is_value_of (Within 1 64 1) ranks ≡ true → are_hints hint_table hints ≡ true → HintsFit (hints_of ranks hints)
 hints_fit ranks hints r h = record {
-  cb_nodes = hint_or_fits hint_forms hints 0 (min ranks 8) h (nodes_fit ranks r);
-  cb_buffer = hint_or_fits hint_forms hints 1 16777216 h refl;
-  rd_buffer = hint_or_fits hint_forms hints 2 4194304 h refl;
-  wr_buffer = hint_or_fits hint_forms hints 3 524288 h refl;
-  line_room = hint_or_fits hint_forms hints 4 2 h refl;
-  header_align = hint_or_fits hint_forms hints 7 4 h refl;
-  var_align = hint_or_fits hint_forms hints 8 4 h refl;
-  striping_unit = hint_or_fits hint_forms hints 9 1 h refl;
+  cb_nodes = hint_or_fits hint_table hints 0 (min ranks 8) h (nodes_fit ranks r);
+  cb_buffer = hint_or_fits hint_table hints 1 16777216 h refl;
+  rd_buffer = hint_or_fits hint_table hints 2 4194304 h refl;
+  wr_buffer = hint_or_fits hint_table hints 3 524288 h refl;
+  line_room = hint_or_fits hint_table hints 4 2 h refl;
+  header_align = hint_or_fits hint_table hints 7 4 h refl;
+  var_align = hint_or_fits hint_table hints 8 4 h refl;
+  striping_unit = hint_or_fits hint_table hints 9 1 h refl;
 }
 
 -- ---- the lines of the hints
@@ -107,11 +102,11 @@ hint_leads version k word shown i v at free read = (
 number_value : (low high unit n : ℕ) → is_value_of (Within low high unit) n ≡ true → high < 2 ^ 63 → hint_value (Within low high unit) (Plain (decimal n) ∷ []) ≡ Ok (n, [])
 number_value low high unit n h top = word_read (number_within low high unit) kind.BadNumber (decimal n) n [] (within_again low high unit n h top)
 
-flag_value : (b : Bool) → hint_value (Either (codes "off") (codes "on")) (Plain (cond b (codes "on") (codes "off")) ∷ []) ≡ Ok (flag b, [])
+flag_value : (b : Bool) → hint_value off_or_on (Plain (shown_value off_or_on (flag b)) ∷ []) ≡ Ok (flag b, [])
 flag_value true = refl
 flag_value false = refl
 
-rule_value : (o : OverlapRule) → hint_value (Either (codes "refuse") (codes "serial")) (Plain (rule_word o) ∷ []) ≡ Ok (rule_number o, [])
+rule_value : (o : OverlapRule) → hint_value refuse_or_serial (Plain (shown_value refuse_or_serial (rule_number o)) ∷ []) ≡ Ok (rule_number o, [])
 rule_value Refuse = refl
 rule_value Serial = refl
 
@@ -119,7 +114,7 @@ rule_value Serial = refl
 abbrev pub with_hints : Known → List (Option ℕ) → Known
 with_hints k hints = record k { hints = hints }
 
-pub hints_run : (version : ℕ) (k : Known) (h : Hints) → HintsFit h → Runs version (with_hints k (replicate 10 None)) (hint_tokens h) (with_hints k (hint_table h))
+pub hints_run : (version : ℕ) (k : Known) (h : Hints) → HintsFit h → Runs version (with_hints k none_given) (hint_tokens h) (with_hints k (all_given h))
 hints_run version k h fit =
     let t1 : List (Option ℕ) = Some h.cb_nodes ∷ None ∷ None ∷ None ∷ None ∷ None ∷ None ∷ None ∷ None ∷ None ∷ [] in
     let t2 : List (Option ℕ) = Some h.cb_nodes ∷ Some h.cb_buffer ∷ None ∷ None ∷ None ∷ None ∷ None ∷ None ∷ None ∷ None ∷ [] in
@@ -130,7 +125,7 @@ hints_run version k h fit =
     let t7 : List (Option ℕ) = Some h.cb_nodes ∷ Some h.cb_buffer ∷ Some h.rd_buffer ∷ Some h.wr_buffer ∷ Some h.line_room ∷ Some (flag h.threads) ∷ Some (rule_number h.overlap) ∷ None ∷ None ∷ None ∷ [] in
     let t8 : List (Option ℕ) = Some h.cb_nodes ∷ Some h.cb_buffer ∷ Some h.rd_buffer ∷ Some h.wr_buffer ∷ Some h.line_room ∷ Some (flag h.threads) ∷ Some (rule_number h.overlap) ∷ Some h.header_align ∷ None ∷ None ∷ [] in
     let t9 : List (Option ℕ) = Some h.cb_nodes ∷ Some h.cb_buffer ∷ Some h.rd_buffer ∷ Some h.wr_buffer ∷ Some h.line_room ∷ Some (flag h.threads) ∷ Some (rule_number h.overlap) ∷ Some h.header_align ∷ Some h.var_align ∷ None ∷ [] in
-    let t0 : List (Option ℕ) = replicate 10 None in (
+    let t0 : List (Option ℕ) = none_given in (
       with_hints k t1,
       hint_leads version (with_hints k t0) (codes "cb_nodes") (decimal h.cb_nodes) 0 h.cb_nodes refl refl (number_value 1 64 1 h.cb_nodes fit.cb_nodes (omega arith)),
       (
@@ -147,10 +142,10 @@ hints_run version k h fit =
               hint_leads version (with_hints k t4) (codes "line_room") (decimal h.line_room) 4 h.line_room refl refl (number_value 1 64 1 h.line_room fit.line_room (omega arith)),
               (
                 with_hints k t6,
-                hint_leads version (with_hints k t5) (codes "threads") (cond h.threads (codes "on") (codes "off")) 5 (flag h.threads) refl refl (flag_value h.threads),
+                hint_leads version (with_hints k t5) (codes "threads") (shown_value off_or_on (flag h.threads)) 5 (flag h.threads) refl refl (flag_value h.threads),
                 (
                   with_hints k t7,
-                  hint_leads version (with_hints k t6) (codes "overlap") (rule_word h.overlap) 6 (rule_number h.overlap) refl refl (rule_value h.overlap),
+                  hint_leads version (with_hints k t6) (codes "overlap") (shown_value refuse_or_serial (rule_number h.overlap)) 6 (rule_number h.overlap) refl refl (rule_value h.overlap),
                   (
                     with_hints k t8,
                     hint_leads version (with_hints k t7) (codes "nc_header_align_size") (decimal h.header_align) 7 h.header_align refl refl (number_value 4 1048576 4 h.header_align fit.header_align (omega arith)),
@@ -158,7 +153,7 @@ hints_run version k h fit =
                       with_hints k t9,
                       hint_leads version (with_hints k t8) (codes "nc_var_align_size") (decimal h.var_align) 8 h.var_align refl refl (number_value 4 1048576 4 h.var_align fit.var_align (omega arith)),
                       (
-                        with_hints k (hint_table h),
+                        with_hints k (all_given h),
                         hint_leads version (with_hints k t9) (codes "striping_unit") (decimal h.striping_unit) 9 h.striping_unit refl refl (number_value 1 33554432 1 h.striping_unit fit.striping_unit (omega arith)),
                         refl,
                       ),
@@ -172,11 +167,11 @@ hints_run version k h fit =
       ),
     )
 
-flag_plain : (b : Bool) → is_plain (cond b (codes "on") (codes "off")) ≡ true
+flag_plain : (b : Bool) → is_plain (shown_value off_or_on (flag b)) ≡ true
 flag_plain true = refl
 flag_plain false = refl
 
-rule_plain : (o : OverlapRule) → is_plain (rule_word o) ≡ true
+rule_plain : (o : OverlapRule) → is_plain (shown_value refuse_or_serial (rule_number o)) ≡ true
 rule_plain Refuse = refl
 rule_plain Serial = refl
 
@@ -190,8 +185,8 @@ hints_are_lines h fit =
     (and_from _ _ (hint_is_line (codes "ind_rd_buffer_size") (decimal h.rd_buffer) refl (within_plain 1 33554432 1 h.rd_buffer fit.rd_buffer (omega arith)))
     (and_from _ _ (hint_is_line (codes "ind_wr_buffer_size") (decimal h.wr_buffer) refl (within_plain 1 33554432 1 h.wr_buffer fit.wr_buffer (omega arith)))
     (and_from _ _ (hint_is_line (codes "line_room") (decimal h.line_room) refl (within_plain 1 64 1 h.line_room fit.line_room (omega arith)))
-    (and_from _ _ (hint_is_line (codes "threads") (cond h.threads (codes "on") (codes "off")) refl (flag_plain h.threads))
-    (and_from _ _ (hint_is_line (codes "overlap") (rule_word h.overlap) refl (rule_plain h.overlap))
+    (and_from _ _ (hint_is_line (codes "threads") (shown_value off_or_on (flag h.threads)) refl (flag_plain h.threads))
+    (and_from _ _ (hint_is_line (codes "overlap") (shown_value refuse_or_serial (rule_number h.overlap)) refl (rule_plain h.overlap))
     (and_from _ _ (hint_is_line (codes "nc_header_align_size") (decimal h.header_align) refl (within_plain 4 1048576 4 h.header_align fit.header_align (omega arith)))
     (and_from _ _ (hint_is_line (codes "nc_var_align_size") (decimal h.var_align) refl (within_plain 4 1048576 4 h.var_align fit.var_align (omega arith)))
     (and_from _ _ (hint_is_line (codes "striping_unit") (decimal h.striping_unit) refl (within_plain 1 33554432 1 h.striping_unit fit.striping_unit (omega arith)))
@@ -210,7 +205,7 @@ What false version k = (k.added ≡ nothing_added) × DefinedOk version k.values
 
 pub record KnownOk (version : ℕ) (k : Known) : Type 0 where
   pub ranks : ranks_ok k.ranks ≡ true
-  pub hints : are_hints hint_forms k.hints ≡ true
+  pub hints : are_hints hint_table k.hints ≡ true
   pub few : k.values ≤ most_values
   pub what : What (version == 0) version k
 
@@ -230,7 +225,7 @@ pub nothing_ok : (version : ℕ) → KnownOk version nothing_known
 nothing_ok version = record { ranks = refl; hints = refl; few = omega arith; what = what_nothing (version == 0) version }
 
 abbrev IsOn : Bool → ℕ → Known → Known → Type 0
-IsOn b version k next = (ranks_ok next.ranks ≡ true) × (are_hints hint_forms next.hints ≡ true) × (next.values ≤ most_values) × What b version next
+IsOn b version k next = (ranks_ok next.ranks ≡ true) × (are_hints hint_table next.hints ≡ true) × (next.values ≤ most_values) × What b version next
 
 content_on : (b : Bool) (version : ℕ) (k next : Known) (first : List ℕ) (ws : List Word) → list_all is_read ws ≡ true → KnownOk version k → What b version k
     → elim b as (λ x. Result Known ScriptKind) [

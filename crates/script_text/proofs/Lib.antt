@@ -5,6 +5,7 @@ pub mod Numerals
 pub mod Sequences
 pub mod PrintedValues
 pub mod PrintedRegions
+pub mod CallTokens
 pub mod PrintedCalls
 pub mod CallLines
 pub mod PrintedAttributes
@@ -15,6 +16,7 @@ pub mod DefinedChains
 pub mod DefinedLines
 pub mod ReadWords
 pub mod KnownLines
+pub mod ScriptLines
 pub mod Whole
 pub mod ExpressedDefinitions
 pub mod ExpressedCalls

@@ -9,7 +9,7 @@ use Rattle.std.proofs.lemmas.List.{take_at, get_or_at}
 use Rattle.std.proofs.lemmas.List.Sums.{fold_push, AllPass-from_list_all}
 use Rattle.std.proofs.lemmas.List.Splits.{slice_split_at, slice_split_none}
 use native.Mathlib.Nat.{mul-le-mul_right}
-use Rattle.script_spec.proofs.NumeralLaws.{digit_bounds, natural_small, no_sum, sixteens-le, sixteens}
+use Rattle.script_spec.proofs.NumeralLaws.{digit_bounds, natural_small, no_sum, sixteens-le, sixteens, size_read}
 use Rattle.script_spec.specs.Texts.{hex, hex_digit, joined}
 use Rattle.script_spec.specs.Shown.{bracketed, size_list}
 use Rattle.script_spec.specs.ScriptWords.{is_digit, digits_value, is_digits, natural_of, below, size_of_text, number_of_text, hex_sum, hex_value, bits_of_text, starts_name, in_name, is_name, between_brackets, is_comma, parts, all_some, list_of_text}
@@ -82,9 +82,6 @@ below_bound limit (Some x) n h = by (nat_lt x limit) refl h
 pub below_again : (limit : ℕ) (o : Option ℕ) (n : ℕ) → o ≡ Some n → n < limit → below limit o ≡ Some n
 below_again limit o n e h = ap (below limit) e ∙ cond-true _ _ _ (lt-ltb n limit h)
 
-pub size_bound : (w : List ℕ) (n : ℕ) → size_of_text w ≡ Some n → n < 2 ^ 63
-size_bound w n h = (below_bound (2 ^ 63) (natural_of w) n h).1
-
 pub size_again : (n : ℕ) → n < 2 ^ 63 → size_of_text (decimal n) ≡ Some n
 size_again n h = below_again (2 ^ 63) (natural_of (decimal n)) n (natural_again n (omega arith)) h
 
@@ -153,7 +150,7 @@ hex_sum_again (suc k) n h =
     let split : 16 * (n / 16) + n % 16 ≡ n = omega arith in
     hex_push (hex k (n / 16)) (n % 16) (n / 16) (hex_sum_again k (n / 16) (omega arith)) (omega arith) ∙ ap (λ (x : ℕ). Some x) split
 
-length-hex : (k n : ℕ) → length (hex k n) ≡ k
+pub length-hex : (k n : ℕ) → length (hex k n) ≡ k
 length-hex zero n = refl
 length-hex (suc k) n = omega (arith, length-append (hex k (n / 16)) (hex_digit (n % 16) ∷ []), length-hex k (n / 16))
 
@@ -281,7 +278,7 @@ sizes_bound (w ∷ ws) ns h = by (size_of_text w) (all_some (map size_of_text ws
     by (Some n) (Some xs) a b k more =
         let same : Some (n ∷ xs) ≡ Some ns = ap (option_map (λ xs. n ∷ xs)) (sym b) ∙ k in
         let lists : n ∷ xs ≡ ns = cc in
-        subst (λ (ys : List ℕ). list_all is_size ys ≡ true) lists (and_from _ _ (lt-ltb n (2 ^ 63) (size_bound w n a)) (more xs b))
+        subst (λ (ys : List ℕ). list_all is_size ys ≡ true) lists (and_from _ _ (lt-ltb n (2 ^ 63) (size_read w n a)) (more xs b))
 
 pub list_bound : (w : List ℕ) (ns : List ℕ) → list_of_text w ≡ Some ns → list_all is_size ns ≡ true
 list_bound w ns h = by (between_brackets w) h

@@ -13,10 +13,10 @@ use Rattle.nc_base.specs.declared.request.Values.{Values}
 use Rattle.nc_base.specs.declared.request.Values.TheVariants.{Numbers, Text, Bits}
 use Rattle.serial_spec.specs.ExternalForm as class
 use Rattle.serial_spec.specs.ExternalForm.{Class, class_of, width_of, size_of, ext, val, fits}
-use Rattle.serial_spec.specs.HeaderGrammar.{number_of, last_type}
+use Rattle.serial_spec.specs.HeaderBytes.{number_of, last_type}
 use Rattle.serial_spec.specs.Lawful.{most_values}
 use Rattle.serial_spec.specs.Request.{count_of, number_in, code_in, gathered}
-use Rattle.serial_spec.proofs.ValueLaws.{val-ext}
+use Rattle.serial_spec.proofs.ValueLaws.{val-ext, ext_long}
 use Rattle.script_spec.specs.Texts.{type_word}
 use Rattle.script_spec.specs.Shown.{pieces, attr_values, shown_values}
 use Rattle.script_spec.specs.ScriptWords.{Word, Plain, is_name}
@@ -83,19 +83,6 @@ type_word_again version t more h = word_read (type_of version) kind.UnknownWord 
 
 -- ---- the values of an attribute, from its bytes
 
-long_ext : (t : NcType) (v : Value) → length (ext t v) ≡ size_of t
-long_ext Byte v = refl
-long_ext Char v = refl
-long_ext Short v = refl
-long_ext Int v = refl
-long_ext Float v = refl
-long_ext Double v = refl
-long_ext UByte v = refl
-long_ext UShort v = refl
-long_ext UInt v = refl
-long_ext Int64 v = refl
-long_ext UInt64 v = refl
-
 abbrev seen : NcType → ℕ → List ℕ → List (Option Value)
 seen t n bytes = map (λ b. Some (val t b)) (pieces n (size_of t) bytes)
 
@@ -106,8 +93,8 @@ seen_again t h test each [] all = refl
 seen_again t h test each (x ∷ xs) all =
     let both = and_parts (test x) (list_all test xs) all in
     let rest = flat_map (λ y. ext t (h y)) xs in
-    let front : take (size_of t) (ext t (h x) ++ rest) ≡ ext t (h x) = take_at (ext t (h x)) rest (size_of t) (long_ext t (h x)) in
-    let back : drop (size_of t) (ext t (h x) ++ rest) ≡ rest = drop_at (ext t (h x)) rest (size_of t) (long_ext t (h x)) in
+    let front : take (size_of t) (ext t (h x) ++ rest) ≡ ext t (h x) = take_at (ext t (h x)) rest (size_of t) (ext_long t (h x)) in
+    let back : drop (size_of t) (ext t (h x) ++ rest) ≡ rest = drop_at (ext t (h x)) rest (size_of t) (ext_long t (h x)) in
     ap (λ (bs : List ℕ). Some (val t bs) ∷ seen t (length xs) (drop (size_of t) (ext t (h x) ++ rest))) front
     ∙ (ap (λ (bs : List ℕ). Some (val t (ext t (h x))) ∷ seen t (length xs) bs) back
     ∙ (ap (λ (v : Value). Some v ∷ seen t (length xs) rest) (val-ext t (h x) (each x both.0))

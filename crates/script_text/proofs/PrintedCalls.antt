@@ -1,5 +1,5 @@
 -- A call that is printed is read as the same call.
-use Rattle.std.proofs.Common.{◌≡◌, ◌∙◌, ℕ, ◌+◌, ◌^◌, ◌≤◌, ◌<◌, List, [], ◌∷◌, ◌++◌, map, Bool, true, false, cond, Option, Some, None, Result, Ok, Err, refl, sym, ap, subst, append-nil, arith, bytes_eq, codes, decimal}
+use Rattle.std.proofs.Common.{◌≡◌, ◌∙◌, ℕ, ◌+◌, ◌^◌, ◌≤◌, ◌<◌, List, [], ◌∷◌, ◌++◌, Bool, true, false, cond, Option, Some, None, Result, Ok, Err, refl, sym, ap, subst, append-nil, arith, bytes_eq, codes, decimal}
 use Rattle.std.specs.List.{list_all}
 use Rattle.std.proofs.lemmas.Bool.{and_from}
 use Rattle.nc_base.specs.declared.errors.ScriptKind.{ScriptKind}
@@ -7,7 +7,6 @@ use Rattle.nc_base.specs.declared.errors.ScriptKind.TheVariants as kind
 use Rattle.nc_base.specs.declared.request.Values.{Values}
 use Rattle.nc_base.specs.declared.request.Values.TheVariants.{Numbers}
 use Rattle.nc_base.specs.declared.request.Form.{Form}
-use Rattle.nc_base.specs.declared.request.Form.TheVariants as form
 use Rattle.nc_base.specs.declared.request.Given.{Given}
 use Rattle.nc_base.specs.declared.request.PostKind.{PostKind}
 use Rattle.nc_base.specs.declared.request.PostKind.TheVariants.{Iput, Iget, Bput}
@@ -16,165 +15,18 @@ use Rattle.nc_base.specs.declared.request.Call.{Call}
 use Rattle.nc_base.specs.declared.request.Call.TheVariants as call
 use Rattle.serial_spec.specs.Lawful.{most_values, values_in_call}
 use Rattle.serial_spec.specs.Request.{count_of}
-use Rattle.script_spec.specs.Texts.{call_word, form_word, kind_word, with_all}
-use Rattle.script_spec.specs.Shown.{call_words, region_words, shown_values}
+use Rattle.script_spec.specs.Texts.{call_word}
 use Rattle.script_spec.specs.ScriptWords.{Word, Plain, is_name}
 use Rattle.script_spec.specs.ScriptSteps.{◌>>=◌, refuse_if, or_fault, reads_as, size, name, name_of_text, ended, whole}
 use Rattle.script_spec.specs.ScriptValues.{values}
 use Rattle.script_spec.specs.ScriptCalls.{after_prefix, form_of_text, form_and_all, region, id_of_text, choice, posted, is_posted, new_id, put_call, get_call, post_values, post_call, fill_call, attach_call, inquiry, lone_call, other_call, plain_call, post_of_text, call_of}
 use Rattle.script_text.proofs.Steps.{went, go_on, same_ok, not_refused, passed, read_word, word_read, whole_value}
-use Rattle.script_text.proofs.Lexing.{spelling, is_plain, is_good}
+use Rattle.script_text.proofs.Lexing.{is_good}
 use Rattle.script_text.proofs.Lines.{all_joined}
 use Rattle.script_text.proofs.Numerals.{name_plain, size_plain}
-use Rattle.script_text.proofs.PrintedValues.{value_tokens, values_spelled, is_read, Fitting, values_fit, values_again, values_good}
-use Rattle.script_text.proofs.PrintedRegions.{kept, name_read, name_again, size_read, size_word, region_tokens, region_spelled, RegionAgain, region_again, region_kept, id_bound, id_again, id_plain, choice_tokens, choice_spelled, ChoiceAgain, choice_read}
-
--- ---- calls as they are printed
-
--- what follows a call's word
-abbrev pub call_tokens : Call → List Word
-call_tokens (call.Put all n g vs) = Plain n ∷ (region_tokens g.form g ++ value_tokens vs)
-call_tokens (call.Get all n g) = Plain n ∷ region_tokens g.form g
-call_tokens (call.Post id k n g vs) = Plain (decimal id) ∷ Plain n ∷ (region_tokens g.form g ++ value_tokens vs)
-call_tokens (call.Wait all c) = choice_tokens c
-call_tokens (call.Cancel c) = choice_tokens c
-call_tokens (call.Attach n) = Plain (decimal n) ∷ []
-call_tokens (call.InqDim n) = Plain n ∷ []
-call_tokens (call.FillRec n number share ranks) = Plain n ∷ Plain (decimal number) ∷ []
-call_tokens call.Detach = []
-call_tokens call.BeginIndep = []
-call_tokens call.EndIndep = []
-call_tokens call.SyncRecords = []
-
-both_spelled : (g : Given) (vs : Values) → map spelling (region_tokens g.form g ++ value_tokens vs) ≡ region_words g ++ shown_values vs
-both_spelled g vs =
-    joined_spelled (region_tokens g.form g) (value_tokens vs)
-    ∙ (ap (λ (ws : List (List ℕ)). ws ++ map spelling (value_tokens vs)) (region_spelled g.form g) ∙ ap (λ (ws : List (List ℕ)). region_words g ++ ws) (values_spelled vs))
-  where
-    joined_spelled : (xs ys : List Word) → map spelling (xs ++ ys) ≡ map spelling xs ++ map spelling ys
-    joined_spelled [] ys = refl
-    joined_spelled (x ∷ xs) ys = ap (λ (ws : List (List ℕ)). spelling x ∷ ws) (joined_spelled xs ys)
-
-pub call_spelled : (c : Call) → map spelling (call_tokens c) ≡ call_words c
-call_spelled (call.Put all n g vs) = ap (λ (ws : List (List ℕ)). n ∷ ws) (both_spelled g vs)
-call_spelled (call.Get all n g) = ap (λ (ws : List (List ℕ)). n ∷ ws) (region_spelled g.form g)
-call_spelled (call.Post id k n g vs) = ap (λ (ws : List (List ℕ)). decimal id ∷ n ∷ ws) (both_spelled g vs)
-call_spelled (call.Wait all c) = choice_spelled c
-call_spelled (call.Cancel c) = choice_spelled c
-call_spelled (call.Attach n) = refl
-call_spelled (call.InqDim n) = refl
-call_spelled (call.FillRec n number share ranks) = refl
-call_spelled call.Detach = refl
-call_spelled call.BeginIndep = refl
-call_spelled call.EndIndep = refl
-call_spelled call.SyncRecords = refl
-
--- ---- the words of calls
-
-with_all_plain : (all : Bool) (f : Form) → (is_plain (with_all all (codes "put_" ++ form_word f)) ≡ true) × (is_plain (with_all all (codes "get_" ++ form_word f)) ≡ true)
-with_all_plain true form.Var1 = (refl, refl)
-with_all_plain true form.Var = (refl, refl)
-with_all_plain true form.Vara = (refl, refl)
-with_all_plain true form.Vars = (refl, refl)
-with_all_plain true form.Varm = (refl, refl)
-with_all_plain true form.Varn = (refl, refl)
-with_all_plain false form.Var1 = (refl, refl)
-with_all_plain false form.Var = (refl, refl)
-with_all_plain false form.Vara = (refl, refl)
-with_all_plain false form.Vars = (refl, refl)
-with_all_plain false form.Varm = (refl, refl)
-with_all_plain false form.Varn = (refl, refl)
-
-post_plain : (k : PostKind) (f : Form) → is_plain (kind_word k ++ form_word f) ≡ true
-post_plain Iput form.Var1 = refl
-post_plain Iput form.Var = refl
-post_plain Iput form.Vara = refl
-post_plain Iput form.Vars = refl
-post_plain Iput form.Varm = refl
-post_plain Iput form.Varn = refl
-post_plain Iget form.Var1 = refl
-post_plain Iget form.Var = refl
-post_plain Iget form.Vara = refl
-post_plain Iget form.Vars = refl
-post_plain Iget form.Varm = refl
-post_plain Iget form.Varn = refl
-post_plain Bput form.Var1 = refl
-post_plain Bput form.Var = refl
-post_plain Bput form.Vara = refl
-post_plain Bput form.Vars = refl
-post_plain Bput form.Varm = refl
-post_plain Bput form.Varn = refl
-
-wait_plain : (all : Bool) → is_plain (with_all all (codes "wait")) ≡ true
-wait_plain true = refl
-wait_plain false = refl
-
-pub call_plain : (c : Call) → is_plain (call_word c) ≡ true
-call_plain (call.Put all n g vs) = (with_all_plain all g.form).0
-call_plain (call.Get all n g) = (with_all_plain all g.form).1
-call_plain (call.Post id k n g vs) = post_plain k g.form
-call_plain (call.Wait all c) = wait_plain all
-call_plain (call.Cancel c) = refl
-call_plain (call.Attach n) = refl
-call_plain (call.InqDim n) = refl
-call_plain (call.FillRec n number share ranks) = refl
-call_plain call.Detach = refl
-call_plain call.BeginIndep = refl
-call_plain call.EndIndep = refl
-call_plain call.SyncRecords = refl
-
-module _ (ranks r : ℕ) (own : List Call) (before : ℕ) (ws : List Word) where
-  put_word : (all : Bool) (f : Form) → call_of ranks r own before (with_all all (codes "put_" ++ form_word f)) ws ≡ put_call all f before ws
-  put_word true form.Var1 = refl
-  put_word true form.Var = refl
-  put_word true form.Vara = refl
-  put_word true form.Vars = refl
-  put_word true form.Varm = refl
-  put_word true form.Varn = refl
-  put_word false form.Var1 = refl
-  put_word false form.Var = refl
-  put_word false form.Vara = refl
-  put_word false form.Vars = refl
-  put_word false form.Varm = refl
-  put_word false form.Varn = refl
-
-  get_word : (all : Bool) (f : Form) → call_of ranks r own before (with_all all (codes "get_" ++ form_word f)) ws ≡ get_call all f ws
-  get_word true form.Var1 = refl
-  get_word true form.Var = refl
-  get_word true form.Vara = refl
-  get_word true form.Vars = refl
-  get_word true form.Varm = refl
-  get_word true form.Varn = refl
-  get_word false form.Var1 = refl
-  get_word false form.Var = refl
-  get_word false form.Vara = refl
-  get_word false form.Vars = refl
-  get_word false form.Varm = refl
-  get_word false form.Varn = refl
-
-  post_word : (k : PostKind) (f : Form) → call_of ranks r own before (kind_word k ++ form_word f) ws ≡ post_call k (posted own) f before ws
-  post_word Iput form.Var1 = refl
-  post_word Iput form.Var = refl
-  post_word Iput form.Vara = refl
-  post_word Iput form.Vars = refl
-  post_word Iput form.Varm = refl
-  post_word Iput form.Varn = refl
-  post_word Iget form.Var1 = refl
-  post_word Iget form.Var = refl
-  post_word Iget form.Vara = refl
-  post_word Iget form.Vars = refl
-  post_word Iget form.Varm = refl
-  post_word Iget form.Varn = refl
-  post_word Bput form.Var1 = refl
-  post_word Bput form.Var = refl
-  post_word Bput form.Vara = refl
-  post_word Bput form.Vars = refl
-  post_word Bput form.Varm = refl
-  post_word Bput form.Varn = refl
-
-  wait_word : (all : Bool) → call_of ranks r own before (with_all all (codes "wait")) ws ≡ (choice ws >>= λ c. Ok (call.Wait all c))
-  wait_word true = refl
-  wait_word false = refl
+use Rattle.script_text.proofs.PrintedValues.{value_tokens, is_read, Fitting, values_fit, values_again, values_good}
+use Rattle.script_text.proofs.PrintedRegions.{kept, name_read, name_again, size_read, size_word, region_tokens, RegionAgain, region_again, region_kept, id_bound, id_again, id_plain, choice_tokens, ChoiceAgain, choice_read}
+use Rattle.script_text.proofs.CallTokens.{call_tokens, get_word, post_word, put_word, wait_word}
 
 -- ---- a call read again
 

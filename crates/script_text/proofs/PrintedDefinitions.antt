@@ -12,14 +12,16 @@ use Rattle.script_spec.specs.Texts.{type_word, joined}
 use Rattle.script_spec.specs.Shown.{bracketed}
 use Rattle.script_spec.specs.ScriptWords.{Word, Plain, is_name, below, size_of_text, between_brackets, parts}
 use Rattle.script_spec.specs.ScriptSteps.{refuse_if, reads_as, name, ended}
-use Rattle.script_spec.specs.ScriptDefinitions.{HintForm, Within, Either, hint_forms, hint_of_text, hint_form, number_within, one_of_two, hint_value, hint_in, hint_line, ranks_line, type_of, is_among, length_limit, length_of_text, is_unlimited, dim_names, dim_line, var_head, name_list}
+use Rattle.script_spec.specs.HintTable.{HintForm, Within, Either, HintRow, hint_table, hint_of_text, hint_form, hint_in, no_row}
+use Rattle.script_spec.specs.ScriptDefinitions.{number_within, one_of_two, hint_value, hint_line, ranks_line, type_of, is_among, length_limit, length_of_text, is_unlimited, dim_names, dim_line, var_head, name_list}
 use Rattle.script_text.proofs.Steps.{went, go_on, same_ok, not_refused, passed, read_word, word_read, whole_value}
 use Rattle.script_text.proofs.Lexing.{is_plain, is_good}
 use Rattle.script_text.proofs.Lines.{all_more}
-use Rattle.script_text.proofs.Numerals.{below_bound, below_again, size_bound, size_again, size_plain, decimal_word, brackets_again, parts_again, bracketed_plain, is_item, name_item, name_plain}
+use Rattle.script_text.proofs.Numerals.{below_bound, below_again, size_again, size_plain, decimal_word, brackets_again, parts_again, bracketed_plain, is_item, name_item, name_plain}
 use Rattle.script_text.proofs.PrintedValues.{not_letters}
 use Rattle.script_text.proofs.PrintedRegions.{name_read, name_again}
 use Rattle.script_text.proofs.PrintedAttributes.{type_read, type_word_again}
+use Rattle.script_spec.proofs.NumeralLaws.{size_read}
 
 -- ---- hints
 
@@ -66,44 +68,44 @@ value_read (Within low high unit) ws r h = let w = read_word (number_within low 
 value_read (Either a b) ws r h = let w = read_word (one_of_two a b) kind.UnknownWord ws r h in either_read a b w.0 r.0 w.1
 
 -- the values that were given are of the forms, one for one
-abbrev pub are_hints : List (List ℕ × HintForm) → List (Option ℕ) → Bool
+abbrev pub are_hints : List HintRow → List (Option ℕ) → Bool
 are_hints [] [] = true
 are_hints [] (o ∷ os) = false
 are_hints (f ∷ fs) [] = false
 are_hints (f ∷ fs) (None ∷ os) = are_hints fs os
-are_hints (f ∷ fs) (Some n ∷ os) = is_value_of f.1 n && are_hints fs os
+are_hints (f ∷ fs) (Some n ∷ os) = is_value_of f.form n && are_hints fs os
 
-abbrev form_at : List (List ℕ × HintForm) → ℕ → HintForm
-form_at fs h = elim (slice_get fs h) [ None ↦ Within 0 0 1 | Some f ↦ f.1 ]
+abbrev form_at : List HintRow → ℕ → HintForm
+form_at fs h = (unwrap_or (slice_get fs h) no_row).form
 
-hints_set : (fs : List (List ℕ × HintForm)) (os : List (Option ℕ)) (h v : ℕ) → are_hints fs os ≡ true → is_value_of (form_at fs h) v ≡ true → are_hints fs (slice_set os h (Some v)) ≡ true
+hints_set : (fs : List HintRow) (os : List (Option ℕ)) (h v : ℕ) → are_hints fs os ≡ true → is_value_of (form_at fs h) v ≡ true → are_hints fs (slice_set os h (Some v)) ≡ true
 hints_set [] [] h v a b = refl
 hints_set [] (o ∷ os) h v a b = absurd (cc)
 hints_set (f ∷ fs) [] h v a b = absurd (cc)
 hints_set (f ∷ fs) (None ∷ os) zero v a b = and_from _ _ b a
-hints_set (f ∷ fs) (Some n ∷ os) zero v a b = and_from _ _ b (and_parts (is_value_of f.1 n) (are_hints fs os) a).1
+hints_set (f ∷ fs) (Some n ∷ os) zero v a b = and_from _ _ b (and_parts (is_value_of f.form n) (are_hints fs os) a).1
 hints_set (f ∷ fs) (None ∷ os) (suc h) v a b = hints_set fs os h v a b
 hints_set (f ∷ fs) (Some n ∷ os) (suc h) v a b =
-    let both = and_parts (is_value_of f.1 n) (are_hints fs os) a in
+    let both = and_parts (is_value_of f.form n) (are_hints fs os) a in
     and_from _ _ both.0 (hints_set fs os h v both.1 b)
 
-pub hint_read : (hints : List (Option ℕ)) (ws : List Word) (r : ℕ × ℕ) → are_hints hint_forms hints ≡ true → hint_line hints ws ≡ Ok r → are_hints hint_forms (slice_set hints r.0 (Some r.1)) ≡ true
+pub hint_read : (hints : List (Option ℕ)) (ws : List Word) (r : ℕ × ℕ) → are_hints hint_table hints ≡ true → hint_line hints ws ≡ Ok r → are_hints hint_table (slice_set hints r.0 (Some r.1)) ≡ true
 hint_read hints ws r all h =
     let a = went (reads_as hint_of_text kind.UnknownWord ws) _ r h in
     let b = went (refuse_if (is_some (hint_in a.value.0 hints)) kind.TwiceNamed) _ r a.rest in
     let c = went (hint_value (hint_form a.value.0) a.value.1) _ r b.rest in
     let d = went (ended c.value.1) _ r c.rest in
-    subst (λ (x : ℕ × ℕ). are_hints hint_forms (slice_set hints x.0 (Some x.1)) ≡ true) (same_ok (a.value.0, c.value.0) r d.rest)
-    (hints_set hint_forms hints a.value.0 c.value.0 all (value_read (hint_form a.value.0) a.value.1 c.value c.first))
+    subst (λ (x : ℕ × ℕ). are_hints hint_table (slice_set hints x.0 (Some x.1)) ≡ true) (same_ok (a.value.0, c.value.0) r d.rest)
+    (hints_set hint_table hints a.value.0 c.value.0 all (value_read (hint_form a.value.0) a.value.1 c.value c.first))
 
-pub hint_or_fits : (fs : List (List ℕ × HintForm)) (os : List (Option ℕ)) (k d : ℕ) → are_hints fs os ≡ true → is_value_of (form_at fs k) d ≡ true → is_value_of (form_at fs k) (unwrap_or (hint_in k os) d) ≡ true
+pub hint_or_fits : (fs : List HintRow) (os : List (Option ℕ)) (k d : ℕ) → are_hints fs os ≡ true → is_value_of (form_at fs k) d ≡ true → is_value_of (form_at fs k) (unwrap_or (hint_in k os) d) ≡ true
 hint_or_fits [] [] k d a b = b
 hint_or_fits [] (o ∷ os) k d a b = absurd (cc)
 hint_or_fits (f ∷ fs) [] k d a b = absurd (cc)
 hint_or_fits (f ∷ fs) (None ∷ os) zero d a b = b
-hint_or_fits (f ∷ fs) (Some n ∷ os) zero d a b = (and_parts (is_value_of f.1 n) (are_hints fs os) a).0
+hint_or_fits (f ∷ fs) (Some n ∷ os) zero d a b = (and_parts (is_value_of f.form n) (are_hints fs os) a).0
 hint_or_fits (f ∷ fs) (None ∷ os) (suc k) d a b = hint_or_fits fs os k d a b
-hint_or_fits (f ∷ fs) (Some n ∷ os) (suc k) d a b = hint_or_fits fs os k d (and_parts (is_value_of f.1 n) (are_hints fs os) a).1 b
+hint_or_fits (f ∷ fs) (Some n ∷ os) (suc k) d a b = hint_or_fits fs os k d (and_parts (is_value_of f.form n) (are_hints fs os) a).1 b
 
 -- ---- the number of ranks
 
@@ -138,7 +140,7 @@ length_is version w n h = by (bytes_eq w (codes "unlimited")) h
     by_zero m true e s low k = absurd (cc)
     by_zero m false e s low k =
         let same : m ≡ n = cc in
-        inr (subst (λ x. ((x == 0) ≡ false) × (x < length_limit version) × (x < 2 ^ 63)) same (e, low, size_bound w m s))
+        inr (subst (λ x. ((x == 0) ≡ false) × (x < length_limit version) × (x < 2 ^ 63)) same (e, low, size_read w m s))
 
     by_size : (o : Option ℕ) → below (length_limit version) (size_of_text w) ≡ o → length_by o ≡ Some n → (n ≡ 0) ⊎ (((n == 0) ≡ false) × (n < length_limit version) × (n < 2 ^ 63))
     by_size None e k = absurd (cc)

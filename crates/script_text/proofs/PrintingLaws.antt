@@ -57,11 +57,6 @@ line_words r c ws = ap (λ (t : List ℕ). t ++ spaced ws) (append_assoc r (32 �
 pub title_then : (t n b : List ℕ) → ((t ++ 32 ∷ n) ++ 32 ∷ []) ++ b ≡ t ++ 32 ∷ (n ++ 32 ∷ b)
 title_then t n b = append_assoc (t ++ 32 ∷ n) (32 ∷ []) b ∙ append_assoc t (32 ∷ n) (32 ∷ b)
 
--- the lines of the hints in three parts
-pub ten_parts : (a b c d e f g h i j : List ℕ)
-    → (((a ++ b) ++ c) ++ d) ++ ((e ++ f) ++ g) ++ ((h ++ i) ++ j) ≡ a ++ (b ++ (c ++ (d ++ (e ++ (f ++ (g ++ (h ++ (i ++ (j ++ [])))))))))
-ten_parts a b c d e f g h i j = simp (append_assoc, append-nil)
-
 -- ---- values of an attribute
 
 numbers_pushed : (f : List ℕ → ℤ) (bs : List (List ℕ))

@@ -1,6 +1,6 @@
 -- A whole script: what is printed of what was read is read as the same script.
-use Rattle.std.proofs.Common.{◌≡◌, ◌∙◌, ℕ, zero, suc, ◌+◌, ◌%◌, ◌^◌, ◌≤◌, ◌<◌, List, [], ◌∷◌, ◌++◌, map, replicate, length, flat_map, Bool, true, false, not, cond, nat_lt, nat_le, ◌==◌, ◌&&◌, ◌||◌, Option, Some, None, Result, Ok, Err, refl, sym, ap, subst, ⊎_elim, append_assoc, append-nil, arith, codes, decimal, take}
-use Rattle.std.specs.List.{list_all, enumerate_from}
+use Rattle.std.proofs.Common.{◌≡◌, ◌∙◌, ℕ, zero, suc, ◌+◌, ◌%◌, ◌^◌, ◌≤◌, ◌<◌, List, [], ◌∷◌, ◌++◌, map, replicate, length, flat_map, Bool, true, false, not, cond, nat_lt, nat_le, ◌==◌, ◌&&◌, ◌||◌, Option, Some, None, Result, Ok, Err, refl, sym, ap, subst, ⊎_elim, arith, codes, decimal, take}
+use Rattle.std.specs.List.{list_all}
 use Rattle.std.specs.Str.Lossy.{utf8_valid_len}
 use Rattle.std.proofs.lemmas.Bool.{and_parts, and_from, or_cases, cond-true, ne_eqb, eqb-true}
 use borrow.Author.Tests.{leb-true, le-ltb, ltb-false}
@@ -9,118 +9,32 @@ use Rattle.nc_base.specs.declared.errors.ScriptKind.{ScriptKind}
 use Rattle.nc_base.specs.declared.errors.ScriptKind.TheVariants as kind
 use Rattle.nc_base.specs.declared.errors.ScriptErr.{ScriptErr}
 use Rattle.nc_base.specs.declared.errors.LimitName.TheVariants as limit
-use Rattle.nc_base.specs.declared.header.Header.{Header}
-use Rattle.nc_base.specs.declared.header.Var.{Var}
 use Rattle.nc_base.specs.declared.script.Hints.{Hints}
 use Rattle.nc_base.specs.declared.script.Extra.{Extra}
 use Rattle.nc_base.specs.declared.script.Script.{Script}
 use Rattle.nc_base.specs.declared.request.Call.{Call}
-use Rattle.serial_spec.specs.HeaderGrammar.{is_version}
+use Rattle.serial_spec.specs.HeaderBytes.{is_version}
 use Rattle.serial_spec.specs.History.{kinds}
 use Rattle.serial_spec.specs.Lawful.{most_values}
-use Rattle.script_spec.specs.Texts.{line}
-use Rattle.script_spec.specs.Shown.{shown, shown_hints, shown_extra, shown_dim, shown_var, shown_attr, shown_call}
+use Rattle.script_spec.specs.Shown.{shown}
 use Rattle.script_spec.specs.ScriptWords.{Word, Plain, Line, is_word, size_of_text, text_lines, significant}
 use Rattle.script_spec.specs.ScriptSteps.{◌>>=◌, reads_as, whole}
-use Rattle.script_spec.specs.ScriptDefinitions.{Within, Defined, no_definition, Added, nothing_added, Known, nothing_known, ranks_line}
+use Rattle.script_spec.specs.HintTable.{Within, hints_of}
+use Rattle.script_spec.specs.ScriptDefinitions.{Defined, no_definition, Added, nothing_added, Known, nothing_known, ranks_line}
 use Rattle.script_spec.specs.ScriptCalls.{Called, mismatch}
-use Rattle.script_spec.specs.ScriptGrammar.{at_line, version_of_text, version_line, head, definitions, data_part, finish, hints_of, header_of, script_of, no_calls, script_of_lines, most_bytes, most_lines, newlines, too_many_lines, within_lines, script_of_utf8, Reads, is_mismatch}
+use Rattle.script_spec.specs.ScriptGrammar.{at_line, version_of_text, version_line, head, definitions, data_part, finish, script_of, no_calls, script_of_lines, most_bytes, most_lines, newlines, too_many_lines, within_lines, script_of_utf8, Reads, is_mismatch}
 use Rattle.std.proofs.lemmas.List.{length-map}
 use Rattle.script_text.proofs.Steps.{went, go_on, same_ok, read_word, word_read, whole_value}
 use Rattle.script_text.proofs.Lines.{is_line, spelled, body, numbered, all_joined, lines_again, significant_lines, valid_lines, valid_bytes}
 use Rattle.script_text.proofs.Numerals.{size_again, size_plain}
 use Rattle.script_text.proofs.PrintedDefinitions.{is_value_of, ranks_again, within_plain}
-use Rattle.script_text.proofs.CallLines.{Chains, count_all, Holds, DataEnd, are_read, data_holds, call_lines, flat_joined, calls_spelled, calls_are_lines, data_again, line_ok}
-use Rattle.script_text.proofs.AddedLines.{Leads, Runs, runs_on, run_again, Replay, replay_runs, replay_lines, extra_line, extras_spelled, att_spelled}
+use Rattle.script_text.proofs.CallLines.{Chains, count_all, Holds, DataEnd, are_read, data_holds, call_lines, calls_are_lines, data_again, line_ok}
+use Rattle.script_text.proofs.AddedLines.{Leads, Runs, runs_on, run_again, Replay, replay_runs, replay_lines, extra_line}
 use Rattle.script_text.proofs.DefinedChains.{DefinedOk}
-use Rattle.script_text.proofs.DefinedLines.{at_state, leads_by, line_of_dim, line_of_var, line_of_att, lines_of_own, definition_lines, told_again, nothing_but, definitions_run, definitions_are_lines}
+use Rattle.script_text.proofs.DefinedLines.{at_state, leads_by, definition_lines, told_again, nothing_but, definitions_run, definitions_are_lines}
 use Rattle.script_text.proofs.ReadWords.{significant_read}
-use Rattle.script_text.proofs.KnownLines.{hint_tokens, mapped_spelled, hints_spelled, hint_table, hints_again, HintsFit, hints_fit, with_hints, hints_run, hints_are_lines, What, nothing_ok, definitions_read}
-
--- ---- a script, as its lines
-
-abbrev ranks_words : ℕ → List Word
-ranks_words n = Plain (codes "ranks") ∷ Plain (decimal n) ∷ []
-
-abbrev pub fill_lines : Bool → List (List Word)
-fill_lines true = (Plain (codes "fill") ∷ []) ∷ []
-fill_lines false = []
-
--- the lines between the head and `data`
-abbrev pub before_data : ℕ → Hints → List Extra → Defined → List (List Word)
-before_data n h es d = ranks_words n ∷ (hint_tokens h ++ (fill_lines d.filled ++ (map extra_line es ++ definition_lines d)))
-
-abbrev pub from_data : List (List Call) → List (List Word)
-from_data calls = (Plain (codes "data") ∷ []) ∷ (call_lines 0 calls ++ (Plain (codes "end") ∷ []) ∷ [])
-
--- of an existing dataset, or of a new one of this version
-abbrev head_words : Bool → ℕ → List Word
-head_words true version = Plain (codes "open") ∷ []
-head_words false version = Plain (codes "create") ∷ Plain (decimal version) ∷ []
-
-abbrev pub all_lines : Bool → ℕ → ℕ → Hints → List Extra → Defined → List (List Call) → List (List Word)
-all_lines b version n h es d calls = head_words b version ∷ (before_data n h es d ++ from_data calls)
-
-abbrev pub script_with : ℕ → ℕ → Hints → Defined → List Extra → List (List Call) → Script
-script_with version n h d es calls = record { fresh = not (version == 0); header = header_of version d; ranks = n; hints = h; filled = d.filled; extra = es; calls = calls }
-
--- ---- they spell what is shown
-
-flat_then : (xs ys : List (List Word)) (text rest : List ℕ) → flat_map spelled xs ≡ text → flat_map spelled ys ≡ rest → flat_map spelled (xs ++ ys) ≡ text ++ rest
-flat_then xs ys text rest a b = flat_joined spelled xs ys ∙ (ap (λ (t : List ℕ). t ++ flat_map spelled ys) a ∙ ap (λ (t : List ℕ). text ++ t) b)
-
-own_spelled : (vs : List Var) → flat_map spelled (lines_of_own vs) ≡ flat_map (λ v. flat_map (shown_attr v.name) v.attrs) vs
-own_spelled [] = refl
-own_spelled (v ∷ vs) = flat_then (map (line_of_att v.name) v.attrs) (lines_of_own vs) (flat_map (shown_attr v.name) v.attrs) (flat_map (λ v. flat_map (shown_attr v.name) v.attrs) vs)
-    (mapped_spelled (shown_attr v.name) (line_of_att v.name) (att_spelled v.name) v.attrs) (own_spelled vs)
-
-abbrev definitions_text : Header → List ℕ
-definitions_text header =
-    flat_map shown_dim header.dims ++ (flat_map (shown_var header) header.vars ++ (flat_map (shown_attr (codes ":")) header.attrs ++ flat_map (λ v. flat_map (shown_attr v.name) v.attrs) header.vars))
-
-definitions_spelled : (version : ℕ) (d : Defined) → flat_map spelled (definition_lines d) ≡ definitions_text (header_of version d)
-definitions_spelled version d =
-    flat_then (map line_of_dim d.dims) _ _ _ (mapped_spelled shown_dim line_of_dim (λ x. refl) d.dims)
-    (flat_then (map (line_of_var d.dims) d.vars) _ _ _ (mapped_spelled (shown_var (header_of version d)) (line_of_var d.dims) (λ x. refl) d.vars)
-    (flat_then (map (line_of_att (codes ":")) d.attrs) (lines_of_own d.vars) _ _ (mapped_spelled (shown_attr (codes ":")) (line_of_att (codes ":")) (att_spelled (codes ":")) d.attrs) (own_spelled d.vars)))
-
-abbrev fill_text : Bool → List ℕ
-fill_text filled = cond filled (line (codes "fill" ∷ [])) []
-
-fill_spelled : (filled : Bool) → flat_map spelled (fill_lines filled) ≡ fill_text filled
-fill_spelled true = refl
-fill_spelled false = refl
-
-abbrev head_text : Bool → ℕ → List ℕ
-head_text fresh version = cond fresh (line (codes "create" ∷ decimal version ∷ [])) (line (codes "open" ∷ []))
-
-head_spelled : (b : Bool) (version : ℕ) → spelled (head_words b version) ≡ head_text (not b) version
-head_spelled true version = refl
-head_spelled false version = refl
-
-regrouped : (a b c d e f g h i j k l : List ℕ) → a ++ ((b ++ (c ++ (d ++ (e ++ (f ++ (g ++ (h ++ i))))))) ++ (j ++ (k ++ l))) ≡ a ++ b ++ c ++ d ++ e ++ (f ++ g ++ h ++ i) ++ j ++ k ++ l
-regrouped a b c d e f g h i j k l = simp append_assoc
-
-all_spelled : (b : Bool) (version n : ℕ) (h : Hints) (es : List Extra) (d : Defined) (calls : List (List Call)) → (version == 0) ≡ b
-    → flat_map spelled (all_lines b version n h es d calls) ≡ shown (script_with version n h d es calls)
-all_spelled b version n h es d calls test =
-    let header = header_of version d in
-    let ranks = line (codes "ranks" ∷ decimal n ∷ []) in
-    let data_text = line (codes "data" ∷ []) in
-    let end_text = line (codes "end" ∷ []) in
-    let calls_text = flat_map (λ p. flat_map (shown_call p.0) p.1) (enumerate_from 0 calls) in
-    let extras = flat_map shown_extra es in
-    let before : flat_map spelled (before_data n h es d) ≡ ranks ++ (shown_hints h ++ (fill_text d.filled ++ (extras ++ definitions_text header))) =
-    ap (λ (text : List ℕ). ranks ++ text)
-    (flat_then (hint_tokens h) _ (shown_hints h) _ (hints_spelled h)
-    (flat_then (fill_lines d.filled) _ (fill_text d.filled) _ (fill_spelled d.filled)
-    (flat_then (map extra_line es) (definition_lines d) extras _ (extras_spelled es) (definitions_spelled version d)))) in
-    let rest : flat_map spelled (from_data calls) ≡ data_text ++ (calls_text ++ end_text) =
-    ap (λ (text : List ℕ). data_text ++ text) (flat_then (call_lines 0 calls) ((Plain (codes "end") ∷ []) ∷ []) calls_text end_text (calls_spelled 0 calls) (append-nil end_text)) in
-    ap (λ (text : List ℕ). text ++ flat_map spelled (before_data n h es d ++ from_data calls)) (head_spelled b version ∙ ap (λ (x : Bool). head_text (not x) version) (sym test))
-    ∙ (ap (λ (text : List ℕ). head_text (not (version == 0)) version ++ text) (flat_then (before_data n h es d) (from_data calls) _ _ before rest)
-    ∙ regrouped (head_text (not (version == 0)) version) ranks (shown_hints h) (fill_text d.filled) extras (flat_map shown_dim d.dims) (flat_map (shown_var header) d.vars) (flat_map (shown_attr (codes ":")) d.attrs)
-    (flat_map (λ v. flat_map (shown_attr v.name) v.attrs) d.vars) data_text calls_text end_text)
+use Rattle.script_text.proofs.KnownLines.{hint_tokens, all_given, hints_again, HintsFit, hints_fit, with_hints, hints_run, hints_are_lines, What, nothing_ok, definitions_read}
+use Rattle.script_text.proofs.ScriptLines.{ranks_words, fill_lines, before_data, from_data, head_words, all_lines, script_with, all_spelled}
 
 -- ---- what is known at `data` is known again
 
@@ -157,7 +71,7 @@ before_are_lines n h es d r fit a b =
 open_again : (n values : ℕ) (h : Hints) (added : Added) → is_value_of (Within 1 64 1) n ≡ true → HintsFit h → Replay 0 nothing_added added.extras values added → KnownAgain 0 n h added.extras no_definition values
 open_again n values h added r fit replay =
     let k = with_ranks n in
-    let k2 = with_hints k (hint_table h) in
+    let k2 = with_hints k (all_given h) in
     let last : Known = record k2 { added = added; values = values } in
     let extras = replay_runs 0 values nothing_added added added.extras k2 replay in
     record {
@@ -172,7 +86,7 @@ open_again n values h added r fit replay =
 pub create_again : (version n values : ℕ) (h : Hints) (d : Defined) → (version == 0) ≡ false → is_value_of (Within 1 64 1) n ≡ true → HintsFit h → DefinedOk version values d → values ≤ most_values → KnownAgain version n h [] d values
 create_again version n values h d new r fit ok few =
     let k = with_ranks n in
-    let k2 = with_hints k (hint_table h) in
+    let k2 = with_hints k (all_given h) in
     let k3 = at_state k2 (nothing_but d.filled) 0 in
     let last : Known = at_state k2 (told_again d) values in
     let defined = definitions_run version values k2 d new ok.dims ok.vars ok.attrs ok.own ok.counted few in

@@ -10,6 +10,7 @@ ghost use Rattle.printed_text.specs.Spaced.{spaced};
 ghost use Rattle.script_text.specs.Printing.{value_word};
 
 use nc_base::{Attr, Dim, Extra, Header, Memory, Name, NcType, Value, Var};
+use printed_text::dimensions::push_dim_names;
 use printed_text::words::{
     push_bytes, push_hex, push_numbered, push_quoted, push_signed, push_word, type_word,
 };
@@ -173,31 +174,9 @@ fn push_first_dim(
     ensures { OnOk result (out.new.items ≡ out.old.items ++ bracketed (dim_name header.now first ∷ map (dim_name header.now) others.now)) }
 {
     out.push(b'[')?;
-    push_bytes(out, dim_name(header, first))?;
-    push_other_dims(out, header, others)?;
+    push_dim_names(out, header, b",", first, others)?;
     out.push(b']')?;
     Ok(())
-}
-
-#[tactic(auto, using(printed_text::proofs::WordLaws::mapped_more))]
-fn push_other_dims(out: &mut Vec<u8>, header: &Header, ids: &[u32]) -> Result<(), Memory>
-    ensures { OnOk result (out.new.items ≡ out.old.items ++ flat_map (λ name. 44 ∷ name) (map (dim_name header.now) ids.now)) }
-{
-    for id in ids {
-        out.push(b',')?;
-        push_bytes(out, dim_name(header, *id))?;
-    }
-    Ok(())
-}
-
-/// The name of a dimension, empty for an id that none has.
-fn dim_name(header: &Header, id: u32) -> &[u8]
-    ensures { result.now ≡ dim_name header.now id }
-{
-    match header.dims.as_slice().get(id as usize) {
-        Some(dim) => dim.name.as_slice(),
-        None => b"",
-    }
 }
 
 /// The attributes of each variable.

@@ -1,14 +1,16 @@
 // The canonical text of a script.
-ghost use Rattle.std.specs.Prelude.{◌≡◌, ◌++◌, ◌∷◌, [], true, IfOk, OnOk, if◌then◌else◌, codes, decimal};
+ghost use Rattle.std.specs.Prelude.{◌≡◌, ◌++◌, ◌∷◌, [], true, IfOk, OnOk, if◌then◌else◌, codes, decimal, flat_map};
 ghost use Rattle.serial_spec.specs.Lawful.{has_whole_attrs};
 ghost use Rattle.script_spec.specs.Texts.{line};
-ghost use Rattle.script_spec.specs.Shown.{rule_word, shown, shown_hints};
-ghost use Rattle.script_text.specs.Printing.{shown_hint};
+ghost use Rattle.script_spec.specs.HintTable.{shown_value};
+ghost use Rattle.script_spec.specs.Shown.{shown, shown_hint, shown_hints};
+ghost use Rattle.hint_table.specs.HintNames.{form_of, row_of};
 
 use crate::calls::push_ranks;
 use crate::definitions::{push_definitions, push_extras};
-use nc_base::{Blob, Hints, Memory, OverlapRule, Script};
-use printed_text::words::{push_bytes, push_number_line};
+use hint_table::{HINTS, HintForm, HintName};
+use nc_base::{Blob, Hints, Memory, Script};
+use printed_text::words::{push_bytes, push_number_line, push_numbered, push_word};
 use std::alloc::Global;
 
 /// The canonical text of a script: one blank between words, its hints in the order of their table, the lines that an
@@ -68,68 +70,34 @@ fn push_fill(out: &mut Vec<u8>, filled: bool) -> Result<(), Memory>
 fn push_hints(out: &mut Vec<u8>, hints: &Hints) -> Result<(), Memory>
     ensures { OnOk result (out.new.items ≡ out.old.items ++ shown_hints hints.now) }
 {
-    push_buffer_hints(out, hints)?;
-    push_run_hints(out, hints)?;
-    push_layout_hints(out, hints)?;
-    Ok(())
+    push_each_hint(out, &HINTS, hints)
 }
 
-/// How many aggregators there are, and the windows of calls.
-fn push_buffer_hints(out: &mut Vec<u8>, hints: &Hints) -> Result<(), Memory>
-    ensures { OnOk result (out.new.items ≡ out.old.items
-        ++ (shown_hint (codes "cb_nodes") (decimal hints.now.cb_nodes)
-        ++ shown_hint (codes "cb_buffer_size") (decimal hints.now.cb_buffer)
-        ++ shown_hint (codes "ind_rd_buffer_size") (decimal hints.now.rd_buffer)
-        ++ shown_hint (codes "ind_wr_buffer_size") (decimal hints.now.wr_buffer))) }
+fn push_each_hint(out: &mut Vec<u8>, names: &[HintName], hints: &Hints) -> Result<(), Memory>
+    ensures { OnOk result (out.new.items ≡ out.old.items ++ flat_map (λ name. shown_hint hints.now (row_of name)) names.now) }
 {
-    push_number_line(out, b"hint cb_nodes ", u64::from(hints.cb_nodes))?;
-    push_number_line(out, b"hint cb_buffer_size ", hints.cb_buffer)?;
-    push_number_line(out, b"hint ind_rd_buffer_size ", hints.rd_buffer)?;
-    push_number_line(out, b"hint ind_wr_buffer_size ", hints.wr_buffer)?;
-    Ok(())
-}
-
-/// How the ranks run.
-fn push_run_hints(out: &mut Vec<u8>, hints: &Hints) -> Result<(), Memory>
-    ensures { OnOk result (out.new.items ≡ out.old.items
-        ++ (shown_hint (codes "line_room") (decimal hints.now.line_room)
-        ++ shown_hint (codes "threads") (if hints.now.threads then codes "on" else codes "off")
-        ++ shown_hint (codes "overlap") (rule_word hints.now.overlap))) }
-{
-    push_number_line(out, b"hint line_room ", u64::from(hints.line_room))?;
-    push_threads(out, hints.threads)?;
-    push_rule(out, hints.overlap)?;
-    Ok(())
-}
-
-fn push_threads(out: &mut Vec<u8>, threads: bool) -> Result<(), Memory>
-    ensures { OnOk result (out.new.items ≡ out.old.items ++ shown_hint (codes "threads") (if threads then codes "on" else codes "off")) }
-{
-    if threads {
-        push_bytes(out, b"hint threads on\n")
-    } else {
-        push_bytes(out, b"hint threads off\n")
+    for name in names {
+        push_hint(out, *name, hints)?;
     }
-}
-
-fn push_rule(out: &mut Vec<u8>, rule: OverlapRule) -> Result<(), Memory>
-    ensures { OnOk result (out.new.items ≡ out.old.items ++ shown_hint (codes "overlap") (rule_word rule)) }
-{
-    match rule {
-        OverlapRule::Refuse => push_bytes(out, b"hint overlap refuse\n"),
-        OverlapRule::Serial => push_bytes(out, b"hint overlap serial\n"),
-    }
-}
-
-/// What begins and domains are multiples of.
-fn push_layout_hints(out: &mut Vec<u8>, hints: &Hints) -> Result<(), Memory>
-    ensures { OnOk result (out.new.items ≡ out.old.items
-        ++ (shown_hint (codes "nc_header_align_size") (decimal hints.now.header_align)
-        ++ shown_hint (codes "nc_var_align_size") (decimal hints.now.var_align)
-        ++ shown_hint (codes "striping_unit") (decimal hints.now.striping_unit))) }
-{
-    push_number_line(out, b"hint nc_header_align_size ", hints.header_align)?;
-    push_number_line(out, b"hint nc_var_align_size ", hints.var_align)?;
-    push_number_line(out, b"hint striping_unit ", hints.striping_unit)?;
     Ok(())
+}
+
+fn push_hint(out: &mut Vec<u8>, name: HintName, hints: &Hints) -> Result<(), Memory>
+    ensures { OnOk result (out.new.items ≡ out.old.items ++ shown_hint hints.now (row_of name)) }
+{
+    push_bytes(out, b"hint")?;
+    push_word(out, name.word())?;
+    push_value(out, name.form(), name.get(hints))?;
+    push_bytes(out, b"\n")?;
+    Ok(())
+}
+
+/// A blank and the value of a hint of this form.
+fn push_value(out: &mut Vec<u8>, form: HintForm, value: u64) -> Result<(), Memory>
+    ensures { OnOk result (out.new.items ≡ out.old.items ++ 32 ∷ shown_value (form_of form) value) }
+{
+    match form {
+        HintForm::Within { .. } => push_numbered(out, b" ", value),
+        HintForm::Either { zero, one } => push_word(out, if value == 1 { one } else { zero }),
+    }
 }

@@ -110,54 +110,29 @@ fn whole(alloc: Global, form: Form) -> Given
     }
 }
 
-fn one_element(alloc: Global, words: &mut Words<'_>) -> Result<Given, ReadErr>
-    ensures { Gives (λ g. (g, words.new)) result (region form.Var1 words.old) }
-{
-    let mut given = whole(alloc, Form::Var1);
-    given.start = list(alloc, words)?;
-    Ok(given)
-}
-
-fn part_of_array(alloc: Global, words: &mut Words<'_>) -> Result<Given, ReadErr>
-    ensures { Gives (λ g. (g, words.new)) result (region form.Vara words.old) }
-{
-    let mut given = whole(alloc, Form::Vara);
-    given.start = list(alloc, words)?;
-    given.count = list(alloc, words)?;
-    Ok(given)
-}
-
-fn strided(alloc: Global, words: &mut Words<'_>) -> Result<Given, ReadErr>
-    ensures { Gives (λ g. (g, words.new)) result (region form.Vars words.old) }
-{
-    let mut given = whole(alloc, Form::Vars);
-    given.start = list(alloc, words)?;
-    given.count = list(alloc, words)?;
-    given.stride = list(alloc, words)?;
-    Ok(given)
-}
-
-fn mapped(alloc: Global, words: &mut Words<'_>) -> Result<Given, ReadErr>
-    ensures { Gives (λ g. (g, words.new)) result (region form.Varm words.old) }
-{
-    let mut given = whole(alloc, Form::Varm);
-    given.start = list(alloc, words)?;
-    given.count = list(alloc, words)?;
-    given.stride = list(alloc, words)?;
-    given.imap = list(alloc, words)?;
-    Ok(given)
-}
-
-/// Reads the region of a call of this form.
+/// Reads the region of a call of this form: many parts, or the first lists of one, of which each form has one more.
 pub fn region(alloc: Global, form: Form, words: &mut Words<'_>) -> Result<Given, ReadErr>
     ensures { Gives (λ g. (g, words.new)) result (region form words.old) }
 {
-    match form {
-        Form::Var => Ok(whole(alloc, Form::Var)),
-        Form::Var1 => one_element(alloc, words),
-        Form::Vara => part_of_array(alloc, words),
-        Form::Vars => strided(alloc, words),
-        Form::Varm => mapped(alloc, words),
-        Form::Varn => many_regions(alloc, words),
+    if form == Form::Varn {
+        return many_regions(alloc, words);
     }
+    let mut given = whole(alloc, form);
+    if form == Form::Var {
+        return Ok(given);
+    }
+    given.start = list(alloc, words)?;
+    if form == Form::Var1 {
+        return Ok(given);
+    }
+    given.count = list(alloc, words)?;
+    if form == Form::Vara {
+        return Ok(given);
+    }
+    given.stride = list(alloc, words)?;
+    if form == Form::Vars {
+        return Ok(given);
+    }
+    given.imap = list(alloc, words)?;
+    Ok(given)
 }

@@ -32,72 +32,6 @@ fn bits_for(kind: Option<NcType>, word: &[u8]) -> Option<u64>
     }
 }
 
-/// One number, after `n` values of its line.
-fn one_number(kind: Option<NcType>, before: u64, n: u64, word: Token<'_>) -> Result<i128, ReadErr>
-    requires { n ≤ 2 ^ 24 }
-    ensures read { Gives (λ x. x) result (one_value (number_for kind) kind before n (word_of word.entry)) }
-    ensures bound { OnOk result (before + n < 2 ^ 24) }
-{
-    let word = bare(word)?;
-    let Some(number) = number_for(kind, word) else {
-        return Err(ReadErr::Fault(ScriptKind::BadNumber));
-    };
-    within_limits(kind, before, n + 1)?;
-    Ok(number)
-}
-
-/// One pattern of bits, after `n` values of its line.
-fn one_pattern(kind: Option<NcType>, before: u64, n: u64, word: Token<'_>) -> Result<u64, ReadErr>
-    requires { n ≤ 2 ^ 24 }
-    ensures read { Gives (λ x. x) result (one_value (pattern_for kind) kind before n (word_of word.entry)) }
-    ensures bound { OnOk result (before + n < 2 ^ 24) }
-{
-    let word = bare(word)?;
-    let Some(pattern) = bits_for(kind, word) else {
-        return Err(ReadErr::Fault(ScriptKind::BadNumber));
-    };
-    within_limits(kind, before, n + 1)?;
-    Ok(pattern)
-}
-
-/// Reads numbers to the line's end.
-fn numbers(
-    alloc: Global,
-    kind: Option<NcType>,
-    before: u64,
-    words: &mut Words<'_>,
-) -> Result<NumberList, ReadErr>
-    requires { before ≤ 2 ^ 24 }
-    ensures read { Gives (λ zs. zs) result (each_value (number_for kind) kind before [] words.old) }
-    ensures bound { IfOk result (λ zs. before + length zs ≤ 2 ^ 24) }
-{
-    let mut found = NumberList::new(alloc);
-    while let Some(word) = words.take()? {
-        let number = one_number(kind, before, found.len() as u64, word)?;
-        found.push(number)?;
-    }
-    Ok(found)
-}
-
-/// Reads patterns of bits to the line's end.
-fn patterns(
-    alloc: Global,
-    kind: Option<NcType>,
-    before: u64,
-    words: &mut Words<'_>,
-) -> Result<BitList, ReadErr>
-    requires { before ≤ 2 ^ 24 }
-    ensures read { Gives (λ ns. ns) result (each_value (pattern_for kind) kind before [] words.old) }
-    ensures bound { IfOk result (λ ns. before + length ns ≤ 2 ^ 24) }
-{
-    let mut found = BitList::new(alloc);
-    while let Some(word) = words.take()? {
-        let pattern = one_pattern(kind, before, found.len() as u64, word)?;
-        found.push(pattern)?;
-    }
-    Ok(found)
-}
-
 fn text_values(
     kind: Option<NcType>,
     before: u64,
@@ -115,6 +49,7 @@ fn text_values(
     Ok(Values::Text(Blob::from_vec(text)))
 }
 
+/// Reads numbers to the line's end.
 fn number_values(
     alloc: Global,
     kind: Option<NcType>,
@@ -125,9 +60,18 @@ fn number_values(
     ensures read { Gives (λ vs. vs) result (number_values kind before words.old) }
     ensures bound { IfOk result (λ vs. before + count_of vs ≤ 2 ^ 24) }
 {
-    Ok(Values::Numbers(numbers(alloc, kind, before, words)?))
+    let mut found = NumberList::new(alloc);
+    while let Some(word) = words.take()? {
+        let Some(number) = number_for(kind, bare(word)?) else {
+            return Err(ReadErr::Fault(ScriptKind::BadNumber));
+        };
+        within_limits(kind, before, found.len() as u64 + 1)?;
+        found.push(number)?;
+    }
+    Ok(Values::Numbers(found))
 }
 
+/// Reads patterns of bits to the line's end.
 fn bits_values(
     alloc: Global,
     kind: Option<NcType>,
@@ -138,7 +82,15 @@ fn bits_values(
     ensures read { Gives (λ vs. vs) result (bits_values kind before words.old) }
     ensures bound { IfOk result (λ vs. before + count_of vs ≤ 2 ^ 24) }
 {
-    Ok(Values::Bits(patterns(alloc, kind, before, words)?))
+    let mut found = BitList::new(alloc);
+    while let Some(word) = words.take()? {
+        let Some(pattern) = bits_for(kind, bare(word)?) else {
+            return Err(ReadErr::Fault(ScriptKind::BadNumber));
+        };
+        within_limits(kind, before, found.len() as u64 + 1)?;
+        found.push(pattern)?;
+    }
+    Ok(Values::Bits(found))
 }
 
 fn begins_x(word: &[u8]) -> bool

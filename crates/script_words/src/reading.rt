@@ -6,7 +6,7 @@ ghost use Rattle.script_spec.specs.ScriptDefinitions.{length_of_text, number_wit
 ghost use Rattle.script_spec.specs.ScriptCalls.{id_of_text};
 ghost use Rattle.script_spec.specs.ScriptGrammar.{version_of_text};
 ghost use Rattle.script_spec.specs.Texts.{type_word};
-ghost use Rattle.serial_spec.specs.HeaderGrammar.{number_of, last_type};
+ghost use Rattle.serial_spec.specs.HeaderBytes.{number_of, last_type};
 ghost use Rattle.nc_base.specs.declared.errors.ScriptKind.TheVariants as kind;
 ghost use Rattle.script_words.specs.Reading.{Gives, word_of};
 

@@ -21,7 +21,6 @@ use Rattle.serial_spec.specs.RankMachine as machine
 use Rattle.serial_spec.specs.Records.{with_records}
 use Rattle.serial_spec.specs.SerialEnd.{End, Going, serial_from, setting_of}
 use Rattle.element_steps.specs.Requests.{counted}
-use Rattle.element_steps.proofs.MeetSteps.{some_limit}
 use Rattle.join_laws.proofs.CountLaws.{less_max}
 use Rattle.run_laws.specs.Arrivals as arrivals
 use Rattle.run_laws.specs.Arrivals.{Arrived, ended_from, first_stand, step_to}
@@ -33,6 +32,7 @@ use Rattle.serial_run.specs.Standing.{stand_of, AreWaiting, HasHeard, HaveHeard,
 use Rattle.serial_run.specs.declared.seats.Seat.{Seat}
 use Rattle.serial_run.specs.declared.standing.Stand.{Stand}
 use Rattle.serial_run.proofs.NextLaws.{beside_seat, meeting_seat, meeting_waits, own_seat, own_waits}
+use Rattle.serial_spec.proofs.CountLaws.{some_limit}
 
 -- ---- the order
 

@@ -7,7 +7,7 @@ use Rattle.std.specs.Prelude.{slice_get, nat_lt}
 use Rattle.nc_base.specs.declared.header.Header.{Header}
 use Rattle.nc_base.specs.declared.request.Call.{Call}
 use Rattle.nc_base.specs.declared.script.Script.{Script}
-use Rattle.serial_spec.specs.HeaderGrammar.{is_sound}
+use Rattle.serial_spec.specs.SoundHeaders.{is_sound}
 use Rattle.serial_spec.specs.Lawful.{is_lawful}
 use Rattle.serial_spec.specs.Limits.{record_limit}
 use Rattle.serial_spec.specs.SerialEnd.{advance, first_going}

@@ -1,5 +1,5 @@
 -- A rank that goes through its calls, up to its next offer or to its end.
-use Rattle.std.proofs.Common.{◌≡◌, ℕ, ◌+◌, ◌-◌, ◌<◌, ◌≤◌, refl, sym, ◌∙◌, ap, subst, inl, inr, ◌⊎◌, List, [], ◌∷◌, ◌++◌, length, take, drop, get_or, true, Option, None, Some, arith}
+use Rattle.std.proofs.Common.{◌≡◌, ℕ, ◌+◌, ◌-◌, ◌<◌, ◌≤◌, refl, sym, ◌∙◌, subst, inl, inr, ◌⊎◌, List, [], ◌∷◌, ◌++◌, length, take, drop, get_or, true, Option, None, Some, arith}
 use Rattle.std.proofs.lemmas.List.{take_rest}
 use Rattle.nc_base.specs.declared.header.Header.{Header}
 use Rattle.nc_base.specs.declared.answer.Answer.{Answer}
@@ -23,6 +23,7 @@ use Rattle.run_laws.proofs.StandingLaws.{comes_on, comes_to_end, comes_to_meetin
 use Rattle.run_laws.proofs.TogetherLaws.{call_lawful}
 use Rattle.run_laws.proofs.WayLaws.{way_answers, way_meets}
 use Rattle.serial_run.specs.Seated.{AsksAlone, HasGone, MayGoOn}
+use Rattle.join_laws.proofs.RankLaws.{said_at}
 
 -- from s the rank has come to t by calls that it answers alone
 pub record Comes (header : Header) (s t : Going) : Type 0 where
@@ -35,10 +36,6 @@ pub record Comes (header : Header) (s t : Going) : Type 0 where
 abbrev pub KeepsFew : machine.Rank → machine.Rank → Call → Type 0
 KeepsFew rank next c = (ranks r : ℕ) → is_lawful_call ranks r c ≡ true → posts_held next ≤ posts_held rank + most_parts
 
--- what the rank wants at its next call, under the same header
-said_at : (header same : Header) (rank next : machine.Rank) (c : Call) (w v : Want) → same ≡ header → (next, w) ≡ machine.step same rank c → w ≡ v → (next, v) ≡ machine.step header rank c
-said_at header same rank next c w v e f g = ap (λ (x : Want). (next, x)) (sym g) ∙ f ∙ ap (λ (k : Header). machine.step k rank c) e
-
 -- the calls that are left when the first of some is taken
 pub first_call : (calls : List Call) (c : Call) → 1 ≤ length calls → c ≡ get_or calls 0 c → calls ≡ c ∷ take (length calls - 1) (drop 1 calls)
 first_call [] c l e = absurd (omega arith)
@@ -47,9 +44,6 @@ first_call (x ∷ calls) c l e = λ i. sym e i ∷ sym (take_rest (x ∷ calls) 
 pub no_call : (calls : List Call) → length calls < 1 → calls ≡ []
 no_call [] l = refl
 no_call (c ∷ calls) l = absurd (omega arith)
-
-pub comes_first : (header : Header) (s : Going) → MayGoOn s → Comes header s s
-comes_first header s ready = record { known = refl; ready = ready; kept = λ script order r way. way; advanced = refl }
 
 pub comes_answered : (header same : Header) (s t : Going) (next : machine.Rank) (w : Want) (a : Answer) (more : List Answer) (c : Call) (calls : List Call) → Comes header s t
     → t.calls ≡ c ∷ calls → same ≡ header → (next, w) ≡ machine.step same t.rank c → w ≡ want.Answered a → KeepsFew t.rank next c → more ≡ t.answers ++ a ∷ []

@@ -1,7 +1,7 @@
 -- The steps of a run: the offers of its ranks, the replies to them, and the ranks that have heard.
 use Rattle.std.proofs.Common.{◌≡◌, ℕ, zero, suc, ◌+◌, ◌-◌, ◌<◌, ◌≤◌, refl, sym, ◌∙◌, ap, subst, inl, inr, List, [], ◌∷◌, ◌++◌, length, map, max, set, drop, get_or, Bool, true, false, Option, None, Some, append_assoc, append-nil, length-set, arith}
 use Rattle.std.proofs.lemmas.Bool.Decides.{nat_tests}
-use Rattle.std.proofs.lemmas.List.{drop_all, drop_more, length-map, map-set}
+use Rattle.std.proofs.lemmas.List.{drop_all, drop_more, map-set}
 use Rattle.std.proofs.lemmas.Option.{same_Some, slice_get-map}
 use Rattle.std.specs.Prelude.{slice_get, nat_lt, zip, flat_map, IfSome, IsSomeAnd}
 use Rattle.std.specs.List.{enumerate_from}
@@ -17,15 +17,16 @@ use Rattle.serial_spec.specs.RankMachine.{Open}
 use Rattle.serial_spec.specs.RankSide.{wanted, DoesFit}
 use Rattle.serial_spec.specs.SerialEnd.{advance, hears, offers_of}
 use Rattle.element_steps.specs.Requests.{counted, IsRight}
-use Rattle.element_steps.proofs.MeetSteps.{needs_low, own_right, puts_right, some_limit}
+use Rattle.element_steps.proofs.MeetSteps.{needs_low, own_right, puts_right}
 use Rattle.join_laws.proofs.CountLaws.{less_max}
 use Rattle.join_laws.proofs.ReplyLaws.{meeting_fits, solo_fits}
-use Rattle.join_laws.proofs.StepLaws.{meeting_within, replied}
+use Rattle.join_laws.proofs.StepLaws.{meeting_within, replied, replies_long}
 use Rattle.overlay_laws.proofs.Members.{at_in}
 use Rattle.run_laws.specs.Arrivals.{Arrived, heard, solo_to, step_to}
 use Rattle.serial_run.specs.Seated.{arrived, going_of, HasGone, IsAsked, IsWaiting, MayGoOn}
 use Rattle.serial_run.specs.Standing.{all_arrived, AllHear, AreWaiting, DoFit, HasHeard, HaveHeard, Heard, HeardOne}
 use Rattle.serial_run.specs.declared.seats.Seat.{Seat}
+use Rattle.serial_spec.proofs.CountLaws.{some_limit}
 
 -- ---- the offers that ranks hold
 
@@ -152,9 +153,6 @@ hears_fit header seat o y w e fit =
 
 pub may_hear : (header : Header) (seat : Seat) (y : Reply) → IsWaiting header seat → MayGoOn (hears seat.rank.header (going_of seat) y)
 may_hear header seat y w = subst (λ (h : Header). MayGoOn (hears h (going_of seat) y)) (sym w.of_header) (w.ready y)
-
-pub replies_long : (s : Setting) (offers : List Offer) (c : Counted) → length (meeting s offers c).1 ≡ length offers
-replies_long s offers c = length-map offers _
 
 pub replies_fit : (s : Setting) (seats : List Seat) (c : Counted) (replies : List Reply) → AreWaiting s.header seats → replies ≡ (meeting s (offers_of (all_arrived seats)) c).1
     → DoFit s.header seats replies

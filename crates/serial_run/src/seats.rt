@@ -1,6 +1,6 @@
 // A rank that goes through its calls.
 ghost use Rattle.std.specs.Prelude.{◌≡◌, [], ℕ, length, map, None, true, is_some, IfOk, IfSome, OnOk};
-ghost use Rattle.serial_spec.specs.HeaderGrammar.{is_sound};
+ghost use Rattle.serial_spec.specs.SoundHeaders.{is_sound};
 ghost use Rattle.serial_spec.specs.RankSide.{wanted};
 ghost use Rattle.serial_spec.specs.SerialEnd.{first_going, hears};
 ghost use Rattle.rank_core.specs.Indexed.{IsIndexOf};

@@ -2,7 +2,7 @@
 ghost use Rattle.std.specs.Prelude.{◌≡◌, ◌+◌, ◌<◌, ◌≤◌, ◌^◌, ◌∷◌, ◌++◌, ℕ, [], length, take, true, Some, slice_get, IfOk, OnOk};
 ghost use Rattle.nc_base.specs.declared.step.Mark.{Mark as Step};
 ghost use Rattle.nc_base.specs.declared.step.Mark.TheVariants as mark;
-ghost use Rattle.serial_spec.specs.HeaderGrammar.{is_sound};
+ghost use Rattle.serial_spec.specs.SoundHeaders.{is_sound};
 ghost use Rattle.serial_spec.specs.History.{IsLegal};
 ghost use Rattle.serial_spec.specs.Lawful.{is_lawful};
 ghost use Rattle.serial_spec.specs.Limits.{record_limit};

@@ -20,7 +20,7 @@ use Rattle.nc_base.specs.declared.plan.Post.{Post}
 use Rattle.serial_spec.specs.ExternalForm.{size_of}
 use Rattle.serial_spec.specs.Layout.{product, length_of, lengths, starts_with_zero, without_record, end_of}
 use Rattle.serial_spec.specs.Place.{place, record_of, within_record, HasRecord, IsIndex, IsElementBelow}
-use Rattle.serial_spec.specs.HeaderGrammar.{is_sound}
+use Rattle.serial_spec.specs.SoundHeaders.{is_sound}
 use Rattle.serial_spec.specs.Request.{coordinates, index_at, elements, places}
 use Rattle.serial_spec.specs.RegionCheck.{bound, bounds, bad_edge, some_edge, some_start, other_shape, is_too_large, first_code, check_var, check_some, check}
 use Rattle.serial_spec.specs.Records.{records_of, records_of_some, needed, needed_by}

@@ -15,10 +15,12 @@ use Rattle.nc_base.specs.declared.script.Extra.{Extra}
 use Rattle.nc_base.specs.declared.script.Extra.TheVariants as extra
 use Rattle.nc_base.specs.declared.errors.HeaderErr.TheVariants as fault
 use Rattle.serial_spec.specs.Layout.{length_of}
-use Rattle.serial_spec.specs.HeaderGrammar.{is_sound, first_check, first_with, fault_if, two_record_dims, record_later, bad_id}
+use Rattle.serial_spec.specs.HeaderFaults.{first_check, first_with, fault_if, two_record_dims, record_later, bad_id}
+use Rattle.serial_spec.specs.SoundHeaders.{is_sound}
 use Rattle.serial_spec.specs.Redefinition.{with_attr, with_extra, added, begins_by_number, begin_of_number, with_begins, redefined_header, KeepsVars}
-use Rattle.serial_spec.proofs.ElementLaws.{get_left, get_map}
+use Rattle.serial_spec.proofs.ElementLaws.{get_left}
 use Rattle.serial_spec.proofs.RoomLaws.{untested, none_any}
+use Rattle.list_laws.proofs.Maps.{entry_map}
 
 -- ---- a header of which another is a part
 
@@ -90,7 +92,7 @@ placed_more h found =
       dims = sym (append-nil h.dims);
       vars = λ k v e. (
         record v { begin = begin_of_number found (0 + k) },
-        get_map (λ p. record p.1 { begin = begin_of_number found p.0 }) (enumerate_from 0 h.vars) k (0 + k, v) (numbered 0 h.vars k v e),
+        entry_map (λ p. record p.1 { begin = begin_of_number found p.0 }) (enumerate_from 0 h.vars) k (0 + k, v) (numbered 0 h.vars k v e),
         refl,
         refl,
       );

@@ -1,10 +1,9 @@
 -- Cells that lie apart, and what is written of them.
-use Rattle.std.proofs.Common.{◌≡◌, ℕ, zero, suc, ◌+◌, ◌-◌, ◌<◌, ◌≤◌, refl, sym, ◌∙◌, ap, subst, inl, inr, ◌⊎◌, List, [], ◌∷◌, ◌++◌, length, map, get_or, Bool, true, false, Some, None, arith}
-use Rattle.std.proofs.lemmas.Bool.{eqb-false}
+use Rattle.std.proofs.Common.{◌≡◌, ℕ, zero, suc, ◌+◌, ◌-◌, ◌<◌, ◌≤◌, refl, sym, ◌∙◌, ap, subst, inl, inr, ◌⊎◌, List, [], ◌∷◌, ◌++◌, length, map, get_or, Some, None, arith}
+use Rattle.std.proofs.lemmas.Bool.{cases_eq}
 use Rattle.std.specs.List.{AllByRecursion, enumerate_from}
-use Rattle.std.specs.Prelude.{flat_map, slice_get, ◌==◌}
+use Rattle.std.specs.Prelude.{flat_map, slice_get}
 use Rattle.std.specs.Option.{option_or}
-use borrow.Author.Tests.{eqb-true}
 use Rattle.list_laws.proofs.Optional.{neither_some, second_counts, first_counts}
 use Rattle.serial_spec.specs.File.{at, read, written}
 use Rattle.serial_spec.specs.Place.{AreApart}
@@ -44,18 +43,11 @@ has_at (y ∷ xs) (suc k) x h = inr (has_at xs k x h)
 
 -- ---- the same or not
 
-pub same_number : (a b : ℕ) → (a ≡ b) ⊎ (a ≡ b → ⊥)
-same_number a b = by_test (a == b) refl
-  where
-    by_test : (t : Bool) → (a == b) ≡ t → (a ≡ b) ⊎ (a ≡ b → ⊥)
-    by_test true e = inl (eqb-true _ _ e)
-    by_test false e = inr (eqb-false _ _ e)
-
 pub same_index : (i j : List ℕ) → (i ≡ j) ⊎ (i ≡ j → ⊥)
 same_index [] [] = inl refl
 same_index [] (y ∷ j) = inr (λ e. absurd cc)
 same_index (x ∷ i) [] = inr (λ e. absurd cc)
-same_index (x ∷ i) (y ∷ j) = by_both (same_number x y) (same_index i j)
+same_index (x ∷ i) (y ∷ j) = by_both (cases_eq x y) (same_index i j)
   where
     by_both : ((x ≡ y) ⊎ (x ≡ y → ⊥)) → ((i ≡ j) ⊎ (i ≡ j → ⊥)) → ((x ∷ i) ≡ (y ∷ j)) ⊎ ((x ∷ i) ≡ (y ∷ j) → ⊥)
     by_both (inl h) (inl k) = inl (λ t. h t ∷ k t)

@@ -11,7 +11,8 @@ use Rattle.serial_spec.specs.File.{at, read, written}
 use Rattle.serial_spec.specs.ExternalForm.{size_of}
 use Rattle.serial_spec.specs.Layout.{lengths, end_of}
 use Rattle.serial_spec.specs.Place.{place, row, IsIndex, IsElementBelow, AreApart}
-use Rattle.serial_spec.specs.HeaderGrammar.{canon, header_len, is_sound}
+use Rattle.serial_spec.specs.HeaderBytes.{canon, header_len}
+use Rattle.serial_spec.specs.SoundHeaders.{is_sound}
 use Rattle.serial_spec.specs.RegionCheck.{known_lengths}
 use Rattle.serial_spec.specs.Redefinition.{all_indices, moved, redefined, Moves, KeepsVars, IsRedefined}
 use Rattle.serial_spec.specs.Said.{said_at, byte_or, Cell, write_cells, said_by}
@@ -20,7 +21,8 @@ use Rattle.serial_spec.proofs.ElementLaws.{coordinates_at}
 use Rattle.serial_spec.proofs.SaidLaws.{cells_said}
 use Rattle.serial_spec.proofs.RoomLaws.{known_of, index_is_element, element_inside}
 use Rattle.serial_spec.proofs.AcceptLaws.{coordinates_all}
-use Rattle.serial_spec.proofs.CellLaws.{Has, has_map, has_flat, has_at, same_number, same_index, IsOrApart, said_of, unsaid, cells_within, read_long, read_at, read_same}
+use Rattle.serial_spec.proofs.CellLaws.{Has, has_map, has_flat, has_at, same_index, IsOrApart, said_of, unsaid, cells_within, read_long, read_at, read_same}
+use Rattle.std.proofs.lemmas.Bool.{cases_eq}
 
 -- ---- the file before the elements are moved
 
@@ -143,7 +145,7 @@ or_apart : (old new : Header) (file : List ℕ) → is_sound new ≡ true → Ke
     → (k : ℕ) (v w : Var) (index : List ℕ) → slice_get old.vars k ≡ Some v → slice_get new.vars k ≡ Some w → IsIndex (known_lengths old v old.records) index
     → (m : ℕ) (x y : Var) (other : List ℕ) → slice_get old.vars m ≡ Some x → slice_get new.vars m ≡ Some y → IsIndex (known_lengths old x old.records) other
     → IsOrApart (cell_at old new file v w index) (cell_at old new file x y other)
-or_apart old new file sound keeps k v w index h g i m x y other f e j = by_same (same_number m k) (same_index other index)
+or_apart old new file sound keeps k v w index h g i m x y other f e j = by_same (cases_eq m k) (same_index other index)
   where
     apart : ((m ≡ k) × (other ≡ index) → ⊥) → IsOrApart (cell_at old new file v w index) (cell_at old new file x y other)
     apart n =

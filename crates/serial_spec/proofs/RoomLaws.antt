@@ -13,10 +13,11 @@ use Rattle.nc_base.specs.declared.errors.HeaderErr.TheVariants as fault
 use Rattle.serial_spec.specs.ExternalForm.{size_of}
 use Rattle.serial_spec.specs.Layout.{greatest, length_of, lengths, starts_with_zero, without_record, is_record, slab, vsize, recsize, last_share, record_slabs, end_of_var, end_of}
 use Rattle.serial_spec.specs.Place.{place, record_of, within_record, HasRecord, IsIndex, IsElementBelow}
-use Rattle.serial_spec.specs.HeaderGrammar.{is_sound, first_check, first_with, fault_if, two_record_dims, record_later, is_record_id}
+use Rattle.serial_spec.specs.HeaderFaults.{first_check, first_with, fault_if, two_record_dims, record_later, is_record_id}
+use Rattle.serial_spec.specs.SoundHeaders.{is_sound}
 use Rattle.serial_spec.specs.RegionCheck.{known_lengths}
 use Rattle.serial_spec.proofs.ApartLaws.{span_fixed, span_record}
-use Rattle.serial_spec.proofs.ElementLaws.{get_map}
+use Rattle.list_laws.proofs.Maps.{entry_map}
 
 -- ---- the end of a file
 
@@ -27,7 +28,7 @@ greatest_holds (m ∷ ns) (suc k) n h = let l = greatest_holds ns k n h in omega
 
 pub end_holds : (header : Header) (first n k : ℕ) (v : Var) → slice_get header.vars k ≡ Some v → end_of_var header n v ≤ end_of header first n
 end_holds header first n k v h =
-    let l = greatest_holds (map (λ w. end_of_var header n w) header.vars) k (end_of_var header n v) (get_map (λ w. end_of_var header n w) header.vars k v h) in
+    let l = greatest_holds (map (λ w. end_of_var header n w) header.vars) k (end_of_var header n v) (entry_map (λ w. end_of_var header n w) header.vars k v h) in
     omega arith
 
 pub slab_below : (header : Header) (v : Var) → slab header v ≤ vsize header v

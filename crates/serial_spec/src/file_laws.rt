@@ -3,7 +3,8 @@
 ghost use Rattle.std.specs.Prelude.{◌≡◌, ℕ, ◌+◌, ◌<◌, ◌≤◌, List, length, Some, true, slice_get};
 ghost use Rattle.serial_spec.specs.File.{at, written};
 ghost use Rattle.serial_spec.specs.ExternalForm.{fits, ext, val};
-ghost use Rattle.serial_spec.specs.HeaderGrammar.{header_len, is_sound};
+ghost use Rattle.serial_spec.specs.HeaderBytes.{header_len};
+ghost use Rattle.serial_spec.specs.SoundHeaders.{is_sound};
 ghost use Rattle.serial_spec.specs.Layout.{product, end_of};
 ghost use Rattle.serial_spec.specs.Request.{coordinates};
 ghost use Rattle.serial_spec.specs.Place.{row, IsIndex, IsElement, AreApart, place, IsElementBelow};

@@ -1,7 +1,10 @@
 //! Laws over the grammar of headers.
 
 ghost use Rattle.std.specs.Prelude.{◌≡◌, ℕ, ◌+◌, List, ◌++◌, length, Some, true};
-ghost use Rattle.serial_spec.specs.HeaderGrammar.{Spells, HasFieldFault, canon, header_len, field_fault, is_writable};
+ghost use Rattle.serial_spec.specs.HeaderBytes.{canon, header_len};
+ghost use Rattle.serial_spec.specs.HeaderGrammar.{Spells};
+ghost use Rattle.serial_spec.specs.HeaderFaults.{HasFieldFault, field_fault};
+ghost use Rattle.serial_spec.specs.SoundHeaders.{is_writable};
 ghost use Rattle.nc_base.specs.declared.errors.HeaderErr.{HeaderErr};
 ghost use Rattle.nc_base.specs.declared.header.Header.{Header};
 ghost use Rattle.serial_spec.specs.Redefinition.{is_redefinable};

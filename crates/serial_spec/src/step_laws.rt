@@ -2,7 +2,8 @@
 
 ghost use Rattle.std.specs.Prelude.{◌≡◌, ℕ, ◌+◌, ◌<◌, ◌≤◌, List, Some, None, false, flat_map, ◌⊎◌, ◌==◌, true, slice_get};
 ghost use Rattle.serial_spec.specs.File.{at};
-ghost use Rattle.serial_spec.specs.HeaderGrammar.{count_width, is_sound};
+ghost use Rattle.serial_spec.specs.HeaderBytes.{count_width};
+ghost use Rattle.serial_spec.specs.SoundHeaders.{is_sound};
 ghost use Rattle.serial_spec.specs.FileStep.{meeting, solo, puts_of, Setting, Counted, after_puts};
 ghost use Rattle.serial_spec.specs.SharedByte.{covered, Holds, Key, IsSharedPair, IsUnshared, Holding, shared_pair_of, Puts, said_by_puts, bytes_of};
 ghost use Rattle.nc_base.specs.declared.answer.Pair.{Pair};

@@ -1,7 +1,7 @@
 //! Fill values, added variables and readings.
 
 ghost use Rattle.std.specs.Prelude.{◌≡◌, ◌+◌, ◌-◌, ◌^◌, [], ◌∷◌, ◌++◌, Some, None, replicate, drop, codes};
-ghost use Rattle.serial_spec.specs.HeaderGrammar.{canon, header_len};
+ghost use Rattle.serial_spec.specs.HeaderBytes.{canon, header_len};
 ghost use Rattle.serial_spec.specs.Examples.{dataset_a, dataset_b, var, int_bytes, one_record, begin_list, file_halves, dim, more_var, dataset_aq, dataset_b_4, dataset_b_q, file_records, hints, title, twice_named, twice_named_q, inner_x, second_first, long_var};
 ghost use Rattle.nc_base.specs.declared.header.NcType.TheVariants.{Int, Short, UInt64};
 ghost use Rattle.nc_base.specs.declared.step.Mark.TheVariants.{Meet, Solo};
@@ -27,7 +27,7 @@ pub fn worked_boxes()
 {}
 
 /// A variable that is added to an existing file.
-#[tactic(auto, unfolding(crate::specs::HeaderGrammar::canon))]
+#[tactic(auto, unfolding(crate::specs::HeaderBytes::canon))]
 pub fn worked_redefinition()
     ensures begins { begin_list dataset_aq ≡ 116 ∷ 132 ∷ [] }
     ensures length { header_len dataset_aq ≡ 116 }
@@ -48,7 +48,7 @@ pub fn worked_redefinition()
 {}
 
 /// Two dimensions of one name, of which the first counts, and the other faults of a redefinition.
-#[tactic(auto, unfolding(crate::specs::HeaderGrammar::canon))]
+#[tactic(auto, unfolding(crate::specs::HeaderBytes::canon))]
 pub fn worked_refusals()
     ensures same_name { redefined_fault twice_named inner_x ≡ None }
     ensures same_name_begins { begin_list twice_named_q ≡ 144 ∷ 160 ∷ [] }
@@ -64,7 +64,7 @@ pub fn worked_refusals()
 {}
 
 /// What a watcher reads.
-#[tactic(auto, unfolding(crate::specs::HeaderGrammar::canon))]
+#[tactic(auto, unfolding(crate::specs::HeaderBytes::canon))]
 pub fn worked_reading()
     ensures none { summary_of 3 [] ≡ record { steps = 0; records = 3 } }
     ensures two { summary_of 0 ((Meet 0, 1) ∷ (Solo 0 1, 4) ∷ []) ≡ record { steps = 2; records = 4 } }

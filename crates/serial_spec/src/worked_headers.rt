@@ -1,7 +1,10 @@
 //! Headers and layouts of small datasets.
 
 ghost use Rattle.std.specs.Prelude.{◌≡◌, ◌+◌, ◌^◌, [], ◌∷◌, ◌++◌, Some, None, take, true, drop, ◌/◌, ◌*◌, map};
-ghost use Rattle.serial_spec.specs.HeaderGrammar.{canon, header_len, field_fault, first_check, is_writable, Spells};
+ghost use Rattle.serial_spec.specs.HeaderBytes.{canon, header_len};
+ghost use Rattle.serial_spec.specs.HeaderGrammar.{Spells};
+ghost use Rattle.serial_spec.specs.HeaderFaults.{field_fault, first_check};
+ghost use Rattle.serial_spec.specs.SoundHeaders.{is_writable};
 ghost use Rattle.serial_spec.specs.Examples.{dataset_2, dataset_a, dataset_b, dataset_bq, header_a, var, int_bytes, device_calls, halves, word, header_a_with, dataset_5, two_bytes, begin_list, end_of_file, aligned, striped, striped_part, file_halves, reopened, moved, one_record, dim, unsound, past_limit, sharing_bytes, odd_header_a};
 ghost use Rattle.serial_spec.specs.Layout.{recsize, end_of, vsize};
 ghost use Rattle.nc_base.specs.declared.header.NcType.TheVariants.{Int};
@@ -13,7 +16,7 @@ ghost use Rattle.serial_spec.specs.SerialEnd.{serial};
 ghost use Rattle.std.specs.List.{range_with_len};
 
 /// The header of the first data set.
-#[tactic(auto, unfolding(crate::specs::HeaderGrammar::canon))]
+#[tactic(auto, unfolding(crate::specs::HeaderBytes::canon))]
 pub fn worked_header()
     ensures bytes { canon dataset_a ≡ header_a }
     ensures sound { is_writable dataset_a ≡ true }
@@ -24,7 +27,7 @@ pub fn worked_header()
 {}
 
 /// A record of one short variable, and of two variables.
-#[tactic(auto, unfolding(crate::specs::HeaderGrammar::canon))]
+#[tactic(auto, unfolding(crate::specs::HeaderBytes::canon))]
 pub fn worked_records()
     ensures one { recsize dataset_b ≡ 2 }
     ensures one_length { header_len dataset_b ≡ 80 }
@@ -39,7 +42,7 @@ pub fn worked_records()
 {}
 
 /// Headers with one word changed.
-#[tactic(auto, unfolding(crate::specs::HeaderGrammar::canon))]
+#[tactic(auto, unfolding(crate::specs::HeaderBytes::canon))]
 pub fn worked_header_faults()
     ensures not_cdf { field_fault (header_a_with 0 (word 88 68 70 1)) ≡ Some NotCdf }
     ensures version { field_fault (header_a_with 0 (word 67 68 70 3)) ≡ Some BadVersion }
@@ -63,7 +66,7 @@ pub fn worked_header_faults()
 {}
 
 /// Headers whose fields are right each, and which are refused as a whole.
-#[tactic(auto, unfolding(crate::specs::HeaderGrammar::canon))]
+#[tactic(auto, unfolding(crate::specs::HeaderBytes::canon))]
 pub fn worked_checks()
     ensures none { first_check dataset_a ≡ None }
     ensures two_record_dims { first_check (unsound (dim 116 0 ∷ dim 117 0 ∷ []) []) ≡ Some TwoRecordDims }
@@ -76,7 +79,7 @@ pub fn worked_checks()
 {}
 
 /// A spelling of a header that no program writes, and bytes that are none.
-#[tactic(auto, unfolding(crate::specs::HeaderGrammar::canon))]
+#[tactic(auto, unfolding(crate::specs::HeaderBytes::canon))]
 pub fn worked_spellings()
     ensures odd { Spells dataset_a odd_header_a }
     ensures odd_fault { field_fault odd_header_a ≡ None }
@@ -84,7 +87,7 @@ pub fn worked_spellings()
 {}
 
 /// Version 5, alignment, and existing files.
-#[tactic(auto, unfolding(crate::specs::HeaderGrammar::canon))]
+#[tactic(auto, unfolding(crate::specs::HeaderBytes::canon))]
 pub fn worked_versions()
     ensures five { header_len dataset_5 ≡ 128 }
     ensures five_begin { begin_list dataset_5 ≡ 128 ∷ [] }

@@ -2,7 +2,7 @@
 
 ghost use Rattle.std.specs.Prelude.{◌≡◌, ◌+◌, [], ◌∷◌, ◌++◌, length, Some, None, pos, replicate, true, map, false, ℕ};
 ghost use Rattle.serial_spec.specs.File.{at};
-ghost use Rattle.serial_spec.specs.HeaderGrammar.{canon};
+ghost use Rattle.serial_spec.specs.HeaderBytes.{canon};
 ghost use Rattle.serial_spec.specs.Examples.{dataset_a, first_of_halves, offer_of_halves, reply_with, three_holders, header_a, region, setting_a, created, overlapping, side_by_side, int_bytes, ended, device_calls, halves, interleaved, whole, with_hole, one_record, arrived, empty_offer, two_seats, after_five, with_strange, independent_calls, many_bytes, dataset_b, packed_region, given, var, two_alone};
 ghost use Rattle.serial_spec.specs.Request.{packed_bytes, spread};
 ghost use Rattle.nc_base.specs.declared.header.NcType.TheVariants.{Int, Short};
@@ -38,7 +38,7 @@ pub fn worked_map()
 {}
 
 /// A meeting writes both ranks' elements, or tells each rank the pair that overlaps.
-#[tactic(auto, unfolding(crate::specs::HeaderGrammar::canon))]
+#[tactic(auto, unfolding(crate::specs::HeaderBytes::canon))]
 pub fn worked_meeting()
     ensures done { (meeting setting_a side_by_side (created setting_a)).0.file ≡ header_a ++ int_bytes (1 ∷ 2 ∷ 3 ∷ 4 ∷ []) }
     ensures kept { (meeting setting_a overlapping (created setting_a)).0.file ≡ header_a ++ int_bytes (0 ∷ 0 ∷ 0 ∷ 0 ∷ []) }
@@ -47,7 +47,7 @@ pub fn worked_meeting()
 {}
 
 /// The device calls of small runs.
-#[tactic(auto, unfolding(crate::specs::HeaderGrammar::canon))]
+#[tactic(auto, unfolding(crate::specs::HeaderBytes::canon))]
 pub fn worked_calls()
     ensures halves { device_calls halves (Meet 0 ∷ []) ≡ Store 80 8 ∷ Store 88 8 ∷ [] }
     ensures interleaved { device_calls interleaved (Meet 0 ∷ []) ≡ Store 80 4 ∷ Store 84 4 ∷ Store 88 4 ∷ Store 92 4 ∷ [] }
@@ -60,7 +60,7 @@ pub fn worked_calls()
 {}
 
 /// The files of small runs.
-#[tactic(auto, unfolding(crate::specs::HeaderGrammar::canon))]
+#[tactic(auto, unfolding(crate::specs::HeaderBytes::canon))]
 pub fn worked_ends()
     ensures halves { (ended halves (Meet 0 ∷ [])).bytes ≡ header_a ++ int_bytes (1 ∷ 2 ∷ 3 ∷ 4 ∷ []) }
     ensures interleaved { (ended interleaved (Meet 0 ∷ [])).bytes ≡ header_a ++ int_bytes (1 ∷ 2 ∷ 3 ∷ 4 ∷ []) }
@@ -69,7 +69,7 @@ pub fn worked_ends()
 {}
 
 /// Marks, and what arrivals bring.
-#[tactic(auto, unfolding(crate::specs::HeaderGrammar::canon, crate::specs::Desk::event, crate::specs::Desk::is_strange, crate::specs::Desk::strange_offer))]
+#[tactic(auto, unfolding(crate::specs::HeaderBytes::canon, crate::specs::Desk::event, crate::specs::Desk::is_strange, crate::specs::Desk::strange_offer))]
 pub fn worked_arrivals()
     ensures marks { marks (independent_calls ∷ []) 0 ≡ Meet 0 ∷ Solo 0 1 ∷ Meet 1 ∷ [] }
     ensures done { done 2 arrived ≡ Meet 0 ∷ Solo 1 1 ∷ Solo 0 1 ∷ Meet 1 ∷ [] }
@@ -98,7 +98,7 @@ pub fn worked_legal()
 {}
 
 /// What one rank puts and answers for what comes back to it.
-#[tactic(auto, unfolding(crate::specs::HeaderGrammar::canon))]
+#[tactic(auto, unfolding(crate::specs::HeaderBytes::canon))]
 pub fn worked_rank()
     ensures waits { offered dataset_a first_of_halves [] ≡ item.Offer 0 offer_of_halves ∷ [] }
     ensures puts { offered dataset_a first_of_halves (Reply (reply_with []) ∷ []) ≡ item.Offer 0 offer_of_halves ∷ item.Ended false ∷ [] }
@@ -120,7 +120,7 @@ pub fn worked_shared()
 {}
 
 /// When a call's region is refused: of a variable with two million bytes, of one with four elements, and of a record variable.
-#[tactic(auto, unfolding(crate::specs::HeaderGrammar::canon))]
+#[tactic(auto, unfolding(crate::specs::HeaderBytes::canon))]
 pub fn worked_regions()
     ensures many { check many_bytes 0 (packed_region (0 ∷ []) (1048576 ∷ []) (1 ∷ [])) 0 Put ≡ Ok }
     ensures too_many { check many_bytes 0 (packed_region (0 ∷ []) (1048577 ∷ []) (1 ∷ [])) 0 Put ≡ ETooLarge }

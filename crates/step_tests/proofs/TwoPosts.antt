@@ -5,7 +5,7 @@ use Rattle.overlay_laws.proofs.Members.{at_in}
 use Rattle.nc_base.specs.declared.header.Header.{Header}
 use Rattle.nc_base.specs.declared.plan.Batch.{Batch}
 use Rattle.nc_base.specs.declared.plan.Post.{Post}
-use Rattle.serial_spec.specs.HeaderGrammar.{is_sound}
+use Rattle.serial_spec.specs.SoundHeaders.{is_sound}
 use Rattle.serial_spec.specs.SharedByte.{Puts, bytes_of, holdings, IsOwnOnce}
 use Rattle.overlay_laws.specs.Entries.{IsOnce, HaveOwnKeys}
 use Rattle.overlay_laws.proofs.ShareLaws.{own_once}

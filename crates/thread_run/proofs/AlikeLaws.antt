@@ -1,5 +1,5 @@
 -- Items that are alike, one list after another; and lines on which items are put one after another.
-use Rattle.std.proofs.Common.{◌≡◌, ℕ, zero, suc, ◌<◌, refl, sym, ◌∙◌, ap, subst, List, [], ◌∷◌, ◌++◌, length, Some, append_assoc, arith}
+use Rattle.std.proofs.Common.{◌≡◌, ℕ, zero, suc, ◌<◌, sym, ◌∙◌, ap, subst, List, [], ◌∷◌, ◌++◌, length, Some, append_assoc, arith}
 use Rattle.std.proofs.lemmas.List.{append-nil}
 use Rattle.std.specs.Prelude.{slice_get}
 use Rattle.nc_base.specs.declared.step.OwnerItem.{OwnerItem}
@@ -11,12 +11,6 @@ use Rattle.thread_run.specs.Owned.{Grows}
 
 pub alike_by : (a b c d : List OwnerItem) → a ≡ b → d ≡ c → AreAlike b c → AreAlike a d
 alike_by a b c d e f w = subst (λ (x : List OwnerItem). AreAlike x d) (sym e) (subst (λ (x : List OwnerItem). AreAlike b x) (sym f) w)
-
-pub alike_long : (a b : List OwnerItem) → AreAlike a b → length a ≡ length b
-alike_long [] [] w = refl
-alike_long [] (j ∷ b) w = absurd w
-alike_long (i ∷ a) [] w = absurd w
-alike_long (i ∷ a) (j ∷ b) w = let again = alike_long a b w.1 in omega arith
 
 -- ---- lines
 

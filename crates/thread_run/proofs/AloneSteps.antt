@@ -16,7 +16,7 @@ use Rattle.join_laws.specs.Alike.{AreAlike, TellAlike}
 use Rattle.thread_run.specs.Owned.{desk_at, GoesSo, Grows, HoldSingle, IsAlone, Standing}
 use Rattle.thread_run.specs.Stopping.{put_one}
 use Rattle.join_laws.proofs.ReplyLaws.{gots_long}
-use Rattle.turn_run.proofs.MeetSolo.{told_at}
+use Rattle.list_laws.proofs.Optional.{if_some_at}
 
 one_alike : (r : ℕ) (y z : reply.Reply) (q : ℕ) → TellAlike y z → AreAlike (put_one r (Reply y) q) (to_one r z q)
 one_alike r y z q w = by (q == r)
@@ -65,6 +65,6 @@ alone s hints r c o b n y h = record {
     exact None e = tt
     exact (Some file) e = record {
       told = h.bytes ∙ ap (after (λ file. (solo s r o (counted file 0)).0.file)) e;
-      given = λ q l. ap (λ (z : reply.Reply). put_one r (Reply z) q) (told_at (λ x. y ≡ (solo s r o (counted x 0)).1) b.told file e h.reply);
-      calls = λ once. told_at (λ x. n.calls ≡ with_end b.calls (solo_calls hints s r o (counted x 0))) b.told file e h.calls;
+      given = λ q l. ap (λ (z : reply.Reply). put_one r (Reply z) q) (if_some_at (λ x. y ≡ (solo s r o (counted x 0)).1) b.told file e h.reply);
+      calls = λ once. if_some_at (λ x. n.calls ≡ with_end b.calls (solo_calls hints s r o (counted x 0))) b.told file e h.calls;
     }

@@ -4,7 +4,7 @@ use Rattle.std.proofs.lemmas.Bool.{cases_eq}
 use Rattle.std.proofs.lemmas.List.{append-nil, length-set}
 use Rattle.std.specs.Prelude.{slice_get, is_some, IfSome, OnOk}
 use Rattle.std.specs.List.{list_all, list_any}
-use Rattle.std.proofs.lemmas.Option.{same_Some}
+use Rattle.std.proofs.lemmas.Option.{same_Some, get_or_from_slice_get}
 use Rattle.list_laws.proofs.Truth.{and_first, and_second}
 use Rattle.nc_base.specs.declared.header.Header.{Header}
 use Rattle.nc_base.specs.declared.script.Hints.{Hints}
@@ -22,7 +22,7 @@ use Rattle.ruled_line.specs.Ends.{End}
 use Rattle.serial_spec.specs.Desk.{Desk, Event, Seat, at_offer, differs, does_meeting, does_solo, event, holds, is_strange, keeps, kind_held, meets_if, offers_held, stop_held, stops}
 use Rattle.serial_spec.specs.DeviceCalls.{meeting_calls, solo_calls}
 use Rattle.serial_spec.specs.FileStep.{Setting}
-use Rattle.serial_spec.specs.HeaderGrammar.{is_sound}
+use Rattle.serial_spec.specs.SoundHeaders.{is_sound}
 use Rattle.serial_spec.specs.History.{Arrival, kind_of_meeting}
 use Rattle.collective_round.specs.Rounds.{counted}
 use Rattle.rank_items.specs.Own.{HasOwnElements, HasOwnPuts}
@@ -34,11 +34,10 @@ use Rattle.thread_run.specs.Stopping.{held_stops, put_one, stop_each, stops_for}
 use Rattle.thread_run.proofs.AlikeLaws.{lines_as, lines_none, lines_twice}
 use Rattle.turn_run.proofs.CountLaws.{count_less, count_longer}
 use Rattle.thread_run.proofs.DeskRuns.{seat_ended, seat_held}
-use Rattle.turn_run.proofs.ListLaws.{get_set, get_set_other, get_there}
-use Rattle.turn_run.proofs.MeetLists.{got_or}
 use Rattle.thread_run.proofs.PutLaws.{put_here, put_other, stop_for_offer}
-use Rattle.turn_run.proofs.StageLaws.{ended_by_none}
 use Rattle.thread_run.proofs.StrangeLaws.{fits, kind_is, passes}
+use Rattle.list_laws.proofs.Places.{entry_below, entry_set, entry_set_other}
+use Rattle.nc_outside.proofs.ToldLaws.{with_end-nil}
 
 abbrev pub with_seats : Standing → List Seat → Standing
 with_seats b seats =
@@ -58,7 +57,7 @@ done_kept hints s b a seats e c alone = record {
   alike = λ file. record {
     desk = ap (λ (ev : Event). ev.desk) (e file) ∙ ap (λ (ev : Event). desk_at (with_seats b seats) ev.desk.state.file) (sym (e file));
     marks = sym (ap (λ (ev : Event). b.order ++ ev.marks) (e file) ∙ append-nil b.order);
-    heard = sym (ap (λ (ev : Event). with_end b.heard (each_told ev)) (e file) ∙ ended_by_none b.heard);
+    heard = sym (ap (λ (ev : Event). with_end b.heard (each_told ev)) (e file) ∙ with_end-nil b.heard);
     given = λ q l. subst (λ (ev : Event). AreAlike [] (ev.given q)) (sym (e file)) tt;
   };
   exact = exact b.told refl;
@@ -71,15 +70,15 @@ done_kept hints s b a seats e c alone = record {
     exact (Some file) f = record {
       told = f ∙ ap (λ (ev : Event). Some ev.desk.state.file) (sym (e file));
       given = λ q l. ap (λ (ev : Event). ev.given q) (sym (e file));
-      calls = λ once. sym (ap (with_end b.calls) (c file) ∙ ended_by_none b.calls);
+      calls = λ once. sym (ap (with_end b.calls) (c file) ∙ with_end-nil b.calls);
     }
 
 pub single_set : (seats : List Seat) (r : ℕ) (x y : Seat) → slice_get seats r ≡ Some x → HoldSingle seats → ((o : Offer) → y.held ≡ Some o → IsSingleOffer o) → HoldSingle (set seats r y)
 single_set seats r x y e all own q z o f g = by (cases_eq q r)
   where
     by : (q ≡ r) ⊎ (q ≡ r → ⊥) → IsSingleOffer o
-    by (inl s) = own o (ap (λ (w : Seat). w.held) (same_Some y z (sym (get_set seats r x y e) ∙ ap (λ (k : ℕ). slice_get (set seats r y) k) (sym s) ∙ f)) ∙ g)
-    by (inr n) = all q z o (sym (get_set_other seats r q y n) ∙ f) g
+    by (inl s) = own o (ap (λ (w : Seat). w.held) (same_Some y z (sym (entry_set seats r x y e) ∙ ap (λ (k : ℕ). slice_get (set seats r y) k) (sym s) ∙ f)) ∙ g)
+    by (inr n) = all q z o (sym (entry_set_other seats r q y n) ∙ f) g
 
 pub done_ended : (hints : Hints) (s : Setting) (b : Standing) (r : ℕ) (x y : Seat) (memory : Bool) → slice_get b.seats r ≡ Some x → y ≡ seat_ended x memory
     → HasDone hints s (r, item.Ended memory) b (with_seats b (set b.seats r y))
@@ -170,8 +169,8 @@ set_cases : (seats : List Seat) (r q : ℕ) (x y z : Seat) → slice_get seats r
 set_cases seats r q x y z e f = by (cases_eq q r)
   where
     by : (q ≡ r) ⊎ (q ≡ r → ⊥) → ((q ≡ r) × (y ≡ z)) ⊎ ((q ≡ r → ⊥) × (slice_get seats q ≡ Some z))
-    by (inl s) = inl (s, same_Some y z (sym (get_set seats r x y e) ∙ ap (λ (k : ℕ). slice_get (set seats r y) k) (sym s) ∙ f))
-    by (inr n) = inr (n, sym (get_set_other seats r q y n) ∙ f)
+    by (inl s) = inl (s, same_Some y z (sym (entry_set seats r x y e) ∙ ap (λ (k : ℕ). slice_get (set seats r y) k) (sym s) ∙ f))
+    by (inr n) = inr (n, sym (entry_set_other seats r q y n) ∙ f)
 
 -- the offers held are the old ones and perhaps one more
 steady_set : (header : Header) (len : ℕ) (b : Standing) (r : ℕ) (x y : Seat) → IsSteady header len b → slice_get b.seats r ≡ Some x → ((o : Offer) → y.held ≡ Some o → IsHeld header len b.reached o)
@@ -218,7 +217,7 @@ pub record IsGood (header : Header) (len : ℕ) (b : Standing) (r c : ℕ) (o : 
 pub is_good : (s : Setting) (len : ℕ) (b : Standing) (r c : ℕ) (o : Offer) → is_sound s.header ≡ true → IsSteady s.header len b → r < length b.seats → HasOwnElements o.batch.puts
     → ((file : List ℕ) → is_strange s (desk_at b file) (r, item.Offer c o) ≡ false) → IsGood s.header len b r c o
 is_good s len b r c o sound h low own fit =
-    let x = get_there b.seats r low in
+    let x = entry_below b.seats r low in
     let p = passes s (desk_at b []) r c o x.0 x.1 (fit []) in
     record {
       seat = x.0;
@@ -290,8 +289,8 @@ all_stopped d r c o x y old now e free all long g = lines_as old now stop_each (
         by (inl s) =
             (λ i. ((ap (λ (k : ℕ). stop_held (slice_get d.seats k)) s ∙ ap stop_held e ∙ none x.held x.ended free) i) ++ ((stop_for_offer r c o q ∙ ap (λ (k : ℕ). put_one r Stop k) s ∙ put_here r Stop) i))
         by (inr n) =
-            let z = get_there d.seats q l in
-            let held = at q z.0 (set d.seats r y) (get_set_other d.seats r q y n ∙ z.1) all in
+            let z = entry_below d.seats q l in
+            let held = at q z.0 (set d.seats r y) (entry_set_other d.seats r q y n ∙ z.1) all in
             (λ i. ((ap stop_held z.1 ∙ one z.0.held z.0.ended held) i) ++ ((stop_for_offer r c o q ∙ put_other q r Stop n) i))
 
 -- an offer alone that was not done, and the offers that are held
@@ -313,7 +312,7 @@ as_item hints s r i j b n e h = subst (λ (k : RankItem). HasDone hints s (r, k)
 
 -- the seat that was read is the one there
 pub seat_read : (seats : List Seat) (r : ℕ) (x read : Seat) → slice_get seats r ≡ Some x → read ≡ get_or seats r read → read ≡ x
-seat_read seats r x read e f = f ∙ got_or seats r x read e
+seat_read seats r x read e f = f ∙ get_or_from_slice_get seats r x read e
 
 pub held_as : (x read y : Seat) (o : Offer) → read ≡ x → y ≡ seat_held read o → y ≡ seat_held x o
 held_as x read y o e f = f ∙ ap (λ (z : Seat). seat_held z o) e

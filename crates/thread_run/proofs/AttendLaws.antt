@@ -26,48 +26,7 @@ use Rattle.turn_run.specs.Seated.{asking, between, going_of}
 use Rattle.turn_run.specs.declared.seats.Seat.{Seat}
 use Rattle.turn_run.proofs.AloneLaws.{going_free, going_held}
 use Rattle.turn_run.proofs.SeatLaws.{answers_begin}
-
--- ---- a reply that fits
-
-offered_on : (header : Header) (g : Going) (o : Offer) (y : Reply) (later : List OwnerItem) → fits_offer header o y ≡ true
-    → waiting header g o (owner.Reply y ∷ later) ≡ offered_by header (advance header (hears header g y)) later
-offered_on header g o y later fits =
-    ap (λ (b : Bool). elim b [
-      | false ↦ item.Ended false ∷ []
-      | true ↦ let a = advance header (hears header g y) in elim a.1 [ None ↦ item.Ended false ∷ [] | Some p ↦ item.Offer (length a.0.answers) p ∷ waiting header a.0 p later ]
-    ]) fits
-    ∙ by_pair (advance header (hears header g y))
-  where
-    by_pair : (a : Going × Option Offer)
-        → elim (a.1) [ None ↦ item.Ended false ∷ [] | Some p ↦ item.Offer (length a.0.answers) p ∷ waiting header a.0 p later ] ≡ offered_by header a later
-    by_pair (t, None) = refl
-    by_pair (t, Some p) = refl
-
-ends_on : (header : Header) (g : Going) (o : Offer) (y : Reply) (later : List OwnerItem) → fits_offer header o y ≡ true
-    → waiting_end header g o (owner.Reply y ∷ later) ≡ end_by header (advance header (hears header g y)) later
-ends_on header g o y later fits =
-    ap (λ (b : Bool). elim b [
-      | false ↦ g
-      | true ↦ let a = advance header (hears header g y) in elim a.1 [ None ↦ a.0 | Some p ↦ waiting_end header a.0 p later ]
-    ]) fits
-    ∙ by_pair (advance header (hears header g y))
-  where
-    by_pair : (a : Going × Option Offer) → elim (a.1) [ None ↦ a.0 | Some p ↦ waiting_end header a.0 p later ] ≡ end_by header a later
-    by_pair (t, None) = refl
-    by_pair (t, Some p) = refl
-
-stops_on : (header : Header) (g : Going) (o : Offer) (y : Reply) (later : List OwnerItem) → fits_offer header o y ≡ true
-    → waiting_stop header g o (owner.Reply y ∷ later) ≡ stop_by header (advance header (hears header g y)) later
-stops_on header g o y later fits =
-    ap (λ (b : Bool). elim b [
-      | false ↦ Some stop.Misfit
-      | true ↦ let a = advance header (hears header g y) in elim a.1 [ None ↦ Some stop.Done | Some p ↦ waiting_stop header a.0 p later ]
-    ]) fits
-    ∙ by_pair (advance header (hears header g y))
-  where
-    by_pair : (a : Going × Option Offer) → elim (a.1) [ None ↦ Some stop.Done | Some p ↦ waiting_stop header a.0 p later ] ≡ stop_by header a later
-    by_pair (t, None) = refl
-    by_pair (t, Some p) = refl
+use Rattle.join_laws.proofs.StreamLaws.{waiting_reply, waiting_end_reply, waiting_stop_reply}
 
 -- ---- accounts
 
@@ -104,16 +63,16 @@ accounted_on header own put taken g o y to h fits e = record {
       ap (λ (back : List OwnerItem). offered header (first_going header own) back) (append_assoc taken (owner.Reply y ∷ []) later)
       ∙ h.offers (owner.Reply y ∷ later)
       ∙ ap (λ (more : List RankItem). put ++ item.Offer (length g.answers) o ∷ more)
-      (offered_on header g o y later fits ∙ ap (λ (a : Going × Option Offer). offered_by header a later) e)
+      (waiting_reply header g o y later fits ∙ ap (λ (a : Going × Option Offer). offered_by header a later) e)
       ∙ sym (append_assoc put (item.Offer (length g.answers) o ∷ []) (offered_by header to later));
   ends = λ later.
       ap (λ (back : List OwnerItem). rank_end header (first_going header own) back) (append_assoc taken (owner.Reply y ∷ []) later)
       ∙ h.ends (owner.Reply y ∷ later)
-      ∙ ends_on header g o y later fits ∙ ap (λ (a : Going × Option Offer). end_by header a later) e;
+      ∙ waiting_end_reply header g o y later fits ∙ ap (λ (a : Going × Option Offer). end_by header a later) e;
   stops = λ later.
       ap (λ (back : List OwnerItem). rank_stop header (first_going header own) back) (append_assoc taken (owner.Reply y ∷ []) later)
       ∙ h.stops (owner.Reply y ∷ later)
-      ∙ stops_on header g o y later fits ∙ ap (λ (a : Going × Option Offer). stop_by header a later) e;
+      ∙ waiting_stop_reply header g o y later fits ∙ ap (λ (a : Going × Option Offer). stop_by header a later) e;
   one_each = one_more put taken (length g.answers) o (owner.Reply y) h.one_each;
 }
 

@@ -37,8 +37,8 @@ use Rattle.turn_run.specs.Seated.{asking, between, calls_of, going_of, HasHeard,
 use Rattle.turn_run.specs.Steps.{first_seat}
 use Rattle.turn_run.specs.declared.seats.Seat.{Seat}
 use Rattle.turn_run.proofs.AloneLaws.{alone_waits, going_held}
-use Rattle.turn_run.proofs.ListLaws.{get_there}
 use Rattle.turn_run.proofs.SeatLaws.{alone_heard, answered_is, heard_seat}
+use Rattle.list_laws.proofs.Places.{entry_below}
 
 -- ---- before the first call
 
@@ -49,7 +49,7 @@ pub first_way : (script : Script) (header : Header) (r : ℕ) (own : List Call) 
     → seat ≡ first_seat header header.records → IsOnWay script [] r (between own seat) None
 first_way script header r own seat lawful below e f =
     let long = (ranks_lawful script lawful).one_each in
-    let there = get_there script.calls r (omega arith) in
+    let there = entry_below script.calls r (omega arith) in
     let is : own ≡ there.0 = e ∙ ap (λ (m : Option (List Call)). elim m [ None ↦ [] | Some calls ↦ calls ]) there.1 in
     subst (λ (g : Going). IsOnWay script [] r g None) (ap (λ (calls : List Call). first_going header calls) (sym is) ∙ sym (first_between header own seat f))
     (way_begins script header r there.0 lawful there.1)

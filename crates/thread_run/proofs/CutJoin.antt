@@ -1,507 +1,40 @@
 -- The owner's run along arrivals of which none was strange, wherever it was cut off: it is the serial run of its order, and each rank
 -- ended where that run's rank goes up to.
-use Rattle.std.proofs.Common.{◌≡◌, ℕ, zero, suc, ◌+◌, ◌<◌, ◌≤◌, refl, sym, ◌∙◌, ap, subst, inl, inr, ◌⊎◌, List, [], ◌∷◌, ◌++◌, length, map, max, set, replicate, Bool, true, false, Option, Some, None, append_assoc, arith}
-use Rattle.std.proofs.lemmas.Bool.{ltb-false, or_from}
-use Rattle.std.proofs.lemmas.Bool.Decides.{eqb_tells, nat_tests}
-use Rattle.std.proofs.lemmas.List.{length-map, length-replicate, length-set}
+use Rattle.std.proofs.Common.{◌≡◌, ℕ, ◌+◌, ◌<◌, ◌≤◌, refl, sym, ◌∙◌, ap, subst, List, [], ◌∷◌, ◌++◌, length, map, replicate, Bool, true, false, Option, Some, None, append_assoc, arith}
+use Rattle.std.proofs.lemmas.List.{length-map, length-replicate}
 use Rattle.std.proofs.lemmas.List.Folds.{list_all-append}
-use Rattle.std.proofs.lemmas.Option.{slice_get-map, slice_get_within, same_Some}
-use Rattle.std.specs.Prelude.{slice_get, flat_map, fold, is_some, nat_lt, ◌==◌}
-use Rattle.std.specs.List.{enumerate_from, list_all}
+use Rattle.std.proofs.lemmas.Option.{slice_get_within}
+use Rattle.std.specs.Prelude.{slice_get, fold, nat_lt}
+use Rattle.std.specs.List.{list_all}
 use borrow.Author.Tests.{ltb-true}
-use Rattle.list_laws.proofs.Each.{passes_at}
-use Rattle.list_laws.proofs.Optional.{some_or_none}
-use Rattle.list_laws.proofs.Places.{entry_below, entry_set, entry_set_other}
-use Rattle.list_laws.proofs.Truth.{and_first, and_second, or_first_false, or_second_false}
-use Rattle.run_laws.proofs.StandingLaws.{solo_goes}
+use Rattle.list_laws.proofs.Places.{entry_below, entry_replicate, entry_beside}
+use Rattle.list_laws.proofs.Truth.{and_first, and_second}
 use Rattle.nc_base.specs.declared.header.Header.{Header}
 use Rattle.nc_base.specs.declared.request.Call.{Call}
 use Rattle.nc_base.specs.declared.script.Script.{Script}
 use Rattle.nc_base.specs.declared.step.Mark.{Mark}
 use Rattle.nc_base.specs.declared.step.Offer.{Offer}
-use Rattle.nc_base.specs.declared.step.OfferKind.{OfferKind}
-use Rattle.nc_base.specs.declared.step.OfferKind.TheVariants as offer
 use Rattle.nc_base.specs.declared.step.OwnerItem.{OwnerItem}
-use Rattle.nc_base.specs.declared.step.OwnerItem.TheVariants.{Reply, Stop}
-use Rattle.nc_base.specs.declared.step.RankItem.{RankItem}
-use Rattle.nc_base.specs.declared.step.RankItem.TheVariants as item
-use Rattle.nc_base.specs.declared.step.Reply as reply
-use Rattle.serial_spec.specs.Desk.{Desk, Event, Seat, at_offer, does_meeting, does_solo, event, free_seat, freed, given_along, holds, is_strange, keeps, left_behind, meets_if, needed_now, offers_held, offers_in, own_items, served, some_true, strange_offer, to_each, has_ended, has_held}
-use Rattle.serial_spec.specs.FileStep.{Setting, Counted, meeting, puts_of, solo}
-use Rattle.serial_spec.specs.History.{Arrival, is_offer}
-use Rattle.serial_spec.specs.Limits.{record_limit}
-use Rattle.serial_spec.specs.HeaderGrammar.{is_sound}
+use Rattle.nc_base.specs.declared.step.OwnerItem.TheVariants.{Stop}
+use Rattle.serial_spec.specs.Desk.{Desk, Seat, event, free_seat, given_along, is_strange, offers_in, own_items, served}
+use Rattle.serial_spec.specs.FileStep.{Setting, Counted}
+use Rattle.serial_spec.specs.History.{Arrival}
+use Rattle.serial_spec.specs.SoundHeaders.{is_sound}
 use Rattle.serial_spec.specs.Joined.{opening_desk, run_of}
-use Rattle.serial_spec.specs.RankSide.{end_by, fits_offer, offered_by, rank_end, waiting, waiting_end}
-use Rattle.serial_spec.specs.SerialEnd.{Going, advance, after_mark, first_going, hears, offers_of, setting_of}
+use Rattle.serial_spec.specs.RankSide.{rank_end}
+use Rattle.serial_spec.specs.SerialEnd.{Going, after_mark, first_going, setting_of}
 use Rattle.serial_spec.specs.Torn.{Begins}
-use Rattle.join_laws.specs.Begun.{HasOffered, IsBeginning}
-use Rattle.join_laws.proofs.CountLaws.{less_max, meeting_small, solo_small, sound_small}
-use Rattle.join_laws.proofs.EventLaws.{to_one_here, to_one_other, own_here, own_other}
-use Rattle.join_laws.proofs.ListLaws.{get_beside}
-use Rattle.join_laws.proofs.ReplyLaws.{fit_passes, meeting_fits, solo_fits}
-use Rattle.join_laws.proofs.StepLaws.{going_after, goings_after, goings_long, meeting_is, meeting_within, offer_at, offers_long, replied, same_offers, solo_of_is, solo_within, Replied}
-use Rattle.join_laws.proofs.StreamLaws.{ends_once, seat_end, to_come, waiting_end_reply, waiting_reply}
-use Rattle.join_laws.proofs.TieLaws.{one_if}
+use Rattle.join_laws.specs.Begun.{HasOffered}
+use Rattle.join_laws.proofs.CountLaws.{sound_small}
 use Rattle.turn_run.specs.Seated.{calls_of}
-use Rattle.turn_run.proofs.ListLaws.{get_mapped, get_replicate}
-use Rattle.join_laws.proofs.StrangeLaws.{event_is, strange_alone}
 use Rattle.join_laws.proofs.JoinLaws.{stranger_on, served_on, ServedOn, fold_two}
 use Rattle.turn_run.specs.Telling.{counts_along}
 use Rattle.thread_run.specs.Owned.{desk_told}
 use Rattle.join_laws.proofs.GoingOnLaws.{given_on}
-use Rattle.thread_run.proofs.DeskRuns.{seat_ended, seat_held}
 use Rattle.thread_run.proofs.TellLaws.{count_of, tells_more}
-
--- ---- a beginning of what a rank puts
-
-begin_first : (i j : RankItem) (items whole : List RankItem) → is_offer i ≡ true → IsBeginning (i ∷ items) (j ∷ whole) → (i ≡ j) × IsBeginning items whole
-begin_first i j items whole h ([], m, inl e) = absurd cc
-begin_first i j items whole h ([], m, inr e) = let a : i ≡ item.Ended true = cc in absurd (no_offer (ap is_offer (sym a) ∙ h))
-  where
-    no_offer : false ≡ true → ⊥
-    no_offer k = cc
-begin_first i j items whole h (f ∷ front, (more, m), inl e) =
-    let a : i ≡ f = cc in
-    let b : items ≡ front = cc in
-    let c : f ≡ j = cc in
-    let d : front ++ more ≡ whole = cc in
-    (a ∙ c, (front, (more, d), inl b))
-begin_first i j items whole h (f ∷ front, (more, m), inr e) =
-    let a : i ≡ f = cc in
-    let b : items ≡ front ++ item.Ended true ∷ [] = cc in
-    let c : f ≡ j = cc in
-    let d : front ++ more ≡ whole = cc in
-    (a ∙ c, (front, (more, d), inr b))
-
-begin_offer : (header : Header) (p : Going × Option Offer) (back : List OwnerItem) (c : ℕ) (o : Offer) (items : List RankItem) → IsBeginning (item.Offer c o ∷ items) (offered_by header p back)
-    → (p.1 ≡ Some o) × IsBeginning items (waiting header p.0 o back)
-begin_offer header (g, None) back c o items b = let a = begin_first (item.Offer c o) (item.Ended false) items [] refl b in absurd (apart a.0)
-  where
-    apart : item.Offer c o ≡ item.Ended false → ⊥
-    apart e = cc
-begin_offer header (g, Some p) back c o items b =
-    let a = begin_first (item.Offer c o) (item.Offer (length g.answers) p) items (waiting header g p back) refl b in
-    let same : p ≡ o = same_offer a.0 in
-    (ap (λ (q : Offer). Some q) same, subst (λ (q : Offer). IsBeginning items (waiting header g q back)) same a.1)
-  where
-    same_offer : item.Offer c o ≡ item.Offer (length g.answers) p → p ≡ o
-    same_offer e = cc
-
-nothing_left : (front more : List RankItem) → front ++ more ≡ [] → front ≡ []
-nothing_left [] more e = refl
-nothing_left (x ∷ front) more e = cc
-
--- its end is the last that it puts
-begin_ended : (header : Header) (held : Option Offer) (g : Going) (back : List OwnerItem) (m : Bool) (items : List RankItem) → IsBeginning (item.Ended m ∷ items) (to_come header held g back)
-    → IsBeginning items (to_come header held g back)
-begin_ended header held g back m items ([], b, inl e) = absurd cc
-begin_ended header held g back m items ([], b, inr e) = let a : items ≡ [] = cc in ([], (to_come header held g back, refl), inl a)
-begin_ended header held g back m items (f ∷ front, (more, b), inl e) =
-    let first : f ≡ item.Ended m = cc in
-    let rest : items ≡ front = cc in
-    let none = nothing_left front more (ends_once header held g back m (front ++ more) (ap (λ (i : RankItem). i ∷ (front ++ more)) (sym first) ∙ b)) in
-    ([], (to_come header held g back, refl), inl (rest ∙ none))
-begin_ended header held g back m items (f ∷ front, (more, b), inr e) =
-    let first : f ≡ item.Ended m = cc in
-    let rest : items ≡ front ++ item.Ended true ∷ [] = cc in
-    let none = nothing_left front more (ends_once header held g back m (front ++ more) (ap (λ (i : RankItem). i ∷ (front ++ more)) (sym first) ∙ b)) in
-    ([], (to_come header held g back, refl), inr (rest ∙ ap (λ (is : List RankItem). is ++ item.Ended true ∷ []) none))
-
--- ---- one rank
-
--- what it still puts, by what it takes of these items, and where it ends
-pub record Sits (header : Header) (x : Seat) (g : Going) (items : List RankItem) (given : List OwnerItem) (end : Going) : Type 0 where
-  pub back : List OwnerItem
-  pub begins : Begins back given
-  pub stream : IsBeginning items (to_come header x.held g back)
-  pub waits : (o : Offer) → x.held ≡ Some o → (advance header g).1 ≡ Some o
-  pub enough : one_if x.held + offers_in items ≤ length back
-  pub ends : seat_end header x.held g back ≡ end
-
-record Waits (header : Header) (t : Going) (o : Offer) (items : List RankItem) (given : List OwnerItem) (end : Going) : Type 0 where
-  back : List OwnerItem
-  begins : Begins back given
-  stream : IsBeginning items (waiting header t o back)
-  enough : suc (offers_in items) ≤ length back
-  ends : waiting_end header t o back ≡ end
-
--- an offer of it arrives
-offered_now : (header : Header) (x : Seat) (g : Going) (c : ℕ) (o : Offer) (items : List RankItem) (given : List OwnerItem) (end : Going) → x.held ≡ None
-    → Sits header x g (item.Offer c o ∷ items) given end → ((advance header g).1 ≡ Some o) × Waits header (advance header g).0 o items given end
-offered_now header x g c o items given end free t =
-    let b = begin_offer header (advance header g) t.back c o items (subst (λ (m : Option Offer). IsBeginning (item.Offer c o ∷ items) (to_come header m g t.back)) free t.stream) in (
-      b.0,
-      record {
-        back = t.back;
-        begins = t.begins;
-        stream = b.1;
-        enough = let k = t.enough in let none = ap one_if free in omega arith;
-        ends = ended (advance header g) b.0 ∙ ap (λ (m : Option Offer). seat_end header m g t.back) (sym free) ∙ t.ends;
-      },
-    )
-  where
-    ended : (p : Going × Option Offer) → p.1 ≡ Some o → waiting_end header p.0 o t.back ≡ end_by header p t.back
-    ended (h, None) e = cc
-    ended (h, Some q) e = ap (λ (z : Offer). waiting_end header h z t.back) (sym (same_Some q o e))
-
-held_now : (header : Header) (x : Seat) (g : Going) (o : Offer) (items : List RankItem) (given : List OwnerItem) (end : Going) → x.held ≡ Some o → Sits header x g items given end
-    → Waits header (advance header g).0 o items given end
-held_now header x g o items given end held t = record {
-  back = t.back;
-  begins = t.begins;
-  stream = subst (λ (m : Option Offer). IsBeginning items (to_come header m g t.back)) held t.stream;
-  enough = let k = t.enough in let one = ap one_if held in omega arith;
-  ends = ap (λ (m : Option Offer). seat_end header m g t.back) (sym held) ∙ t.ends;
-}
-
-hold_it : (header : Header) (x : Seat) (g : Going) (o : Offer) (items : List RankItem) (given : List OwnerItem) (end : Going) → x.held ≡ Some o → (advance header g).1 ≡ Some o
-    → Waits header (advance header g).0 o items given end → Sits header x g items given end
-hold_it header x g o items given end held next t = record {
-  back = t.back;
-  begins = t.begins;
-  stream = subst (λ (m : Option Offer). IsBeginning items (to_come header m g t.back)) (sym held) t.stream;
-  waits = λ p e. next ∙ sym held ∙ e;
-  enough = let k = t.enough in let one = ap one_if held in omega arith;
-  ends = ap (λ (m : Option Offer). seat_end header m g t.back) held ∙ t.ends;
-}
-
--- it takes its reply
-heard_now : (header : Header) (x : Seat) (t : Going) (o : Offer) (y : reply.Reply) (items : List RankItem) (more : List OwnerItem) (end : Going) → x.held ≡ None → fits_offer header o y ≡ true
-    → Waits header t o items (Reply y ∷ more) end → Sits header x (hears header t y) items more end
-heard_now header x t o y items more end free fits w = by_back w.back w.begins w.stream w.enough w.ends
-  where
-    by_back : (back : List OwnerItem) → Begins back (Reply y ∷ more) → IsBeginning items (waiting header t o back) → suc (offers_in items) ≤ length back → waiting_end header t o back ≡ end
-        → Sits header x (hears header t y) items more end
-    by_back [] b i n e = absurd (omega arith)
-    by_back (z ∷ back) (left, b) i n e =
-        let first : z ≡ Reply y = cc in
-        let rest : back ++ left ≡ more = cc in
-        record {
-          back = back;
-          begins = (left, rest);
-          stream = subst (λ (m : Option Offer). IsBeginning items (to_come header m (hears header t y) back)) (sym free)
-              (subst (λ (is : List RankItem). IsBeginning items is) (waiting_reply header t o y back fits)
-              (subst (λ (u : OwnerItem). IsBeginning items (waiting header t o (u ∷ back))) first i));
-          waits = λ p f. absurd (none_held (sym free ∙ f));
-          enough = let none = ap one_if free in omega arith;
-          ends = ap (λ (m : Option Offer). seat_end header m (hears header t y) back) free ∙ sym (waiting_end_reply header t o y back fits)
-              ∙ ap (λ (u : OwnerItem). waiting_end header t o (u ∷ back)) (sym first) ∙ e;
-        }
-      where
-        none_held : {p : Offer} → None ≡ Some p → ⊥
-        none_held k = cc
-
-sits_as : (header : Header) (x y : Seat) (g : Going) (items same : List RankItem) (given more : List OwnerItem) (end : Going) → x.held ≡ y.held → items ≡ same → given ≡ more
-    → Sits header x g items given end → Sits header y g same more end
-sits_as header x y g items same given more end h e f t = record {
-  back = t.back;
-  begins = subst (λ (xs : List OwnerItem). Begins t.back xs) f t.begins;
-  stream = subst (λ (is : List RankItem). IsBeginning is (to_come header y.held g t.back)) e (subst (λ (m : Option Offer). IsBeginning items (to_come header m g t.back)) h t.stream);
-  waits = λ o k. t.waits o (h ∙ k);
-  enough = subst (λ (is : List RankItem). one_if y.held + offers_in is ≤ length t.back) e (subst (λ (m : Option Offer). one_if m + offers_in items ≤ length t.back) h t.enough);
-  ends = ap (λ (m : Option Offer). seat_end header m g t.back) (sym h) ∙ t.ends;
-}
-
--- where no reply is left, it ended where it goes up to
-pub last_end : (header : Header) (x : Seat) (g : Going) (items : List RankItem) (n : ℕ) (end : Going) → Sits header x g items (replicate n Stop) end → (advance header g).0 ≡ end
-last_end header x g items n end t = sym (by_held x.held) ∙ t.ends
-  where
-    waits_still : (back : List OwnerItem) (k : ℕ) → Begins back (replicate k Stop) → (h : Going) (o : Offer) → waiting_end header h o back ≡ h
-    waits_still [] k b h o = refl
-    waits_still (z ∷ back) zero (left, b) h o = absurd cc
-    waits_still (z ∷ back) (suc k) (left, b) h o = let first : z ≡ Stop = cc in ap (λ (u : OwnerItem). waiting_end header h o (u ∷ back)) first
-
-    by_next : (p : Going × Option Offer) → end_by header p t.back ≡ p.0
-    by_next (h, None) = refl
-    by_next (h, Some o) = waits_still t.back n t.begins h o
-
-    by_held : (m : Option Offer) → seat_end header m g t.back ≡ (advance header g).0
-    by_held None = by_next (advance header g)
-    by_held (Some o) = waits_still t.back n t.begins (advance header g).0 o
-
--- ---- all ranks
-
-pub record Stands (s : Setting) (d : Desk) (goings : List Going) (coming : ℕ → List RankItem) (given : ℕ → List OwnerItem) (end : ℕ → Going) : Type 0 where
-  pub long : length d.seats ≡ length goings
-  pub sits : (q : ℕ) (x : Seat) (g : Going) → slice_get d.seats q ≡ Some x → slice_get goings q ≡ Some g → Sits s.header x g (coming q) (given q) (end q)
-  pub held : (q : ℕ) (x : Seat) (o : Offer) → slice_get d.seats q ≡ Some x → x.held ≡ Some o → strange_offer s.header d.reached (Some o) ≡ false
-  pub counted : d.state.records ≤ d.reached
-  pub small : d.reached < record_limit s.header.version
-
-record Stepped (s : Setting) (d : Desk) (goings : List Going) (coming : ℕ → List RankItem) (e : Event) (given : ℕ → List OwnerItem) (end : ℕ → Going) : Type 0 where
-  after : List Going
-  folded : fold (after_mark s) (d.state, goings) e.marks ≡ (e.desk.state, after)
-  ranks : length e.desk.seats ≡ length d.seats
-  stands : Stands s e.desk after coming given end
-
-by_number : (P : ℕ → Type 0) (q r : ℕ) → P r → ((q ≡ r → ⊥) → P q) → P q
-by_number P q r here there = by (eqb_tells q r)
-  where
-    by : (((q == r) ≡ true) × (q ≡ r)) ⊎ (((q == r) ≡ false) × (q ≡ r → ⊥)) → P q
-    by (inl (e, f)) = subst P (sym f) here
-    by (inr (e, f)) = there f
-
-known_low : (header : Header) (n : ℕ) (o : Offer) → strange_offer header n (Some o) ≡ false → o.known ≤ n
-unfolding strange_offer
-known_low header n o h = ltb-false n o.known (or_first_false _ _ h)
-
-not_stray : (header : Header) (n m : ℕ) (o : Offer) → n ≤ m → strange_offer header n (Some o) ≡ false → strange_offer header m (Some o) ≡ false
-unfolding strange_offer
-not_stray header n m o l h =
-    let low = ltb-false n o.known (or_first_false _ _ h) in
-    or_from _ _ (not_above m o.known (omega arith)) (or_second_false (nat_lt n o.known) _ h)
-  where
-    not_above : (a b : ℕ) → b ≤ a → nat_lt a b ≡ false
-    not_above a b k = grind (arith, nat_tests)
-
-fifth_false : (a b c d e : Bool) → some_true (a ∷ b ∷ c ∷ d ∷ e ∷ []) ≡ false → e ≡ false
-fifth_false true b c d e h = cc
-fifth_false false true c d e h = cc
-fifth_false false false true d e h = cc
-fifth_false false false false true e h = cc
-fifth_false false false false false true h = cc
-fifth_false false false false false false h = refl
-
-pub fits_now : (s : Setting) (d : Desk) (r c : ℕ) (o : Offer) → is_strange s d (r, item.Offer c o) ≡ false → strange_offer s.header d.reached (Some o) ≡ false
-unfolding is_strange
-fits_now s d r c o h =
-    fifth_false (has_ended (slice_get d.seats r)) (has_held (slice_get d.seats r)) _ (left_behind (event s d (r, item.Offer c o)).desk.seats) (strange_offer s.header d.reached (Some o)) h
-
--- ---- an end, or an offer that is held
-
-set_one : (s : Setting) (d : Desk) (goings : List Going) (r : ℕ) (i : RankItem) (rest : List Arrival) (x y : Seat) (g : Going) (given : ℕ → List OwnerItem) (end : ℕ → Going)
-    → slice_get d.seats r ≡ Some x → slice_get goings r ≡ Some g → Sits s.header y g (own_items r rest) (given r) (end r)
-    → ((o : Offer) → y.held ≡ Some o → strange_offer s.header d.reached (Some o) ≡ false)
-    → Stands s d goings (λ q. own_items q ((r, i) ∷ rest)) given end → Stands s (keeps d (set d.seats r y)).desk goings (λ q. own_items q rest) given end
-set_one s d goings r i rest x y g given end a b mine own t = record {
-  long = length-set d.seats r y ∙ t.long;
-  sits = λ q z h c e. by_number (λ p. slice_get (set d.seats r y) p ≡ Some z → slice_get goings p ≡ Some h → Sits s.header z h (own_items p rest) (given p) (end p)) q r here (λ n. there q z h n) c e;
-  held = λ q z o c e. by_number (λ p. slice_get (set d.seats r y) p ≡ Some z → strange_offer s.header d.reached (Some o) ≡ false) q r
-      (λ f. own o (ap (λ (w : Seat). w.held) (same_Some y z (sym (entry_set d.seats r x y a) ∙ f)) ∙ e))
-      (λ n f. t.held q z o (sym (entry_set_other d.seats r q y n) ∙ f) e) c;
-  counted = t.counted;
-  small = t.small;
-}
-  where
-    here : {z : Seat} {h : Going} → slice_get (set d.seats r y) r ≡ Some z → slice_get goings r ≡ Some h → Sits s.header z h (own_items r rest) (given r) (end r)
-    here {z} {h} c e =
-        subst (λ (w : Seat). Sits s.header w h (own_items r rest) (given r) (end r)) (same_Some y z (sym (entry_set d.seats r x y a) ∙ c))
-        (subst (λ (w : Going). Sits s.header y w (own_items r rest) (given r) (end r)) (same_Some g h (sym b ∙ e)) mine)
-
-    there : (q : ℕ) (z : Seat) (h : Going) → (q ≡ r → ⊥) → slice_get (set d.seats r y) q ≡ Some z → slice_get goings q ≡ Some h → Sits s.header z h (own_items q rest) (given q) (end q)
-    there q z h n c e =
-        sits_as s.header z z h (own_items q ((r, i) ∷ rest)) (own_items q rest) (given q) (given q) (end q) refl (own_other q r i rest n) refl
-        (t.sits q z h (sym (entry_set_other d.seats r q y n) ∙ c) e)
-
-mine_first : (s : Setting) (d : Desk) (goings : List Going) (r : ℕ) (i : RankItem) (rest : List Arrival) (x : Seat) (g : Going) (given : ℕ → List OwnerItem) (end : ℕ → Going) → slice_get d.seats r ≡ Some x
-    → slice_get goings r ≡ Some g → Stands s d goings (λ q. own_items q ((r, i) ∷ rest)) given end → Sits s.header x g (i ∷ own_items r rest) (given r) (end r)
-mine_first s d goings r i rest x g given end a b t =
-    sits_as s.header x x g (own_items r ((r, i) ∷ rest)) (i ∷ own_items r rest) (given r) (given r) (end r) refl (own_here r i rest) refl (t.sits r x g a b)
-
-ended_sits : (header : Header) (x : Seat) (g : Going) (m : Bool) (items : List RankItem) (given : List OwnerItem) (end : Going) → Sits header x g (item.Ended m ∷ items) given end
-    → Sits header (seat_ended x m) g items given end
-ended_sits header x g m items given end t =
-    record { back = t.back; begins = t.begins; stream = begin_ended header x.held g t.back m items t.stream; waits = t.waits; enough = t.enough; ends = t.ends }
-
--- nothing of it is done
-kept : (s : Setting) (d : Desk) (goings : List Going) (coming : ℕ → List RankItem) (seats : List Seat) (given : ℕ → List OwnerItem) (end : ℕ → Going) → length seats ≡ length d.seats
-    → Stands s (keeps d seats).desk goings coming given end → Stepped s d goings coming (keeps d seats) given end
-kept s d goings coming seats given end l t = record { after = goings; folded = refl; ranks = l; stands = t }
-
--- ---- an offer that its number makes alone
-
-solo_stands : (s : Setting) (d : Desk) (goings : List Going) (r c : ℕ) (o : Offer) (rest : List Arrival) (x : Seat) (g : Going) (given : ℕ → List OwnerItem) (end : ℕ → Going) → slice_get d.seats r ≡ Some x
-    → slice_get goings r ≡ Some g → x.held ≡ None → strange_offer s.header d.reached (Some o) ≡ false
-    → Stands s d goings (λ q. own_items q ((r, item.Offer c o) ∷ rest)) (λ q. (does_solo s d r c o).given q ++ given q) end
-    → Stepped s d goings (λ q. own_items q rest) (does_solo s d r c o) given end
-solo_stands s d goings r c o rest x g given end a b free fit t = record {
-  after = set goings r heard;
-  folded = solo_goes s r d.state goings g b ∙ ap (λ (p : Counted × Going). (p.0, set goings r p.1)) (solo_of_is s r d.state (advance s.header g) o now.0);
-  ranks = refl;
-  stands = record {
-    long = t.long ∙ sym (length-set goings r heard);
-    sits = λ q z h e f. by_number (λ p. slice_get d.seats p ≡ Some z → slice_get (set goings r heard) p ≡ Some h → Sits s.header z h (own_items p rest) (given p) (end p)) q r here (λ n. there q z h n) e f;
-    held = λ q z p e f. not_stray s.header d.reached (max d.reached (needed_now s (puts_of (r, o)))) p (omega arith) (t.held q z p e f);
-    counted = let k = t.counted in omega arith;
-    small = within;
-  };
-}
-  where
-    y : reply.Reply
-    y = (solo s r o d.state).1
-
-    heard : Going
-    heard = hears s.header (advance s.header g).0 (solo s r o d.state).1
-
-    mine : Sits s.header x g (item.Offer c o ∷ own_items r rest) (Reply (solo s r o d.state).1 ∷ given r) (end r)
-    mine =
-        sits_as s.header x x g (item.Offer c o ∷ own_items r rest) (item.Offer c o ∷ own_items r rest) ((does_solo s d r c o).given r ++ given r) (Reply (solo s r o d.state).1 ∷ given r) (end r) refl refl
-        (ap (λ (xs : List OwnerItem). xs ++ given r) (to_one_here r (solo s r o d.state).1))
-        (mine_first s d goings r (item.Offer c o) rest x g (λ q. (does_solo s d r c o).given q ++ given q) end a b t)
-
-    now : ((advance s.header g).1 ≡ Some o) × Waits s.header (advance s.header g).0 o (own_items r rest) (Reply (solo s r o d.state).1 ∷ given r) (end r)
-    now = offered_now s.header x g c o (own_items r rest) (Reply (solo s r o d.state).1 ∷ given r) (end r) free mine
-
-    within : max d.reached (needed_now s (puts_of (r, o))) < record_limit s.header.version
-    within = less_max d.reached (needed_now s (puts_of (r, o))) (record_limit s.header.version) t.small (solo_small s r d.reached o fit)
-
-    few : (solo s r o d.state).1.records < record_limit s.header.version
-    few = below (solo_within s r d.reached o d.state (known_low s.header d.reached o fit)) within
-      where
-        below : {n k l : ℕ} → n ≤ k → k < l → n < l
-        below h k = omega arith
-
-    here : {z : Seat} {h : Going} → slice_get d.seats r ≡ Some z → slice_get (set goings r heard) r ≡ Some h → Sits s.header z h (own_items r rest) (given r) (end r)
-    here {z} {h} e f =
-        subst (λ (w : Seat). Sits s.header w h (own_items r rest) (given r) (end r)) (same_Some x z (sym a ∙ e))
-        (subst (λ (w : Going). Sits s.header x w (own_items r rest) (given r) (end r)) (same_Some heard h (sym (entry_set goings r g heard b) ∙ f))
-        (heard_now s.header x (advance s.header g).0 o (solo s r o d.state).1 (own_items r rest) (given r) (end r) free (fit_passes s o (solo s r o d.state).1 (solo_fits s r o d.state) few) now.1))
-
-    there : (q : ℕ) (z : Seat) (h : Going) → (q ≡ r → ⊥) → slice_get d.seats q ≡ Some z → slice_get (set goings r heard) q ≡ Some h → Sits s.header z h (own_items q rest) (given q) (end q)
-    there q z h n e f =
-        sits_as s.header z z h (own_items q ((r, item.Offer c o) ∷ rest)) (own_items q rest) ((does_solo s d r c o).given q ++ given q) (given q) (end q) refl (own_other q r (item.Offer c o) rest n)
-        (ap (λ (xs : List OwnerItem). xs ++ given q) (to_one_other q r (solo s r o d.state).1 n)) (t.sits q z h e (sym (entry_set_other goings r q heard n) ∙ f))
-
--- ---- a meeting of all
-
-held_each : (seats : List Seat) (P : Offer → Type 0) → list_all holds seats ≡ true → ((q : ℕ) (x : Seat) (o : Offer) → slice_get seats q ≡ Some x → x.held ≡ Some o → P o)
-    → (q : ℕ) (o : Offer) → slice_get (offers_held seats) q ≡ Some o → P o
-held_each seats P all f q o e =
-    let x = get_beside (offers_held seats) seats q o (offers_long seats all) e in
-    by_held x.0 x.1 (some_or_none x.0.held)
-  where
-    by_held : (x : Seat) → slice_get seats q ≡ Some x → (x.held ≡ None) ⊎ ((p : Offer) × (x.held ≡ Some p)) → P o
-    by_held x a (inl none) = absurd (never (sym (ap (λ (m : Option Offer). is_some m) none) ∙ passes_at holds seats all q x a))
-      where
-        never : false ≡ true → ⊥
-        never w = cc
-    by_held x a (inr (p, h)) = subst P (same_Some p o (sym (offer_at seats q x p all a h) ∙ e)) (f q x p a h)
-
-meeting_stands : (s : Setting) (d : Desk) (goings : List Going) (coming : ℕ → List RankItem) (seats : List Seat) (given : ℕ → List OwnerItem) (end : ℕ → Going) → list_all holds seats ≡ true
-    → length seats ≡ length d.seats
-    → Stands s (keeps d seats).desk goings coming (λ q. (does_meeting s d seats).given q ++ given q) end → Stepped s d goings coming (does_meeting s d seats) given end
-meeting_stands s d goings coming seats given end all same t = record {
-  after = goings_after s (offers_held seats) d.state goings;
-  folded = meeting_is s (offers_held seats) d.state goings offers;
-  ranks = length-map seats freed ∙ same;
-  stands = record {
-    long = length-map seats freed ∙ t.long ∙ sym (goings_long s (offers_held seats) d.state goings (offers_long seats all ∙ t.long));
-    sits = λ q z h e f. sits q z h e f;
-    held = λ q z o e f. absurd (none_freed seats q z o e f);
-    counted = within;
-    small = below;
-  };
-}
-  where
-    offers : offers_of (map (advance s.header) goings) ≡ offers_held seats
-    offers = same_offers s.header seats goings t.long all (λ q x g o a b h. (t.sits q x g a b).waits o h)
-
-    within : (meeting s (offers_held seats) d.state).0.records ≤ max d.reached (needed_now s (flat_map puts_of (enumerate_from 0 (offers_held seats))))
-    within = meeting_within s (offers_held seats) d.state d.reached t.counted (held_each seats (λ o. o.known ≤ d.reached) all (λ q x o a h. known_low s.header d.reached o (t.held q x o a h)))
-
-    below : max d.reached (needed_now s (flat_map puts_of (enumerate_from 0 (offers_held seats)))) < record_limit s.header.version
-    below =
-        less_max d.reached (needed_now s (flat_map puts_of (enumerate_from 0 (offers_held seats)))) (record_limit s.header.version) t.small
-        (meeting_small s d.reached (offers_held seats) (held_each seats (λ o. strange_offer s.header d.reached (Some o) ≡ false) all t.held))
-
-    none_freed : (xs : List Seat) (q : ℕ) (z : Seat) (o : Offer) → slice_get (map freed xs) q ≡ Some z → z.held ≡ Some o → ⊥
-    none_freed [] q z o e f = cc
-    none_freed (x ∷ xs) zero z o e f = let k : z.held ≡ None = ap (λ (w : Seat). w.held) (sym (same_Some (freed x) z e)) in never (sym k ∙ f)
-      where
-        never : None ≡ Some o → ⊥
-        never w = cc
-    none_freed (x ∷ xs) (suc q) z o e f = none_freed xs q z o e f
-
-    one : (q : ℕ) (x : Seat) (g : Going) (o : Offer) → slice_get seats q ≡ Some x → slice_get goings q ≡ Some g → x.held ≡ Some o → (y : Replied s (offers_held seats) d.state q)
-        → Sits s.header (freed x) (hears s.header (advance s.header g).0 y.reply) (coming q) (given q) (end q)
-    one q x g o a b h y =
-        heard_now s.header (freed x) (advance s.header g).0 o y.reply (coming q) (given q) (end q) refl
-        (fit_passes s o y.reply (meeting_fits s (offers_held seats) d.state q o y.reply (offer_at seats q x o all a h) y.is) (few y.reply y.records))
-        (held_now s.header x g o (coming q) (Reply y.reply ∷ given q) (end q) h
-        (sits_as s.header x x g (coming q) (coming q) (to_each (meeting s (offers_held seats) d.state).1 q ++ given q) (Reply y.reply ∷ given q) (end q) refl refl
-        (ap (λ (m : Option reply.Reply). elim m [ None ↦ [] | Some z ↦ Reply z ∷ [] ] ++ given q) y.is) (t.sits q x g a b)))
-      where
-        few : (z : reply.Reply) → z.records ≡ (meeting s (offers_held seats) d.state).0.records → z.records < record_limit s.header.version
-        few z w = least z.records _ _ _ w within below
-          where
-            least : (n k m l : ℕ) → n ≡ k → k ≤ m → m < l → n < l
-            least n k m l e f g = omega arith
-
-    sits : (q : ℕ) (z : Seat) (h : Going) → slice_get (map freed seats) q ≡ Some z → slice_get (goings_after s (offers_held seats) d.state goings) q ≡ Some h → Sits s.header z h (coming q) (given q) (end q)
-    sits q z h e f =
-        let x = get_beside (map freed seats) seats q z (length-map seats freed) e in
-        let g = get_beside seats goings q x.0 t.long x.1 in
-        by_held x.0 x.1 g.0 g.1 (some_or_none x.0.held)
-      where
-        by_held : (x : Seat) → slice_get seats q ≡ Some x → (g : Going) → slice_get goings q ≡ Some g → (x.held ≡ None) ⊎ ((o : Offer) × (x.held ≡ Some o)) → Sits s.header z h (coming q) (given q) (end q)
-        by_held x a g b (inl none) = absurd (never (sym (ap (λ (m : Option Offer). is_some m) none) ∙ passes_at holds seats all q x a))
-          where
-            never : false ≡ true → ⊥
-            never w = cc
-        by_held x a g b (inr (o, k)) =
-            let y = replied s (offers_held seats) d.state q o (offer_at seats q x o all a k) in
-            let at_seat : slice_get (map freed seats) q ≡ Some (freed x) = slice_get-map freed seats q ∙ ap (λ (m : Option Seat). elim m [ None ↦ None | Some w ↦ Some (freed w) ]) a in
-            let at_going = going_after s (offers_held seats) d.state goings q g y.reply b y.is in
-            subst (λ (w : Seat). Sits s.header w h (coming q) (given q) (end q)) (same_Some (freed x) z (sym at_seat ∙ e))
-            (subst (λ (w : Going). Sits s.header (freed x) w (coming q) (given q) (end q)) (same_Some _ h (sym at_going ∙ f)) (one q x g o a b k y))
-
--- an offer that arrives is its rank's next
-pub own_offer : (s : Setting) (d : Desk) (goings : List Going) (r c : ℕ) (o : Offer) (rest : List Arrival) (x : Seat) (g : Going) (given : ℕ → List OwnerItem) (end : ℕ → Going) → slice_get d.seats r ≡ Some x
-    → slice_get goings r ≡ Some g → x.held ≡ None → Stands s d goings (λ q. own_items q ((r, item.Offer c o) ∷ rest)) given end → (advance s.header g).1 ≡ Some o
-own_offer s d goings r c o rest x g given end a b free t =
-    (offered_now s.header x g c o (own_items r rest) (given r) (end r) free (mine_first s d goings r (item.Offer c o) rest x g given end a b t)).0
-
--- and is held
-pub held_keeps : (s : Setting) (d : Desk) (goings : List Going) (r c : ℕ) (o : Offer) (rest : List Arrival) (x : Seat) (g : Going) (given : ℕ → List OwnerItem) (end : ℕ → Going) → slice_get d.seats r ≡ Some x
-    → slice_get goings r ≡ Some g → x.held ≡ None → strange_offer s.header d.reached (Some o) ≡ false → Stands s d goings (λ q. own_items q ((r, item.Offer c o) ∷ rest)) given end
-    → Stands s (keeps d (set d.seats r (seat_held x o))).desk goings (λ q. own_items q rest) given end
-held_keeps s d goings r c o rest x g given end a b free fit u =
-    let now = offered_now s.header x g c o (own_items r rest) (given r) (end r) free (mine_first s d goings r (item.Offer c o) rest x g given end a b u) in
-    set_one s d goings r (item.Offer c o) rest x (seat_held x o) g given end a b (hold_it s.header (seat_held x o) g o (own_items r rest) (given r) (end r) refl now.0 now.1)
-    (λ p e. subst (λ (q : Offer). strange_offer s.header d.reached (Some q) ≡ false) (same_Some o p e) fit) u
-
--- ---- an arrival
-
-offer_stands : (s : Setting) (d : Desk) (goings : List Going) (r c : ℕ) (o : Offer) (rest : List Arrival) (x : Seat) (g : Going) (given : ℕ → List OwnerItem) (end : ℕ → Going) → slice_get d.seats r ≡ Some x
-    → slice_get goings r ≡ Some g → x.held ≡ None → strange_offer s.header d.reached (Some o) ≡ false → (kind : OfferKind)
-    → Stands s d goings (λ q. own_items q ((r, item.Offer c o) ∷ rest)) (λ q. (at_offer s d r c o x kind).given q ++ given q) end
-    → Stepped s d goings (λ q. own_items q rest) (at_offer s d r c o x kind) given end
-offer_stands s d goings r c o rest x g given end a b free fit offer.Solo t = solo_stands s d goings r c o rest x g given end a b free fit t
-offer_stands s d goings r c o rest x g given end a b free fit (offer.Meet kind) t = by_full (list_all holds seats) refl t
-  where
-    seats : List Seat
-    seats = set d.seats r (seat_held x o)
-
-    by_full : (full : Bool) → list_all holds (set d.seats r (seat_held x o)) ≡ full
-        → Stands s d goings (λ q. own_items q ((r, item.Offer c o) ∷ rest)) (λ q. (meets_if s d (set d.seats r (seat_held x o)) full).given q ++ given q) end
-        → Stepped s d goings (λ q. own_items q rest) (meets_if s d (set d.seats r (seat_held x o)) full) given end
-    by_full false e u = kept s d goings (λ q. own_items q rest) (set d.seats r (seat_held x o)) given end (length-set d.seats r (seat_held x o)) (held_keeps s d goings r c o rest x g given end a b free fit u)
-    by_full true e u =
-        meeting_stands s d goings (λ q. own_items q rest) (set d.seats r (seat_held x o)) given end e (length-set d.seats r (seat_held x o))
-        (held_keeps s d goings r c o rest x g (λ q. (does_meeting s d (set d.seats r (seat_held x o))).given q ++ given q) end a b free fit u)
-
-arrival_stands : (s : Setting) (d : Desk) (goings : List Going) (r : ℕ) (i : RankItem) (rest : List Arrival) (x : Seat) (g : Going) (given : ℕ → List OwnerItem) (end : ℕ → Going) → slice_get d.seats r ≡ Some x
-    → slice_get goings r ≡ Some g → is_strange s d (r, i) ≡ false
-    → Stands s d goings (λ q. own_items q ((r, i) ∷ rest)) (λ q. (event s d (r, i)).given q ++ given q) end → Stepped s d goings (λ q. own_items q rest) (event s d (r, i)) given end
-arrival_stands s d goings r (item.Ended m) rest x g given end a b fit t =
-    subst (λ (e : Event). Stepped s d goings (λ q. own_items q rest) e given end) (sym is)
-    (kept s d goings (λ q. own_items q rest) (set d.seats r (seat_ended x m)) given end (length-set d.seats r (seat_ended x m))
-    (set_one s d goings r (item.Ended m) rest x (seat_ended x m) g given end a b
-    (ended_sits s.header x g m (own_items r rest) (given r) (end r) (mine_first s d goings r (item.Ended m) rest x g given end a b u)) (λ o e. u.held r x o a e) u))
-  where
-    is : event s d (r, item.Ended m) ≡ keeps d (set d.seats r (seat_ended x m))
-    is = event_is s d r (item.Ended m) x a
-
-    u : Stands s d goings (λ q. own_items q ((r, item.Ended m) ∷ rest)) given end
-    u = subst (λ (e : Event). Stands s d goings (λ q. own_items q ((r, item.Ended m) ∷ rest)) (λ q. e.given q ++ given q) end) is t
-arrival_stands s d goings r (item.Offer c o) rest x g given end a b fit t =
-    subst (λ (e : Event). Stepped s d goings (λ q. own_items q rest) e given end) (sym is)
-    (offer_stands s d goings r c o rest x g given end a b (strange_alone s d r (item.Offer c o) x a fit refl) (fits_now s d r c o fit) o.kind
-    (subst (λ (e : Event). Stands s d goings (λ q. own_items q ((r, item.Offer c o) ∷ rest)) (λ q. e.given q ++ given q) end) is t))
-  where
-    is : event s d (r, item.Offer c o) ≡ at_offer s d r c o x o.kind
-    is = event_is s d r (item.Offer c o) x a
+use Rattle.thread_run.proofs.CutRank.{Sits, sits_as}
+use Rattle.thread_run.proofs.CutSteps.{Stands, Stepped, arrival_stands}
+use Rattle.list_laws.proofs.Maps.{mapped_entry}
 
 -- ---- arrivals
 
@@ -547,7 +80,7 @@ ran s ((r, i) ∷ first) later d goings n end none low t = by (is_strange s d (r
         seat = entry_below d.seats r (ltb-true r (length d.seats) (and_first (nat_lt r (length d.seats)) (list_all (λ (a : Arrival). nat_lt a.0 (length d.seats)) first) low))
 
         going : (g : Going) × (slice_get goings r ≡ Some g)
-        going = get_beside d.seats goings r seat.0 t.long seat.1
+        going = entry_beside d.seats goings r seat.0 t.long seat.1
 
         whole : Stands s d goings (λ q. own_items q ((r, i) ∷ (first ++ later))) (λ q. (event s d (r, i)).given q ++ (given_along s (event s d (r, i)).desk first q ++ replicate (n q) Stop)) end
         whole = record {
@@ -596,16 +129,16 @@ cut_run script header file first later taken n sound long none offered enough ca
     front = and_first (list_all (λ (a : Arrival). nat_lt a.0 script.ranks) first) _ (sym (list_all-append (λ (a : Arrival). nat_lt a.0 script.ranks) first later) ∙ offered.numbers)
 
     not_held : (q : ℕ) (x : Seat) (o : Offer) → slice_get (replicate (length script.calls) free_seat) q ≡ Some x → x.held ≡ Some o → ⊥
-    not_held q x o a h = let free = get_replicate (length script.calls) q free_seat x a in let none : x.held ≡ None = ap (λ (y : Seat). y.held) free in cc
+    not_held q x o a h = let free = entry_replicate (length script.calls) q free_seat x a in let none : x.held ≡ None = ap (λ (y : Seat). y.held) free in cc
 
     sits : (q : ℕ) (x : Seat) (g : Going) → slice_get (replicate (length script.calls) free_seat) q ≡ Some x → slice_get (map (first_going header) script.calls) q ≡ Some g
         → Sits header x g (own_items q (first ++ later)) (given_along (setting_of script header) (opening_desk script header file) first q ++ replicate (n q) Stop) (end_of_rank script header taken q)
     sits q x g a b =
-        let own = get_mapped (first_going header) script.calls q g b in
+        let own = mapped_entry (first_going header) script.calls q g b in
         let low : q < script.ranks = (let l = slice_get_within script.calls q own.0 own.1.0 in omega arith) in
         let its : calls_of script q ≡ own.0 = ap (λ (m : Option (List Call)). elim m [ None ↦ [] | Some cs ↦ cs ]) own.1.0 in
         subst (λ (z : Seat). Sits header z g (own_items q (first ++ later)) (given_along (setting_of script header) (opening_desk script header file) first q ++ replicate (n q) Stop) (end_of_rank script header taken q))
-        (sym (get_replicate (length script.calls) q free_seat x a))
+        (sym (entry_replicate (length script.calls) q free_seat x a))
         (subst (λ (z : Going). Sits header free_seat z (own_items q (first ++ later)) (given_along (setting_of script header) (opening_desk script header file) first q ++ replicate (n q) Stop) (end_of_rank script header taken q))
         own.1.1 (record {
           back = taken q;

@@ -6,7 +6,7 @@ use borrow.Author.Tests.{ltb-true, ltb-false}
 use Rattle.std.specs.Prelude.{slice_get, flat_map, nat_lt, ◌==◌}
 use Rattle.std.specs.List.{enumerate_from, list_all, list_any}
 use Rattle.std.specs.Int.{byte_len}
-use Rattle.list_laws.proofs.Places.{entry_below}
+use Rattle.list_laws.proofs.Places.{entry_below, entry_beside}
 use Rattle.list_laws.proofs.Truth.{and_first, and_second}
 use Rattle.nc_base.specs.declared.header.Header.{Header}
 use Rattle.nc_base.specs.declared.request.Call.{Call}
@@ -26,28 +26,27 @@ use Rattle.overlay_laws.specs.Entries.{In}
 use Rattle.overlay_laws.proofs.SaidLaws.{same_file}
 use Rattle.serial_spec.specs.Desk.{Desk, Event, Seat, at_offer, event, holds, is_strange, meets_if, offers_at, offers_held, offers_met, own_items, step_offers}
 use Rattle.serial_spec.specs.File.{at}
-use Rattle.serial_spec.specs.FileStep.{Setting, Counted, after_puts, puts_of, told}
-use Rattle.serial_spec.specs.HeaderGrammar.{count_width}
+use Rattle.serial_spec.specs.FileStep.{Setting, Counted, puts_of}
+use Rattle.serial_spec.specs.HeaderBytes.{count_width}
 use Rattle.serial_spec.specs.History.{Arrival, IsLegal}
 use Rattle.serial_spec.specs.RankSide.{fits_offer, offered, offered_by, waiting}
-use Rattle.serial_spec.specs.SerialEnd.{Going, advance, after_mark, closed, first_going, hears, offers_of, solo_of}
+use Rattle.serial_spec.specs.SerialEnd.{Going, advance, after_mark, closed, first_going, hears, offers_of}
 use Rattle.serial_spec.specs.SharedByte.{Puts, covered}
 use Rattle.serial_spec.specs.Torn.{IsLeft, IsTorn, OwnerStoodAt, StoodAt, bytes_of_mark}
 use Rattle.serial_spec.specs.Torn.OwnerStoodAt.{at_arrival, between_arrivals}
 use Rattle.serial_spec.specs.Torn.StoodAt.{in_step, in_close, between}
-use Rattle.collective_round.specs.Rounds.{counted}
-use Rattle.collective_round.proofs.TornLaws.{after_grows, raised_grows, torn_by, torn_sides, AreSides}
+use Rattle.collective_round.proofs.TornFiles.{torn_sides, AreSides, torn_still}
 use Rattle.run_laws.proofs.StandingLaws.{solo_goes}
 use Rattle.join_laws.specs.Begun.{HasOffered, IsBeginning}
-use Rattle.join_laws.proofs.ListLaws.{get_beside}
 use Rattle.join_laws.proofs.StreamLaws.{waiting_misfit, waiting_reply}
 use Rattle.join_laws.proofs.StepLaws.{meeting_is, same_offers, solo_of_is}
 use Rattle.thread_run.specs.Owned.{AreSingle, IsSingleOffer}
-use Rattle.thread_run.proofs.CutJoin.{Stands, fits_now, held_keeps, own_offer}
+use Rattle.thread_run.proofs.CutSteps.{Stands, fits_now, held_keeps, own_offer}
 use Rattle.join_laws.proofs.StrangeLaws.{event_is, strange_alone}
 use Rattle.join_laws.proofs.EventLaws.{own_here, own_other}
 use Rattle.thread_run.proofs.DeskRuns.{seat_held}
 use Rattle.thread_run.proofs.ThreadCalls.{single_go}
+use Rattle.serial_spec.proofs.GrowLaws.{raised_grows, mark_grows}
 
 -- ---- the step that an arrival brings
 
@@ -122,29 +121,6 @@ brings s d goings r (item.Offer c o) others x g given end a b fit t = by_kind o.
 
 -- ---- nothing was done
 
--- each step, and the close, leaves a file that is as long at least
-grows : (s : Setting) (state : Counted × List Going) (m : Mark) → length state.0.file ≤ length (after_mark s state m).0.file
-grows s state (Meet k) =
-    let offers = offers_of (map (advance s.header) state.1) in
-    let puts = flat_map puts_of (enumerate_from 0 offers) in
-    both (length state.0.file) _ _ (after_grows s puts (told s puts) state.0.file) (raised_grows s (counted (after_puts s puts (told s puts) state.0.file) state.0.records) _)
-  where
-    both : (n k l : ℕ) → n ≤ k → k ≤ l → n ≤ l
-    both n k l h j = omega arith
-grows s state (Solo r c) = by_rank (slice_get state.1 r)
-  where
-    by_offer : (p : Going × Option Offer) → length state.0.file ≤ length (solo_of s r state.0 p).0.file
-    by_offer (h, None) = omega arith
-    by_offer (h, Some o) = after_grows s (puts_of (r, o)) (told s (puts_of (r, o))) state.0.file
-
-    by_rank : (m : Option Going) → length state.0.file
-        ≤ length (elim m as (λ m. Counted × List Going) [ None ↦ (state.0, state.1) | Some h ↦ let done = solo_of s r state.0 (advance s.header h) in (done.0, set state.1 r done.1) ]).0.file
-    by_rank None = omega arith
-    by_rank (Some h) = by_offer (advance s.header h)
-
-torn_none : (bytes : List ℕ) (field : ℕ) (old new : List ℕ) → length old ≤ length new → IsTorn bytes field old new old
-torn_none bytes field old new l = torn_by bytes field old new old (omega arith) l (λ x h. inl refl) (λ x h j k. inl refl) (λ x h k. refl)
-
 -- what is torn between a file and itself is that file
 torn_same : (bytes : List ℕ) (field : ℕ) (old new left : List ℕ) → new ≡ old → IsTorn bytes field old new left → left ≡ old
 torn_same bytes field old new left e t =
@@ -182,13 +158,13 @@ stood_still script s e state order left records (later, legal) l k = by_later la
   where
     here : (new : Counted) (bytes : List ℕ) → length state.0.file ≤ length new.file → IsLeft s.header bytes state.0 new left records
     here new bytes g =
-        (subst (λ (f : List ℕ). IsTorn bytes (byte_len (count_width s.header.version)) state.0.file new.file f) (sym l) (torn_none bytes (byte_len (count_width s.header.version)) state.0.file new.file g), inl k)
+        (subst (λ (f : List ℕ). IsTorn bytes (byte_len (count_width s.header.version)) state.0.file new.file f) (sym l) (torn_still bytes (byte_len (count_width s.header.version)) state.0.file new.file g), inl k)
 
     by_later : (ms : List Mark) → IsLegal script (order ++ ms) → StoodAt script s e state order left records
     by_later [] h =
         in_close (subst (λ (ms : List Mark). IsLegal script ms) (append-nil order) h)
         (here (record { file = (closed s state).bytes; records = (closed s state).records }) [] (raised_grows s state.0 _))
-    by_later (m ∷ ms) h = in_step m ms h (here (after_mark s state m).0 (bytes_of_mark s state.1 m) (grows s state m))
+    by_later (m ∷ ms) h = in_step m ms h (here (after_mark s state m).0 (bytes_of_mark s state.1 m) (mark_grows s state m))
 
 -- ---- where the owner stood
 
@@ -209,7 +185,7 @@ stood_run script s e d goings order later left records given end t low begun nex
     found r i e =
         let low = ltb-true r (length d.seats) (ap (λ (b : Arrival). nat_lt b.0 (length d.seats)) e ∙ and_first (nat_lt a.0 (length d.seats)) _ numbers) in
         let seat = entry_below d.seats r low in
-        let going = get_beside d.seats goings r seat.0 t.long seat.1 in
+        let going = entry_beside d.seats goings r seat.0 t.long seat.1 in
         subst (λ (b : Arrival). Brings s d goings b) e
         (brings s d goings r i others seat.0 going.0 given end seat.1 going.1 (ap (λ (b : Arrival). is_strange s d b) e ∙ fit)
         (subst (λ (b : Arrival). Stands s d goings (λ q. own_items q (b ∷ others)) given end) (sym e) here))

@@ -51,7 +51,7 @@ told_on s d a rest e = rw (e, desk_told) refl
 pub told_stop : (s : Setting) (d : Desk) (a : Arrival) (rest : List Arrival) → is_strange s d a ≡ true → desk_told s d (a ∷ rest) ≡ []
 told_stop s d a rest e = rw (e, desk_told) refl
 
-calls_on : (hints : Hints) (s : Setting) (d : Desk) (a : Arrival) (rest : List Arrival) → is_strange s d a ≡ false
+pub calls_on : (hints : Hints) (s : Setting) (d : Desk) (a : Arrival) (rest : List Arrival) → is_strange s d a ≡ false
     → desk_calls hints s d (a ∷ rest) ≡ event_calls hints s d a ++ desk_calls hints s (event s d a).desk rest
 calls_on hints s d a rest e = rw (e, desk_calls) refl
 

@@ -1,8 +1,6 @@
 -- What the owner's ends tell when it is done.
-use Rattle.std.proofs.Common.{◌≡◌, ℕ, zero, suc, ◌+◌, ◌<◌, refl, sym, ◌∙◌, ap, subst, inl, inr, List, [], ◌∷◌, ◌++◌, length, map, replicate, drop, Bool, true, false, ◌&&◌, Option, Some, None, append_assoc, arith}
-use Rattle.std.proofs.Math.Seq.{drop-append_seam}
+use Rattle.std.proofs.Common.{◌≡◌, ℕ, suc, ◌+◌, ◌<◌, refl, sym, ◌∙◌, ap, subst, inl, inr, List, [], ◌∷◌, ◌++◌, length, map, replicate, Bool, true, false, ◌&&◌, Option, Some, None, arith}
 use Rattle.std.proofs.lemmas.List.{append-nil, length-append, length-map, length-replicate}
-use Rattle.std.proofs.lemmas.Option.{same_Some}
 use Rattle.std.specs.Prelude.{slice_get, nat_lt, filter, IfSome, IsTrue}
 use Rattle.std.specs.List.{list_all}
 use Rattle.nc_base.specs.declared.script.Hints.{Hints}
@@ -18,135 +16,31 @@ use Rattle.nc_outside.specs.declared.disk.Disk.{Ghosts as DiskGhosts}
 use Rattle.nc_outside.specs.declared.told.Told.{Ghosts as ToldGhosts}
 use Rattle.overlay_laws.specs.Entries.{In}
 use Rattle.ruled_line.specs.Ends.{End, Receiver}
-use Rattle.serial_spec.specs.Desk.{Desk, Seat, free_seat, given_along, is_strange, offers_in, owed, own_items, served, stop_held, stops, IsGivenInPart}
+use Rattle.serial_spec.specs.Desk.{Desk, Seat, free_seat, given_along, offers_in, owed, own_items, served, stop_held, stops, IsGivenInPart}
 use Rattle.serial_spec.specs.FileStep.{Setting}
 use Rattle.serial_spec.specs.History.{Arrival, is_offer}
 use Rattle.serial_spec.specs.Joined.{HasEnd}
 use Rattle.serial_spec.specs.Torn.{OwnerStoodAt}
 use Rattle.collective_round.specs.Rounds.{counted}
-use Rattle.join_laws.proofs.JoinLaws.{owed_stop}
-use Rattle.thread_run.specs.Halted.{of_fault, of_stranger, HasFinished, HasHalted, HasSeenAll, IsHaltAt, IsLeft, IsNoMore, Outcome}
-use Rattle.thread_run.specs.Owned.{desk_at, desk_calls, opening_standing, run, AreSingle, GoesSo, Grows, HasRun, HoldSingle, Standing}
+use Rattle.thread_run.specs.Halted.{of_fault, of_stranger, IsHaltAt, Outcome}
+use Rattle.thread_run.specs.Owned.{desk_at, desk_calls, run, AreSingle, GoesSo, Grows, HoldSingle, Standing}
 use Rattle.thread_run.specs.Refused.{HasCutService}
-use Rattle.thread_run.specs.Serving.{arrived, gained, more_on, opening, HasFailed, HasTaken, HasToldAlong, HavePut, IsCutOff, IsDone, IsDoneSo}
-use Rattle.thread_run.specs.Stopping.{stops_for, AllHaveEnded, HaveEnded, IsMore}
+use Rattle.thread_run.specs.Serving.{arrived, gained, opening, HasFailed, HasTaken, HasToldAlong, HavePut, IsCutOff, IsDone, IsDoneSo}
+use Rattle.thread_run.specs.Stopping.{stops_for}
 use Rattle.thread_run.specs.declared.lent.Outlets.{Outlets}
 use Rattle.thread_run.specs.declared.serving.Halt.{Halt}
 use Rattle.thread_run.specs.declared.serving.Halt.TheVariants as halt
-use Rattle.thread_run.proofs.AlikeLaws.{alike_by, alike_long, lines_as, lines_twice}
-use Rattle.thread_run.proofs.DeskRuns.{calls_stop, goes_on, stops_at, GoesOn}
-use Rattle.turn_run.proofs.ListLaws.{get_replicate, get_there}
+use Rattle.thread_run.proofs.AlikeLaws.{alike_by, lines_twice}
+use Rattle.thread_run.proofs.DeskRuns.{goes_on, GoesOn}
 use Rattle.thread_run.proofs.RefusedSteps.{stood_later}
-use Rattle.turn_run.proofs.MeetSolo.{told_at}
 use Rattle.join_laws.proofs.TieLaws.{one_if, owed_count}
 use Rattle.join_laws.proofs.OwnerAlikeLaws.{alike_same, alike_two}
-use Rattle.thread_run.proofs.StopLaws.{filter_joined, own_joined, stops_joined}
-
--- ---- what ends gained
-
-pub gained_is : (old now : List (End OwnerItem)) (more : ℕ → List OwnerItem) (q : ℕ) → Grows old more now → q < length old → gained old now q ≡ more q
-gained_is old now more q g l =
-    let end = get_there old q l in
-    (λ i. more_on (end.1 i) (g.each q end.0 end.1 i)) ∙ drop-append_seam end.0.items (more q)
-
-pub have_put : (old now : List (End OwnerItem)) (more : ℕ → List OwnerItem) → Grows old more now → HavePut old now
-have_put old now more g = record {
-  long = g.long;
-  each = λ q end e. g.each q end e ∙ ap (λ (items : List OwnerItem). Some (record { of = end.of; items = end.items ++ items })) (sym (gained_is old now more q g (low old q end e)));
-}
-  where
-    low : (xs : List (End OwnerItem)) (q : ℕ) (end : End OwnerItem) → slice_get xs q ≡ Some end → q < length xs
-    low [] q end e = absurd cc
-    low (x ∷ xs) zero end e = omega arith
-    low (x ∷ xs) (suc q) end e = let h = low xs q end e in omega arith
-
-arrived_is : (old now : Receiver RankItem) (more : List Arrival) → IsMore old more now → arrived old now ≡ more
-arrived_is old now more h = ap (drop (length old.items)) h.items ∙ drop-append_seam old.items more
-
--- ---- all that was taken
-
-numbers_joined : (n : ℕ) (xs ys : List Arrival) → list_all (λ (a : Arrival). nat_lt a.0 n) xs ≡ true → list_all (λ (a : Arrival). nat_lt a.0 n) ys ≡ true → list_all (λ (a : Arrival). nat_lt a.0 n) (xs ++ ys) ≡ true
-numbers_joined n [] ys h k = k
-numbers_joined n (x ∷ xs) ys h k = by (nat_lt x.0 n) h (λ g. numbers_joined n xs ys g k)
-  where
-    by : (t : Bool) → (t && list_all (λ (a : Arrival). nat_lt a.0 n) xs) ≡ true → (list_all (λ (a : Arrival). nat_lt a.0 n) xs ≡ true → list_all (λ (a : Arrival). nat_lt a.0 n) (xs ++ ys) ≡ true)
-        → (t && list_all (λ (a : Arrival). nat_lt a.0 n) (xs ++ ys)) ≡ true
-    by true g again = again g
-    by false g again = absurd cc
-
-more_twice : (old mid now : Receiver RankItem) (first more : List Arrival) → IsMore old first mid → IsMore mid more now → IsMore old (first ++ more) now
-more_twice old mid now first more h g = record {
-  items = g.items ∙ ap (λ (xs : List Arrival). xs ++ more) h.items ∙ append_assoc old.items first more;
-  senders = g.senders ∙ h.senders;
-  of = g.of ∙ h.of;
-  numbers = numbers_joined old.senders first more h.numbers (subst (λ (n : ℕ). list_all (λ (a : Arrival). nat_lt a.0 n) more ≡ true) h.senders g.numbers);
-}
-
-pub outcome : (hints : Hints) (s : Setting) (old mid now : Receiver RankItem) (flags left : List Bool) (before : Standing) (n : ℕ) (held : Option (List ℕ)) (made : Option (List DiskCall)) (marks : List Mark)
-    (heard : Option (List (Mark × ℕ))) (mid_lines lines : List (End OwnerItem)) (h : Halt) → HasHalted hints s old mid flags before n held made marks heard mid_lines h
-    → HasFinished mid now mid_lines lines flags left h → Outcome hints s old now left before n held made marks heard lines h
-outcome hints s old mid now flags left before n held made marks heard mid_lines lines h a b = record {
-  first = a.first;
-  last = a.later ++ b.more;
-  middle = a.middle;
-  taken = subst (λ (xs : List Arrival). IsMore old xs now) (append_assoc a.first a.later b.more) (more_twice old mid now (a.first ++ a.later) b.more a.taken b.taken);
-  ended = subst (λ (xs : List Arrival). HaveEnded left xs) (append_assoc a.first a.later b.more) (b.noted (a.first ++ a.later) a.ended);
-  all = subst (λ (k : ℕ). AllHaveEnded k left) a.taken.senders b.all;
-  run = a.run;
-  order = a.order;
-  heard_all = a.heard_all;
-  stopped = lines_as a.middle.lines lines (λ q. stops (desk_at a.middle []) a.later q ++ stops_for b.more q) (stops (desk_at a.middle []) (a.later ++ b.more)) (λ q l. joined q)
-      (lines_twice a.middle.lines mid_lines lines (stops (desk_at a.middle []) a.later) (stops_for b.more) a.stopped b.stopped);
-  later = a.later;
-  more = b.more;
-  parts = refl;
-  halted = a.halted;
-  none = b.last;
-}
-  where
-    joined : (q : ℕ) → stops (desk_at a.middle []) (a.later ++ b.more) q ≡ stops (desk_at a.middle []) a.later q ++ stops_for b.more q
-    joined q = ap (λ (items : List OwnerItem). stop_held (slice_get a.middle.seats q) ++ items) (stops_joined q a.later b.more) ∙ sym (append_assoc (stop_held (slice_get a.middle.seats q)) (stops_for a.later q) (stops_for b.more q))
-
--- ---- where nothing more is done
-
-record StoppedAt (hints : Hints) (s : Setting) (d : Desk) (last : List Arrival) (number : Option ℕ) : Type 0 where
-  desk : (served s d last).desk ≡ d
-  marks : (served s d last).marks ≡ []
-  stranger : (served s d last).stranger ≡ number
-  owes : (q : ℕ) → owed s d last q ≡ stops d last q
-  calls : desk_calls hints s d last ≡ []
-
-stopped_none : (hints : Hints) (s : Setting) (d : Desk) (last : List Arrival) → last ≡ [] → StoppedAt hints s d last None
-stopped_none hints s d last e =
-    subst (λ (xs : List Arrival). StoppedAt hints s d xs None) (sym e) (record { desk = refl; marks = refl; stranger = refl; owes = λ q. refl; calls = refl })
-
-stopped_strange : (hints : Hints) (s : Setting) (d : Desk) (a : Arrival) (rest last : List Arrival) → last ≡ a ∷ rest → is_strange s d a ≡ true → StoppedAt hints s d last (Some a.0)
-stopped_strange hints s d a rest last e f =
-    let at = stops_at s d a rest f in
-    subst (λ (xs : List Arrival). StoppedAt hints s d xs (Some a.0)) (sym e)
-    (record { desk = at.desk; marks = at.marks; stranger = at.stranger; owes = λ q. owed_stop s d a rest q f; calls = calls_stop hints s d a rest f })
-
-no_fault : {A : Type 0} (e : StepErr) → of_fault (halt.Fault e) ≡ None → A
-no_fault e f = absurd cc
-
--- the desk that the first arrivals lead to
-abbrev reached_at : Setting → Standing → List Arrival → List ℕ → Desk
-reached_at s before first file = (served s (desk_at before file) first).desk
-
-stopped_at : (hints : Hints) (s : Setting) (before middle : Standing) (first later more last : List Arrival) (n : ℕ) (held : Option (List ℕ)) (made : Option (List DiskCall)) (h : Halt) (file : List ℕ)
-    → HasRun hints s first before middle → last ≡ later ++ more → IsHaltAt s middle later n held made h → IsNoMore more h → of_fault h ≡ None
-    → StoppedAt hints s (served s (desk_at before file) first).desk last (of_stranger h)
-stopped_at hints s before middle first later more last n held made halt.Ended file run parts at none f =
-    stopped_none hints s (reached_at s before first file) last (parts ∙ (λ i. at.0 i ++ none i))
-stopped_at hints s before middle first later more last n held made (halt.Stranger number) file run parts at none f =
-    stopped_strange hints s (reached_at s before first file) (number, at.0.item) more last (parts ∙ ap (λ (xs : List Arrival). xs ++ more) at.0.last)
-    (ap (λ (d : Desk). is_strange s d (number, at.0.item)) (run.moved.alike file).desk ∙ at.0.strange (reached_at s before first file).state.file)
-stopped_at hints s before middle first later more last n held made (halt.Fault e) file run parts at none f = no_fault e f
-
-left_at : (s : Setting) (middle : Standing) (later : List Arrival) (n : ℕ) (held : Option (List ℕ)) (made : Option (List DiskCall)) (h : Halt) → IsHaltAt s middle later n held made h → of_fault h ≡ None → IsLeft middle n held made
-left_at s middle later n held made halt.Ended at f = at.1
-left_at s middle later n held made (halt.Stranger number) at f = at.1
-left_at s middle later n held made (halt.Fault e) at f = no_fault e f
+use Rattle.thread_run.proofs.StopLaws.{filter_joined}
+use Rattle.thread_run.proofs.GainedLaws.{gained_is, have_put, arrived_is, StoppedAt, stopped_at, left_at}
+use Rattle.list_laws.proofs.Optional.{if_some_at}
+use Rattle.list_laws.proofs.Places.{entry_below, entry_replicate}
+use Rattle.join_laws.proofs.BegunLaws.{own_two}
+use Rattle.thread_run.proofs.ThreadLists.{alike_long}
 
 -- ---- the clauses
 
@@ -257,7 +151,7 @@ module _ (hints : Hints) (s : Setting) (old now : Receiver RankItem) (left : Lis
 
   offers_long : (q : ℕ) (xs ys : List Arrival) → offers_in (own_items q (xs ++ ys)) ≡ offers_in (own_items q xs) + offers_in (own_items q ys)
   offers_long q xs ys =
-      ap (λ (items : List RankItem). offers_in items) (own_joined q xs ys) ∙ ap (λ (items : List RankItem). length items) (filter_joined (own_items q xs) (own_items q ys))
+      ap (λ (items : List RankItem). offers_in items) (own_two q xs ys) ∙ ap (λ (items : List RankItem). length items) (filter_joined (own_items q xs) (own_items q ys))
       ∙ length-append (filter is_offer (own_items q xs)) (filter is_offer (own_items q ys))
 
   numbers_front : (k : ℕ) (xs ys : List Arrival) → list_all (λ (a : Arrival). nat_lt a.0 k) (xs ++ ys) ≡ true → list_all (λ (a : Arrival). nat_lt a.0 k) xs ≡ true
@@ -278,8 +172,8 @@ module _ (hints : Hints) (s : Setting) (old now : Receiver RankItem) (left : Lis
   one_item_each : (senders : ℕ) → before.seats ≡ replicate senders free_seat → length before.lines ≡ senders → senders ≡ old.senders → (q : ℕ) → q < length before.lines
       → length (gained before.lines lines q) ≡ offers_in (own_items q (o.first ++ o.last))
   one_item_each senders seats long same q l =
-      let seat = get_there before.seats q (seats_long q l) in
-      let free : seat.0.held ≡ None = ap (λ (x : Seat). x.held) (get_replicate senders q free_seat seat.0 (ap (λ (ss : List Seat). slice_get ss q) (sym seats) ∙ seat.1)) in
+      let seat = entry_below before.seats q (seats_long q l) in
+      let free : seat.0.held ≡ None = ap (λ (x : Seat). x.held) (entry_replicate senders q free_seat seat.0 (ap (λ (ss : List Seat). slice_get ss q) (sym seats) ∙ seat.1)) in
       let count = owed_count s (desk_at before []) o.first q seat.0 numbers seat.1 in
       let none = held_none seat.0.held free in
       let given = ap (λ (items : List OwnerItem). length items) (all_given q) ∙ length-append (given_along s (desk_at before []) o.first q) (stops (desk_at o.middle []) [] q) in
@@ -361,7 +255,7 @@ module _ (hints : Hints) (s : Setting) (old now : Receiver RankItem) (left : Lis
   out_stood e is free alone file there =
       let fault = subst (λ (k : Halt). IsHaltAt s o.middle o.later n held made k) is o.halted in
       let told = (told_so (Some file) there).told in
-      let at = told_at (λ (f : List ℕ). (bytes : List ℕ) × (held ≡ Some bytes) × OwnerStoodAt s e (desk_at o.middle f) o.later bytes n) o.middle.told
+      let at = if_some_at (λ (f : List ℕ). (bytes : List ℕ) × (held ≡ Some bytes) × OwnerStoodAt s e (desk_at o.middle f) o.later bytes n) o.middle.told
       (served s (desk_at before file) o.first).desk.state.file told (fault (o.run.moved.single (free, single_first alone)) single_later) in (
         at.0,
         at.1,
@@ -422,86 +316,3 @@ outcome_given {D} {T} disk told hints s old now left before out marks h d n t li
     (subst (λ (x : ℕ). Outcome hints s old now left before x (disk.held out.disk.now) (disk.calls out.disk.now) marks (told.heard t) lines h) (sym same_records)
     (subst (λ (x : T). Outcome hints s old now left before out.records.now (disk.held out.disk.now) (disk.calls out.disk.now) marks (told.heard x) lines h) (sym same_told)
     (subst (λ (x : List (End OwnerItem)). Outcome hints s old now left before out.records.now (disk.held out.disk.now) (disk.calls out.disk.now) marks (told.heard out.told.now) x h) (sym same_back) o)))
-
--- ---- from the opening
-
-pub halted_lines : (hints : Hints) (s : Setting) (old now : Receiver RankItem) (flags : List Bool) (before : Standing) (n : ℕ) (held : Option (List ℕ)) (made : Option (List DiskCall)) (marks : List Mark)
-    (heard : Option (List (Mark × ℕ))) (lines : List (End OwnerItem)) (h : Halt) → HasHalted hints s old now flags before n held made marks heard lines h → length before.lines ≡ old.senders
-    → length lines ≡ now.senders
-halted_lines hints s old now flags before n held made marks heard lines h a l = a.stopped.long ∙ a.run.moved.lines.long ∙ l ∙ sym a.taken.senders
-
-pub seen_all : (k m : ℕ) (flags : List Bool) (h : Halt) → k ≡ m → HasSeenAll k flags h → HasSeenAll m flags h
-seen_all k m flags h e a = subst (λ (j : ℕ). HasSeenAll j flags h) e a
-
-module _ (hints : Hints) (s : Setting) (old now : Receiver RankItem) (left : List Bool) (n0 : ℕ) (held0 : Option (List ℕ)) (made0 : Option (List DiskCall)) (heard0 : Option (List (Mark × ℕ))) (back0 : List (End OwnerItem))
-    (n : ℕ) (held : Option (List ℕ)) (made : Option (List DiskCall)) (marks : List Mark) (heard : Option (List (Mark × ℕ))) (lines : List (End OwnerItem)) (h : Halt)
-    (o : Outcome hints s old now left (opening_standing old.senders n0 held0 made0 heard0 back0) n held made marks heard lines h) (k : ℕ) (same : n0 ≡ k) (long : length back0 ≡ old.senders) where
-  first_standing : Standing
-  first_standing = opening_standing old.senders n0 held0 made0 heard0 back0
-
-  opened : (file : List ℕ) → desk_at (opening_standing old.senders n0 held0 made0 heard0 back0) file ≡ opening old.senders (counted file k)
-  opened file = ap (λ (m : ℕ). opening old.senders (counted file m)) same
-
-  pub end_taken : HasTaken old now
-  end_taken = out_taken hints s old now left (opening_standing old.senders n0 held0 made0 heard0 back0) n held made marks heard lines h o
-
-  pub end_put : HavePut back0 lines
-  end_put = out_put hints s old now left (opening_standing old.senders n0 held0 made0 heard0 back0) n held made marks heard lines h o
-
-  pub end_told : (file : List ℕ) → HasToldAlong s (opening old.senders (counted file k)) (arrived old now) marks heard0 heard
-  end_told file =
-      subst (λ (d : Desk). HasToldAlong s d (arrived old now) marks heard0 heard) (opened file)
-      (out_told hints s old now left (opening_standing old.senders n0 held0 made0 heard0 back0) n held made marks heard lines h o refl file)
-
-  pub end_done : (fault : Option StepErr) (number : Option ℕ) → fault ≡ of_fault h → number ≡ of_stranger h → fault ≡ None → (file : List ℕ)
-      → IsDone s (opening old.senders (counted file k)) (arrived old now) old.senders (gained back0 lines) marks number
-  end_done fault number e f g file =
-      subst (λ (m : Option ℕ). IsDone s (opening old.senders (counted file k)) (arrived old now) old.senders (gained back0 lines) marks m) (sym f)
-      (subst (λ (l : ℕ). IsDone s (opening old.senders (counted file k)) (arrived old now) l (gained back0 lines) marks (of_stranger h)) long
-      (subst (λ (d : Desk). IsDone s d (arrived old now) (length back0) (gained back0 lines) marks (of_stranger h)) (opened file)
-      (out_done hints s old now left (opening_standing old.senders n0 held0 made0 heard0 back0) n held made marks heard lines h o refl (sym e ∙ g) file)))
-
-  pub end_bytes : (fault : Option StepErr) → fault ≡ of_fault h → fault ≡ None
-      → IfSome held0 (λ file. IsDoneSo s (opening old.senders (counted file k)) (arrived old now) old.senders (gained back0 lines) held n)
-  end_bytes fault e g = by held0 (out_bytes hints s old now left (opening_standing old.senders n0 held0 made0 heard0 back0) n held made marks heard lines h o (sym e ∙ g) held0 refl)
-    where
-      by : (m : Option (List ℕ)) → IfSome m (λ file. IsDoneSo s (desk_at (opening_standing old.senders n0 held0 made0 heard0 back0) file) (arrived old now) (length back0) (gained back0 lines) held n)
-          → IfSome m (λ file. IsDoneSo s (opening old.senders (counted file k)) (arrived old now) old.senders (gained back0 lines) held n)
-      by None i = tt
-      by (Some file) i =
-          subst (λ (l : ℕ). IsDoneSo s (opening old.senders (counted file k)) (arrived old now) l (gained back0 lines) held n) long
-          (subst (λ (d : Desk). IsDoneSo s d (arrived old now) (length back0) (gained back0 lines) held n) (opened file) i)
-
-  none_single : HoldSingle (replicate old.senders free_seat)
-  none_single r x p e f = let free = get_replicate old.senders r free_seat x e in let no : x.held ≡ None = ap (λ (y : Seat). y.held) free in absurd cc
-
-  pub end_calls : (fault : Option StepErr) → fault ≡ of_fault h → fault ≡ None → AreSingle (arrived old now)
-      → IfSome held0 (λ file. made ≡ with_end made0 (desk_calls hints s (opening old.senders (counted file k)) (arrived old now)))
-  end_calls fault e g alone = by held0 (out_calls hints s old now left (opening_standing old.senders n0 held0 made0 heard0 back0) n held made marks heard lines h o (sym e ∙ g) none_single alone held0 refl)
-    where
-      by : (m : Option (List ℕ)) → IfSome m (λ file. made ≡ with_end made0 (desk_calls hints s (desk_at (opening_standing old.senders n0 held0 made0 heard0 back0) file) (arrived old now)))
-          → IfSome m (λ file. made ≡ with_end made0 (desk_calls hints s (opening old.senders (counted file k)) (arrived old now)))
-      by None i = tt
-      by (Some file) i = i ∙ ap (λ (d : Desk). with_end made0 (desk_calls hints s d (arrived old now))) (opened file)
-
-  strangers_none : (g : Halt) (e : StepErr) → Some e ≡ of_fault g → of_stranger g ≡ None
-  strangers_none halt.Ended e f = refl
-  strangers_none (halt.Stranger number) e f = absurd cc
-  strangers_none (halt.Fault d) e f = refl
-
-  pub end_failed : (fault : Option StepErr) (number : Option ℕ) (e : StepErr) → fault ≡ of_fault h → number ≡ of_stranger h → fault ≡ Some e
-      → HasFailed s (opening old.senders) k (arrived old now) old.senders (gained back0 lines) marks number
-  end_failed fault number e f g is =
-      subst (λ (m : Option ℕ). HasFailed s (opening old.senders) k (arrived old now) old.senders (gained back0 lines) marks m) (sym g)
-      (subst (λ (l : ℕ). HasFailed s (opening old.senders) k (arrived old now) l (gained back0 lines) marks (of_stranger h)) long
-      (out_failed hints s old now left (opening_standing old.senders n0 held0 made0 heard0 back0) n held made marks heard lines h o old.senders k opened refl refl long refl (strangers_none h e (sym is ∙ f))))
-
-  fault_is : (g : Halt) (e : StepErr) → Some e ≡ of_fault g → g ≡ halt.Fault e
-  fault_is halt.Ended e f = absurd cc
-  fault_is (halt.Stranger number) e f = absurd cc
-  fault_is (halt.Fault d) e f = ap (λ (x : StepErr). halt.Fault x) (sym (same_Some e d f))
-
-  pub end_cut : (fault : Option StepErr) (e : StepErr) → fault ≡ of_fault h → fault ≡ Some e
-      → IfSome held0 (λ file. HasCutService s e (opening old.senders (counted file k)) (arrived old now) marks held n (gained back0 lines))
-  end_cut fault e f is =
-      out_cut hints s old now left (opening_standing old.senders n0 held0 made0 heard0 back0) n held made marks heard lines h o old.senders k e (fault_is h e (sym is ∙ f)) opened refl refl none_single long refl held0 refl

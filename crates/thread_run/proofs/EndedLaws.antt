@@ -9,7 +9,7 @@ use Rattle.nc_base.specs.declared.step.StepErr.{StepErr}
 use Rattle.nc_base.specs.declared.step.StepErr.TheVariants as fault
 use Rattle.nc_outside.specs.Told.{BothTold}
 use Rattle.serial_spec.specs.FileStep.{raised}
-use Rattle.serial_spec.specs.HeaderGrammar.{count_width}
+use Rattle.serial_spec.specs.HeaderBytes.{count_width}
 use Rattle.serial_spec.specs.Torn.{IsTorn}
 use Rattle.collective_round.specs.Rounds.{as_setting, counted}
 use Rattle.turn_run.proofs.CutRuns.{raised_torn}

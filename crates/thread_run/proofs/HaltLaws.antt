@@ -17,18 +17,18 @@ use Rattle.serial_spec.specs.Desk.{free_seat, is_strange, stop_held, stops, Seat
 use Rattle.serial_spec.specs.FileStep.{Setting}
 use Rattle.serial_spec.specs.History.{Arrival}
 use Rattle.turn_run.specs.Counts.{IsCount}
-use Rattle.thread_run.specs.Halted.{HasFinished, HasHaltCause, HasHalted, HasSeenAll, HasServed, IsNoMore}
+use Rattle.thread_run.specs.Halted.{HasFinished, HasHaltCause, HasHalted, HasSeenAll, HasServed}
 use Rattle.thread_run.specs.Owned.{desk_at, opening_standing, standing_at, Grows, HasDone, IsSteady, Standing}
-use Rattle.thread_run.specs.Stopping.{held_stops, stops_for, AllHaveEnded, HaveEnded, HasMetAll, IsMore}
+use Rattle.thread_run.specs.Stopping.{held_stops, stops_for, AllHaveEnded, HaveEnded, IsMore}
 use Rattle.thread_run.specs.declared.desk.Desk.{Desk as Held}
 use Rattle.thread_run.specs.declared.serving.Halt.{Halt}
 use Rattle.thread_run.specs.declared.serving.Halt.TheVariants as halt
 use Rattle.thread_run.specs.Refused.{IsFaultAt}
 use Rattle.thread_run.proofs.RefusedSteps.{fault_none}
 use Rattle.thread_run.proofs.AlikeLaws.{lines_as, lines_none, lines_twice}
-use Rattle.turn_run.proofs.ListLaws.{get_replicate}
 use Rattle.thread_run.proofs.RunLaws.{run_more, run_none}
 use Rattle.thread_run.proofs.StopLaws.{more_none, more_one}
+use Rattle.list_laws.proofs.Places.{entry_replicate}
 
 pub served_none : (hints : Hints) (s : Setting) (old : Receiver RankItem) (flags : List Bool) (x : Standing) → HaveEnded flags [] → HasServed hints s old old flags x x
 served_none hints s old flags x h = record { more = []; taken = more_none old; ended = h; run = run_none hints s x }
@@ -135,8 +135,8 @@ opening_steady header len senders n held made heard lines few long count = recor
   count = count;
   reached = count;
   below = omega arith;
-  held = λ r x o e f. let free = get_replicate senders r free_seat x e in let none : x.held ≡ None = ap (λ (y : Seat). y.held) free in absurd cc;
-  same = λ r q x y o p e g f k. let free = get_replicate senders r free_seat x e in let none : x.held ≡ None = ap (λ (y : Seat). y.held) free in absurd cc;
+  held = λ r x o e f. let free = entry_replicate senders r free_seat x e in let none : x.held ≡ None = ap (λ (y : Seat). y.held) free in absurd cc;
+  same = λ r q x y o p e g f k. let free = entry_replicate senders r free_seat x e in let none : x.held ≡ None = ap (λ (y : Seat). y.held) free in absurd cc;
 }
 
 -- ---- what still comes
@@ -174,14 +174,3 @@ pub opened_is : (d : Held) (senders k n : ℕ) (held : Option (List ℕ)) (made 
     → k ≡ senders → d.met ≡ 0 → d.reached ≡ n → d.order ≡ [] → standing_at d n held made heard lines ≡ opening_standing senders n held made heard lines
 opened_is d senders k n held made heard lines seats count met reached order =
     λ i. record { seats = (seats ∙ ap (λ (j : ℕ). replicate j free_seat) count) i; met = met i; reached = reached i; records = n; told = held; calls = made; order = order i; heard = heard; lines = lines }
-
-pub finish_rest : (old now : Receiver RankItem) (before after : List (End OwnerItem)) (flags left : List Bool) (h : Halt) → ((more : List Arrival) → IsNoMore more h) → HasMetAll old now before after flags left
-    → HasFinished old now before after flags left h
-finish_rest old now before after flags left h any m = record {
-  more = m.met.more;
-  taken = m.met.taken;
-  stopped = m.met.stopped;
-  noted = m.met.noted;
-  all = m.all;
-  last = any m.met.more;
-}

@@ -8,21 +8,19 @@ use Rattle.std.proofs.lemmas.Option.{same_Some}
 use Rattle.list_laws.proofs.Truth.{and_first}
 use Rattle.nc_base.specs.declared.header.Header.{Header}
 use Rattle.nc_base.specs.declared.plan.Batch.{Batch}
-use Rattle.nc_base.specs.declared.step.MeetKind.TheVariants as kind
 use Rattle.nc_base.specs.declared.step.Offer.{Offer}
-use Rattle.nc_base.specs.declared.step.OfferKind.{OfferKind}
 use Rattle.nc_base.specs.declared.step.OfferKind.TheVariants as offer
 use Rattle.serial_spec.specs.FileStep.{known_by}
 use Rattle.serial_spec.specs.Layout.{greatest}
 use Rattle.serial_spec.specs.Desk.{Seat, freed, holds, offers_held}
-use Rattle.collective_round.proofs.NeedLaws.{greatest_joined}
 use Rattle.turn_run.specs.Counts.{IsCount, IsFit, IsRise}
 use Rattle.list_laws.proofs.Optional.{some_or_none}
 use Rattle.thread_run.specs.Owned.{AreOfOneKind, HoldAll, HoldSingle, IsSteady, Standing, IsSingleOffer}
 use Rattle.turn_run.specs.Steps.{batches_of, known_of, IsJob, IsOneRise}
 use Rattle.turn_run.proofs.CountLaws.{count_longer, count_max}
-use Rattle.turn_run.proofs.MeetLists.{take_next}
 use Rattle.turn_run.proofs.MeetOffers.{offers_job, one_rise, rise_brought}
+use Rattle.serial_spec.proofs.CountLaws.{known_less, greatest_joined}
+use Rattle.list_laws.proofs.Places.{take_next}
 
 pub all_held : (P : Offer → Type 0) (seats : List Seat) → HoldAll P seats → AllByRecursion P (offers_held seats)
 all_held P [] h = tt
@@ -102,15 +100,6 @@ freed_none (y ∷ seats) zero x e = ap (λ (z : Seat). z.held) (sym (same_Some (
 freed_none (y ∷ seats) (suc r) x e = freed_none seats r x e
 
 -- ---- what the ranks know
-
-known_less : (k : OfferKind) (n : ℕ) → known_by k n ≤ n
-known_less offer.Solo n = omega arith
-known_less (offer.Meet kind.Put) n = omega arith
-known_less (offer.Meet kind.Get) n = omega arith
-known_less (offer.Meet kind.Wait) n = omega arith
-known_less (offer.Meet kind.Begin) n = omega arith
-known_less (offer.Meet kind.End) n = omega arith
-known_less (offer.Meet kind.Sync) n = omega arith
 
 known_low : (n : ℕ) (offers : List Offer) → AllByRecursion (λ o. o.known ≤ n) offers → known_of offers ≤ n
 known_low n [] all = omega arith

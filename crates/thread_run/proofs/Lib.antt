@@ -1,4 +1,6 @@
+pub mod GainedLaws
 pub mod EndLaws
+pub mod HaltedLaws
 pub mod HaltLaws
 pub mod StopLaws
 pub mod ArriveSteps
@@ -13,6 +15,8 @@ pub mod AlikeLaws
 pub mod DeskRuns
 pub mod RunLaws
 pub mod TellLaws
+pub mod CutRank
+pub mod CutSteps
 pub mod CutJoin
 pub mod CutStood
 pub mod AttendLaws
@@ -25,6 +29,7 @@ mod ThreadRuns
 mod ThreadStarts
 mod ThreadJoins
 mod ThreadAll
+mod ServiceCut
 mod ThreadCut
 mod ThreadTold
 mod EndedLaws

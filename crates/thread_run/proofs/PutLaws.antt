@@ -1,22 +1,21 @@
 -- Items that are put on lines, one line after another.
-use Rattle.std.proofs.Common.{◌≡◌, ℕ, ◌+◌, ◌<◌, ◌≤◌, refl, sym, ◌∙◌, ap, inl, inr, ◌⊎◌, List, [], ◌∷◌, ◌++◌, length, map, Bool, true, false, Option, Some, None, arith}
+use Rattle.std.proofs.Common.{◌≡◌, ℕ, ◌+◌, ◌<◌, ◌≤◌, refl, sym, ◌∙◌, ap, inl, inr, ◌⊎◌, List, [], ◌∷◌, ◌++◌, length, map, Bool, true, false, Some, arith}
 use Rattle.std.proofs.lemmas.Bool.{cases_eq}
 use Rattle.std.proofs.lemmas.Bool.Decides.{nat_tests}
 use Rattle.std.proofs.lemmas.List.{append-nil}
-use Rattle.std.specs.Prelude.{slice_get, option_map, filter, is_some, nat_lt, ◌==◌, ◌≢◌}
+use Rattle.std.specs.Prelude.{slice_get, option_map, filter, nat_lt, ◌==◌, ◌≢◌}
 use Rattle.nc_base.specs.declared.step.Offer.{Offer}
 use Rattle.nc_base.specs.declared.step.OwnerItem.{OwnerItem}
 use Rattle.nc_base.specs.declared.step.OwnerItem.TheVariants.{Stop}
 use Rattle.nc_base.specs.declared.step.RankItem.{RankItem}
 use Rattle.nc_base.specs.declared.step.RankItem.TheVariants as item
 use Rattle.ruled_line.specs.Ends.{with_item, End}
-use Rattle.serial_spec.specs.Desk.{holds, stop_held, Seat}
 use Rattle.serial_spec.specs.History.{is_offer}
 use Rattle.join_laws.proofs.EventLaws.{own_here, own_other}
 use Rattle.list_laws.proofs.Truth.{equal_itself}
 use Rattle.thread_run.specs.Owned.{Grows}
-use Rattle.thread_run.specs.Stopping.{put_one, seat_stops, stops_for}
-use Rattle.thread_run.proofs.AlikeLaws.{lines_as, lines_none, lines_twice}
+use Rattle.thread_run.specs.Stopping.{put_one, stops_for}
+use Rattle.thread_run.proofs.AlikeLaws.{lines_as, lines_twice}
 use Rattle.thread_run.proofs.DeskRuns.{other_number}
 
 abbrev Lines : Type 0
@@ -57,37 +56,6 @@ stop_for_offer r c o q = by (cases_eq q r)
         ∙ sym (ap (put_one r Stop) s ∙ put_here r Stop)
     by (inr n) = ap (λ (items : List RankItem). map (λ (i : RankItem). Stop) (filter is_offer items)) (own_other q r (item.Offer c o) [] n) ∙ sym (put_other q r Stop n)
 
-pub stop_for_end : (r : ℕ) (memory : Bool) (q : ℕ) → stops_for ((r, item.Ended memory) ∷ []) q ≡ []
-stop_for_end r memory q = by (cases_eq q r)
-  where
-    by : (q ≡ r) ⊎ (q ≡ r → ⊥) → stops_for ((r, item.Ended memory) ∷ []) q ≡ []
-    by (inl s) = ap (stops_for ((r, item.Ended memory) ∷ [])) s ∙ ap (λ (items : List RankItem). map (λ (i : RankItem). Stop) (filter is_offer items)) (own_here r (item.Ended memory) [])
-    by (inr n) = ap (λ (items : List RankItem). map (λ (i : RankItem). Stop) (filter is_offer items)) (own_other q r (item.Ended memory) [] n)
-
--- ---- the stop of a held offer
-
-abbrev put_if : Bool → List OwnerItem → List OwnerItem
-put_if t own = elim t [ true ↦ own | false ↦ [] ]
-
-pub seat_stopped : (old now : Lines) (place : ℕ) (x : Seat) → holds x ≡ true → Grows old (put_one place Stop) now → Grows old (seat_stops place x) now
-seat_stopped old now place x h g = lines_as old now (put_one place Stop) (seat_stops place x) (λ q l. ap (λ (own : List OwnerItem). elim (q == place) [ true ↦ own | false ↦ [] ]) (by x.held h)) g
-  where
-    by : (m : Option Offer) → is_some m ≡ true → stop_held (Some (record { held = m; ended = x.ended })) ≡ Stop ∷ []
-    by None e = absurd cc
-    by (Some o) e = refl
-
-pub seat_skipped : (old now : Lines) (place : ℕ) (x : Seat) → holds x ≡ false → now ≡ old → Grows old (seat_stops place x) now
-seat_skipped old now place x h e =
-    lines_as old now (λ q. []) (seat_stops place x) (λ q l. none (stop_held (Some x)) (by x.held h) (q == place)) (lines_none old now e)
-  where
-    by : (m : Option Offer) → is_some m ≡ false → stop_held (Some (record { held = m; ended = x.ended })) ≡ []
-    by None f = refl
-    by (Some o) f = absurd cc
-
-    none : (own : List OwnerItem) → own ≡ [] → (t : Bool) → put_if t own ≡ []
-    none own f true = f
-    none own f false = refl
-
 -- ---- line after line
 
 abbrev pub below : ℕ → (ℕ → List OwnerItem) → ℕ → List OwnerItem
@@ -114,12 +82,6 @@ below_next n f q h = ap (λ (t : Bool). elim t [ true ↦ f q | false ↦ [] ]) 
         by : (t : Bool) → nat_lt a b ≡ t → nat_lt a (b + 1) ≡ t
         by true e = grind (arith, nat_tests)
         by false e = grind (arith, nat_tests)
-
-pub begin_below : (old : Lines) (f : ℕ → List OwnerItem) → Grows old (below 0 f) old
-begin_below old f = record {
-  long = refl;
-  each = λ q end e. e ∙ ap (λ (items : List OwnerItem). Some (record { of = end.of; items = items })) (sym (append-nil end.items) ∙ ap (λ (items : List OwnerItem). end.items ++ items) (sym (below_not 0 q f (omega arith))));
-}
 
 pub put_below : (old mid now : Lines) (n : ℕ) (f : ℕ → List OwnerItem) (x : OwnerItem) → Grows old (below n f) mid → f n ≡ x ∷ []
     → slice_get now n ≡ option_map (λ end. with_item end x) (slice_get mid n) → ((k : ℕ) → k ≢ n → slice_get now k ≡ slice_get mid k) → length now ≡ length mid → Grows old (below (n + 1) f) now

@@ -16,13 +16,13 @@ use Rattle.nc_base.specs.declared.step.StepErr.TheVariants.{Memory}
 use Rattle.nc_outside.specs.Told.{after, BothTold}
 use Rattle.serial_spec.specs.Desk.{Desk, Event, Seat, does_meeting, does_solo, event, holds, is_strange, meets_if, needed_now, offers_at, offers_held, offers_met, step_offers}
 use Rattle.serial_spec.specs.FileStep.{Setting, Counted, meeting, puts_of, solo}
-use Rattle.serial_spec.specs.HeaderGrammar.{count_width}
+use Rattle.serial_spec.specs.HeaderBytes.{count_width}
 use Rattle.serial_spec.specs.History.{Arrival}
 use Rattle.serial_spec.specs.SharedByte.{Puts, covered}
 use Rattle.serial_spec.specs.Torn.{IsLeft, IsTorn, OwnerStoodAt}
 use Rattle.serial_spec.specs.Torn.OwnerStoodAt.{at_arrival, between_arrivals}
 use Rattle.collective_round.specs.Rounds.{counted, puts_in}
-use Rattle.collective_round.proofs.TornLaws.{torn_by, torn_wider}
+use Rattle.collective_round.proofs.TornFiles.{torn_by, torn_wider}
 use Rattle.turn_run.specs.Steps.{batches_of, known_of, met, IsOneRise}
 use Rattle.turn_run.proofs.CutMeet.{met_count, met_done, met_torn}
 use Rattle.join_laws.proofs.StrangeLaws.{event_is}

@@ -16,14 +16,14 @@ use Rattle.join_laws.proofs.OwnerAlikeLaws.{alike_two}
 use Rattle.thread_run.specs.Owned.{desk_at, desk_calls, desk_told, each_told, event_calls, run, AreSingle, GoesAlike, GoesSo, HasDone, HasRun, HoldSingle, IsSingle, Standing}
 use Rattle.thread_run.proofs.AlikeLaws.{alike_by, lines_none, lines_twice}
 use Rattle.thread_run.proofs.DeskRuns.{goes_on, told_on}
-use Rattle.turn_run.proofs.StageLaws.{ended_by_none, ended_twice}
+use Rattle.nc_outside.proofs.ToldLaws.{with_end-with_end, with_end-nil}
 
 pub run_none : (hints : Hints) (s : Setting) (x : Standing) → HasRun hints s [] x x
 run_none hints s x = record {
   moved = record {
     more = λ q. [];
     lines = lines_none x.lines x.lines refl;
-    alike = λ file. record { desk = refl; marks = sym (append-nil x.order); heard = sym (ended_by_none x.heard); given = λ q l. tt };
+    alike = λ file. record { desk = refl; marks = sym (append-nil x.order); heard = sym (with_end-nil x.heard); given = λ q l. tt };
     exact = by_told x.told refl;
     single = λ h. h.0;
   };
@@ -33,7 +33,7 @@ run_none hints s x = record {
     by_told : (m : Option (List ℕ)) → x.told ≡ m
         → IfSome m (λ file. GoesSo (HoldSingle x.seats × AreSingle []) (run s (desk_at x file) []) (desk_calls hints s (desk_at x file) []) (λ q. []) x x)
     by_told None e = tt
-    by_told (Some file) e = record { told = e; given = λ q l. refl; calls = λ h. sym (ended_by_none x.calls) }
+    by_told (Some file) e = record { told = e; given = λ q l. refl; calls = λ h. sym (with_end-nil x.calls) }
 
 -- ---- one arrival more
 
@@ -126,7 +126,7 @@ run_more hints s before mid now first a r fit m = record {
               ∙ append_assoc before.order (served s (desk_at before file) first).marks (event s (desk_at mid b) a).marks
               ∙ ap (λ (ms : List Mark). before.order ++ ms) (ap (λ (e : Event). (served s (desk_at before file) first).marks ++ e.marks) (sym to) ∙ sym on.marks);
           heard = g.heard ∙ ap (λ (told : Option (List (Mark × ℕ))). with_end told (each_told (event s (desk_at mid b) a))) f.heard
-              ∙ ended_twice before.heard (desk_told s (desk_at before file) first) (each_told (event s (desk_at mid b) a))
+              ∙ with_end-with_end before.heard (desk_told s (desk_at before file) first) (each_told (event s (desk_at mid b) a))
               ∙ ap (λ (told : List (Mark × ℕ)). with_end before.heard told) (ap (λ (e : Event). desk_told s (desk_at before file) first ++ each_told e) (sym to) ∙ sym on.told);
           given = λ q l.
               alike_by (r.moved.more q ++ m.more q) (r.moved.more q ++ m.more q) (given_along s (desk_at before file) first q ++ (event s (desk_at mid b) a).given q)
@@ -167,7 +167,7 @@ run_more hints s before mid now first a r fit m = record {
                   let own : HoldSingle before.seats × AreSingle first = (c.0, single_front first a c.1) in
                   g.calls (r.moved.single own, single_last first a c.1)
                   ∙ ap (λ (cs : Option (List DiskCall)). with_end cs (event_calls hints s (desk_at mid (served s (desk_at before file) first).desk.state.file) a)) (h.calls own)
-                  ∙ ended_twice before.calls (desk_calls hints s (desk_at before file) first) (event_calls hints s (desk_at mid (served s (desk_at before file) first).desk.state.file) a)
+                  ∙ with_end-with_end before.calls (desk_calls hints s (desk_at before file) first) (event_calls hints s (desk_at mid (served s (desk_at before file) first).desk.state.file) a)
                   ∙ ap (λ (d : Desk). with_end before.calls (desk_calls hints s (desk_at before file) first ++ event_calls hints s d a)) (sym (there file))
                   ∙ ap (λ (cs : List DiskCall). with_end before.calls cs) (sym (by file).calls);
             }

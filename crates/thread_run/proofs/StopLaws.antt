@@ -1,9 +1,9 @@
 -- What was taken, and the stops for it, one item after another.
-use Rattle.std.proofs.Common.{◌≡◌, ℕ, ◌<◌, refl, sym, ◌∙◌, ap, subst, inl, inr, ◌⊎◌, List, [], ◌∷◌, ◌++◌, map, set, Bool, true, false, cond, ◌&&◌, append_assoc, arith}
+use Rattle.std.proofs.Common.{◌≡◌, ℕ, ◌<◌, refl, sym, ◌∙◌, ap, subst, inl, inr, ◌⊎◌, List, [], ◌∷◌, ◌++◌, map, set, Bool, true, false, ◌&&◌, append_assoc, arith}
 use Rattle.std.proofs.lemmas.Bool.{cases_eq}
 use Rattle.std.proofs.lemmas.Bool.Decides.{nat_tests}
 use Rattle.std.proofs.lemmas.List.{append-nil}
-use Rattle.std.specs.Prelude.{filter, nat_lt, ◌==◌}
+use Rattle.std.specs.Prelude.{filter, nat_lt}
 use Rattle.std.specs.List.{list_all}
 use Rattle.nc_base.specs.declared.step.OwnerItem.{OwnerItem}
 use Rattle.nc_base.specs.declared.step.OwnerItem.TheVariants.{Stop}
@@ -11,25 +11,16 @@ use Rattle.nc_base.specs.declared.step.RankItem.{RankItem}
 use Rattle.nc_base.specs.declared.step.RankItem.TheVariants as item
 use Rattle.ruled_line.specs.Ends.{End, Receiver}
 use Rattle.serial_spec.specs.Desk.{own_items}
-use Rattle.serial_spec.specs.History.{Arrival, is_from, is_offer}
+use Rattle.serial_spec.specs.History.{Arrival, is_offer}
 use Rattle.serial_spec.specs.Joined.{HasEnd}
 use Rattle.join_laws.proofs.EventLaws.{own_here}
 use Rattle.thread_run.specs.Owned.{Grows}
 use Rattle.thread_run.specs.Stopping.{stops_for, HaveEnded, HaveMet, IsMore}
 use Rattle.thread_run.proofs.AlikeLaws.{lines_as, lines_twice}
-use Rattle.turn_run.proofs.ListLaws.{get_set_other}
+use Rattle.join_laws.proofs.BegunLaws.{own_two}
+use Rattle.list_laws.proofs.Places.{entry_set_other}
 
 -- ---- items of one number
-
-pub own_joined : (q : ℕ) (xs ys : List Arrival) → own_items q (xs ++ ys) ≡ own_items q xs ++ own_items q ys
-own_joined q [] ys = refl
-own_joined q (a ∷ xs) ys = by (a.0 == q) (own_joined q xs ys)
-  where
-    by : (t : Bool) → own_items q (xs ++ ys) ≡ own_items q xs ++ own_items q ys
-        → map (λ (b : Arrival). b.1) (cond t (a ∷ filter (is_from q) (xs ++ ys)) (filter (is_from q) (xs ++ ys)))
-        ≡ map (λ (b : Arrival). b.1) (cond t (a ∷ filter (is_from q) xs) (filter (is_from q) xs)) ++ own_items q ys
-    by true e = ap (λ (items : List RankItem). a.1 ∷ items) e
-    by false e = e
 
 pub filter_joined : (xs ys : List RankItem) → filter is_offer (xs ++ ys) ≡ filter is_offer xs ++ filter is_offer ys
 filter_joined [] ys = refl
@@ -42,7 +33,7 @@ stops_of_joined (x ∷ xs) ys = ap (λ (items : List OwnerItem). Stop ∷ items)
 
 pub stops_joined : (q : ℕ) (xs ys : List Arrival) → stops_for (xs ++ ys) q ≡ stops_for xs q ++ stops_for ys q
 stops_joined q xs ys =
-    ap (λ (items : List RankItem). map (λ (i : RankItem). Stop) (filter is_offer items)) (own_joined q xs ys)
+    ap (λ (items : List RankItem). map (λ (i : RankItem). Stop) (filter is_offer items)) (own_two q xs ys)
     ∙ ap (λ (items : List RankItem). map (λ (i : RankItem). Stop) items) (filter_joined (own_items q xs) (own_items q ys))
     ∙ stops_of_joined (filter is_offer (own_items q xs)) (filter is_offer (own_items q ys))
 
@@ -59,16 +50,16 @@ end_last (item.Ended m ∷ xs) memory = tt
 end_last (item.Offer c o ∷ xs) memory = end_last xs memory
 
 pub ended_more : (flags : List Bool) (arrivals more : List Arrival) → HaveEnded flags arrivals → HaveEnded flags (arrivals ++ more)
-ended_more flags arrivals more h q e = subst HasEnd (sym (own_joined q arrivals more)) (end_front (own_items q arrivals) (own_items q more) (h q e))
+ended_more flags arrivals more h q e = subst HasEnd (sym (own_two q arrivals more)) (end_front (own_items q arrivals) (own_items q more) (h q e))
 
 pub noted_end : (flags : List Bool) (arrivals : List Arrival) (r : ℕ) (memory : Bool) → HaveEnded flags arrivals → HaveEnded (set flags r true) (arrivals ++ (r, item.Ended memory) ∷ [])
 noted_end flags arrivals r memory h q e = by (cases_eq q r)
   where
     by : (q ≡ r) ⊎ (q ≡ r → ⊥) → HasEnd (own_items q (arrivals ++ (r, item.Ended memory) ∷ []))
     by (inl s) =
-        subst HasEnd (sym (own_joined q arrivals ((r, item.Ended memory) ∷ []) ∙ ap (λ (k : ℕ). own_items q arrivals ++ own_items k ((r, item.Ended memory) ∷ [])) s
+        subst HasEnd (sym (own_two q arrivals ((r, item.Ended memory) ∷ []) ∙ ap (λ (k : ℕ). own_items q arrivals ++ own_items k ((r, item.Ended memory) ∷ [])) s
         ∙ ap (λ (items : List RankItem). own_items q arrivals ++ items) (own_here r (item.Ended memory) []))) (end_last (own_items q arrivals) memory)
-    by (inr n) = ended_more flags arrivals ((r, item.Ended memory) ∷ []) h q (sym (get_set_other flags r q true n) ∙ e)
+    by (inr n) = ended_more flags arrivals ((r, item.Ended memory) ∷ []) h q (sym (entry_set_other flags r q true n) ∙ e)
 
 pub noted : (flags : List Bool) (arrivals : List Arrival) (r : ℕ) (i j : RankItem) → i ≡ j → HaveEnded flags (arrivals ++ (r, j) ∷ []) → HaveEnded flags (arrivals ++ (r, i) ∷ [])
 noted flags arrivals r i j e h = subst (λ (k : RankItem). HaveEnded flags (arrivals ++ (r, k) ∷ [])) (sym e) h

@@ -2,10 +2,10 @@
 use Rattle.std.proofs.Common.{◌≡◌, ℕ, zero, suc, ◌+◌, ◌*◌, ◌^◌, ◌<◌, ◌≤◌, refl, sym, ◌∙◌, ap, inl, inr, List, [], ◌∷◌, length, map, set, Bool, true, false, not, ◌&&◌, ◌||◌, Option, Some, None, arith}
 use Rattle.std.specs.Prelude.{slice_get, is_some, nat_le, nat_lt, ◌==◌, IfSome}
 use Rattle.std.specs.List.{list_all, list_any}
-use Rattle.std.proofs.lemmas.Bool.{or_parts}
+use Rattle.std.proofs.lemmas.Bool.{or_parts, and_right, not-false}
 use Rattle.std.proofs.lemmas.Bool.Decides.{nat_tests}
 use Rattle.std.proofs.lemmas.Option.{same_Some}
-use Rattle.list_laws.proofs.Truth.{and_first, and_second}
+use Rattle.list_laws.proofs.Truth.{and_first, and_second, or_false}
 use Rattle.nc_base.specs.declared.answer.Code.TheVariants as code
 use Rattle.nc_base.specs.declared.header.Header.{Header}
 use Rattle.nc_base.specs.declared.header.Var.{Var}
@@ -22,7 +22,7 @@ use Rattle.nc_base.specs.declared.step.RankItem.TheVariants as item
 use Rattle.overlay_laws.specs.Entries.{In}
 use Rattle.serial_spec.specs.ExternalForm.{size_of}
 use Rattle.serial_spec.specs.FileStep.{Setting}
-use Rattle.serial_spec.specs.HeaderGrammar.{is_sound}
+use Rattle.serial_spec.specs.SoundHeaders.{is_sound}
 use Rattle.serial_spec.specs.History.{is_offer, kind_of_meeting, meeting_kind, offer_of, option_then}
 use Rattle.serial_spec.specs.Layout.{product}
 use Rattle.serial_spec.specs.RegionCheck.{check, is_ok_code}
@@ -38,6 +38,7 @@ use Rattle.list_laws.proofs.Places.{entry_set}
 use Rattle.overlay_laws.proofs.Members.{at_in}
 use Rattle.thread_run.specs.Strange.{fails_as_offer, fails_test, leaves_behind, leaves_with}
 use Rattle.thread_run.proofs.DeskRuns.{seat_ended, seat_held}
+use Rattle.std.proofs.lemmas.Map.Keys.{any_passes_from_place}
 
 -- ---- one element of a list is changed
 
@@ -45,13 +46,13 @@ any_set : {X : Type 0} (p : X → Bool) (xs : List X) (r : ℕ) (x y : X) → sl
 any_set p [] r x y e h = absurd cc
 any_set p (z ∷ xs) zero x y e h =
     let same : p z ≡ false = ap p (same_Some z x e) ∙ h in
-    turned (p y) (list_any p xs) ∙ ap (λ (t : Bool). (t || list_any p xs) || p y) (sym same)
+    not-false (p y) (list_any p xs) ∙ ap (λ (t : Bool). (t || list_any p xs) || p y) (sym same)
   where
-    turned : (a b : Bool) → (a || b) ≡ ((false || b) || a)
-    turned true true = refl
-    turned true false = refl
-    turned false true = refl
-    turned false false = refl
+    not-false : (a b : Bool) → (a || b) ≡ ((false || b) || a)
+    not-false true true = refl
+    not-false true false = refl
+    not-false false true = refl
+    not-false false false = refl
 any_set p (z ∷ xs) (suc r) x y e h = ap (λ (t : Bool). p z || t) (any_set p xs r x y e h) ∙ regrouped (p z) (list_any p xs) (p y)
   where
     regrouped : (a b c : Bool) → (a || (b || c)) ≡ ((a || b) || c)
@@ -62,15 +63,6 @@ any_same : {X : Type 0} (p : X → Bool) (xs : List X) (r : ℕ) (x y : X) → s
 any_same p [] r x y e h = absurd cc
 any_same p (z ∷ xs) zero x y e h = ap (λ (t : Bool). t || list_any p xs) (h ∙ ap p (sym (same_Some z x e)))
 any_same p (z ∷ xs) (suc r) x y e h = ap (λ (t : Bool). p z || t) (any_same p xs r x y e h)
-
-any_there : {X : Type 0} (p : X → Bool) (xs : List X) (r : ℕ) (x : X) → slice_get xs r ≡ Some x → p x ≡ true → list_any p xs ≡ true
-any_there p [] r x e h = absurd cc
-any_there p (z ∷ xs) zero x e h = ap (λ (t : Bool). t || list_any p xs) (ap p (same_Some z x e) ∙ h)
-any_there p (z ∷ xs) (suc r) x e h = ap (λ (t : Bool). p z || t) (any_there p xs r x e h) ∙ or_true (p z)
-  where
-    or_true : (a : Bool) → (a || true) ≡ true
-    or_true true = refl
-    or_true false = refl
 
 -- ---- who is left behind
 
@@ -93,17 +85,9 @@ stays x e = ap (λ (m : Option Bool). left_by x.held m) e ∙ by x.held
     by None = refl
     by (Some o) = refl
 
-or_false : (a : Bool) → (a || false) ≡ a
-or_false true = refl
-or_false false = refl
-
 and_true : (a b : Bool) → b ≡ true → (a && b) ≡ a
 and_true true b e = e
 and_true false b e = refl
-
-and_false : (a b : Bool) → b ≡ false → (a && b) ≡ false
-and_false true b e = e
-and_false false b e = refl
 
 -- behind an end, an offer and a meeting's offer
 ended_leaves : (seats : List Seat) (r : ℕ) (x : Seat) (memory : Bool) → slice_get seats r ≡ Some x → x.ended ≡ None
@@ -129,10 +113,10 @@ ended_leaves seats r x memory e f =
 meeting_leaves : (s : Setting) (d : Desk) (r : ℕ) (x : Seat) (o : Offer) → slice_get d.seats r ≡ Some x → x.ended ≡ None → (there : slice_get (set d.seats r (seat_held x o)) r ≡ Some (seat_held x o))
     → (t : Bool) → list_all holds (set d.seats r (seat_held x o)) ≡ t → left_behind (meets_if s d (set d.seats r (seat_held x o)) t).desk.seats ≡ list_any has_left d.seats
 meeting_leaves s d r x o e f there true h =
-    and_false (list_any has_left (map freed (set d.seats r (seat_held x o)))) (list_any holds (map freed (set d.seats r (seat_held x o)))) (none_held (set d.seats r (seat_held x o)))
+    and_right (list_any has_left (map freed (set d.seats r (seat_held x o)))) (list_any holds (map freed (set d.seats r (seat_held x o)))) (none_held (set d.seats r (seat_held x o)))
     ∙ sym (none_left (set d.seats r (seat_held x o)) h) ∙ any_set has_left d.seats r x (seat_held x o) e (stays x f) ∙ or_false (list_any has_left d.seats)
 meeting_leaves s d r x o e f there false h =
-    and_true (list_any has_left (set d.seats r (seat_held x o))) (list_any holds (set d.seats r (seat_held x o))) (any_there holds (set d.seats r (seat_held x o)) r (seat_held x o) there refl)
+    and_true (list_any has_left (set d.seats r (seat_held x o))) (list_any holds (set d.seats r (seat_held x o))) (any_passes_from_place holds (set d.seats r (seat_held x o)) r (seat_held x o) there refl)
     ∙ any_set has_left d.seats r x (seat_held x o) e (stays x f) ∙ or_false (list_any has_left d.seats)
 
 leaves : (s : Setting) (d : Desk) (r : ℕ) (i : RankItem) (x : Seat) → slice_get d.seats r ≡ Some x → x.ended ≡ None → left_behind (at_item s d r x i).desk.seats ≡ leaves_behind d.seats x i
@@ -221,12 +205,8 @@ none_in p [] x h i = absurd i
 none_in p (z ∷ xs) x h (inl e) = ap p (sym e) ∙ (or_parts (p z) (list_any p xs) h).0
 none_in p (z ∷ xs) x h (inr i) = none_in p xs x (or_parts (p z) (list_any p xs) h).1 i
 
-turned : (t : Bool) → not t ≡ false → t ≡ true
-turned true e = refl
-turned false e = absurd cc
-
 not_refused : (header : Header) (known : ℕ) (way : Direction) (p : Post) → refused header known way p ≡ false → check header p.var p.region known way ≡ code.Ok
-not_refused header known way p e = ok_is (check header p.var p.region known way) (turned (is_ok_code (check header p.var p.region known way)) e)
+not_refused header known way p e = ok_is (check header p.var p.region known way) (not-false (is_ok_code (check header p.var p.region known way)) e)
 
 whole_length : (header : Header) (p : Post) → wrong_length header p ≡ false → IfSome (slice_get header.vars p.var) (λ v. length p.bytes ≡ product p.region.count * size_of v.kind)
 whole_length header p e = by (slice_get header.vars p.var) e
@@ -234,7 +214,7 @@ whole_length header p e = by (slice_get header.vars p.var) e
     by : (m : Option Var) → (elim m [ None ↦ true | Some var ↦ not (length p.bytes == product p.region.count * size_of var.kind) ]) ≡ false
         → IfSome m (λ v. length p.bytes ≡ product p.region.count * size_of v.kind)
     by None f = tt
-    by (Some v) f = same (length p.bytes) (product p.region.count * size_of v.kind) (turned (length p.bytes == product p.region.count * size_of v.kind) f)
+    by (Some v) f = same (length p.bytes) (product p.region.count * size_of v.kind) (not-false (length p.bytes == product p.region.count * size_of v.kind) f)
       where
         same : (n m : ℕ) → (n == m) ≡ true → n ≡ m
         same n m h = grind (arith, nat_tests)

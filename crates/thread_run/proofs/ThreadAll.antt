@@ -16,7 +16,7 @@ use Rattle.nc_outside.specs.Told.{after, with_end}
 use Rattle.serial_spec.specs.Desk.{Desk, Ending, first_desk, free_seat, served}
 use Rattle.serial_spec.specs.DeviceCalls.{run_calls, store_records}
 use Rattle.serial_spec.specs.FileStep.{raised}
-use Rattle.serial_spec.specs.HeaderGrammar.{is_sound}
+use Rattle.serial_spec.specs.SoundHeaders.{is_sound}
 use Rattle.serial_spec.specs.History.{Arrival, IsLegal}
 use Rattle.serial_spec.specs.Joined.{opening_desk, run_of}
 use Rattle.serial_spec.specs.Lawful.{is_lawful}
@@ -27,9 +27,9 @@ use Rattle.turn_run.specs.Run.{HasCut, IsRun}
 use Rattle.thread_run.specs.Owned.{AreSingle, desk_calls}
 use Rattle.thread_run.specs.Serving.{HasFailed, IsDone, IsDoneSo, opening}
 use Rattle.thread_run.specs.Threads.{HasClosed, NoneBroke, most_known_of}
-use Rattle.turn_run.proofs.StageLaws.{ended_twice}
 use Rattle.thread_run.proofs.ThreadRuns.{Finished, FinishedSo, finished, finished_so}
 use Rattle.thread_run.proofs.ThreadTies.{Told, begun}
+use Rattle.nc_outside.proofs.ToldLaws.{with_end-with_end, rose_before}
 
 -- what the owner tells
 pub record Owner (script : Script) (header : Header) (arrivals : List Arrival) (given : ℕ → List OwnerItem) (held : Option (List ℕ)) (calls : Option (List DiskCall)) (faults : ℕ)
@@ -64,9 +64,6 @@ if_both (Some x) p q f = f x p q
 
 rose_later : (a b c : ℕ) → Rose a b → b ≤ c → Rose a c
 rose_later a b c h l = omega arith
-
-rose_before : (a b c : ℕ) → a ≤ b → Rose b c → Rose a c
-rose_before a b c l h = omega arith
 
 module _ (script : Script) (header : Header) (arrivals : List Arrival) (given : ℕ → List OwnerItem) (ends : List RankEnd)
     (sound : is_sound header ≡ true) (lawful : is_lawful script ≡ true) (t : Told script header arrivals given ends) where
@@ -113,7 +110,7 @@ module _ (script : Script) (header : Header) (arrivals : List Arrival) (given : 
         c.pending none ∙ (fin_so none file so).pending ∙ ap (λ (ms : List Mark). (serial_from script header file ms).pending) (sym c.order));
     calls = λ none. if_both held (o.bytes (c.went none).0) (o.device (c.went none).0 (fin none).single) (λ file so made_so.
         (c.closed none).device ∙ ap (λ (m : Option (List DiskCall)). with_end m (store_records (as_setting header) (nat_lt count records))) made_so
-        ∙ ended_twice calls (desk_calls script.hints (setting_of script header) (opening script.ranks (counted file header.records)) arrivals) (store_records (setting_of script header) (nat_lt count records))
+        ∙ with_end-with_end calls (desk_calls script.hints (setting_of script header) (opening script.ranks (counted file header.records)) arrivals) (store_records (setting_of script header) (nat_lt count records))
         ∙ (λ i. with_end calls (desk_calls script.hints (setting_of script header) (opening script.ranks (counted file header.records)) arrivals
         ++ store_records (setting_of script header) (nat_lt (so.records i) (counts none file so i))))
         ∙ ap (λ (cs : List DiskCall). with_end calls cs) (sym (fin_so none file so).calls) ∙ ap (λ (ms : List Mark). with_end calls (run_calls script header file ms)) (sym c.order));

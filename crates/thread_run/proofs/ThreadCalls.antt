@@ -5,8 +5,8 @@ use Rattle.std.specs.Prelude.{slice_get, fold, nat_lt}
 use Rattle.std.specs.List.{list_all}
 use Rattle.std.proofs.lemmas.Option.{same_Some}
 use borrow.Author.Tests.{ltb-true}
-use Rattle.list_laws.proofs.Places.{entry_below}
-use Rattle.list_laws.proofs.Truth.{and_first, and_second}
+use Rattle.list_laws.proofs.Places.{entry_below, entry_beside}
+use Rattle.list_laws.proofs.Truth.{and_first}
 use Rattle.nc_base.specs.declared.header.Header.{Header}
 use Rattle.nc_base.specs.declared.answer.Answer.{Answer}
 use Rattle.nc_base.specs.declared.request.Call.{Call}
@@ -30,15 +30,14 @@ use Rattle.serial_spec.specs.RankMachine.{Rank, step}
 use Rattle.serial_spec.specs.SerialEnd.{Going, advance, after_mark, go, offers_of, rank_offer}
 use Rattle.run_laws.specs.Standing.{calls_so_far}
 use Rattle.run_laws.proofs.OrderLaws.{calls_more}
-use Rattle.join_laws.proofs.EventLaws.{Stepped, get_set, item_steps, own_here, seated_same}
-use Rattle.join_laws.proofs.JoinLaws.{Stands, join, owed_on, served_on, stranger_on}
-use Rattle.join_laws.proofs.ListLaws.{get_beside}
+use Rattle.join_laws.proofs.EventLaws.{get_set, own_here}
+use Rattle.join_laws.proofs.JoinLaws.{Arrived, Stands, arrived, join, served_on, stranger_on}
 use Rattle.join_laws.proofs.StepLaws.{same_offers}
 use Rattle.join_laws.proofs.StrangeLaws.{event_is, not_ended, strange_alone}
-use Rattle.join_laws.proofs.StreamLaws.{Lasting, Sits, offered_now, seat_held}
-use Rattle.join_laws.proofs.TurnLaws.{seated_after}
+use Rattle.join_laws.proofs.SeatTurns.{Lasting, Sits, offered_now, seat_held}
 use Rattle.thread_run.specs.Owned.{AreSingle, IsSingle, calls_at, calls_at_offer, calls_if, desk_calls, event_calls, IsSingleOffer}
 use Rattle.join_laws.proofs.QuietLaws.{IsQuiet, quiet_step}
+use Rattle.thread_run.proofs.DeskRuns.{calls_on}
 
 -- ---- one arrival
 
@@ -78,10 +77,10 @@ onward s Good lasting ks d goings r i rest t = by (entry_below goings r low)
     by_two : (x : Seat) (g : Going) → slice_get d.seats r ≡ Some x → slice_get goings r ≡ Some g → Onward s Good d goings r i rest
     by_two x g a b = record {
       not_strange = e;
-      kinds_left = stepped.kinds_left;
-      after = stepped.after;
-      folded = stepped.folded;
-      stands = stands;
+      kinds_left = done.stepped.kinds_left;
+      after = done.stepped.after;
+      folded = done.stepped.folded;
+      stands = done.stands;
       seat = x;
       going = g;
       at_seat = a;
@@ -90,6 +89,9 @@ onward s Good lasting ks d goings r i rest t = by (entry_below goings r low)
       is = event_is s d r i x a;
     }
       where
+        done : Arrived s Good d goings r i rest
+        done = arrived s Good lasting ks d goings r i rest x g a b t e
+
         mine : Sits s.header Good ks d.reached x g (i ∷ own_items r rest) (owed s d ((r, i) ∷ rest) r)
         mine = subst (λ (u : List RankItem). Sits s.header Good ks d.reached x g u (owed s d ((r, i) ∷ rest) r)) (own_here r i rest) (t.seated.sits r x g a b)
 
@@ -102,26 +104,8 @@ onward s Good lasting ks d goings r i rest t = by (entry_below goings r low)
             (strange_alone s d r i x a e (ap (λ (z : RankItem). is_offer z) f))
             (subst (λ (z : RankItem). Sits s.header Good ks d.reached x g (z ∷ own_items r rest) (owed s d ((r, i) ∷ rest) r)) f mine)).is
 
-        stepped : Stepped s Good d goings rest (event s d (r, i))
-        stepped = subst (λ (u : Event). Stepped s Good d goings rest u) (sym (event_is s d r i x a))
-            (item_steps s Good lasting ks d goings r i rest x g a b ended
-            (strange_alone s d r i x a e) t.counted t.small t.not_full (and_first (nat_lt r (length goings)) (list_all (λ a. nat_lt a.0 (length goings)) rest) t.numbers)
-            (seated_same s.header Good ks d.reached d.seats goings (λ q. own_items q ((r, i) ∷ rest)) (owed s d ((r, i) ∷ rest)) (λ q. (at_item s d r x i).given q ++ owed s (at_item s d r x i).desk rest q)
-            (λ q. owed_on s d (r, i) rest q e ∙ ap (λ (u : Event). u.given q ++ owed s u.desk rest q) (event_is s d r i x a)) t.seated))
-
-        stands : Stands s Good stepped.kinds_left (event s d (r, i)).desk stepped.after rest
-        stands = record {
-          seated = seated_after s.header Good stepped.kinds_left (event s d (r, i)).desk.reached d.met (event s d (r, i)).desk.met d.seats goings (event s d (r, i)).desk.seats stepped.after
-              (λ q. own_items q rest) (owed s (event s d (r, i)).desk rest) (event s d (r, i)).given (event s d (r, i)).marks t.seated.long stepped.changes;
-          counted = stepped.counted;
-          small = stepped.small;
-          not_full = stepped.not_full;
-          numbers = ap (λ (n : ℕ). list_all (λ a. nat_lt a.0 n) rest) stepped.changes.same_ranks
-              ∙ and_second (nat_lt r (length goings)) (list_all (λ a. nat_lt a.0 (length goings)) rest) t.numbers;
-        }
-
     by : (g : Going) × (slice_get goings r ≡ Some g) → Onward s Good d goings r i rest
-    by (g, b) = let x = get_beside goings d.seats r g (sym t.seated.long) b in by_two x.0 g x.1 b
+    by (g, b) = let x = entry_beside goings d.seats r g (sym t.seated.long) b in by_two x.0 g x.1 b
 
 -- ---- device calls
 
@@ -159,10 +143,6 @@ module _ (hints : Hints) (s : Setting) (d : Desk) (goings : List Going) (r : ℕ
       → calls_at hints s d r i (Some x) ≡ calls_so_far hints s (d.state, goings) (at_item s d r x i).marks
   item_is (item.Ended memory) f = refl
   item_is (item.Offer c o) f = offer_is c o o.kind (f c o refl)
-
-calls_on : (hints : Hints) (s : Setting) (d : Desk) (a : Arrival) (rest : List Arrival) → is_strange s d a ≡ false
-    → desk_calls hints s d (a ∷ rest) ≡ event_calls hints s d a ++ desk_calls hints s (event s d a).desk rest
-calls_on hints s d a rest e = rw (e, desk_calls) refl
 
 -- the owner's device calls are those of the serial run, without the close
 pub calls_along : (hints : Hints) (s : Setting) (Good : ℕ → Going → Type 0) (lasting : Lasting s.header Good) (ks : List MeetKind) (d : Desk) (goings : List Going) (arrivals : List Arrival)

@@ -1,12 +1,12 @@
 -- A run on threads that a fault cut off, from what the owner tells and what the close tells.
-use Rattle.std.proofs.Common.{◌≡◌, ℕ, suc, ◌-◌, ◌<◌, ◌≤◌, refl, sym, ◌∙◌, ap, subst, inl, inr, ◌⊎◌, List, [], ◌∷◌, ◌++◌, length, map, max, replicate, Bool, true, false, cond, Option, Some, None, append_assoc, arith}
+use Rattle.std.proofs.Common.{◌≡◌, ℕ, ◌-◌, ◌<◌, ◌≤◌, refl, sym, ◌∙◌, ap, subst, inl, inr, ◌⊎◌, List, [], ◌∷◌, ◌++◌, length, map, max, replicate, Bool, true, false, cond, Option, Some, None, append_assoc, arith}
 use Rattle.std.proofs.lemmas.List.{append-nil, length-append, length-map, length-replicate}
 use Rattle.std.proofs.lemmas.List.Folds.{list_all-append}
 use Rattle.std.proofs.lemmas.Option.{slice_get_within, same_Some}
 use Rattle.std.specs.Prelude.{slice_get, nat_lt, filter, IfSome}
 use Rattle.std.specs.Int.{byte_len}
 use Rattle.std.specs.List.{list_all}
-use Rattle.list_laws.proofs.Places.{entry_below}
+use Rattle.list_laws.proofs.Places.{entry_below, entry_beside}
 use Rattle.list_laws.proofs.Truth.{and_second}
 use Rattle.nc_base.specs.declared.answer.Answer.{Answer}
 use Rattle.nc_base.specs.declared.header.Header.{Header}
@@ -15,19 +15,18 @@ use Rattle.nc_base.specs.declared.run.RankEnd.{RankEnd}
 use Rattle.nc_base.specs.declared.run.RankStop.TheVariants as stop
 use Rattle.nc_base.specs.declared.run.RunEnd.{RunEnd}
 use Rattle.nc_base.specs.declared.run.ServeEnd.{ServeEnd}
-use Rattle.nc_base.specs.declared.script.Hints.{Hints}
 use Rattle.nc_base.specs.declared.script.Script.{Script}
 use Rattle.nc_base.specs.declared.step.Mark.{Mark}
-use Rattle.nc_base.specs.declared.step.Offer.{Offer}
 use Rattle.nc_base.specs.declared.step.OwnerItem.{OwnerItem}
 use Rattle.nc_base.specs.declared.step.OwnerItem.TheVariants.{Stop}
 use Rattle.nc_base.specs.declared.step.RankItem.{RankItem}
 use Rattle.nc_base.specs.declared.step.StepErr.{StepErr}
 use Rattle.nc_base.specs.declared.step.StepErr.TheVariants as fault
 use Rattle.nc_outside.specs.Told.{BothTold}
-use Rattle.serial_spec.specs.Desk.{Desk, Seat, event, first_desk, free_seat, given_along, is_strange, offers_in, own_items, owed, served, stop_held, stops}
+use Rattle.serial_spec.specs.Desk.{Desk, event, first_desk, free_seat, given_along, is_strange, offers_in, own_items, served}
 use Rattle.serial_spec.specs.FileStep.{Setting, Counted, raised}
-use Rattle.serial_spec.specs.HeaderGrammar.{count_width, is_sound}
+use Rattle.serial_spec.specs.HeaderBytes.{count_width}
+use Rattle.serial_spec.specs.SoundHeaders.{is_sound}
 use Rattle.serial_spec.specs.History.{Arrival, IsLegal, is_offer}
 use Rattle.serial_spec.specs.Joined.{opening_desk, run_of}
 use Rattle.serial_spec.specs.Lawful.{is_lawful}
@@ -38,13 +37,11 @@ use Rattle.serial_spec.specs.Torn.{Begins, HasAnswers, HasAnswersOfEach, IsCutRu
 use Rattle.serial_spec.specs.Torn.StoodAt.{in_step, in_close, between}
 use Rattle.collective_round.specs.Rounds.{as_setting, counted}
 use Rattle.join_laws.specs.Begun.{HasOffered}
-use Rattle.join_laws.proofs.ListLaws.{get_beside}
 use Rattle.join_laws.proofs.Completing.{completed, completed_by}
 use Rattle.turn_run.specs.Begun.{HasBegun}
 use Rattle.turn_run.specs.Said.{HasSaid}
 use Rattle.turn_run.specs.Seated.{calls_of}
 use Rattle.turn_run.proofs.CutRuns.{no_answers}
-use Rattle.turn_run.proofs.ListLaws.{get_mapped}
 use Rattle.turn_run.proofs.SaidLaws.{said_here, said_part, said_up}
 use Rattle.turn_run.proofs.TellLaws.{told_along}
 use Rattle.turn_run.specs.Telling.{counts_along}
@@ -54,102 +51,16 @@ use Rattle.thread_run.specs.Serving.{IsDone, IsDoneSo, opening}
 use Rattle.turn_run.specs.Run.{HasCut}
 use Rattle.thread_run.specs.Threads.{EndedAt, NoneBroke, most_known_of}
 use Rattle.thread_run.specs.Threads.EndedAt.{as_left, in_close as in_closing}
-use Rattle.thread_run.proofs.CutJoin.{Ran, cut_run, end_of_rank, last_end}
+use Rattle.thread_run.proofs.CutRank.{last_end}
+use Rattle.thread_run.proofs.CutJoin.{Ran, cut_run, end_of_rank}
 use Rattle.thread_run.proofs.CutStood.{single_begun, stood_run}
-use Rattle.join_laws.proofs.JoinLaws.{owed_stop, served_on}
-use Rattle.thread_run.proofs.DeskRuns.{goes_on, stops_at}
+use Rattle.join_laws.proofs.JoinLaws.{served_on}
+use Rattle.thread_run.proofs.DeskRuns.{goes_on}
 use Rattle.thread_run.proofs.TellLaws.{count_of}
 use Rattle.thread_run.proofs.ThreadRuns.{FinishedSo, finished, finished_so}
 use Rattle.thread_run.proofs.ThreadTies.{Own, Told, begun, broke_or_not, offered_all, own_of, puts, takes}
-
--- ---- the part of a run that was done
-
--- what came before the first strange arrival, or before the fault
-pub record Service (s : Setting) (d : Desk) (ranks : ℕ) (arrivals : List Arrival) (given : ℕ → List OwnerItem) (order : List Mark) : Type 0 where
-  pub first : List Arrival
-  pub later : List Arrival
-  pub all : arrivals ≡ first ++ later
-  pub none : (served s d first).stranger ≡ None
-  pub order_is : order ≡ (served s d first).marks
-  pub gives : (q : ℕ) → q < ranks → (k : ℕ) × (given q ≡ given_along s d first q ++ replicate k Stop)
-
-pub service_cut : (s : Setting) (d : Desk) (ranks n : ℕ) (e : StepErr) (arrivals : List Arrival) (given : ℕ → List OwnerItem) (order : List Mark) (held : Option (List ℕ)) → ranks ≡ length d.seats
-    → HasCutService s e d arrivals order held n given → Service s d ranks arrivals given order
-service_cut s d ranks n e arrivals given order held long h = record {
-  first = h.first;
-  later = h.later;
-  all = h.all;
-  none = h.service.no_stranger;
-  order_is = h.service.in_order;
-  gives = λ q l.
-      let low : q < length d.seats = omega arith in
-      let g = h.service.gives q low in
-      (g.stopped, g.whole ∙ ap (λ (items : List OwnerItem). items ++ replicate g.stopped Stop) (sym (append-nil g.replies) ∙ ap (λ (items : List OwnerItem). g.replies ++ items) (sym (h.all_heard q low)) ∙ g.begins));
-}
-
--- without a fault
-record Front (s : Setting) (d : Desk) (arrivals : List Arrival) : Type 0 where
-  first : List Arrival
-  later : List Arrival
-  all : arrivals ≡ first ++ later
-  none : (served s d first).stranger ≡ None
-  marks : (served s d arrivals).marks ≡ (served s d first).marks
-  desk : (served s d arrivals).desk ≡ (served s d first).desk
-  owes : (q : ℕ) → owed s (served s d first).desk later q ≡ stops (served s d first).desk later q
-
-front : (s : Setting) (arrivals : List Arrival) (d : Desk) → Front s d arrivals
-front s [] d = record { first = []; later = []; all = refl; none = refl; marks = refl; desk = refl; owes = λ q. refl }
-front s (a ∷ rest) d = by (is_strange s d a) refl (front s rest (event s d a).desk)
-  where
-    by : (v : Bool) → is_strange s d a ≡ v → Front s (event s d a).desk rest → Front s d (a ∷ rest)
-    by true f again =
-        let at = stops_at s d a rest f in
-        record { first = []; later = a ∷ rest; all = refl; none = refl; marks = at.marks; desk = at.desk; owes = λ q. owed_stop s d a rest q f }
-    by false f again =
-        let long = served_on s d a rest f in
-        let short = served_on s d a again.first f in
-        record {
-          first = a ∷ again.first;
-          later = again.later;
-          all = ap (λ (xs : List Arrival). a ∷ xs) again.all;
-          none = short.stranger ∙ again.none;
-          marks = long.marks ∙ ap (λ (ms : List Mark). (event s d a).marks ++ ms) again.marks ∙ sym short.marks;
-          desk = long.desk ∙ again.desk ∙ sym short.desk;
-          owes = λ q. ap (λ (e : Desk). owed s e again.later q) short.desk ∙ again.owes q ∙ ap (λ (e : Desk). stops e again.later q) (sym short.desk);
-        }
-
-stops_are : (xs : List RankItem) → map (λ (i : RankItem). Stop) xs ≡ replicate (length xs) Stop
-stops_are [] = refl
-stops_are (x ∷ xs) = ap (λ (items : List OwnerItem). Stop ∷ items) (stops_are xs)
-
-only_stops : (m : Option Seat) (xs : List RankItem) → (k : ℕ) × (stop_held m ++ map (λ (i : RankItem). Stop) xs ≡ replicate k Stop)
-only_stops None xs = (length xs, stops_are xs)
-only_stops (Some x) xs = by_held x.held x.ended
-  where
-    by_held : (held : Option Offer) (ended : Option Bool) → (k : ℕ) × (stop_held (Some (record { held = held; ended = ended })) ++ map (λ (i : RankItem). Stop) xs ≡ replicate k Stop)
-    by_held None ended = (length xs, stops_are xs)
-    by_held (Some p) ended = (suc (length xs), ap (λ (items : List OwnerItem). Stop ∷ items) (stops_are xs))
-
-pub service_done : (hints : Hints) (s : Setting) (d : Desk) (ranks : ℕ) (arrivals : List Arrival) (given : ℕ → List OwnerItem) (order : List Mark) → order ≡ (served s d arrivals).marks
-    → ((q : ℕ) → q < ranks → given q ≡ owed s d arrivals q) → (h : Service s d ranks arrivals given order) × ((served s d h.first).desk ≡ (served s d arrivals).desk)
-service_done hints s d ranks arrivals given order e owes =
-    let f = front s arrivals d in
-    let on = goes_on hints s d f.first f.later f.none in (
-      record {
-        first = f.first;
-        later = f.later;
-        all = f.all;
-        none = f.none;
-        order_is = e ∙ f.marks;
-        gives = λ q l.
-            let k = only_stops (slice_get (served s d f.first).desk.seats q) (filter is_offer (own_items q f.later)) in (
-              k.0,
-              owes q l ∙ ap (λ (xs : List Arrival). owed s d xs q) f.all ∙ on.owed_items q
-                  ∙ ap (λ (items : List OwnerItem). given_along s d f.first q ++ items) (f.owes q ∙ k.1),
-            );
-      },
-      sym f.desk,
-    )
+use Rattle.thread_run.proofs.ServiceCut.{Service, service_cut, service_done}
+use Rattle.list_laws.proofs.Maps.{mapped_entry}
 
 -- ---- the ranks
 
@@ -231,7 +142,7 @@ module _ (script : Script) (header : Header) (arrivals : List Arrival) (given : 
       let own = own_at r low in
       let o = own_of script header arrivals given ends t r own.0 own.1 in
       let same : o.end ≡ end = same_Some o.end end (sym o.at_end ∙ b) in
-      let x = get_beside run.last (run_of script header file h.first).desk.seats r g (sym run.stands.long) a in
+      let x = entry_beside run.last (run_of script header file h.first).desk.seats r g (sym run.stands.long) a in
       let ended : (advance header g).0 ≡ end_of_rank script header (takes script header arrivals given ends t) r =
       last_end header x.0 g (own_items r h.later) (stopped r) (end_of_rank script header (takes script header arrivals given ends t) r) (run.stands.sits r x.0 g x.1 a) in
       let its : calls_of script r ≡ own.0 = ap (λ (m : Option (List Call)). elim m [ None ↦ [] | Some cs ↦ cs ]) own.1 in
@@ -255,7 +166,7 @@ module _ (script : Script) (header : Header) (arrivals : List Arrival) (given : 
       → (r : ℕ) (g : Going) (own : List Answer) → slice_get (state_after script header file order).1 r ≡ Some g → slice_get answers r ≡ Some own → HasAnswers header e g own
   all_answers e whole answers (inr none) r g own a b = no_answers script header e order file answers none r g own a b
   all_answers e whole answers (inl are) r g own a b =
-      let row = get_mapped (λ (end : RankEnd). end.answers) ends r own (ap (λ (rows : List (List Answer)). slice_get rows r) (sym are) ∙ b) in
+      let row = mapped_entry (λ (end : RankEnd). end.answers) ends r own (ap (λ (rows : List (List Answer)). slice_get rows r) (sym are) ∙ b) in
       subst (λ (xs : List Answer). HasAnswers header e g xs) row.1.1
       (own_answers e whole r g row.0 (ap (λ (st : Counted × List Going). slice_get st.1 r) (sym state_is) ∙ a) row.1.0)
 

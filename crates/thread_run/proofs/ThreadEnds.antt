@@ -4,7 +4,7 @@ use Rattle.std.proofs.lemmas.Bool.Decides.{nat_tests}
 use Rattle.std.specs.Prelude.{slice_index_or, nat_lt, OnOk}
 use Rattle.nc_base.specs.declared.header.Header.{Header}
 use Rattle.nc_base.specs.declared.run.RankEnd.{RankEnd}
-use Rattle.serial_spec.specs.HeaderGrammar.{is_sound}
+use Rattle.serial_spec.specs.SoundHeaders.{is_sound}
 use Rattle.thread_run.specs.Threads.{most_known_of}
 
 one_more : (ends : List RankEnd) (i : ℕ) (end : RankEnd) → i < length ends → end ≡ slice_index_or ends i end → most_known_of (take (suc i) ends) ≡ max (most_known_of (take i ends)) end.known
@@ -22,10 +22,6 @@ pub known_more : (ends : List RankEnd) (i : ℕ) (end : RankEnd) (before now : �
 known_more ends i end before now l e f h =
     let next : suc i ≡ i + 1 = omega arith in
     h ∙ ap (λ (n : ℕ). max n end.known) f ∙ sym (one_more ends i end l e) ∙ ap (λ (n : ℕ). most_known_of (take n ends)) next
-
-pub on_ok : {T E : Type 0} {P : Type 0} (r : Result T E) → P → OnOk r P
-on_ok (Ok x) p = p
-on_ok (Err e) p = tt
 
 -- the greater of two counts that a header can have
 pub raised_sound : {T E : Type 0} (result : Result T E) (header : Header) (before known now : ℕ) → is_sound (record header { records = before }) ≡ true

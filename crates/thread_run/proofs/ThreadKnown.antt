@@ -21,7 +21,8 @@ use Rattle.nc_base.specs.declared.step.RankItem.TheVariants as item
 use Rattle.serial_spec.specs.Desk.{Desk, Event, Seat, at_item, at_offer, event, holds, meets_if, needed_now, offers_held, refused, served, strange_offer}
 use Rattle.serial_spec.specs.ExternalForm.{size_of}
 use Rattle.serial_spec.specs.FileStep.{Counted, Setting, needs, puts_of, told}
-use Rattle.serial_spec.specs.HeaderGrammar.{header_len, is_sound}
+use Rattle.serial_spec.specs.HeaderBytes.{header_len}
+use Rattle.serial_spec.specs.SoundHeaders.{is_sound}
 use Rattle.serial_spec.specs.History.{Arrival}
 use Rattle.serial_spec.specs.Layout.{end_of, greatest, product}
 use Rattle.serial_spec.specs.Limits.{record_limit}
@@ -33,11 +34,11 @@ use Rattle.collective_round.proofs.CountedLaws.{put_needed}
 use Rattle.join_laws.proofs.CountLaws.{bad_none, bad_put, passes_accepted}
 use Rattle.join_laws.proofs.EventLaws.{get_set}
 use Rattle.join_laws.proofs.JoinLaws.{Stands, served_on, fold_two}
-use Rattle.join_laws.proofs.ListLaws.{get_beside}
 use Rattle.join_laws.proofs.StepLaws.{offer_at, offers_long}
-use Rattle.join_laws.proofs.StreamLaws.{Lasting, seat_held}
+use Rattle.join_laws.proofs.SeatTurns.{Lasting, seat_held}
 use Rattle.join_laws.proofs.TieLaws.{one_held}
 use Rattle.thread_run.proofs.ThreadCalls.{Onward, onward}
+use Rattle.list_laws.proofs.Places.{entry_beside}
 
 -- ---- counts whose file does not end too far
 
@@ -149,8 +150,8 @@ module _ (s : Setting) (sound : is_sound s.header ≡ true) (d : Desk) (goings :
 
       each : (q : ℕ) (o' : Offer) → slice_get (offers_held (set d.seats r (seat_held x o))) q ≡ Some o' → strange_offer s.header d.reached (Some o') ≡ false
       each q o' a =
-          let y = get_beside (offers_held (set d.seats r (seat_held x o))) (set d.seats r (seat_held x o)) q o' (offers_long (set d.seats r (seat_held x o)) h) a in
-          let z = get_beside (set d.seats r (seat_held x o)) goings q y.0 (length-set d.seats r (seat_held x o) ∙ long) y.1 in
+          let y = entry_beside (offers_held (set d.seats r (seat_held x o))) (set d.seats r (seat_held x o)) q o' (offers_long (set d.seats r (seat_held x o)) h) a in
+          let z = entry_beside (set d.seats r (seat_held x o)) goings q y.0 (length-set d.seats r (seat_held x o) ∙ long) y.1 in
           let w = one_held (set d.seats r (seat_held x o)) q y.0 h y.1 in
           let same : w.0 ≡ o' = same_Some w.0 o' (sym (offer_at (set d.seats r (seat_held x o)) q y.0 w.0 h y.1 w.1) ∙ a) in
           subst (λ (p : Offer). strange_offer s.header d.reached (Some p) ≡ false) same (fits q z.0 w.0 z.1 (held q y.0 z.0 w.0 y.1 z.1 w.1))
@@ -182,12 +183,12 @@ near_along s sound Good lasting ks d goings ((r, i) ∷ rest) t near =
         (again o.kinds_left (event s d (r, i)).desk o.after o.stands (subst (λ (u : Event). EndsNear s.header sound u.desk.reached) (sym o.is) here))
       where
         fits : (q : ℕ) (g' : Going) (p : Offer) → slice_get goings q ≡ Some g' → (advance s.header g').1 ≡ Some p → strange_offer s.header d.reached (Some p) ≡ false
-        fits q g' p b e = let y = get_beside goings d.seats q g' (sym t.seated.long) b in lasting.fits d.reached g' p (t.seated.sits q y.0 g' y.1 b).good e
+        fits q g' p b e = let y = entry_beside goings d.seats q g' (sym t.seated.long) b in lasting.fits d.reached g' p (t.seated.sits q y.0 g' y.1 b).good e
 
 -- what is true of the ranks at their ends
 pub good_along : (s : Setting) (Good : ℕ → Going → Type 0) (lasting : Lasting s.header Good) (ks : List MeetKind) (d : Desk) (goings : List Going) (arrivals : List Arrival)
     → Stands s Good ks d goings arrivals → (q : ℕ) (g : Going) → slice_get (fold (after_mark s) (d.state, goings) (served s d arrivals).marks).1 q ≡ Some g → Good (served s d arrivals).desk.reached g
-good_along s Good lasting ks d goings [] t q g b = let y = get_beside goings d.seats q g (sym t.seated.long) b in (t.seated.sits q y.0 g y.1 b).good
+good_along s Good lasting ks d goings [] t q g b = let y = entry_beside goings d.seats q g (sym t.seated.long) b in (t.seated.sits q y.0 g y.1 b).good
 good_along s Good lasting ks d goings ((r, i) ∷ rest) t q g b =
     by (onward s Good lasting ks d goings r i rest t) (λ ks' d' goings' u b'. good_along s Good lasting ks' d' goings' rest u q g b')
   where

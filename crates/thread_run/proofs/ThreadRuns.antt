@@ -12,7 +12,7 @@ use Rattle.nc_base.specs.declared.step.OwnerItem.{OwnerItem}
 use Rattle.serial_spec.specs.Desk.{Desk, first_desk, free_seat, owed, served}
 use Rattle.serial_spec.specs.DeviceCalls.{run_calls, store_records}
 use Rattle.serial_spec.specs.FileStep.{Counted, raised}
-use Rattle.serial_spec.specs.HeaderGrammar.{is_sound}
+use Rattle.serial_spec.specs.SoundHeaders.{is_sound}
 use Rattle.serial_spec.specs.History.{Arrival, IsLegal}
 use Rattle.serial_spec.specs.Joined.{IsJoined, back_of, close_by, opening_desk, rank_ends, run_of}
 use Rattle.serial_spec.specs.Lawful.{is_lawful}
@@ -29,10 +29,11 @@ use Rattle.thread_run.specs.Attending.{HasFinished}
 use Rattle.thread_run.specs.Owned.{AreSingle, desk_calls}
 use Rattle.thread_run.specs.Serving.{IsDone, IsDoneSo, opening}
 use Rattle.thread_run.specs.Threads.{most_known_of, NoneBroke}
-use Rattle.turn_run.proofs.MeetFile.{raised_records}
-use Rattle.thread_run.proofs.ThreadLists.{alike_from, map_two, rows_same}
+use Rattle.thread_run.proofs.ThreadLists.{alike_from}
 use Rattle.thread_run.proofs.ThreadTies.{Told, finished_of, joined, low_rank, own_of, puts, takes, took_all}
 use Rattle.thread_run.proofs.ThreadWhole.{calls_all, known_sound, single_all}
+use Rattle.list_laws.proofs.Maps.{map_map, rows_same}
+use Rattle.serial_spec.proofs.CountLaws.{raised_records}
 
 -- what is told of the run, whether its bytes are told or not
 pub record Finished (script : Script) (header : Header) (arrivals : List Arrival) (ends : List RankEnd) (order : List Mark) : Type 0 where
@@ -79,7 +80,7 @@ module _ (script : Script) (header : Header) (arrivals : List Arrival) (given : 
       let o = own_of script header arrivals given ends t r own e in
       let same : r ≡ 0 + r = omega arith in
       ap f (same_Some end o.end (sym a ∙ o.at_end)) ∙ k r own e ∙ ap (λ (q : ℕ). h (rank_end header (first_going header own) (back q))) same)
-      ∙ sym (map_two h (λ (p : ℕ × List Call). rank_end header (first_going header p.1) (back p.0)) (enumerate_from 0 script.calls))
+      ∙ sym (map_map h (λ (p : ℕ × List Call). rank_end header (first_going header p.1) (back p.0)) (enumerate_from 0 script.calls))
 
   known_is : (file : List ℕ) → most_known_of ends ≡ greatest (map (λ g. g.rank.known) (rank_ends script header file arrivals))
   known_is file =

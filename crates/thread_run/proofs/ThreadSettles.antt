@@ -14,7 +14,6 @@ use Rattle.serial_spec.specs.Desk.{own_items}
 use Rattle.serial_spec.specs.History.{Arrival}
 use Rattle.serial_spec.specs.Lawful.{is_lawful}
 use Rattle.run_laws.proofs.LawfulLaws.{ranks_lawful}
-use Rattle.join_laws.proofs.ListLaws.{get_beside}
 use Rattle.thread_run.specs.Resident.{AreOf, AreResidents, AreSettled, IsSettled, IsSettledOf, IsToldToGo}
 use Rattle.turn_run.specs.Seated.{calls_of}
 use Rattle.thread_run.specs.Serving.{HasTaken, HavePut, arrived, gained}
@@ -22,6 +21,7 @@ use Rattle.thread_run.specs.declared.resident.Resident.{Resident}
 use Rattle.thread_run.specs.declared.resident.Word.{Word}
 use Rattle.thread_run.specs.declared.resident.Word.TheVariants.{Go}
 use Rattle.thread_run.proofs.ThreadTies.{Told}
+use Rattle.list_laws.proofs.Places.{entry_beside}
 
 abbrev pub AreTold : List Resident → List Resident → Type 0
 AreTold ones now = (r : ℕ) (a b : Resident) → slice_get ones r ≡ Some a → slice_get now r ≡ Some b → IsToldToGo a b
@@ -36,8 +36,8 @@ pub residents_told : (inbox inbox' : Line (ℕ × RankItem)) (ones now : List Re
 residents_told inbox inbox' ones now lines lines' e l told put h = record {
   long = l ∙ h.long ∙ sym put.long;
   each = λ r b after at_one at_line.
-      let a = get_beside now ones r b l at_one in
-      let before = get_beside lines' lines r after put.long at_line in
+      let a = entry_beside now ones r b l at_one in
+      let before = entry_beside lines' lines r after put.long at_line in
       let go = told r a.0 b a.1 at_one in
       let own = h.each r a.0 before.0 a.1 before.1 in
       let line = put_on lines lines' r before.0 after put before.1 at_line in
@@ -75,10 +75,10 @@ told_all script header old now ones told lines lines' ends lawful none senders a
 
     each : (r : ℕ) (end : RankEnd) → slice_get ends r ≡ Some end → IsSettled header (calls_of script r) (own_items r (arrived old now)) (gained lines lines' r) end
     each r end e =
-        let b = get_beside ends told r end settled.long e in
-        let a = get_beside told ones r b.0 long b.1 in
-        let before = get_beside ones lines r a.0 residents.long a.1 in
-        let after = get_beside lines lines' r before.0 (sym put.long) before.1 in
+        let b = entry_beside ends told r end settled.long e in
+        let a = entry_beside told ones r b.0 long b.1 in
+        let before = entry_beside ones lines r a.0 residents.long a.1 in
+        let after = entry_beside lines lines' r before.0 (sym put.long) before.1 in
         let mine = go r a.0 b.0 a.1 b.1 in
         let own = of r a.0 a.1 in
         let line = put_on lines lines' r before.0 after.0 put before.1 after.1 in

@@ -9,10 +9,10 @@ use Rattle.nc_base.specs.declared.script.Script.{Script}
 use Rattle.nc_base.specs.declared.step.OwnerItem.{OwnerItem}
 use Rattle.nc_base.specs.declared.step.RankItem.{RankItem}
 use Rattle.ruled_line.specs.Ends.{End, Line}
-use Rattle.turn_run.proofs.ListLaws.{get_long}
 use Rattle.thread_run.specs.Resident.{AreOf, AreResidents, IsOf, IsResident}
 use Rattle.thread_run.specs.declared.resident.Resident.{Resident}
 use Rattle.thread_run.specs.declared.resident.Word.{Word}
+use Rattle.std.proofs.lemmas.Option.{slice_get_within}
 
 -- ---- the middle of a list
 
@@ -90,8 +90,8 @@ residents_push inbox words ones ones' lines lines' one line e f h k = record {
     by : (r : ℕ) (x : Resident) (y : End OwnerItem) → (slice_get ones r ≡ Some x) ⊎ ((r ≡ length ones) × (one ≡ x)) → (slice_get lines r ≡ Some y) ⊎ ((r ≡ length lines) × (line ≡ y))
         → IsResident inbox r words x y
     by r x y (inl a) (inl b) = h.each r x y a b
-    by r x y (inl a) (inr (n, b)) = let l = get_long ones r x a in let w = h.long in absurd (omega arith)
-    by r x y (inr (n, a)) (inl b) = let l = get_long lines r y b in let w = h.long in absurd (omega arith)
+    by r x y (inl a) (inr (n, b)) = let l = slice_get_within ones r x a in let w = h.long in absurd (omega arith)
+    by r x y (inr (n, a)) (inl b) = let l = slice_get_within lines r y b in let w = h.long in absurd (omega arith)
     by r x y (inr (n, a)) (inr (m, b)) =
         subst (λ (q : ℕ). IsResident inbox q words x y) (sym n)
         (subst (λ (z : Resident). IsResident inbox (length ones) words z y) a (subst (λ (z : End OwnerItem). IsResident inbox (length ones) words one z) b k))

@@ -30,7 +30,9 @@ use Rattle.turn_run.specs.Begun.{HasBegun}
 use Rattle.thread_run.specs.Resident.{IsSettled}
 use Rattle.turn_run.specs.Seated.{calls_of}
 use Rattle.thread_run.specs.Threads.{NoneBroke}
-use Rattle.thread_run.proofs.ThreadLists.{first_of, take_drop, long_take, prefix_long, front_or_all, alike_take, alike_long}
+use Rattle.thread_run.proofs.ThreadLists.{alike_take, alike_long}
+use Rattle.std.proofs.lemmas.List.{take-append-drop, length-take-le}
+use Rattle.list_laws.proofs.Fronts.{first_of, prefix_long, front_or_all}
 
 -- what the threads came to, and what the owner took
 pub record Told (script : Script) (header : Header) (arrivals : List Arrival) (given : ℕ → List OwnerItem) (ends : List RankEnd) : Type 0 where
@@ -149,7 +151,7 @@ module _ (script : Script) (header : Header) (arrivals : List Arrival) (given : 
         let o = own_of r own e in
         let a = prefix_long (takes r) (given r) o.came_back in
         let b = alike_long (given r) (back_of script header file arrivals r) (alike r (low_rank r own e)) in
-        long_take (length (takes r)) (back_of script header file arrivals r) (omega arith)
+        length-take-le (length (takes r)) (back_of script header file arrivals r) (omega arith)
 
     tied : IsTied script header file arrivals puts taken_of
     unfolding taken_of
@@ -159,7 +161,7 @@ module _ (script : Script) (header : Header) (arrivals : List Arrival) (given : 
       one_each = λ r own e. taken_long r own e ∙ (own_of r own e).attended.one_each;
       ended = λ r own e. t.ended r (low_rank r own e);
       arrived = λ r own e. (own_of r own e).arrived_of;
-      came_back = λ r own e. (drop (length (takes r)) (back_of script header file arrivals r), take_drop (length (takes r)) (back_of script header file arrivals r));
+      came_back = λ r own e. (drop (length (takes r)) (back_of script header file arrivals r), take-append-drop (length (takes r)) (back_of script header file arrivals r));
     }
 
     pub joined : IsJoined script header file arrivals

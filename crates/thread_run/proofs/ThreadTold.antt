@@ -10,7 +10,7 @@ use Rattle.nc_base.specs.declared.step.OwnerItem.{OwnerItem}
 use Rattle.nc_base.specs.declared.step.StepErr.{StepErr}
 use Rattle.nc_outside.specs.Told.{with_end}
 use Rattle.serial_spec.specs.Desk.{Desk}
-use Rattle.serial_spec.specs.HeaderGrammar.{is_sound}
+use Rattle.serial_spec.specs.SoundHeaders.{is_sound}
 use Rattle.serial_spec.specs.History.{Arrival}
 use Rattle.serial_spec.specs.Joined.{opening_desk}
 use Rattle.serial_spec.specs.Lawful.{is_lawful}
@@ -23,7 +23,8 @@ use Rattle.thread_run.specs.Refused.{HasCutService}
 use Rattle.thread_run.specs.Serving.{opening, HasToldAlong, IsDone, IsDoneSo}
 use Rattle.turn_run.proofs.TellLaws.{marks_ended}
 use Rattle.thread_run.proofs.TellLaws.{marks_along, same_told}
-use Rattle.thread_run.proofs.ThreadCut.{desk_is, ranks_are, service_cut, service_done, told_is, Service}
+use Rattle.thread_run.proofs.ServiceCut.{service_cut, service_done, Service}
+use Rattle.thread_run.proofs.ThreadCut.{desk_is, ranks_are, told_is}
 use Rattle.thread_run.proofs.ThreadTies.{Told}
 
 module _ (script : Script) (header : Header) (arrivals : List Arrival) (given : ℕ → List OwnerItem) (ends : List RankEnd) (sound : is_sound header ≡ true) (lawful : is_lawful script ≡ true)

@@ -12,7 +12,8 @@ use Rattle.nc_base.specs.declared.step.OfferKind.TheVariants as offer
 use Rattle.serial_spec.specs.Desk.{Desk, Seat, free_seat, own_items, owed, served}
 use Rattle.serial_spec.specs.DeviceCalls.{run_calls, store_records}
 use Rattle.serial_spec.specs.FileStep.{Counted, Setting}
-use Rattle.serial_spec.specs.HeaderGrammar.{header_len, is_sound}
+use Rattle.serial_spec.specs.HeaderBytes.{header_len}
+use Rattle.serial_spec.specs.SoundHeaders.{is_sound}
 use Rattle.serial_spec.specs.History.{Arrival}
 use Rattle.serial_spec.specs.Joined.{IsJoined, back_of, opening_desk, rank_ends, run_of}
 use Rattle.serial_spec.specs.Lawful.{is_lawful}
@@ -26,14 +27,15 @@ use Rattle.run_laws.proofs.OrderLaws.{calls_close}
 use Rattle.join_laws.proofs.CountLaws.{sound_small}
 use Rattle.join_laws.proofs.GoodLaws.{Good, good_first, lasting}
 use Rattle.join_laws.proofs.JoinLaws.{Joins, Stands, join}
-use Rattle.join_laws.proofs.ListLaws.{get_beside}
-use Rattle.join_laws.proofs.StreamLaws.{Sits, closes, seat_end}
+use Rattle.join_laws.proofs.StreamLaws.{closes, seat_end}
+use Rattle.join_laws.proofs.SeatTurns.{Sits}
 use Rattle.join_laws.proofs.TurnLaws.{Seated}
 use Rattle.join_laws.proofs.WholeLaws.{get_replicate, lawful_agrees, get_map as from_map, none_first}
 use Rattle.thread_run.specs.Owned.{AreSingle, desk_calls}
-use Rattle.turn_run.proofs.ListLaws.{get_map}
 use Rattle.thread_run.proofs.ThreadCalls.{calls_along, single_along}
 use Rattle.thread_run.proofs.ThreadKnown.{EndsNear, good_along, near_along, near_first, small_along}
+use Rattle.list_laws.proofs.Maps.{entry_map, map_map}
+use Rattle.list_laws.proofs.Places.{entry_beside}
 
 rows_within : {B : Type 0} (h : ℕ × B → ℕ) (n : ℕ) (ys : List B) (from : ℕ) → ((q : ℕ) (b : B) → slice_get ys q ≡ Some b → h (from + q, b) ≤ n) → greatest (map h (enumerate_from from ys)) ≤ n
 rows_within h n [] from f = omega arith
@@ -45,10 +47,6 @@ rows_within h n (b ∷ ys) from f =
   where
     both : (a c : ℕ) → a ≤ n → c ≤ n → max a c ≤ n
     both a c k l = omega arith
-
-map_twice : {A B C : Type 0} (f : B → C) (h : A → B) (xs : List A) → map f (map h xs) ≡ map (λ a. f (h a)) xs
-map_twice f h [] = refl
-map_twice f h (a ∷ xs) = ap (λ (cs : List _). f (h a) ∷ cs) (map_twice f h xs)
 
 module _ (script : Script) (header : Header) (file : List ℕ) (arrivals : List Arrival) (sound : is_sound header ≡ true) (lawful : is_lawful script ≡ true)
     (joined : IsJoined script header file arrivals) where
@@ -120,8 +118,8 @@ module _ (script : Script) (header : Header) (file : List ℕ) (arrivals : List 
       → (rank_end header (first_going header own) (back_of script header file arrivals q)).rank.known ≤ (run_of script header file arrivals).desk.reached
   known_each q own e =
       let back = back_of script header file arrivals q in
-      let g = get_map (first_going header) script.calls q own e in
-      let x = get_beside goings (replicate (length script.calls) free_seat) q (first_going header own) (sym seats_long) g in
+      let g = entry_map (first_going header) script.calls q own e in
+      let x = entry_beside goings (replicate (length script.calls) free_seat) q (first_going header own) (sym seats_long) g in
       let cm = whole.ranks q x.0 (first_going header own) x.1 g in
       let ends : advance header cm.going ≡ (rank_end header (first_going header own) back, None) =
       cm.ends ∙ ap (λ (z : Seat). (seat_end header z.held (first_going header own) back, None)) (get_replicate (length script.calls) free_seat q x.0 x.1) in
@@ -141,7 +139,7 @@ module _ (script : Script) (header : Header) (file : List ℕ) (arrivals : List 
   known_sound =
       let reached = (run_of script header file arrivals).desk.reached in
       let most = greatest (map (λ g. g.rank.known) (rank_ends script header file arrivals)) in
-      let below : most ≤ reached = subst (λ (ns : List ℕ). greatest ns ≤ reached) (sym (map_twice (λ (g : Going). g.rank.known) (λ (p : ℕ × List Call). rank_end header (first_going header p.1) (back_of script header file arrivals p.0)) (enumerate_from 0 script.calls)))
+      let below : most ≤ reached = subst (λ (ns : List ℕ). greatest ns ≤ reached) (sym (map_map (λ (g : Going). g.rank.known) (λ (p : ℕ × List Call). rank_end header (first_going header p.1) (back_of script header file arrivals p.0)) (enumerate_from 0 script.calls)))
       (rows_within (λ (p : ℕ × List Call). (rank_end header (first_going header p.1) (back_of script header file arrivals p.0)).rank.known) reached script.calls 0
       (λ q own e. let same : q ≡ 0 + q = omega arith in subst (λ (k : ℕ). (rank_end header (first_going header own) (back_of script header file arrivals k)).rank.known ≤ reached) same (known_each q own e))) in
       let small = small_along s (Good header script.ranks) (lasting header sound script.ranks) meetings desk goings arrivals stands in

@@ -21,10 +21,10 @@ use Rattle.turn_run.specs.Seated.{reply_of}
 use Rattle.turn_run.specs.Steps.{batches_of, known_of, met, met_calls, IsOneRise}
 use Rattle.join_laws.proofs.ReplyLaws.{gots_long}
 use Rattle.thread_run.proofs.HeldLaws.{freed_none}
-use Rattle.turn_run.proofs.ListLaws.{map_map}
-use Rattle.turn_run.proofs.MeetFile.{raised_records}
-use Rattle.turn_run.proofs.MeetSolo.{told_at}
 use Rattle.turn_run.proofs.MeetStep.{met_calls_are, met_is, puts_same, replies_are}
+use Rattle.list_laws.proofs.Optional.{if_some_at}
+use Rattle.list_laws.proofs.Maps.{map_map}
+use Rattle.serial_spec.proofs.CountLaws.{raised_records}
 
 abbrev lens : List (List ℕ) → List ℕ
 lens blobs = map (λ blob. length blob) blobs
@@ -139,12 +139,12 @@ together s hints b n batches known pair table h = record {
     exact (Some file) e =
         let c = counted file b.records in
         let left = h.bytes ∙ ap (after (λ file. (met s batches known (counted file b.records)).file)) e in
-        let got = told_at (λ x. table ≡ map (λ b. map (get_post s x) b.gets) batches) n.told (met s batches known c).file left h.got in
+        let got = if_some_at (λ x. table ≡ map (λ b. map (get_post s x) b.gets) batches) n.told (met s batches known c).file left h.got in
         let all = replies_are s (offers_held b.seats) batches known n.records c pair table h.batches_are h.known_is h.pair_is (count_of file) got in
         record {
           told = left ∙ ap (λ (d : Counted). Some d.file) (sym (met_is s (offers_held b.seats) batches known c h.batches_are h.known_is));
           given = λ q l. replies_each pair n.records table q ∙ ap (λ (ys : List reply.Reply). to_each ys q) (sym all);
           calls = λ alone.
-              told_at (λ x. n.calls ≡ with_end b.calls (met_calls hints s batches known (counted x b.records))) b.told file e (h.calls (once alone))
+              if_some_at (λ x. n.calls ≡ with_end b.calls (met_calls hints s batches known (counted x b.records))) b.told file e (h.calls (once alone))
               ∙ ap (with_end b.calls) (sym (met_calls_are hints s (offers_held b.seats) batches known c h.batches_are h.known_is));
         }

@@ -10,7 +10,7 @@ use Rattle.nc_base.specs.declared.run.RunEnd.{RunEnd}
 use Rattle.nc_base.specs.declared.script.Script.{Script}
 use Rattle.nc_outside.specs.declared.disk.Disk.{Ghosts as DiskGhosts}
 use Rattle.serial_spec.specs.FileStep.{Setting}
-use Rattle.serial_spec.specs.HeaderGrammar.{is_sound}
+use Rattle.serial_spec.specs.SoundHeaders.{is_sound}
 use Rattle.serial_spec.specs.Lawful.{are_lawful_hints, is_lawful}
 use Rattle.collective_round.specs.Rounds.{setting}
 use Rattle.rank_core.specs.Indexed.{IsIndexOf}

@@ -3,7 +3,7 @@ ghost use Rattle.std.specs.Prelude.{◌≡◌, ◌<◌, ◌++◌, List, true, No
 ghost use Rattle.nc_base.specs.declared.step.OwnerItem.{OwnerItem};
 ghost use Rattle.nc_base.specs.declared.step.RankItem.{RankItem};
 ghost use Rattle.rank_core.specs.Indexed.{IsIndexOf};
-ghost use Rattle.serial_spec.specs.HeaderGrammar.{is_sound};
+ghost use Rattle.serial_spec.specs.SoundHeaders.{is_sound};
 ghost use Rattle.serial_spec.specs.Lawful.{is_lawful};
 ghost use Rattle.thread_run.specs.Attending.{HasAttended, HasStood};
 ghost use Rattle.turn_run.specs.Seated.{calls_of};

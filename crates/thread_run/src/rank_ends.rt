@@ -6,7 +6,8 @@ ghost use Rattle.nc_base.specs.declared.step.StepErr.TheVariants as fault;
 ghost use Rattle.nc_outside.specs.Cause.{Rose};
 ghost use Rattle.nc_outside.specs.Told.{BothTold};
 ghost use Rattle.serial_spec.specs.FileStep.{raised};
-ghost use Rattle.serial_spec.specs.HeaderGrammar.{count_width, is_sound};
+ghost use Rattle.serial_spec.specs.HeaderBytes.{count_width};
+ghost use Rattle.serial_spec.specs.SoundHeaders.{is_sound};
 ghost use Rattle.serial_spec.specs.Torn.{IsTorn};
 ghost use Rattle.collective_round.specs.Rounds.{as_setting, counted};
 ghost use Rattle.turn_run.specs.Counts.{IsCount};
@@ -131,7 +132,7 @@ fn greatest_known(ends: &[RankEnd]) -> u64
 }
 
 /// How many requests each rank left.
-#[tactic(auto, using(turn_run::proofs::ListLaws::map_more))]
+#[tactic(auto, using(list_laws::proofs::Maps::map_more))]
 fn pending_of(alloc: Global, ends: &[RankEnd]) -> Result<SizeList, Memory>
     ensures { IfOk result (λ sizes. sizes ≡ map (λ end. end.pending) ends.now) }
 {

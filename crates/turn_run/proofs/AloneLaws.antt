@@ -1,11 +1,7 @@
 -- A rank that goes from one offer to the next by itself.
-use Rattle.std.proofs.Common.{◌≡◌, ℕ, suc, refl, sym, ◌∙◌, ap, subst, List, [], ◌∷◌, ◌++◌, length, map, set, drop, Bool, true, max, Option, Some, None, append_assoc, arith}
-use Rattle.std.proofs.lemmas.List.{append-nil}
-use Rattle.std.proofs.lemmas.Bool.Decides.{nat_tests}
-use Rattle.std.specs.Prelude.{slice_get, is_some, IfSome, ◌==◌, ◌&&◌}
-use Rattle.std.specs.List.{list_all}
-use Rattle.std.proofs.lemmas.Bool.{and_from}
-use Rattle.list_laws.proofs.Truth.{and_first, and_second}
+use Rattle.std.proofs.Common.{◌≡◌, ℕ, suc, refl, sym, ◌∙◌, ap, subst, List, [], ◌∷◌, ◌++◌, length, map, set, drop, true, max, Option, Some, None, append_assoc}
+use Rattle.std.proofs.lemmas.List.{append-nil, set-set}
+use Rattle.std.specs.Prelude.{slice_get, is_some, IfSome}
 use Rattle.nc_base.specs.declared.header.Header.{Header}
 use Rattle.nc_base.specs.declared.request.Call.{Call}
 use Rattle.nc_base.specs.declared.answer.Answer.{Answer}
@@ -34,9 +30,11 @@ use Rattle.turn_run.specs.Seated.{asking, between, calls_of, going_of, AsksAlone
 use Rattle.run_laws.specs.Arrivals.{solo_to, step_calls, step_to, Arrived}
 use Rattle.turn_run.specs.Stages.{arrived, stage, HasGone, IsGrownBy, Leads}
 use Rattle.turn_run.specs.declared.seats.Seat.{Seat}
-use Rattle.turn_run.proofs.ListLaws.{get_set, set_own, set_set}
 use Rattle.turn_run.proofs.SeatLaws.{advance_ended}
 use Rattle.turn_run.proofs.StageLaws.{led_none, led_then}
+use Rattle.list_laws.proofs.Places.{entry_set, set_own}
+use Rattle.run_laws.proofs.WayLaws.{one_of}
+use Rattle.join_laws.proofs.Completing.{all_joined}
 
 -- ---- a seat, by the offer that it holds
 
@@ -100,17 +98,11 @@ alone_led hints s r n (Some file) left calls made t o reply to heard bytes over 
 
 -- ---- a rank's own steps, one after another
 
-own_mark : (r n : ℕ) → list_all (is_solo_of r) (Solo r n ∷ []) ≡ true
-own_mark r n = same r
-  where
-    same : (k : ℕ) → ((k == k) && true) ≡ true
-    same k = grind (arith, nat_tests)
-
 pub gone_alone : (hints : Hints) (s : Setting) (r n : ℕ) (before now : List Mark) (held left : Option (List ℕ)) (calls made : Option (List DiskCall)) (t : Going) (o : Offer) (to : Arrived)
     → now ≡ before ++ Solo r n ∷ []
     → ((records : ℕ) (ranks : List Arrived) → slice_get ranks r ≡ Some (t, Some o) → Leads hints s (Solo r n ∷ []) (stage held calls records ranks) (stage left made records (set ranks r to)))
     → HasGone hints s r before now held calls left made (t, Some o) to
-gone_alone hints s r n before now held left calls made t o to e led = record { more = Solo r n ∷ []; grown = e; own = own_mark r n; led = led }
+gone_alone hints s r n before now held left calls made t o to e led = record { more = Solo r n ∷ []; grown = e; own = one_of r n; led = led }
 
 pub gone_same : (hints : Hints) (s : Setting) (r : ℕ) (order : List Mark) (held : Option (List ℕ)) (calls : Option (List DiskCall)) (from to : Arrived) → from ≡ to
     → HasGone hints s r order order held calls held calls from to
@@ -123,10 +115,6 @@ gone_same hints s r order held calls from to e = record {
       (sym (set_own ranks r to (g ∙ ap (λ (a : Arrived). Some a) e))) (led_none hints s (stage held calls records ranks));
 }
 
-all_joined : (test : Mark → Bool) (xs ys : List Mark) → list_all test xs ≡ true → list_all test ys ≡ true → list_all test (xs ++ ys) ≡ true
-all_joined test [] ys h k = k
-all_joined test (x ∷ xs) ys h k = and_from _ _ (and_first _ _ h) (all_joined test xs ys (and_second _ _ h) k)
-
 pub gone_then : (hints : Hints) (s : Setting) (r : ℕ) (before now later : List Mark) (held left last : Option (List ℕ)) (calls made done : Option (List DiskCall)) (from mid to : Arrived)
     → HasGone hints s r before now held calls left made from mid → HasGone hints s r now later left made last done mid to → HasGone hints s r before later held calls last done from to
 gone_then hints s r before now later held left last calls made done from mid to first second = record {
@@ -135,9 +123,9 @@ gone_then hints s r before now later held left last calls made done from mid to 
   own = all_joined (is_solo_of r) first.more second.more first.own second.own;
   led = λ records ranks g.
       let one = first.led records ranks g in
-      let two = second.led records (set ranks r mid) (get_set ranks r from mid g) in
+      let two = second.led records (set ranks r mid) (entry_set ranks r from mid g) in
       led_then hints s first.more second.more (stage held calls records ranks) (stage left made records (set ranks r mid)) (stage last done records (set ranks r to)) one
-      (subst (λ (others : List Arrived). Leads hints s second.more (stage left made records (set ranks r mid)) (stage last done records others)) (set_set ranks r mid to) two);
+      (subst (λ (others : List Arrived). Leads hints s second.more (stage left made records (set ranks r mid)) (stage last done records others)) (set-set ranks r mid to) two);
 }
 
 pub grown_then : (r : ℕ) (before now later : List Mark) → IsGrownBy r before now → IsGrownBy r now later → IsGrownBy r before later
@@ -147,11 +135,8 @@ grown_then r before now later first second = record {
   own = all_joined (is_solo_of r) first.more second.more first.own second.own;
 }
 
-pub grown_none : (r : ℕ) (before now : List Mark) → now ≡ before → IsGrownBy r before now
-grown_none r before now e = record { more = []; grown = e ∙ sym (append-nil before); own = refl }
-
 pub grown_one : (r n : ℕ) (before now : List Mark) → now ≡ before ++ Solo r n ∷ [] → IsGrownBy r before now
-grown_one r n before now e = record { more = Solo r n ∷ []; grown = e; own = own_mark r n }
+grown_one r n before now e = record { more = Solo r n ∷ []; grown = e; own = one_of r n }
 
 pub gone_grown : (hints : Hints) (s : Setting) (r : ℕ) (before now : List Mark) (held left : Option (List ℕ)) (calls made : Option (List DiskCall)) (from to : Arrived)
     → HasGone hints s r before now held calls left made from to → IsGrownBy r before now

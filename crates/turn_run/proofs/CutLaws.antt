@@ -1,9 +1,8 @@
 -- A run that was cut off, step by step.
-use Rattle.std.proofs.Common.{◌≡◌, ℕ, ◌<◌, refl, sym, ◌∙◌, ap, subst, inl, List, [], ◌∷◌, ◌++◌, set, Bool, true, Option, Some, None, Result, Err, append_assoc, arith}
+use Rattle.std.proofs.Common.{◌≡◌, ℕ, ◌<◌, refl, sym, ◌∙◌, ap, subst, inl, List, [], ◌∷◌, ◌++◌, set, Bool, true, Option, Some, None, Result, Err, append_assoc}
 use Rattle.std.proofs.lemmas.Grind.{fold-append}
 use Rattle.std.proofs.lemmas.List.{append-nil}
-use Rattle.std.proofs.lemmas.Bool.Decides.{nat_tests}
-use Rattle.std.specs.Prelude.{slice_get, fold, ◌==◌, ◌&&◌, IfSome}
+use Rattle.std.specs.Prelude.{slice_get, fold, ◌&&◌, IfSome}
 use Rattle.std.specs.Int.{byte_len}
 use Rattle.nc_base.specs.declared.script.Hints.{Hints}
 use Rattle.nc_base.specs.declared.script.Script.{Script}
@@ -14,12 +13,12 @@ use Rattle.nc_base.specs.declared.step.StepErr.{StepErr}
 use Rattle.nc_base.specs.declared.step.StepErr.TheVariants.{Memory}
 use Rattle.nc_outside.specs.Told.{after, BothTold}
 use Rattle.serial_spec.specs.FileStep.{Setting, Counted, puts_of, solo}
-use Rattle.serial_spec.specs.HeaderGrammar.{count_width}
+use Rattle.serial_spec.specs.HeaderBytes.{count_width}
 use Rattle.serial_spec.specs.SerialEnd.{Going}
 use Rattle.serial_spec.specs.SharedByte.{covered}
 use Rattle.serial_spec.specs.Torn.{IsTorn, IsLeft}
 use Rattle.collective_round.specs.Rounds.{counted}
-use Rattle.collective_round.proofs.TornLaws.{torn_wider}
+use Rattle.collective_round.proofs.TornFiles.{torn_wider}
 use Rattle.nc_base.specs.declared.header.Header.{Header}
 use Rattle.nc_base.specs.declared.step.DiskCall.{DiskCall}
 use Rattle.serial_spec.specs.Lawful.{is_lawful}
@@ -30,10 +29,11 @@ use Rattle.run_laws.specs.Arrivals.{Arrived, Stand, step_to, solo_to}
 use Rattle.turn_run.specs.Stages.{Stage, Leads, IsLed, HasGone, IsGrownBy, stage}
 use Rattle.turn_run.specs.Cuts.{StopsAt, HasStopped, MayFollow, IsNext, bytes_at}
 use Rattle.turn_run.specs.declared.seats.Seat.{Seat}
-use Rattle.turn_run.proofs.ListLaws.{get_set}
 use Rattle.turn_run.proofs.AloneLaws.{grown_then}
 use Rattle.turn_run.proofs.TurnSteps.{step_begun}
 use Rattle.turn_run.specs.Cuts.StopsAt.{in_step, between}
+use Rattle.list_laws.proofs.Truth.{equal_itself}
+use Rattle.list_laws.proofs.Places.{entry_set}
 
 -- ---- what went before
 
@@ -148,11 +148,8 @@ err_same r e f h k = let both : Err e ≡ Err f = sym h ∙ k in cc
 pub memory_of : {T : Type 0} (r : Result T StepErr) (e y : StepErr) → r ≡ Err e → r ≡ Err y → y ≡ Memory → e ≡ Memory
 memory_of r e y h k m = err_same r e y h k ∙ m
 
-own_same : (r : ℕ) → (r == r) ≡ true
-own_same r = grind (arith, nat_tests)
-
 pub own_is : (r n : ℕ) → is_solo_of r (Solo r n) ≡ true
-own_is r n = own_same r
+own_is r n = equal_itself r
 
 -- ---- one rank's steps
 
@@ -162,7 +159,7 @@ pub gone_stopped : (F : Mark → Type 0) (hints : Hints) (s : Setting) (r : ℕ)
     → (records : ℕ) (ranks : List Arrived) → slice_get ranks r ≡ Some from → HasStopped F s fault before now held records ranks last records
 gone_stopped F hints s r fault before mid now held left last calls made from to g next records ranks e =
     stopped_then F hints s fault before mid now g.more (stage held calls records ranks) (stage left made records (set ranks r to)) last records (g.led records ranks e) g.grown
-    (next records (set ranks r to) (get_set ranks r from to e))
+    (next records (set ranks r to) (entry_set ranks r from to e))
 
 -- a step that rank n may do next is one that a history of the script has next
 pub follows_next : (script : Script) (header : Header) (len : ℕ) (before now : List Mark) (seats : List Seat) (n : ℕ) → is_lawful script ≡ true

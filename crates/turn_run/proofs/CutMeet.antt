@@ -16,7 +16,7 @@ use Rattle.nc_outside.specs.Told.{after, BothTold}
 use Rattle.serial_spec.specs.Desk.{needed_now}
 use Rattle.serial_spec.specs.File.{at}
 use Rattle.serial_spec.specs.FileStep.{Setting, Counted, after_puts, meeting, puts_of, raised, told}
-use Rattle.serial_spec.specs.HeaderGrammar.{count, count_width}
+use Rattle.serial_spec.specs.HeaderBytes.{count, count_width}
 use Rattle.serial_spec.specs.Records.{with_records}
 use Rattle.serial_spec.specs.SharedByte.{Puts, covered}
 use Rattle.serial_spec.specs.Torn.{IsTorn, IsLeft}
@@ -24,7 +24,8 @@ use Rattle.serial_spec.proofs.FileLaws.{at-written_before}
 use Rattle.serial_spec.proofs.KeepLaws.{after_keeps}
 use Rattle.overlay_laws.proofs.SaidLaws.{same_file}
 use Rattle.collective_round.specs.Rounds.{after_round, counted, puts_in}
-use Rattle.collective_round.proofs.TornLaws.{after_grows, counted_past, raised_grows, round_grows, torn_by, torn_sides}
+use Rattle.collective_round.proofs.TornFiles.{counted_past, torn_by, torn_sides}
+use Rattle.collective_round.proofs.TornLaws.{round_grows}
 use Rattle.collective_round.proofs.ResultSteps.{told_as}
 use Rattle.nc_base.specs.declared.header.Header.{Header}
 use Rattle.nc_base.specs.declared.script.Script.{Script}
@@ -39,9 +40,11 @@ use Rattle.run_laws.specs.Arrivals.{step_to}
 use Rattle.turn_run.specs.Stages.{arrived_all}
 use Rattle.turn_run.specs.Steps.{batches_of, held_offers, known_of, met}
 use Rattle.turn_run.specs.declared.seats.Seat.{Seat}
-use Rattle.turn_run.proofs.MeetFile.{one_raises, raised_none, raised_records, twice_raised}
+use Rattle.turn_run.proofs.MeetFile.{one_raises, raised_none, twice_raised}
 use Rattle.turn_run.proofs.MeetOffers.{AllHold}
 use Rattle.turn_run.proofs.MeetStep.{met_is, offers_are, puts_same}
+use Rattle.serial_spec.proofs.GrowLaws.{after_grows, raised_grows}
+use Rattle.serial_spec.proofs.CountLaws.{raised_records}
 
 abbrev field_of : Setting → ℕ
 field_of s = byte_len (count_width s.header.version)

@@ -1,7 +1,6 @@
 -- A run in turn that was cut off, from its first stage on.
-use Rattle.std.proofs.Common.{◌≡◌, ℕ, refl, sym, ◌∙◌, ap, subst, inl, inr, ◌⊎◌, List, [], ◌++◌, length, map, Bool, true, false, cond, Option, Some, None, arith}
+use Rattle.std.proofs.Common.{◌≡◌, ℕ, refl, sym, ◌∙◌, ap, subst, inl, inr, ◌⊎◌, List, [], ◌++◌, length, map, Bool, true, false, cond, Option, Some, None, arith, replicate}
 use Rattle.std.specs.Prelude.{slice_get, fold, nat_lt, IfSome}
-use Rattle.std.proofs.Common.{replicate}
 use Rattle.std.proofs.lemmas.List.{length-map, length-replicate}
 use Rattle.std.specs.Int.{byte_len}
 use Rattle.nc_base.specs.declared.answer.Answer.{Answer}
@@ -15,7 +14,7 @@ use Rattle.nc_base.specs.declared.step.StepErr.{StepErr}
 use Rattle.nc_base.specs.declared.step.StepErr.TheVariants as fault
 use Rattle.nc_outside.specs.Told.{after, BothTold}
 use Rattle.serial_spec.specs.FileStep.{Setting, Counted, puts_of, raised}
-use Rattle.serial_spec.specs.HeaderGrammar.{count_width}
+use Rattle.serial_spec.specs.HeaderBytes.{count_width}
 use Rattle.serial_spec.specs.History.{IsLegal}
 use Rattle.serial_spec.specs.Lawful.{is_lawful}
 use Rattle.serial_spec.specs.Layout.{greatest}
@@ -26,7 +25,7 @@ use Rattle.serial_spec.specs.SharedByte.{covered}
 use Rattle.serial_spec.specs.Torn.{IsTorn, IsLeft, StoodAt, IsCutRun, HasAnswers, HasAnswersOfEach, bytes_of_mark}
 use Rattle.serial_spec.specs.Torn.StoodAt.{in_step as stood_step, in_close as stood_close, between as stood_between}
 use Rattle.collective_round.specs.Rounds.{as_setting, counted}
-use Rattle.collective_round.proofs.TornLaws.{raised_grows, torn_by}
+use Rattle.collective_round.proofs.TornFiles.{torn_by}
 use Rattle.run_laws.proofs.LawfulLaws.{ranks_lawful}
 use Rattle.run_laws.specs.Standing.{close_by}
 use Rattle.join_laws.proofs.Completing.{completed}
@@ -40,10 +39,11 @@ use Rattle.turn_run.specs.Said.{all_between, HaveAnswers}
 use Rattle.turn_run.specs.Steps.{first_seat, most_known}
 use Rattle.turn_run.specs.declared.seats.Seat.{Seat}
 use Rattle.turn_run.proofs.CutMeet.{raised_kept}
-use Rattle.turn_run.proofs.ListLaws.{get_map, get_map_none, get_mapped, map_map}
 use Rattle.turn_run.proofs.StageLaws.{gone_up, mark_up, marks_up}
 use Rattle.turn_run.proofs.TurnEnds.{AreOver, map_ended}
 use Rattle.turn_run.proofs.TurnRuns.{first_goings, first_stage, none_begun}
+use Rattle.list_laws.proofs.Maps.{entry_map, map_map, entry_map_none, mapped_entry}
+use Rattle.serial_spec.proofs.GrowLaws.{raised_grows}
 
 abbrev Ends : Script → Setting → StepErr → Option (List ℕ) → ℕ → List Arrived → List Mark → Option (List ℕ) → ℕ → Type 0
 Ends script s e held records ranks order left count =
@@ -142,10 +142,10 @@ bytes_up s goings (Solo r n) = by_rank (slice_get goings r) refl
 
     by_rank : (m : Option Going) → slice_get goings r ≡ m → bytes_at s (map (advance s.header) goings) (Solo r n) ≡ bytes_of_mark s goings (Solo r n)
     by_rank None e =
-        ap (λ (m : Option Arrived). some (elim m [ None ↦ None | Some a ↦ a.1 ])) (get_map_none (advance s.header) goings r e)
+        ap (λ (m : Option Arrived). some (elim m [ None ↦ None | Some a ↦ a.1 ])) (entry_map_none (advance s.header) goings r e)
         ∙ sym (ap (λ (m : Option Going). some (elim m [ None ↦ None | Some g ↦ (advance s.header g).1 ])) e)
     by_rank (Some g) e =
-        ap (λ (m : Option Arrived). some (elim m [ None ↦ None | Some a ↦ a.1 ])) (get_map (advance s.header) goings r g e)
+        ap (λ (m : Option Arrived). some (elim m [ None ↦ None | Some a ↦ a.1 ])) (entry_map (advance s.header) goings r g e)
         ∙ sym (ap (λ (m : Option Going). some (elim m [ None ↦ None | Some g ↦ (advance s.header g).1 ])) e)
 
 closed_up : (s : Setting) (c : Counted) (goings : List Going)
@@ -222,7 +222,7 @@ cut_answers script header e x records first last before order file answers lawfu
 
     by_answers : (answers ≡ map (λ seat. seat.answers) last) ⊎ (answers ≡ []) → HasAnswers header e g own
     by_answers (inl q) =
-        let seat = get_mapped (λ (seat : Seat). seat.answers) last r own (ap (λ (table : List (List Answer)). slice_get table r) (sym q) ∙ is) in
+        let seat = mapped_entry (λ (seat : Seat). seat.answers) last r own (ap (λ (table : List (List Answer)). slice_get table r) (sym q) ∙ is) in
         subst (λ (xs : List Answer). HasAnswers header e g xs) seat.1.1
         (by_cause which seat.0 (h.said r g seat.0 (ap (λ (st : Counted × List Going). slice_get st.1 r) state ∙ at) seat.1.0))
     by_answers (inr q) = no_row (ap (λ (table : List (List Answer)). slice_get table r) (sym q) ∙ is)

@@ -1,13 +1,10 @@
 pub mod WrittenTwice
-pub mod ListLaws
 pub mod StageLaws
 pub mod CountLaws
 pub mod SeatLaws
-pub mod HintLaws
 pub mod AloneLaws
 pub mod MeetPosts
 pub mod MeetSolo
-pub mod MeetLists
 pub mod MeetJob
 pub mod MeetFile
 pub mod MeetHear

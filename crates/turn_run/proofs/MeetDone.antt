@@ -2,7 +2,7 @@
 use Rattle.std.proofs.Common.{◌≡◌, ℕ, ◌<◌, ◌≤◌, refl, sym, ◌∙◌, ap, subst, List, [], ◌∷◌, ◌++◌, length, map, Option, Some, None, inr, arith}
 use Rattle.std.specs.Prelude.{slice_get, is_some, IfSome}
 use Rattle.std.proofs.lemmas.List.{length-map}
-use Rattle.std.proofs.lemmas.Option.{same_Some}
+use Rattle.std.proofs.lemmas.Option.{same_Some, slice_get_within}
 use Rattle.nc_base.specs.declared.answer.Answer.{Answer}
 use Rattle.nc_base.specs.declared.answer.Pair.{Pair}
 use Rattle.nc_base.specs.declared.header.Header.{Header}
@@ -26,10 +26,12 @@ use Rattle.turn_run.specs.Seated.{asking, between, calls_of, going_of, reply_of,
 use Rattle.turn_run.specs.Steps.{batches_of, held_offers}
 use Rattle.turn_run.specs.declared.seats.Seat.{Seat}
 use Rattle.turn_run.proofs.CountLaws.{count_longer, count_max}
-use Rattle.turn_run.proofs.ListLaws.{get_long, get_map, get_there}
 use Rattle.turn_run.proofs.MeetOffers.{held_at, held_long, meets_at}
 use Rattle.turn_run.proofs.MeetStep.{AreDone}
-use Rattle.turn_run.proofs.SeatLaws.{answered_is, placed_rest, way_rest}
+use Rattle.turn_run.proofs.SeatLaws.{answered_is, way_rest}
+use Rattle.list_laws.proofs.Places.{entry_below}
+use Rattle.list_laws.proofs.Maps.{entry_map}
+use Rattle.turn_run.proofs.TurnSteps.{seats_begun}
 
 -- ---- what the meeting requires
 
@@ -45,16 +47,16 @@ pub to_hear : (script : Script) (header : Header) (len : ℕ) (order : List Mark
     → map (λ blobs. map (λ blob. length blob) blobs) table ≡ map (λ b. map (wanted header) b.gets) batches
     → (r : ℕ) (seat : Seat) (blobs : List (List ℕ)) → slice_get mid r ≡ Some seat → slice_get table r ≡ Some blobs → IsToHear seat blobs
 to_hear script header len order seats mid batches table all met come freed e f r seat blobs h t =
-    let a = get_there seats r (within (get_long mid r seat h) freed.long) in
+    let a = entry_below seats r (within (slice_get_within mid r seat h) freed.long) in
     let m = meets_at script header len order seats all met come r a.0 a.1 in
     let o = m.0 in
     let keeps = call_waits script order r (asking (calls_of script r) a.0) o m.1.way in
     let rank = (freed.each r a.0 seat a.1 h).rank in
     let own : slice_get batches r ≡ Some o.batch = ap (λ (bs : List Batch). slice_get bs r) e
-    ∙ get_map (λ (p : Offer). p.batch) (held_offers seats) r o (held_at seats met r a.0 o a.1 m.1.held) in
+    ∙ entry_map (λ (p : Offer). p.batch) (held_offers seats) r o (held_at seats met r a.0 o a.1 m.1.held) in
     let row : map (λ blob. length blob) blobs ≡ map (wanted header) o.batch.gets = same_Some _ _
-    (sym (get_map (λ (bs : List (List ℕ)). map (λ blob. length blob) bs) table r blobs t) ∙ ap (λ (xs : List (List ℕ)). slice_get xs r) f
-    ∙ get_map (λ (b : Batch). map (wanted header) b.gets) batches r o.batch own) in
+    (sym (entry_map (λ (bs : List (List ℕ)). map (λ blob. length blob) bs) table r blobs t) ∙ ap (λ (xs : List (List ℕ)). slice_get xs r) f
+    ∙ entry_map (λ (b : Batch). map (wanted header) b.gets) batches r o.batch own) in
     record {
       waits = ap (λ (k : Ranked). is_some k.state.«open») rank ∙ keeps.0;
       fits = subst (λ (k : Ranked). IfSome k.state.«open» (λ w. map (λ blob. length blob) blobs ≡ map (wanted k.header) w.gets)) (sym rank)
@@ -81,7 +83,7 @@ heard_before m a b reply e f h = record {
 pub are_done : (script : Script) (header : Header) (len : ℕ) (order : List Mark) (seats mid now : List Seat) (pair : Option Pair) (n : ℕ) (table : List (List (List ℕ)))
     → AreSeats script header len order seats → HaveMet seats → HaveArrived script seats → AreFreed seats mid → AreHeard pair n table mid now → AreDone header pair n seats now table
 are_done script header len order seats mid now pair n table all met come freed heard r a b blobs g h t =
-    let m = get_there mid r (within (get_long seats r a g) freed.long) in
+    let m = entry_below mid r (within (slice_get_within seats r a g) freed.long) in
     let o = meets_at script header len order seats all met come r a g in
     let free = freed.each r a m.0 g m.1 in
     let said = heard.each r m.0 b blobs m.1 h t in (
@@ -113,8 +115,8 @@ seats_after script header before len order now_order seats mid now pair n table 
       all = heard.long ∙ freed.long ∙ all.all;
       known_ranks = meeting_of_known script.ranks (meetings order) order all.known_ranks;
       each = λ r b h.
-          let a = get_there seats r (within r b h) in
-          let row = get_there table r (across r b h) in
+          let a = entry_below seats r (within r b h) in
+          let row = entry_below table r (across r b h) in
           let d = done r a.0 b row.0 a.1 h row.1 in
           let m = meets_at script header before order seats all met come r a.0 a.1 in
           record {
@@ -124,8 +126,8 @@ seats_after script header before len order now_order seats mid now pair n table 
             asked = subst (λ (o : Option Offer). IfSome o (IsAsked header b.rank.state.known)) (sym d.1.free) tt;
           };
       known = λ r b h.
-          let a = get_there seats r (within r b h) in
-          let row = get_there table r (across r b h) in
+          let a = entry_below seats r (within r b h) in
+          let row = entry_below table r (across r b h) in
           let d = done r a.0 b row.0 a.1 h row.1 in
           let m = meets_at script header before order seats all met come r a.0 a.1 in
           let waits = call_waits script order r (asking (calls_of script r) a.0) m.0 m.1.way in
@@ -138,7 +140,7 @@ seats_after script header before len order now_order seats mid now pair n table 
     done = are_done script header before order seats mid now pair n table all met come freed heard
 
     within : (r : ℕ) (b : Seat) → slice_get now r ≡ Some b → r < length seats
-    within r b h = let l = get_long now r b h in let p = heard.long in let q = freed.long in omega arith
+    within r b h = let l = slice_get_within now r b h in let p = heard.long in let q = freed.long in omega arith
 
     across : (r : ℕ) (b : Seat) → slice_get now r ≡ Some b → r < length table
     across r b h = let l = within r b h in omega arith
@@ -156,24 +158,15 @@ seats_after script header before len order now_order seats mid now pair n table 
 pub free_after : (seats mid now : List Seat) (pair : Option Pair) (n : ℕ) (table : List (List (List ℕ)))
     → AreFreed seats mid → AreHeard pair n table mid now → length table ≡ length seats → (r : ℕ) (b : Seat) → slice_get now r ≡ Some b → b.held ≡ None
 free_after seats mid now pair n table freed heard wide r b h =
-    let l = get_long now r b h in
+    let l = slice_get_within now r b h in
     let p = heard.long in
     let q = freed.long in
-    let a = get_there seats r (omega arith) in
-    let m = get_there mid r (omega arith) in
-    let row = get_there table r (omega arith) in
+    let a = entry_below seats r (omega arith) in
+    let m = entry_below mid r (omega arith) in
+    let row = entry_below table r (omega arith) in
     (heard.each r m.0 b row.0 m.1 h row.1).held ∙ (freed.each r a.0 m.0 a.1 m.1).held
 
 -- ---- the marks
-
-pub begun_before : (script : Script) (header : Header) (len : ℕ) (order : List Mark) (seats : List Seat) → AreSeats script header len order seats → HasBegun script order
-begun_before script header len order seats all = record {
-  known_ranks = all.known_ranks;
-  each_rank = λ r l.
-      let long = all.all in
-      let a = get_there seats r (omega arith) in
-      placed_rest script header order r (going_of (calls_of script r) a.0) a.0.held (all.each r a.0 a.1).placed;
-}
 
 pub begun_after : (script : Script) (header : Header) (len : ℕ) (order now_order : List Mark) (seats : List Seat) → AreSeats script header len order seats → HaveMet seats → HaveArrived script seats
     → now_order ≡ order ++ Meet (meetings order) ∷ [] → HasBegun script now_order
@@ -181,7 +174,7 @@ begun_after script header len order now_order seats all met come e = subst (λ (
   known_ranks = meeting_of_known script.ranks (meetings order) order all.known_ranks;
   each_rank = λ r l.
       let long = all.all in
-      let a = get_there seats r (omega arith) in
+      let a = entry_below seats r (omega arith) in
       let m = meets_at script header len order seats all met come r a.0 a.1 in
       let none = reply_of None 0 [] in
       let said = hear header a.0.rank.state none in
@@ -190,7 +183,7 @@ begun_after script header len order now_order seats all met come e = subst (λ (
 })
 
 pub begun_still : (script : Script) (header : Header) (len : ℕ) (order now_order : List Mark) (seats : List Seat) → AreSeats script header len order seats → now_order ≡ order → HasBegun script now_order
-begun_still script header len order now_order seats all e = subst (λ (ms : List Mark). HasBegun script ms) (sym e) (begun_before script header len order seats all)
+begun_still script header len order now_order seats all e = subst (λ (ms : List Mark). HasBegun script ms) (sym e) (seats_begun script header len order seats all)
 
 -- the meeting's number
 pub order_at : (order now_order : List Mark) (number : ℕ) → number ≡ meetings order → now_order ≡ order ++ Meet number ∷ [] → now_order ≡ order ++ Meet (meetings order) ∷ []

@@ -12,7 +12,7 @@ use Rattle.nc_outside.specs.Told.{after, with_end}
 use Rattle.serial_spec.specs.Desk.{needed_now}
 use Rattle.serial_spec.specs.DeviceCalls.{collective_windows, get_bytes, loads, put_calls, store_records}
 use Rattle.serial_spec.specs.FileStep.{Counted, Setting, after_puts, end_for, needs, raised, told}
-use Rattle.serial_spec.specs.HeaderGrammar.{is_sound}
+use Rattle.serial_spec.specs.SoundHeaders.{is_sound}
 use Rattle.serial_spec.specs.Records.{with_records}
 use Rattle.serial_spec.specs.SharedByte.{Puts}
 use Rattle.collective_round.specs.Rounds.{after_round, counted, gets_in, puts_in, ArePuts}
@@ -20,8 +20,9 @@ use Rattle.turn_run.specs.Counts.{IsCount, IsRise}
 use Rattle.turn_run.specs.Steps.{met, met_calls}
 use Rattle.turn_run.proofs.CountLaws.{count_longer, count_max, rise_longer}
 use Rattle.turn_run.proofs.MeetPosts.{needed_rise}
-use Rattle.turn_run.proofs.StageLaws.{ended_twice}
 use Rattle.turn_run.proofs.WrittenTwice.{counted_twice}
+use Rattle.serial_spec.proofs.CountLaws.{no_need, raised_records}
+use Rattle.nc_outside.proofs.ToldLaws.{with_end-with_end}
 
 -- ---- what puts need
 
@@ -42,13 +43,6 @@ met_count s before len last r n known k l rise same e =
     subst (λ (m : ℕ). IsCount s.header last m) (sym e)
     (count_max s.header last r known (count_longer s.header len last r (omega arith) k) (rise_longer s.header before last known (omega arith) rise))
 
-no_need : (s : Setting) → needed_now s [] ≡ 0
-no_need s = by_pair (told s [])
-  where
-    by_pair : (pair : Option Pair) → needs s [] pair ≡ 0
-    by_pair None = refl
-    by_pair (Some pair) = refl
-
 -- what the puts need, or what the ranks know, is 0
 pub one_raises : (s : Setting) (puts : Puts) (known : ℕ) → (known ≡ 0) ⊎ (puts ≡ []) → (known ≡ 0) ⊎ (needed_now s puts ≡ 0)
 one_raises s puts known (inl e) = inl e
@@ -65,13 +59,6 @@ file_of false x y = refl
 
 pub raised_none : (s : Setting) (c : Counted) (n : ℕ) → n ≤ c.records → raised s c n ≡ c
 raised_none s c n h = ap (λ (t : Bool). cond t (record { file = with_records s.header.version c.file n; records = n }) c) (not_below c.records n h)
-
-pub raised_records : (s : Setting) (c : Counted) (n : ℕ) → (raised s c n).records ≡ max c.records n
-raised_records s c n = by_order (nat_lt c.records n) refl
-  where
-    by_order : (t : Bool) → nat_lt c.records n ≡ t → (cond t (record { file = with_records s.header.version c.file n; records = n }) c).records ≡ max c.records n
-    by_order true e = grind (arith, nat_tests)
-    by_order false e = grind (arith, nat_tests)
 
 pub twice_raised : (s : Setting) (c : Counted) (r n known : ℕ) → r ≡ max c.records n
     → (if nat_lt r known then with_records s.header.version (raised s c n).file known else (raised s c n).file) ≡ (raised s c (max n known)).file
@@ -143,8 +130,8 @@ met_called hints s batches r n known len (Some file) calls mid late last one l p
     let c = counted (after_puts s puts (told s puts) file) r in
     let once = stored_once s c n (needed_now s puts) known (one_raises s puts known one) e in
     g ∙ ap (λ (told : Option (List DiskCall)). with_end told gets) (k ∙ ap (λ (told : Option (List DiskCall)). with_end told second) p)
-    ∙ ap (λ (told : Option (List DiskCall)). with_end told gets) (ended_twice calls (front ++ first) second)
-    ∙ ended_twice calls ((front ++ first) ++ second) gets
+    ∙ ap (λ (told : Option (List DiskCall)). with_end told gets) (with_end-with_end calls (front ++ first) second)
+    ∙ with_end-with_end calls ((front ++ first) ++ second) gets
     ∙ ap (λ (cs : List DiskCall). with_end calls (cs ++ gets)) (append_assoc front first second)
     ∙ ap (λ (cs : List DiskCall). with_end calls ((front ++ cs) ++ gets)) once
     ∙ ap (λ (m : ℕ). with_end calls ((put_calls s (collective_windows hints) puts m ++ store_records s (nat_lt r (met s batches known (counted file r)).records)) ++ gets)) (sym l)

@@ -8,10 +8,10 @@ use Rattle.nc_base.specs.declared.plan.Batch.{Batch}
 use Rattle.nc_base.specs.declared.step.Offer.{Offer}
 use Rattle.serial_spec.specs.FileStep.{known_by}
 use Rattle.serial_spec.specs.Layout.{greatest}
-use Rattle.collective_round.proofs.NeedLaws.{greatest_joined}
 use Rattle.turn_run.specs.Steps.{batches_of, held_offers, known_of}
 use Rattle.turn_run.specs.declared.seats.Seat.{Seat}
-use Rattle.turn_run.proofs.MeetLists.{take_next}
+use Rattle.serial_spec.proofs.CountLaws.{greatest_joined}
+use Rattle.list_laws.proofs.Places.{take_next}
 
 held_next : (seats : List Seat) (i : ℕ) (seat : Seat) → slice_get seats i ≡ Some seat → held_offers (take (i + 1) seats) ≡ held_offers (take i seats) ++ option_to_list seat.held
 held_next seats i seat e =

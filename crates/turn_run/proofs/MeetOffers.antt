@@ -32,12 +32,9 @@ use Rattle.turn_run.proofs.AloneLaws.{going_held}
 use Rattle.turn_run.proofs.CountLaws.{rise_max}
 use Rattle.turn_run.proofs.MeetPosts.{get_of, put_of, ranked_puts}
 use Rattle.serial_spec.specs.Desk.{IsSingleOffer}
+use Rattle.list_laws.proofs.Optional.{value_of_some}
 
 -- ---- the offers that seats hold
-
-pub some_of : {X : Type 0} (m : Option X) → is_some m ≡ true → (x : X) × (m ≡ Some x)
-some_of None e = absurd cc
-some_of (Some x) e = (x, refl)
 
 abbrev pub AllHold : List Seat → Type 0
 AllHold seats = (r : ℕ) (seat : Seat) → slice_get seats r ≡ Some seat → is_some seat.held ≡ true
@@ -48,17 +45,17 @@ held_first seat seats o e = ap (λ (m : Option Offer). option_to_list m ++ held_
 pub held_at : (seats : List Seat) → AllHold seats → (r : ℕ) (seat : Seat) (o : Offer) → slice_get seats r ≡ Some seat → seat.held ≡ Some o → slice_get (held_offers seats) r ≡ Some o
 held_at [] m r seat o e h = absurd cc
 held_at (x ∷ seats) m zero seat o e h =
-    let p = some_of x.held (m 0 x refl) in
+    let p = value_of_some x.held (m 0 x refl) in
     let own : p.0 ≡ o = same_Some p.0 o (sym p.1 ∙ ap (λ (s : Seat). s.held) (same_Some x seat e) ∙ h) in
     ap (λ (os : List Offer). slice_get os 0) (held_first x seats p.0 p.1) ∙ ap (λ (q : Offer). Some q) own
 held_at (x ∷ seats) m (suc r) seat o e h =
-    let p = some_of x.held (m 0 x refl) in
+    let p = value_of_some x.held (m 0 x refl) in
     ap (λ (os : List Offer). slice_get os (suc r)) (held_first x seats p.0 p.1) ∙ held_at seats (λ q s g. m (suc q) s g) r seat o e h
 
 pub held_long : (seats : List Seat) → AllHold seats → length (held_offers seats) ≡ length seats
 held_long [] m = refl
 held_long (x ∷ seats) m =
-    let p = some_of x.held (m 0 x refl) in
+    let p = value_of_some x.held (m 0 x refl) in
     ap (λ (os : List Offer). length os) (held_first x seats p.0 p.1) ∙ ap (λ (n : ℕ). suc n) (held_long seats (λ q s g. m (suc q) s g))
 
 held_all : (P : Offer → Type 0) (seats : List Seat) → ((r : ℕ) (seat : Seat) → slice_get seats r ≡ Some seat → (o : Offer) × ((seat.held ≡ Some o) × P o))

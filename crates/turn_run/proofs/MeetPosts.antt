@@ -12,7 +12,8 @@ use Rattle.nc_base.specs.declared.step.Offer.{Offer}
 use Rattle.overlay_laws.specs.Entries.{In}
 use Rattle.serial_spec.specs.Desk.{needed_now}
 use Rattle.serial_spec.specs.FileStep.{Setting, end_for, needs, puts_of, told}
-use Rattle.serial_spec.specs.HeaderGrammar.{header_len, is_sound}
+use Rattle.serial_spec.specs.HeaderBytes.{header_len}
+use Rattle.serial_spec.specs.SoundHeaders.{is_sound}
 use Rattle.serial_spec.specs.Layout.{end_of, greatest, lengths, product, starts_with_zero}
 use Rattle.serial_spec.specs.Records.{needed, records_of_some}
 use Rattle.serial_spec.specs.RegionCheck.{bad_edge, bound, check_some, some_edge}
@@ -26,13 +27,10 @@ use Rattle.collective_round.specs.declared.collective.PutEnd.TheVariants.{Done, 
 use Rattle.turn_run.specs.Counts.{IsCount, IsRise}
 use Rattle.turn_run.specs.Steps.{needed_after}
 use Rattle.turn_run.proofs.CountLaws.{count_longer, count_max, put_count, rise_max}
-use Rattle.turn_run.proofs.ListLaws.{map_map}
+use Rattle.list_laws.proofs.Truth.{equal_suc, equal_zero, or_first_false}
+use Rattle.list_laws.proofs.Maps.{map_map}
 
 -- ---- a get that is accepted asks for no record past those that are known
-
-neither_left : (a b : Bool) → (a || b) ≡ false → a ≡ false
-neither_left true b h = h
-neither_left false b h = refl
 
 fixed_need : (t : Bool) (n m k : ℕ) → t ≡ false → cond (not t || n == 0) 0 m ≤ k
 fixed_need true n m k e = absurd cc
@@ -45,28 +43,22 @@ some_need false m k h = h refl
 edge_within : (known s n t : ℕ) → 0 < n → bad_edge (Some known) s n t ≡ false → s + (n - 1) * t + 1 ≤ known
 edge_within known s n t l e = grind (arith, nat_tests)
 
-zero_is_zero : {A : Type 0} → (0 == 0) ≡ false → A
-zero_is_zero h = absurd cc
-
 no_product : {A : Type 0} (n : ℕ) → n ≡ 0 → (n == 0) ≡ false → A
-no_product n e h = zero_is_zero (subst (λ (k : ℕ). (k == 0) ≡ false) e h)
-
-suc_is_some : (n : ℕ) → (suc n == 0) ≡ false
-suc_is_some n = grind (arith, nat_tests)
+no_product n e h = equal_zero (subst (λ (k : ℕ). (k == 0) ≡ false) e h)
 
 record_within : (known : ℕ) (ls starts counts strides : List ℕ) → length starts ≡ length ls → length counts ≡ length ls → length strides ≡ length ls
     → some_edge (map (bound Get known) ls) starts counts strides ≡ false
     → cond (not (starts_with_zero ls) || product counts == 0) 0 (slice_index starts 0 + (slice_index counts 0 - 1) * slice_index strides 0 + 1) ≤ known
 record_within known [] starts counts strides a b d e = omega arith
 record_within known (suc m ∷ ls) starts counts strides a b d e =
-    fixed_need (suc m == 0) (product counts) (slice_index starts 0 + (slice_index counts 0 - 1) * slice_index strides 0 + 1) known (suc_is_some m)
+    fixed_need (suc m == 0) (product counts) (slice_index starts 0 + (slice_index counts 0 - 1) * slice_index strides 0 + 1) known (equal_suc m)
 record_within known (zero ∷ ls) [] counts strides a b d e = absurd (omega arith)
 record_within known (zero ∷ ls) (s ∷ starts) [] strides a b d e = absurd (omega arith)
 record_within known (zero ∷ ls) (s ∷ starts) (n ∷ counts) [] a b d e = absurd (omega arith)
 record_within known (zero ∷ ls) (s ∷ starts) (zero ∷ counts) (t ∷ strides) a b d e =
     some_need (product (zero ∷ counts) == 0) (s + (zero - 1) * t + 1) known (λ f. no_product (product (zero ∷ counts)) (omega arith) f)
 record_within known (zero ∷ ls) (s ∷ starts) (suc n ∷ counts) (t ∷ strides) a b d e =
-    let own = edge_within known s (suc n) t (omega arith) (neither_left (bad_edge (Some known) s (suc n) t) (some_edge (map (bound Get known) ls) starts counts strides) e) in
+    let own = edge_within known s (suc n) t (omega arith) (or_first_false (bad_edge (Some known) s (suc n) t) (some_edge (map (bound Get known) ls) starts counts strides) e) in
     some_need (product (suc n ∷ counts) == 0) (s + (suc n - 1) * t + 1) known (λ f. own)
 
 pub get_needed : (header : Header) (post : Post) (known : ℕ) → offered.IsGet header known post → needed header post ≤ known

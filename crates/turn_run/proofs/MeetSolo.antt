@@ -1,12 +1,9 @@
 -- The step of one rank alone, from its puts and its gets.
-use Rattle.std.proofs.Common.{◌≡◌, ℕ, sym, ◌∙◌, ap, subst, List, ◌++◌, length, map, max, Option, Some, None}
-use Rattle.std.specs.Prelude.{IfSome, flat_map}
-use Rattle.nc_base.specs.declared.script.Hints.{Hints}
+use Rattle.std.proofs.Common.{◌≡◌, ℕ, ◌∙◌, ap, List, map, max, Option, Some, None}
+use Rattle.std.specs.Prelude.{IfSome}
 use Rattle.nc_base.specs.declared.answer.Pair.{Pair}
-use Rattle.nc_base.specs.declared.step.DiskCall.{DiskCall}
 use Rattle.nc_base.specs.declared.step.Offer.{Offer}
-use Rattle.nc_outside.specs.Told.{after, with_end}
-use Rattle.serial_spec.specs.DeviceCalls.{get_bytes, loads, put_calls, sieving_windows, solo_calls}
+use Rattle.nc_outside.specs.Told.{after}
 use Rattle.serial_spec.specs.FileStep.{Setting, after_puts, get_post, puts_of, solo, told}
 use Rattle.collective_round.specs.Ended.{pair_of}
 use Rattle.collective_round.specs.Rounds.{counted}
@@ -14,11 +11,7 @@ use Rattle.collective_round.specs.declared.collective.PutEnd.{PutEnd}
 use Rattle.turn_run.specs.Seated.{reply_of}
 use Rattle.turn_run.specs.Steps.{needed_after}
 use Rattle.turn_run.proofs.MeetPosts.{needed_solo}
-use Rattle.turn_run.proofs.StageLaws.{ended_twice}
-
-pub told_at : {A : Type 0} (P : A → Type 0) (m : Option A) (x : A) → m ≡ Some x → IfSome m P → P x
-told_at P None x e h = absurd cc
-told_at P (Some y) x e h = let f : y ≡ x = cc in subst P f h
+use Rattle.list_laws.proofs.Optional.{if_some_at}
 
 pub solo_replied : (s : Setting) (r n : ℕ) (o : Offer) (end : PutEnd) (pair : Option Pair) (held mid : Option (List ℕ)) (blobs : List (List ℕ)) → pair_of end ≡ told s (puts_of (r, o))
     → pair ≡ pair_of end → n ≡ max o.known (needed_after s.header o.batch.puts end)
@@ -28,16 +21,5 @@ solo_replied s r n o end pair None mid blobs e p m b g = tt
 solo_replied s r n o end pair (Some file) mid blobs e p m b g =
     let known = m ∙ ap (max o.known) (needed_solo s r o.batch.puts end e) in
     let both = p ∙ e in
-    let got = told_at (λ left. blobs ≡ map (get_post s left) o.batch.gets) mid (after_puts s (puts_of (r, o)) (told s (puts_of (r, o))) file) b g in
+    let got = if_some_at (λ left. blobs ≡ map (get_post s left) o.batch.gets) mid (after_puts s (puts_of (r, o)) (told s (puts_of (r, o))) file) b g in
     λ i. reply_of (both i) (known i) (got i)
-
-pub solo_called : (hints : Hints) (s : Setting) (r len : ℕ) (o : Offer) (held : Option (List ℕ)) (calls mid last : Option (List DiskCall))
-    → IfSome held (λ file. length file ≡ len) → mid ≡ with_end calls (put_calls s (sieving_windows hints.wr_buffer) (puts_of (r, o)) len)
-    → last ≡ with_end mid (flat_map loads (sieving_windows hints.rd_buffer (get_bytes s o.batch.gets)))
-    → IfSome held (λ file. last ≡ with_end calls (solo_calls hints s r o (counted file 0)))
-solo_called hints s r len o None calls mid last l p g = tt
-solo_called hints s r len o (Some file) calls mid last l p g =
-    let gets = flat_map loads (sieving_windows hints.rd_buffer (get_bytes s o.batch.gets)) in
-    g ∙ ap (λ (told : Option (List DiskCall)). with_end told gets) p
-    ∙ ended_twice calls (put_calls s (sieving_windows hints.wr_buffer) (puts_of (r, o)) len) gets
-    ∙ ap (λ (n : ℕ). with_end calls (put_calls s (sieving_windows hints.wr_buffer) (puts_of (r, o)) n ++ gets)) (sym l)

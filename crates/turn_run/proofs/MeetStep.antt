@@ -27,11 +27,11 @@ use Rattle.turn_run.specs.Stages.{arrived, arrived_all, stage, HasLed, Leads}
 use Rattle.turn_run.specs.Steps.{batches_of, held_offers, known_of, met, met_calls}
 use Rattle.turn_run.specs.declared.seats.Seat.{Seat}
 use Rattle.turn_run.proofs.AloneLaws.{arrived_free, arrived_held}
-use Rattle.turn_run.proofs.ListLaws.{map_map}
-use Rattle.turn_run.proofs.MeetFile.{raised_records}
-use Rattle.turn_run.proofs.MeetOffers.{held_first, some_of, AllHold}
-use Rattle.turn_run.proofs.MeetSolo.{told_at}
+use Rattle.turn_run.proofs.MeetOffers.{held_first, AllHold}
 use Rattle.turn_run.proofs.SeatLaws.{heard_seat}
+use Rattle.list_laws.proofs.Optional.{value_of_some, if_some_at}
+use Rattle.list_laws.proofs.Maps.{map_map}
+use Rattle.serial_spec.proofs.CountLaws.{raised_records}
 
 -- ---- the puts and gets of the offers are those of their batches
 
@@ -112,7 +112,7 @@ offers_are header [] [] l m = refl
 offers_are header [] (x ∷ seats) l m = absurd (omega arith)
 offers_are header (own ∷ calls) [] l m = absurd (omega arith)
 offers_are header (own ∷ calls) (x ∷ seats) l m =
-    let p = some_of x.held (m 0 x refl) in
+    let p = value_of_some x.held (m 0 x refl) in
     ap (λ (a : Arrived). offers_of (a ∷ arrived_all header calls seats)) (arrived_held header own x p.0 p.1)
     ∙ ap (λ (os : List Offer). p.0 ∷ os) (offers_are header calls seats (omega arith) (λ q s g. m (suc q) s g))
     ∙ sym (held_first x seats p.0 p.1)
@@ -158,7 +158,7 @@ meeting_led hints s order now_order calls seats now batches known r n k held lef
           left = (met s batches known c).file;
           told = b;
           state = step_over s calls seats now batches known n k c pair table l m w hold d e f p same
-              (told_at (λ x. table ≡ map (λ b. map (get_post s x) b.gets) batches) left (met s batches known c).file b got);
+              (if_some_at (λ x. table ≡ map (λ b. map (get_post s x) b.gets) batches) left (met s batches known c).file b got);
           calls = v ∙ ap (with_end before) (sym its ∙ ap (λ (os : List Offer). meeting_calls hints s os c) (sym offers)
               ∙ sym (append-nil (meeting_calls hints s (offers_of (arrived_all s.header calls seats)) c)));
         }

@@ -4,7 +4,7 @@ use Rattle.std.proofs.lemmas.Bool.Decides.{nat_tests}
 use Rattle.std.proofs.lemmas.Grind.{fold-append}
 use Rattle.std.proofs.lemmas.List.{append-nil, append_cancel_left}
 use Rattle.std.proofs.lemmas.List.Elements.{filter-append}
-use Rattle.std.proofs.lemmas.Option.{same_Some}
+use Rattle.std.proofs.lemmas.Option.{same_Some, slice_get_within}
 use Rattle.std.specs.Prelude.{slice_get, fold, filter, nat_lt, ◌==◌, IfSome}
 use Rattle.nc_base.specs.declared.answer.Answer.{Answer}
 use Rattle.nc_base.specs.declared.header.Header.{Header}
@@ -31,11 +31,12 @@ use Rattle.turn_run.specs.Seated.{between, calls_of, AreFree, HasArrived}
 use Rattle.turn_run.specs.Stages.{Stage, Leads, IsLed, HasGone, HasLed, IsGrownBy, arrived, arrived_all, stage}
 use Rattle.turn_run.specs.declared.seats.Seat.{Seat}
 use Rattle.turn_run.proofs.AloneLaws.{arrived_free, arrived_held, step_at}
-use Rattle.turn_run.proofs.ListLaws.{get_long, get_map, get_set, get_set_other}
-use Rattle.turn_run.proofs.MeetSolo.{told_at}
 use Rattle.turn_run.proofs.SeatLaws.{advance_ended, answers_begin}
 use Rattle.turn_run.proofs.StageLaws.{gone_up, marks_up}
 use Rattle.turn_run.proofs.TurnSteps.{calls_there, get_arrived, own_or_other}
+use Rattle.list_laws.proofs.Optional.{if_some_at}
+use Rattle.list_laws.proofs.Places.{entry_set, entry_set_other}
+use Rattle.list_laws.proofs.Maps.{entry_map}
 
 -- ---- one rank
 
@@ -132,7 +133,7 @@ pub gone_reached : (P : Stand → Type 0) (hints : Hints) (s : Setting) (r : ℕ
     → (records : ℕ) (ranks : List Arrived) → slice_get ranks r ≡ Some from → HasReached P s before now held records ranks
 gone_reached P hints s r before mid now held left calls made from to g next records ranks e =
     reached_then P hints s before mid now g.more (stage held calls records ranks) (stage left made records (set ranks r to)) (g.led records ranks e) g.grown
-    (next records (set ranks r to) (get_set ranks r from to e))
+    (next records (set ranks r to) (entry_set ranks r from to e))
 
 -- a solo step was done, and its reply was not heard
 pub reached_unheard : (s : Setting) (fault : StepErr) (r n : ℕ) (before now : List Mark) (held : Option (List ℕ)) (t : Going) (o : Offer) (answers : List Answer) → fault ≡ Memory
@@ -145,7 +146,7 @@ reached_unheard s fault r n before now held t o answers memory grown e records r
         let reply = (solo s r o c).1 in
         let up = advance s.header (hears s.header t reply) in
         subst (λ (stand : Stand). SaysAt r fault answers stand) (sym (step_at s r n c ranks t o there))
-        (says_here r fault answers up (solo s r o c).0 (set ranks r up) (get_set ranks r (t, Some o) up there)
+        (says_here r fault answers up (solo s r o c).0 (set ranks r up) (entry_set ranks r (t, Some o) up there)
         (said_part fault up answers memory (subst (λ (xs : List Answer). Begins xs up.0.answers) (sym e) (begins_heard s.header t reply))))
 
     by_held : (m : Option (List ℕ)) → IfSome m (λ file. SaysAt r fault answers (step_to s (counted file records, ranks) (Solo r n)))
@@ -160,7 +161,7 @@ solo_some s q c ranks (Some a) = solo_to s q c ranks a
 
 solo_beside : (s : Setting) (q r : ℕ) (c : Counted) (ranks : List Arrived) (m : Option Arrived) → q ≢ r → slice_get (solo_some s q c ranks m).1 r ≡ slice_get ranks r
 solo_beside s q r c ranks None n = refl
-solo_beside s q r c ranks (Some a) n = get_set_other ranks q r (advance s.header (solo_of s q c a).1) (λ e. n (sym e))
+solo_beside s q r c ranks (Some a) n = entry_set_other ranks q r (advance s.header (solo_of s q c a).1) (λ e. n (sym e))
 
 not_equal : (q r : ℕ) → (q == r) ≡ false → q ≢ r
 not_equal q r h e = grind (arith, nat_tests)
@@ -182,7 +183,7 @@ going_some s q c goings (Some g) = let done = solo_of s q c (advance s.header g)
 
 going_beside : (s : Setting) (q r : ℕ) (c : Counted) (goings : List Going) (m : Option Going) → q ≢ r → slice_get (going_some s q c goings m).1 r ≡ slice_get goings r
 going_beside s q r c goings None n = refl
-going_beside s q r c goings (Some g) n = get_set_other goings q r (solo_of s q c (advance s.header g)).1 (λ e. n (sym e))
+going_beside s q r c goings (Some g) n = entry_set_other goings q r (solo_of s q c (advance s.header g)).1 (λ e. n (sym e))
 
 pub goings_beside : (s : Setting) (r : ℕ) (more : List Mark) (state : Counted × List Going) → filter (concerns r) more ≡ []
     → slice_get (fold (after_mark s) state more).1 r ≡ slice_get state.1 r
@@ -215,7 +216,7 @@ up_after s c goings ranks order e = marks_up s (c, goings) order ∙ ap (λ (rs 
 pub answers_up : (header : Header) (fault : StepErr) (goings : List Going) (seats : List Seat) (stand : Stand) → map (advance header) goings ≡ stand.1 → AllSay fault seats stand
     → AreAnswers header fault goings seats
 answers_up header fault goings seats stand e h r g seat f k =
-    said_up header fault g seat.answers (h r seat k (advance header g) (ap (λ (rs : List Arrived). slice_get rs r) (sym e) ∙ get_map (advance header) goings r g f))
+    said_up header fault g seat.answers (h r seat k (advance header g) (ap (λ (rs : List Arrived). slice_get rs r) (sym e) ∙ entry_map (advance header) goings r g f))
 
 pub have_reached : (s : Setting) (fault : StepErr) (before now : List Mark) (held : Option (List ℕ)) (records : ℕ) (goings : List Going) (ranks : List Arrived) (seats : List Seat)
     → map (advance s.header) goings ≡ ranks → HasReached (AllSay fault seats) s before now held records ranks → HaveAnswers s fault before now held records goings seats
@@ -271,7 +272,7 @@ answers_cut script fault n before mid now first seats was new s held left calls 
     goings = all_between script.calls first
 
     ends_at : (file : List ℕ) → left ≡ Some file → SaysAt n fault new.answers (fold (step_to s) (counted file records, arrived_all s.header script.calls seats) reached.more)
-    ends_at file e = told_at (λ (f : List ℕ). SaysAt n fault new.answers (fold (step_to s) (counted f records, arrived_all s.header script.calls seats) reached.more)) left file e reached.ends
+    ends_at file e = if_some_at (λ (f : List ℕ). SaysAt n fault new.answers (fold (step_to s) (counted f records, arrived_all s.header script.calls seats) reached.more)) left file e reached.ends
 
     own_none : (r : ℕ) → n ≢ r → filter (concerns r) reached.more ≡ []
     own_none r ne = none_added r mid now reached.more reached.grown (grown_beside n r mid now ne grown)
@@ -295,12 +296,12 @@ answers_cut script fault n before mid now first seats was new s held left calls 
 
         gets : (r : ℕ) (g : Going) → slice_get (fold (after_mark s) (counted file records, goings) more).1 r ≡ Some g
             → slice_get (fold (step_to s) (counted l.left records, arrived_all s.header script.calls seats) reached.more).1 r ≡ Some (advance s.header g)
-        gets r g f = ap (λ (rs : List Arrived). slice_get rs r) (sym up) ∙ get_map (advance s.header) (fold (after_mark s) (counted file records, goings) more).1 r g f
+        gets r g f = ap (λ (rs : List Arrived). slice_get rs r) (sym up) ∙ entry_map (advance s.header) (fold (after_mark s) (counted file records, goings) more).1 r g f
 
         at_own : (r : ℕ) (g : Going) (seat : Seat) → slice_get (fold (after_mark s) (counted file records, goings) more).1 r ≡ Some g → slice_get (set seats n new) r ≡ Some seat → n ≡ r
             → HasAnswers s.header fault g seat.answers
         at_own r g seat f k e =
-            let same_seat : new ≡ seat = same_Some new seat (sym (get_set seats n was new there) ∙ ap (λ (q : ℕ). slice_get (set seats n new) q) e ∙ k) in
+            let same_seat : new ≡ seat = same_Some new seat (sym (entry_set seats n was new there) ∙ ap (λ (q : ℕ). slice_get (set seats n new) q) e ∙ k) in
             subst (λ (x : Seat). HasAnswers s.header fault g x.answers) same_seat
             (said_up s.header fault g new.answers (ends_at l.left l.told (advance s.header g)
             (ap (λ (q : ℕ). slice_get (fold (step_to s) (counted l.left records, arrived_all s.header script.calls seats) reached.more).1 q) e ∙ gets r g f)))
@@ -310,10 +311,10 @@ answers_cut script fault n before mid now first seats was new s held left calls 
         at_other r g seat f k ne = by_order (nat_lt r n) refl
           where
             here : slice_get seats r ≡ Some seat
-            here = sym (get_set_other seats n r new (λ e. ne (sym e))) ∙ k
+            here = sym (entry_set_other seats n r new (λ e. ne (sym e))) ∙ k
 
             its_calls : slice_get script.calls r ≡ Some (calls_of script r)
-            its_calls = calls_there script r (let w = get_long seats r seat here in omega arith)
+            its_calls = calls_there script r (let w = slice_get_within seats r seat here in omega arith)
 
             by_order : (t : Bool) → nat_lt r n ≡ t → HasAnswers s.header fault g seat.answers
             by_order true t =

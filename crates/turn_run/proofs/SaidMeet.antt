@@ -3,7 +3,7 @@ use Rattle.std.proofs.Common.{◌≡◌, ℕ, zero, suc, ◌<◌, ◌≤◌, ref
 use Rattle.std.proofs.lemmas.Bool.Decides.{nat_tests}
 use Rattle.std.proofs.lemmas.Grind.{fold-append}
 use Rattle.std.proofs.lemmas.List.{append_cancel_left}
-use Rattle.std.proofs.lemmas.Option.{same_Some}
+use Rattle.std.proofs.lemmas.Option.{same_Some, slice_get_within}
 use Rattle.std.specs.Prelude.{slice_get, fold, zip, nat_lt, IfSome}
 use Rattle.nc_base.specs.declared.answer.Answer.{Answer}
 use Rattle.nc_base.specs.declared.answer.Pair.{Pair}
@@ -31,24 +31,25 @@ use Rattle.turn_run.specs.Stages.{Stage, Leads, IsLed, HasLed, arrived, arrived_
 use Rattle.turn_run.specs.Steps.{batches_of, held_offers, known_of, met}
 use Rattle.turn_run.specs.declared.seats.Seat.{Seat}
 use Rattle.turn_run.proofs.AloneLaws.{arrived_held}
-use Rattle.turn_run.proofs.ListLaws.{get_long, get_map, get_there}
 use Rattle.turn_run.proofs.MeetDone.{heard_before}
-use Rattle.turn_run.proofs.MeetFile.{raised_records}
 use Rattle.turn_run.proofs.MeetOffers.{meets_at, AllHold}
-use Rattle.turn_run.proofs.MeetSolo.{told_at}
 use Rattle.turn_run.proofs.MeetStep.{offers_are, replies_are, AreDone}
 use Rattle.turn_run.proofs.SaidLaws.{arrived_said, begins_heard, begins_up, said_here, said_part, up_after}
 use Rattle.turn_run.proofs.SeatLaws.{heard_seat}
 use Rattle.turn_run.proofs.StageLaws.{gone_up, led_then}
 use Rattle.turn_run.proofs.TurnSteps.{calls_there, get_arrived, set_each}
+use Rattle.list_laws.proofs.Optional.{if_some_at}
+use Rattle.list_laws.proofs.Places.{entry_below}
+use Rattle.list_laws.proofs.Maps.{entry_map}
+use Rattle.serial_spec.proofs.CountLaws.{raised_records}
 
 -- ---- before its step is done
 
 pub all_say_here : (script : Script) (header : Header) (fault : StepErr) (seats now : List Seat) (c : Counted) → length script.calls ≡ length seats → length now ≡ length seats
     → HaveArrived script seats → KeepAnswers seats now → AllSay fault now (c, arrived_all header script.calls seats)
 all_say_here script header fault seats now c long same come kept r b k a g =
-    let within : r < length seats = (let l = get_long now r b k in omega arith) in
-    let was = get_there seats r within in
+    let within : r < length seats = (let l = slice_get_within now r b k in omega arith) in
+    let was = entry_below seats r within in
     let is : arrived header (calls_of script r) was.0 ≡ a =
     same_Some _ _ (sym (get_arrived header script.calls seats r (calls_of script r) was.0 (calls_there script r (omega arith)) was.1) ∙ g) in
     said_here fault a b.answers
@@ -95,7 +96,7 @@ replies_of s calls seats batches known r n file pair table left l hold e f p cou
     let same : n ≡ (met s batches known (counted file r)).records = count ∙ sym (raised_records s after' (max (needed_now s (puts_in batches)) known)) in
     ap (λ (os : List Offer). (meeting s os (counted file r)).1) (offers_are s.header calls seats l hold)
     ∙ replies_are s (held_offers seats) batches known n (counted file r) pair table e f p same
-    (told_at (λ x. table ≡ map (λ b. map (get_post s x) b.gets) batches) left (met s batches known (counted file r)).file bytes got)
+    (if_some_at (λ x. table ≡ map (λ b. map (get_post s x) b.gets) batches) left (met s batches known (counted file r)).file bytes got)
 
 -- ---- some have heard
 
@@ -126,7 +127,7 @@ heard_part pair n table old now i was new there before left same r a b blobs g h
 pub part_of_freed : (pair : Option Pair) (n : ℕ) (table : List (List (List ℕ))) (seats mid now : List Seat) → length mid ≡ length seats → AreFreed seats mid → HaveHeardInPart pair n table mid now
     → HaveHeardInPart pair n table seats now
 part_of_freed pair n table seats mid now long freed part r a b blobs e g t =
-    let m = get_there mid r (let l = get_long seats r a e in omega arith) in
+    let m = entry_below mid r (let l = slice_get_within seats r a e in omega arith) in
     let free = freed.each r a m.0 e m.1 in
     by_part m.0 free.rank free.answers (part r m.0 b blobs m.1 g t)
   where
@@ -148,14 +149,14 @@ reached_deaf script header len fault order now_order seats now batches known r n
         → IfSome h (λ file. AllSay fault now (step_to s (counted file r, arrived_all s.header script.calls seats) (Meet k)))
     by_held None b = tt
     by_held (Some file) b = λ q x h a g.
-        let within : q < length seats = (let i = get_long now q x h in omega arith) in
-        let was = get_there seats q within in
-        let row = get_there table q (omega arith) in
+        let within : q < length seats = (let i = slice_get_within now q x h in omega arith) in
+        let was = entry_below seats q within in
+        let row = entry_below table q (omega arith) in
         let o = meets_at script header len order seats all hold come q was.0 was.1 in
         let replies = replies_of s script.calls seats batches known r n file pair table left l hold e f p count b got in
         let is : heard s.header (arrived s.header (calls_of script q) was.0, reply_of pair n row.0) ≡ a =
         get_zip (heard s.header) (arrived_all s.header script.calls seats) (map (reply_of pair n) table) q (arrived s.header (calls_of script q) was.0) (reply_of pair n row.0) a
-        (get_arrived s.header script.calls seats q (calls_of script q) was.0 (calls_there script q (omega arith)) was.1) (get_map (reply_of pair n) table q row.0 row.1)
+        (get_arrived s.header script.calls seats q (calls_of script q) was.0 (calls_there script q (omega arith)) was.1) (entry_map (reply_of pair n) table q row.0 row.1)
         (ap (λ (ys : List Reply). slice_get (map (heard s.header) (zip (arrived_all s.header script.calls seats) ys)) q) (sym replies) ∙ g) in
         subst (λ (y : Arrived). HasSaid fault y x.answers) is
         (said_in_part s.header fault (calls_of script q) was.0 x o.0 (reply_of pair n row.0) memory o.1.held (o.1.of_header ∙ sym of_header) (part q was.0 x row.0 was.1 h row.1))
@@ -217,7 +218,7 @@ between_led hints s before order now_order k a b c goings bs first second e up s
         ap (λ (ms : List Mark). (fold (after_mark s) (counted file a.records, goings) (first.more ++ ms)).1) one
         ∙ ap (λ (x : Counted × List Going). x.1) (fold-append (after_mark s) (counted file a.records, goings) first.more (Meet k ∷ []))
         ∙ ap (λ (x : Counted). (after_mark s (x, state.1) (Meet k)).1) count
-        ∙ told_at (λ (f : List ℕ). (after_mark s (counted f b.records, state.1) (Meet k)).1 ≡ bs) b.held l.left l.told (step state.1 (ap (λ (x : Stand). x.1) stand))
+        ∙ if_some_at (λ (f : List ℕ). (after_mark s (counted f b.records, state.1) (Meet k)).1 ≡ bs) b.held l.left l.told (step state.1 (ap (λ (x : Stand). x.1) stand))
 
 -- and then others go on
 answers_then : (hints : Hints) (s : Setting) (fault : StepErr) (before mid now more : List Mark) (a b : Stage) (goings bs : List Going) (seats : List Seat)
@@ -240,7 +241,7 @@ answers_then hints s fault before mid now more a b goings bs seats led grown up 
         subst (λ (gs : List Going). AreAnswers s.header fault gs seats)
         (ap (λ (x : Counted × List Going). (fold (after_mark s) x h.more).1) there
         ∙ sym (ap (λ (x : Counted × List Going). x.1) (fold-append (after_mark s) (counted file a.records, goings) more h.more)))
-        (told_at (λ (f : List ℕ). AreAnswers s.header fault (fold (after_mark s) (counted f b.records, bs) h.more).1 seats) b.held l.left l.told h.said)
+        (if_some_at (λ (f : List ℕ). AreAnswers s.header fault (fold (after_mark s) (counted f b.records, bs) h.more).1 seats) b.held l.left l.told h.said)
 
 pub answers_after : (hints : Hints) (s : Setting) (fault : StepErr) (before order now_order later : List Mark) (k : ℕ) (a b c : Stage) (goings bs : List Going) (seats : List Seat)
     → HasLed hints s before order a b → HasLed hints s order now_order b c → now_order ≡ order ++ Meet k ∷ [] → map (advance s.header) goings ≡ a.ranks

@@ -29,8 +29,8 @@ use Rattle.run_laws.proofs.WayLaws.{way_answers, way_meets, way_solo}
 use Rattle.turn_run.specs.Counts.{raises, IsAsked}
 use Rattle.turn_run.specs.Seated.{asking, between, AsksAlone, HasHeard, IsPlaced, IsPlacedWith}
 use Rattle.turn_run.specs.declared.seats.Seat.{Seat}
-use Rattle.turn_run.proofs.ListLaws.{drop_get, get_read}
 use Rattle.join_laws.proofs.QuietLaws.{meets_quiet}
+use Rattle.list_laws.proofs.Places.{drop_at, entry_read}
 
 -- between two calls, by the state and the answers
 abbrev pub at : List Call → machine.Rank → List Answer → Going
@@ -51,13 +51,13 @@ pub way_on : (script : Script) (order : List Mark) (r : ℕ) (header : Header) (
     → posts_held next ≤ posts_held rank + most_parts → more ≡ answers ++ a ∷ [] → IsOnWay script order r (at own next more) None
 way_on script order r header own rank next answers more a c w g e p m =
     subst (λ (s : Going). IsOnWay script order r s None) (answered_is own rank next answers more a m)
-    (way_answers script order r header (at own rank answers) next a c (drop (suc (length answers)) own) w (drop_get own (length answers) c g) e p)
+    (way_answers script order r header (at own rank answers) next a c (drop (suc (length answers)) own) w (drop_at own (length answers) c g) e p)
 
 pub advance_on : (header : Header) (own : List Call) (rank next : machine.Rank) (answers more : List Answer) (a : Answer) (c : Call)
     → slice_get own (length answers) ≡ Some c → (next, want.Answered a) ≡ step header rank c → more ≡ answers ++ a ∷ []
     → advance header (at own rank answers) ≡ advance header (at own next more)
 advance_on header own rank next answers more a c g e m =
-    sym (comes_on header (at own rank answers) (at own rank answers) next a c (drop (suc (length answers)) own) refl (drop_get own (length answers) c g) e)
+    sym (comes_on header (at own rank answers) (at own rank answers) next a c (drop (suc (length answers)) own) refl (drop_at own (length answers) c g) e)
     ∙ ap (advance header) (answered_is own rank next answers more a m)
 
 -- a rank that goes on adds to its answers
@@ -84,7 +84,7 @@ answers_on_way header from own rank answers now e f =
 
 -- the call that is next
 pub next_call : (own : List Call) (answers : List Answer) (n : ℕ) (c : Call) → n ≡ length answers → n < length own → c ≡ get_or own n c → slice_get own (length answers) ≡ Some c
-next_call own answers n c e l g = subst (λ (k : ℕ). slice_get own k ≡ Some c) e (get_read own n c l g)
+next_call own answers n c e l g = subst (λ (k : ℕ). slice_get own k ≡ Some c) e (entry_read own n c l g)
 
 -- ---- at an offer
 
@@ -98,7 +98,7 @@ pub placed_meeting : (script : Script) (order : List Mark) (r : ℕ) (header : H
 placed_meeting script order r header own rank next answers o c w g e p =
     let says = says_at header rank c (next, want.Meet o) e in
     placed_with script header order r (at_call own next answers) o (offer.Meet says.of_kind) (sym says.meets)
-    (way_meets script order r header (at own rank answers) next o c (drop (suc (length answers)) own) w (drop_get own (length answers) c g) e p)
+    (way_meets script order r header (at own rank answers) next o c (drop (suc (length answers)) own) w (drop_at own (length answers) c g) e p)
 
 pub placed_alone : (script : Script) (order : List Mark) (r : ℕ) (header : Header) (own : List Call) (rank next : machine.Rank) (answers : List Answer) (o : Offer) (c : Call)
     → IsOnWay script order r (at own rank answers) None → slice_get own (length answers) ≡ Some c → (next, want.Solo o) ≡ step header rank c
@@ -108,7 +108,7 @@ placed_alone script order r header own rank next answers o c w g e p =
     placed_with script header order r (at_call own next answers) o offer.Solo (sym says.is_solo) (record {
       before = rank;
       call = c;
-      way = subst (λ (cs : List Call). IsOnWay script order r (record { rank = rank; answers = answers; calls = cs }) None) (drop_get own (length answers) c g) w;
+      way = subst (λ (cs : List Call). IsOnWay script order r (record { rank = rank; answers = answers; calls = cs }) None) (drop_at own (length answers) c g) w;
       step = e;
       few = p;
     })
@@ -116,12 +116,12 @@ placed_alone script order r header own rank next answers o c w g e p =
 pub advance_meeting : (header : Header) (own : List Call) (rank next : machine.Rank) (answers : List Answer) (o : Offer) (c : Call)
     → slice_get own (length answers) ≡ Some c → (next, want.Meet o) ≡ step header rank c → advance header (at own rank answers) ≡ (at_call own next answers, Some o)
 advance_meeting header own rank next answers o c g e =
-    comes_to_meeting header (at own rank answers) (at own rank answers) next o c (drop (suc (length answers)) own) refl (drop_get own (length answers) c g) e
+    comes_to_meeting header (at own rank answers) (at own rank answers) next o c (drop (suc (length answers)) own) refl (drop_at own (length answers) c g) e
 
 pub advance_alone : (header : Header) (own : List Call) (rank next : machine.Rank) (answers : List Answer) (o : Offer) (c : Call)
     → slice_get own (length answers) ≡ Some c → (next, want.Solo o) ≡ step header rank c → advance header (at own rank answers) ≡ (at_call own next answers, Some o)
 advance_alone header own rank next answers o c g e =
-    comes_to_solo header (at own rank answers) (at own rank answers) next o c (drop (suc (length answers)) own) refl (drop_get own (length answers) c g) e
+    comes_to_solo header (at own rank answers) (at own rank answers) next o c (drop (suc (length answers)) own) refl (drop_at own (length answers) c g) e
 
 -- at the end of its calls it is where it has gone up to
 pub advance_ended : (header : Header) (own : List Call) (rank : machine.Rank) (answers : List Answer) → drop (length answers) own ≡ []
@@ -179,9 +179,6 @@ placed_rest script header order r s (Some o) w = by_kind o.kind w
     by_kind (offer.Meet kind) h = way_rest script order r s (Some o) h
 
 -- ---- what the rank wants at its next call
-
-pub said_at : (header same : Header) (rank next : machine.Rank) (c : Call) (w v : Want) → same ≡ header → (next, w) ≡ step same rank c → w ≡ v → (next, v) ≡ step header rank c
-said_at header same rank next c w v e f g = (λ i. (next, sym g i)) ∙ f ∙ ap (λ (k : Header). step k rank c) e
 
 pub asked_meeting : (header : Header) (rank next : machine.Rank) (o : Offer) (c : Call) → (next, want.Meet o) ≡ step header rank c → IsSoundOffer header o
     → length o.batch.puts + length o.batch.gets ≤ 2 ^ 30 → IsAsked header next.known o

@@ -1,6 +1,6 @@
 -- Stages: what ranks that have gone up to their next offers have of the serial run, and steps one after another.
 use Rattle.std.proofs.Common.{◌≡◌, ℕ, refl, sym, ◌∙◌, ap, subst, List, [], ◌∷◌, ◌++◌, length, map, set, replicate, Option, Some, None, append_assoc}
-use Rattle.std.proofs.lemmas.List.{append-nil}
+use Rattle.std.proofs.lemmas.List.{append-nil, map-set}
 use Rattle.std.proofs.lemmas.Grind.{fold-append}
 use Rattle.std.specs.Prelude.{slice_get, zip, nat_lt, fold, IfSome}
 use Rattle.nc_base.specs.declared.header.Header.{Header}
@@ -20,7 +20,8 @@ use Rattle.run_laws.proofs.OrderLaws.{calls_close}
 use Rattle.run_laws.specs.Arrivals.{calls_over, solo_to, step_calls, step_to, Arrived, Stand, all_calls_over, ended_from}
 use Rattle.turn_run.specs.Stages.{arrived, arrived_all, stage, stand_of, HasLed, IsLed, Leads, Stage}
 use Rattle.turn_run.specs.Steps.{first_seat}
-use Rattle.turn_run.proofs.ListLaws.{get_map, get_map_none, map_map, map_set}
+use Rattle.list_laws.proofs.Maps.{entry_map, map_map, entry_map_none}
+use Rattle.nc_outside.proofs.ToldLaws.{with_end-with_end, with_end-nil}
 
 -- ---- the serial run's ranks, gone up to their next offers
 
@@ -30,14 +31,14 @@ gone_up s state = (state.0, map (advance s.header) state.1)
 solo_up : (s : Setting) (r n : ℕ) (c : Counted) (goings : List Going) (m : Option Going) → slice_get goings r ≡ m
     → gone_up s (after_mark s (c, goings) (Solo r n)) ≡ step_to s (gone_up s (c, goings)) (Solo r n)
 solo_up s r n c goings None e =
-    let f = get_map_none (advance s.header) goings r e in
+    let f = entry_map_none (advance s.header) goings r e in
     ap (λ (m : Option Going). gone_up s (elim m [ None ↦ (c, goings) | Some g ↦ let done = solo_of s r c (advance s.header g) in (done.0, set goings r done.1) ])) e
     ∙ sym (ap (λ (m : Option Arrived). elim m [ None ↦ gone_up s (c, goings) | Some a ↦ solo_to s r c (map (advance s.header) goings) a ]) f)
 solo_up s r n c goings (Some g) e =
-    let f = get_map (advance s.header) goings r g e in
+    let f = entry_map (advance s.header) goings r g e in
     let done = solo_of s r c (advance s.header g) in
     ap (λ (m : Option Going). gone_up s (elim m [ None ↦ (c, goings) | Some g ↦ let done = solo_of s r c (advance s.header g) in (done.0, set goings r done.1) ])) e
-    ∙ ap (λ (ranks : List Arrived). (done.0, ranks)) (map_set (advance s.header) goings r done.1)
+    ∙ ap (λ (ranks : List Arrived). (done.0, ranks)) (map-set (advance s.header) goings r done.1)
     ∙ sym (ap (λ (m : Option Arrived). elim m [ None ↦ gone_up s (c, goings) | Some a ↦ solo_to s r c (map (advance s.header) goings) a ]) f)
 
 pub mark_up : (s : Setting) (state : Counted × List Going) (m : Mark) → gone_up s (after_mark s state m) ≡ step_to s (gone_up s state) m
@@ -64,10 +65,10 @@ call_up hints s (c, goings) (Solo r n) = by_rank (slice_get goings r) refl
     by_rank : (m : Option Going) → slice_get goings r ≡ m → mark_calls hints s (c, goings) (Solo r n) ≡ step_calls hints s (gone_up s (c, goings)) (Solo r n)
     by_rank None e =
         ap (λ (m : Option Going). calls_at hints s r c (elim m [ None ↦ None | Some g ↦ (advance s.header g).1 ])) e
-        ∙ sym (ap (λ (m : Option Arrived). calls_at hints s r c (offer_of m)) (get_map_none (advance s.header) goings r e))
+        ∙ sym (ap (λ (m : Option Arrived). calls_at hints s r c (offer_of m)) (entry_map_none (advance s.header) goings r e))
     by_rank (Some g) e =
         ap (λ (m : Option Going). calls_at hints s r c (elim m [ None ↦ None | Some g ↦ (advance s.header g).1 ])) e
-        ∙ sym (ap (λ (m : Option Arrived). calls_at hints s r c (offer_of m)) (get_map (advance s.header) goings r g e))
+        ∙ sym (ap (λ (m : Option Arrived). calls_at hints s r c (offer_of m)) (entry_map (advance s.header) goings r g e))
 
 calls_up : (hints : Hints) (s : Setting) (state : Counted × List Going) (order : List Mark) → calls_so_far hints s state order ≡ calls_over hints s (gone_up s state) order
 calls_up hints s state [] = refl
@@ -118,20 +119,12 @@ calls_split hints s stand (m ∷ marks) more =
     ap (λ (cs : List DiskCall). step_calls hints s stand m ++ cs) (calls_split hints s (step_to s stand m) marks more)
     ∙ sym (append_assoc (step_calls hints s stand m) (calls_over hints s (step_to s stand m) marks) (calls_over hints s (fold (step_to s) (step_to s stand m) marks) more))
 
-pub ended_twice : {A : Type 0} (told : Option (List A)) (xs ys : List A) → with_end (with_end told xs) ys ≡ with_end told (xs ++ ys)
-ended_twice None xs ys = refl
-ended_twice (Some front) xs ys = ap (λ (zs : List _). Some zs) (append_assoc front xs ys)
-
-pub ended_by_none : {A : Type 0} (told : Option (List A)) → with_end told [] ≡ told
-ended_by_none None = refl
-ended_by_none (Some front) = ap (λ (zs : List _). Some zs) (append-nil front)
-
 pub led_none : (hints : Hints) (s : Setting) (a : Stage) → Leads hints s [] a a
 led_none hints s a = by_held a.held refl
   where
     by_held : (m : Option (List ℕ)) → a.held ≡ m → IfSome m (λ file. IsLed hints s [] file a a)
     by_held None e = tt
-    by_held (Some file) e = record { left = file; told = e; state = refl; calls = sym (ended_by_none a.calls) }
+    by_held (Some file) e = record { left = file; told = e; state = refl; calls = sym (with_end-nil a.calls) }
 
 pub led_then : (hints : Hints) (s : Setting) (marks more : List Mark) (a b c : Stage) → Leads hints s marks a b → Leads hints s more b c → Leads hints s (marks ++ more) a c
 led_then hints s marks more a b c first second = by_held a.held first
@@ -149,7 +142,7 @@ led_then hints s marks more a b c first second = by_held a.held first
           told = next.told;
           state = fold-append (step_to s) (stand_of file a) marks more ∙ ap (λ (stand : Stand). fold (step_to s) stand more) h.state ∙ next.state;
           calls = next.calls ∙ ap (λ (told : Option (List DiskCall)). with_end told (calls_over hints s (stand_of h.left b) more)) h.calls
-              ∙ ended_twice a.calls (calls_over hints s (stand_of file a) marks) (calls_over hints s (stand_of h.left b) more)
+              ∙ with_end-with_end a.calls (calls_over hints s (stand_of file a) marks) (calls_over hints s (stand_of h.left b) more)
               ∙ ap (λ (stand : Stand). with_end a.calls (calls_over hints s (stand_of file a) marks ++ calls_over hints s stand more)) (sym h.state)
               ∙ ap (λ (cs : List DiskCall). with_end a.calls cs) (sym (calls_split hints s (stand_of file a) marks more));
         }

@@ -27,10 +27,11 @@ use Rattle.turn_run.specs.Telling.{counts_along, told_marks, told_over, HasTold,
 use Rattle.turn_run.specs.declared.seats.Seat.{Seat}
 use Rattle.turn_run.proofs.CutLaws.{solo_at}
 use Rattle.turn_run.proofs.CutMeet.{meet_at, met_count}
-use Rattle.turn_run.proofs.ListLaws.{get_set}
 use Rattle.turn_run.proofs.MeetOffers.{AllHold}
-use Rattle.turn_run.proofs.StageLaws.{ended_by_none, ended_twice, gone_up, mark_up}
+use Rattle.turn_run.proofs.StageLaws.{gone_up, mark_up}
 use Rattle.turn_run.proofs.TurnRuns.{first_stage}
+use Rattle.list_laws.proofs.Places.{entry_set}
+use Rattle.nc_outside.proofs.ToldLaws.{with_end-with_end, with_end-nil}
 
 -- ---- nothing, and one step
 
@@ -43,13 +44,13 @@ pub told_none : (s : Setting) (held : Option (List ℕ)) (records : ℕ) (ranks 
 told_none s held records ranks before now told heard e f = record {
   more = [];
   grown = e ∙ sym (append-nil before);
-  marks = ap told_marks f ∙ sym (ended_by_none (told_marks told));
+  marks = ap told_marks f ∙ sym (with_end-nil (told_marks told));
   counts = by_held held;
 }
   where
     by_held : (m : Option (List ℕ)) → IfSome m (λ file. heard ≡ with_end told (told_over s (counted file records, ranks) []))
     by_held None = tt
-    by_held (Some file) = f ∙ sym (ended_by_none told)
+    by_held (Some file) = f ∙ sym (with_end-nil told)
 
 pub marks_ended : (told : Option (List (Mark × ℕ))) (more : List (Mark × ℕ)) → told_marks (with_end told more) ≡ with_end (told_marks told) (map (λ t. t.0) more)
 marks_ended None more = refl
@@ -98,7 +99,7 @@ pub told_then : (hints : Hints) (s : Setting) (before now later : List Mark) (a 
 told_then hints s before now later a b told heard last first led second = record {
   more = first.more ++ second.more;
   grown = second.grown ∙ ap (λ (ms : List Mark). ms ++ second.more) first.grown ∙ append_assoc before first.more second.more;
-  marks = second.marks ∙ ap (λ (ms : Option (List Mark)). with_end ms second.more) first.marks ∙ ended_twice (told_marks told) first.more second.more;
+  marks = second.marks ∙ ap (λ (ms : Option (List Mark)). with_end ms second.more) first.marks ∙ with_end-with_end (told_marks told) first.more second.more;
   counts = by_held a.held first.counts led.led;
 }
   where
@@ -114,7 +115,7 @@ told_then hints s before now later a b told heard last first led second = record
         let on : last ≡ with_end heard (told_over s (stand_of l.left b) second.more) =
         subst (λ (m : Option (List ℕ)). IfSome m (λ bytes. last ≡ with_end heard (told_over s (stand_of bytes b) second.more))) l.told second.counts in
         on ∙ ap (λ (h : Option (List (Mark × ℕ))). with_end h (told_over s (stand_of l.left b) second.more)) f
-        ∙ ended_twice told front (told_over s (stand_of l.left b) second.more)
+        ∙ with_end-with_end told front (told_over s (stand_of l.left b) second.more)
         ∙ ap (λ (stand : Stand). with_end told (front ++ told_over s stand second.more)) (sym state)
         ∙ ap (λ (ts : List (Mark × ℕ)). with_end told ts) (sym (told_split s (stand_of file a) first.more second.more))
 
@@ -127,7 +128,7 @@ pub told_gone : (hints : Hints) (s : Setting) (r records : ℕ) (before now late
 told_gone hints s r records before now later held left calls made from to asks told heard last gone first e second ranks at =
     told_then hints s before now later (stage held calls records ranks) (stage left made records (set ranks r to)) told heard last (first ranks at)
     (record { more = gone.more; grown = gone.grown; led = gone.led records ranks at })
-    (second (set ranks r to) (get_set ranks r from to at ∙ ap (λ (a : Arrived). Some a) (sym e)))
+    (second (set ranks r to) (entry_set ranks r from to at ∙ ap (λ (a : Arrived). Some a) (sym e)))
 
 -- ---- a whole run
 
@@ -176,13 +177,13 @@ told_from_first script header file records seats order lawful e first =
 -- before the first step
 pub told_nothing : (script : Script) (header : Header) (held : Option (List ℕ)) (told : Option (List (Mark × ℕ))) (order : List Mark) → order ≡ [] → HasTold script header held told told order
 told_nothing script header held told order e = subst (λ (ms : List Mark). HasTold script header held told told ms) (sym e) (record {
-  marks = sym (ended_by_none (told_marks told));
+  marks = sym (with_end-nil (told_marks told));
   counts = by_held held;
 })
   where
     by_held : (m : Option (List ℕ)) → IfSome m (λ file. told ≡ with_end told (told_of script header file []))
     by_held None = tt
-    by_held (Some file) = sym (ended_by_none told)
+    by_held (Some file) = sym (with_end-nil told)
 
 pub told_whole : (script : Script) (header : Header) (held : Option (List ℕ)) (records : ℕ) (seats : List Seat) (none made order : List Mark) (told heard : Option (List (Mark × ℕ)))
     → is_lawful script ≡ true → records ≡ header.records → seats ≡ replicate script.ranks (first_seat header records) → none ≡ [] → order ≡ made

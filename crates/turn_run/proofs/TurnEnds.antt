@@ -24,9 +24,9 @@ use Rattle.turn_run.specs.Seated.{asking, between, calls_of, going_of, AreFree, 
 use Rattle.run_laws.specs.Arrivals.{Arrived}
 use Rattle.turn_run.specs.Stages.{arrived, arrived_all}
 use Rattle.turn_run.specs.declared.seats.Seat.{Seat}
-use Rattle.turn_run.proofs.ListLaws.{get_there}
 use Rattle.turn_run.proofs.SeatLaws.{advance_ended}
-use Rattle.join_laws.proofs.WholeLaws.{some_rank}
+use Rattle.list_laws.proofs.Places.{entry_below}
+use Rattle.serial_spec.proofs.LawfulTests.{some_rank}
 
 -- ---- a rank that has arrived
 
@@ -72,7 +72,7 @@ not_both script order r q seat other o e w f v h =
 pub all_ended : (script : Script) (header : Header) (len : ℕ) (order : List Mark) (seats : List Seat) → is_lawful script ≡ true → AreSeats script header len order seats
     → HaveArrived script seats → (HaveMet seats → ⊥) → AreFree seats
 all_ended script header len order seats lawful a h n =
-    let first = get_there seats 0 (let k = some_rank script lawful in let l = a.all in omega arith) in
+    let first = entry_below seats 0 (let k = some_rank script lawful in let l = a.all in omega arith) in
     by_first first.0 first.1 first.0.held refl
   where
     at : (r : ℕ) (seat : Seat) → slice_get seats r ≡ Some seat → Comes script order r seat
@@ -96,7 +96,7 @@ all_ended script header len order seats lawful a h n =
 pub next_meeting : (script : Script) (header : Header) (len : ℕ) (order : List Mark) (seats : List Seat) → is_lawful script ≡ true → AreSeats script header len order seats
     → HaveArrived script seats → HaveMet seats → meetings order < most_calls
 next_meeting script header len order seats lawful a h met =
-    let first = get_there seats 0 (let k = some_rank script lawful in let l = a.all in omega arith) in
+    let first = entry_below seats 0 (let k = some_rank script lawful in let l = a.all in omega arith) in
     by_held first.0 first.1 first.0.held refl
   where
     by_held : (first : Seat) → slice_get seats 0 ≡ Some first → (m : Option Offer) → first.held ≡ m → meetings order < most_calls

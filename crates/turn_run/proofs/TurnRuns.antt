@@ -12,7 +12,8 @@ use Rattle.nc_base.specs.declared.step.Mark.{Mark}
 use Rattle.nc_outside.specs.Told.{after, with_end}
 use Rattle.serial_spec.specs.DeviceCalls.{run_calls, store_records}
 use Rattle.serial_spec.specs.FileStep.{Setting, raised}
-use Rattle.serial_spec.specs.HeaderGrammar.{header_len, is_sound}
+use Rattle.serial_spec.specs.HeaderBytes.{header_len}
+use Rattle.serial_spec.specs.SoundHeaders.{is_sound}
 use Rattle.serial_spec.specs.History.{marks}
 use Rattle.serial_spec.specs.Lawful.{is_lawful}
 use Rattle.serial_spec.specs.Layout.{end_of, greatest}
@@ -31,11 +32,13 @@ use Rattle.run_laws.specs.Arrivals.{calls_over, step_to, Arrived, Stand, all_cal
 use Rattle.turn_run.specs.Stages.{arrived_all, stage, HasLed, IsLed, Leads}
 use Rattle.turn_run.specs.Steps.{first_seat, most_known}
 use Rattle.turn_run.specs.declared.seats.Seat.{Seat}
-use Rattle.turn_run.proofs.ListLaws.{get_long, get_replicate}
-use Rattle.turn_run.proofs.StageLaws.{calls_are, ended_twice, first_ranks, gone_up, serial_is}
+use Rattle.turn_run.proofs.StageLaws.{calls_are, first_ranks, gone_up, serial_is}
 use Rattle.turn_run.proofs.TurnEnds.{are_over, map_ended, AreOver}
 use Rattle.turn_run.proofs.TurnSteps.{calls_there}
-use Rattle.turn_run.proofs.MeetFile.{raised_records}
+use Rattle.std.proofs.lemmas.Option.{slice_get_within}
+use Rattle.serial_spec.proofs.CountLaws.{raised_records}
+use Rattle.nc_outside.proofs.ToldLaws.{with_end-with_end}
+use Rattle.list_laws.proofs.Places.{entry_replicate}
 
 -- ---- before the first step
 
@@ -63,14 +66,14 @@ first_seats script header len records seats lawful sound e l s =
       known_ranks = refl;
       each = each;
       known = λ r seat f.
-          let same : first_seat header records ≡ seat = sym (get_replicate script.ranks r (first_seat header records) seat f) in
+          let same : first_seat header records ≡ seat = sym (entry_replicate script.ranks r (first_seat header records) seat f) in
           subst (λ (x : Seat). IsCount header len x.rank.state.known) same (first_count header len records sound e l);
     })
   where
     each : (r : ℕ) (seat : Seat) → slice_get (replicate script.ranks (first_seat header records)) r ≡ Some seat → IsSeat script header [] r seat
     each r seat f =
-        let same : first_seat header records ≡ seat = sym (get_replicate script.ranks r (first_seat header records) seat f) in
-        let long = get_long (replicate script.ranks (first_seat header records)) r seat f in
+        let same : first_seat header records ≡ seat = sym (entry_replicate script.ranks r (first_seat header records) seat f) in
+        let long = slice_get_within (replicate script.ranks (first_seat header records)) r seat f in
         let all = length-replicate script.ranks (first_seat header records) in
         subst (λ (x : Seat). IsSeat script header [] r x) same (record {
           of_header = refl;
@@ -81,7 +84,7 @@ first_seats script header len records seats lawful sound e l s =
 pub first_free : (header : Header) (ranks records : ℕ) (seats : List Seat) → seats ≡ replicate ranks (first_seat header records) → AreFree seats
 first_free header ranks records seats s r seat f =
     let same : seat ≡ first_seat header records =
-    get_replicate ranks r (first_seat header records) seat (ap (λ (ss : List Seat). slice_get ss r) (sym s) ∙ f) in
+    entry_replicate ranks r (first_seat header records) seat (ap (λ (ss : List Seat). slice_get ss r) (sym s) ∙ f) in
     ap (λ (x : Seat). x.held) same
 
 pub first_goings : (header : Header) (records : ℕ) (calls : List (List Call)) → records ≡ header.records
@@ -163,7 +166,7 @@ led_closed script header order calls made later left held count records from sea
       pending = sym (map_ended (λ (rank : machine.Rank) (answers : List Answer). machine.pending rank) header script.calls seats long over)
           ∙ sym (ap (λ (e : End). e.pending) last);
       calls = r.calls ∙ ap (λ (m : Option (List DiskCall)). with_end m (store_records s (nat_lt count records))) led.calls
-          ∙ ended_twice calls (calls_over script.hints s stand order) (store_records s (nat_lt count records))
+          ∙ with_end-with_end calls (calls_over script.hints s stand order) (store_records s (nat_lt count records))
           ∙ (λ i. with_end calls (calls_over script.hints s stand order ++ store_records s (nat_lt (before i) (records_are i))));
     }
 

@@ -6,7 +6,7 @@ use Rattle.std.proofs.lemmas.Bool.Decides.{eqb_tells, nat_tests}
 use Rattle.std.specs.Prelude.{slice_get, slice_index_or, nat_lt, ◌==◌}
 use Rattle.std.specs.List.{list_all}
 use Rattle.std.proofs.lemmas.Bool.{and_from, eqb-true}
-use Rattle.std.proofs.lemmas.Option.{same_Some}
+use Rattle.std.proofs.lemmas.Option.{same_Some, slice_get_within}
 use Rattle.list_laws.proofs.Truth.{and_first, and_second}
 use Rattle.nc_base.specs.declared.header.Header.{Header}
 use Rattle.nc_base.specs.declared.request.Call.{Call}
@@ -23,7 +23,7 @@ use Rattle.serial_spec.specs.SerialEnd.{Going, setting_of}
 use Rattle.run_laws.specs.Standing.{is_solo_of}
 use Rattle.run_laws.specs.Ways.{is_meeting, meetings}
 use Rattle.run_laws.proofs.LawfulLaws.{ranks_lawful}
-use Rattle.run_laws.proofs.WayLaws.{way_others}
+use Rattle.run_laws.proofs.WayLaws.{way_others, others_meetings}
 use Rattle.turn_run.specs.Begun.{HasBegun}
 use Rattle.turn_run.specs.Counts.{IsCount}
 use Rattle.turn_run.specs.Seated.{calls_of, going_of, AreSeats, IsPlaced, IsPlacedWith, IsSeat}
@@ -31,8 +31,9 @@ use Rattle.run_laws.specs.Arrivals.{Arrived}
 use Rattle.turn_run.specs.Stages.{arrived, arrived_all, stage, HasGone, HasLed, IsGrownBy, Leads}
 use Rattle.turn_run.specs.declared.seats.Seat.{Seat}
 use Rattle.turn_run.proofs.CountLaws.{count_longer}
-use Rattle.turn_run.proofs.ListLaws.{get_long, get_set, get_set_other, get_there}
 use Rattle.turn_run.proofs.SeatLaws.{placed_rest, HasRest}
+use Rattle.list_laws.proofs.Places.{entry_below, entry_set, entry_set_other}
+use Rattle.std.proofs.lemmas.List.{length-set}
 
 -- ---- solo steps that are added to an order
 
@@ -52,15 +53,10 @@ grown_known ranks n before now l g h =
     ap (λ (ms : List Mark). list_all (is_of_rank_below ranks) ms) g.grown
     ∙ list_all-append (is_of_rank_below ranks) before g.more ∙ and_from _ _ h (solos_known ranks n g.more l g.own)
 
-no_meetings : (n : ℕ) (more : List Mark) → list_all (is_solo_of n) more ≡ true → meetings more ≡ 0
-no_meetings n [] h = refl
-no_meetings n (Meet k ∷ more) h = absurd cc
-no_meetings n (Solo q c ∷ more) h = no_meetings n more (and_second (q == n) _ h)
-
 pub grown_meetings : (n : ℕ) (before now : List Mark) → IsGrownBy n before now → meetings now ≡ meetings before
 grown_meetings n before now g =
     let split = sum_by-append (λ (m : Mark). cond (is_meeting m) 1 0) before g.more in
-    let none = no_meetings n g.more g.own in
+    let none = others_meetings n g.more g.own in
     ap (λ (ms : List Mark). meetings ms) g.grown ∙ split ∙ ap (λ (k : ℕ). meetings before + k) none ∙ (omega arith)
 
 -- ---- where the others are placed
@@ -110,25 +106,20 @@ get_at [] n d l = absurd (omega arith)
 get_at (x ∷ xs) zero d l = refl
 get_at (x ∷ xs) (suc n) d l = get_at xs n d (omega arith)
 
-long_set : {X : Type 0} (xs : List X) (r : ℕ) (x : X) → length (set xs r x) ≡ length xs
-long_set [] r x = refl
-long_set (y ∷ xs) zero x = refl
-long_set (y ∷ xs) (suc r) x = ap (λ (k : ℕ). suc k) (long_set xs r x)
-
 -- what holds of the new element and held of the others holds of all
 pub set_each : {X : Type 0} (P : ℕ → X → Type 0) (xs : List X) (n : ℕ) (was x : X) → slice_get xs n ≡ Some was → P n x
     → ((r : ℕ) (y : X) → n ≢ r → slice_get xs r ≡ Some y → P r y) → (r : ℕ) (y : X) → slice_get (set xs n x) r ≡ Some y → P r y
 set_each P xs n was x e own others r y f =
     own_or_other (P r y) n r
-    (λ same. let g : Some x ≡ Some y = sym (get_set xs n was x e) ∙ ap (λ (k : ℕ). slice_get (set xs n x) k) same ∙ f in
+    (λ same. let g : Some x ≡ Some y = sym (entry_set xs n was x e) ∙ ap (λ (k : ℕ). slice_get (set xs n x) k) same ∙ f in
     subst (λ (k : ℕ). P k y) same (subst (P n) (same_Some x y g) own))
-    (λ other. others r y other (sym (get_set_other xs n r x (λ z. other (sym z))) ∙ f))
+    (λ other. others r y other (sym (entry_set_other xs n r x (λ z. other (sym z))) ∙ f))
 
 pub seats_step : (script : Script) (header : Header) (len later : ℕ) (before now : List Mark) (seats : List Seat) (n : ℕ) (was seat : Seat)
     → AreSeats script header len before seats → slice_get seats n ≡ Some was → IsGrownBy n before now → len ≤ later
     → IsSeat script header now n seat → IsCount header later seat.rank.state.known → AreSeats script header later now (set seats n seat)
 seats_step script header len later before now seats n was seat a e g l own count = record {
-  all = long_set seats n seat ∙ a.all;
+  all = length-set seats n seat ∙ a.all;
   known_ranks = grown_known script.ranks n before now (number seats n was e a.all) g a.known_ranks;
   each = set_each (λ (r : ℕ) (s : Seat). IsSeat script header now r s) seats n was seat e own
       (λ r s other f. seat_beside script header before now r n s other g (a.each r s f));
@@ -137,7 +128,7 @@ seats_step script header len later before now seats n was seat a e g l own count
 }
   where
     number : (xs : List Seat) (r : ℕ) (x : Seat) → slice_get xs r ≡ Some x → length xs ≡ script.ranks → r < script.ranks
-    number xs r x e h = let k = get_long xs r x e in omega arith
+    number xs r x e h = let k = slice_get_within xs r x e in omega arith
 
 -- ---- beginnings of the marks
 
@@ -145,7 +136,7 @@ pub seats_begun : (script : Script) (header : Header) (len : ℕ) (order : List 
 seats_begun script header len order seats a = record {
   known_ranks = a.known_ranks;
   each_rank = λ r l.
-      let s = get_there seats r (omega arith) in
+      let s = entry_below seats r (omega arith) in
       let h = a.each r s.0 s.1 in
       placed_rest script header order r (going_of (calls_of script r) s.0) s.0.held h.placed;
 }
@@ -156,7 +147,7 @@ pub step_begun : (script : Script) (header : Header) (len : ℕ) (before now : L
 step_begun script header len before now seats n a l g own = record {
   known_ranks = grown_known script.ranks n before now l g a.known_ranks;
   each_rank = λ r m. own_or_other (HasRest script now r) n r (λ same. subst (λ (k : ℕ). HasRest script now k) same own)
-      (λ other. let s = get_there seats r (omega arith) in
+      (λ other. let s = entry_below seats r (omega arith) in
       let h = seat_beside script header before now r n s.0 other g (a.each r s.0 s.1) in
       placed_rest script header now r (going_of (calls_of script r) s.0) s.0.held h.placed);
 }
@@ -185,7 +176,7 @@ set_arrived header (c ∷ calls) (s ∷ seats) (suc r) own seat e =
 
 pub calls_there : (script : Script) (r : ℕ) → r < length script.calls → slice_get script.calls r ≡ Some (calls_of script r)
 calls_there script r l =
-    let h = get_there script.calls r l in
+    let h = entry_below script.calls r l in
     h.1 ∙ ap (λ (own : Option (List Call)). Some (elim own [ None ↦ [] | Some cs ↦ cs ])) (sym h.1)
 
 pub gone_led : (script : Script) (header : Header) (seats : List Seat) (n : ℕ) (was seat : Seat) (before now : List Mark) (held left : Option (List ℕ))

@@ -15,7 +15,7 @@ use Rattle.nc_base.specs.declared.step.StepErr.TheVariants.{Disk}
 use Rattle.nc_outside.specs.Cause.{Rose}
 use Rattle.nc_outside.specs.Told.{with_end}
 use Rattle.serial_spec.specs.DeviceCalls.{run_calls}
-use Rattle.serial_spec.specs.HeaderGrammar.{is_sound}
+use Rattle.serial_spec.specs.SoundHeaders.{is_sound}
 use Rattle.serial_spec.specs.History.{IsLegal}
 use Rattle.serial_spec.specs.SerialEnd.{serial_from}
 use Rattle.serial_spec.specs.Torn.{IsCutRun}

@@ -3,7 +3,8 @@ ghost use Rattle.std.specs.Prelude.{◌≡◌, ◌≤◌, ◌<◌, ℕ, map, max
 ghost use Rattle.std.specs.Int.{byte_len};
 ghost use Rattle.nc_outside.specs.Told.{after, with_end, BothTold};
 ghost use Rattle.serial_spec.specs.DeviceCalls.{store_records};
-ghost use Rattle.serial_spec.specs.HeaderGrammar.{count_width, is_sound};
+ghost use Rattle.serial_spec.specs.HeaderBytes.{count_width};
+ghost use Rattle.serial_spec.specs.SoundHeaders.{is_sound};
 ghost use Rattle.serial_spec.specs.Torn.{IsTorn};
 ghost use Rattle.serial_spec.specs.FileStep.{raised};
 ghost use Rattle.serial_spec.specs.RankMachine as machine;
@@ -53,7 +54,7 @@ fn greatest_known(seats: &[Seat]) -> u64
 }
 
 /// How many requests each rank left.
-#[tactic(auto, using(crate::proofs::ListLaws::map_more))]
+#[tactic(auto, using(list_laws::proofs::Maps::map_more))]
 pub(crate) fn pending_of(alloc: Global, seats: &[Seat]) -> Result<SizeList, Memory>
     ensures { IfOk result (λ sizes. sizes ≡ map (λ seat. machine.pending seat.rank.state) seats.now) }
 {

@@ -3,7 +3,8 @@ ghost use Rattle.std.specs.Prelude.{◌≡◌, ◌≤◌, ◌<◌, ◌++◌, ◌
 ghost use Rattle.nc_base.specs.declared.step.StepErr.{StepErr as Fault};
 ghost use Rattle.nc_base.specs.declared.step.StepErr.TheVariants as fault;
 ghost use Rattle.nc_outside.specs.Told.{with_end};
-ghost use Rattle.serial_spec.specs.HeaderGrammar.{header_len, is_sound};
+ghost use Rattle.serial_spec.specs.HeaderBytes.{header_len};
+ghost use Rattle.serial_spec.specs.SoundHeaders.{is_sound};
 ghost use Rattle.serial_spec.specs.History.{IsLegal};
 ghost use Rattle.serial_spec.specs.Lawful.{is_lawful};
 ghost use Rattle.serial_spec.specs.Layout.{end_of};

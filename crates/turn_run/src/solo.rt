@@ -4,7 +4,7 @@ ghost use Rattle.nc_outside.specs.Told.{after, with_end, BothTold};
 ghost use Rattle.serial_spec.specs.Desk.{needed_now};
 ghost use Rattle.serial_spec.specs.DeviceCalls.{solo_calls};
 ghost use Rattle.serial_spec.specs.FileStep.{needs, puts_of, solo, told};
-ghost use Rattle.serial_spec.specs.HeaderGrammar.{is_sound};
+ghost use Rattle.serial_spec.specs.SoundHeaders.{is_sound};
 ghost use Rattle.serial_spec.specs.Lawful.{are_lawful_hints};
 ghost use Rattle.serial_spec.specs.RankSide.{wanted};
 ghost use Rattle.serial_spec.specs.SharedByte.{covered};

@@ -56,6 +56,10 @@ pub product-append : (xs ys : List ℕ) → product (xs ++ ys) ≡ product xs * 
 product-append [] ys = omega arith
 product-append (x ∷ xs) ys = ap (λ (n : ℕ). x * n) (product-append xs ys) ∙ sym (mul_assoc x (product xs) (product ys))
 
+pub product_more : (xs : List ℕ) (i d : ℕ) → i < length xs → product (take (i + 1) xs) ≡ product (take i xs) * get_or xs i d
+product_more xs i d h =
+    ap product (take_more xs i d h) ∙ product-append (take i xs) (get_or xs i d ∷ []) ∙ ap (λ (n : ℕ). product (take i xs) * n) (mul-one (get_or xs i d))
+
 pub product-map_more : {A : Type 0} (f : A → ℕ) (xs : List A) (i : ℕ) (d : A) → i < length xs
     → product (map f (take (i + 1) xs)) ≡ product (map f (take i xs)) * f (get_or xs i d)
 product-map_more f xs i d h =

@@ -13,7 +13,7 @@ use Rattle.nc_base.specs.declared.header.Header.{Header}
 use Rattle.nc_base.specs.declared.header.Var.{Var}
 use Rattle.nc_base.specs.declared.script.Align.{Align}
 use Rattle.serial_spec.specs.Layout.{round_up, vsize, is_record, fixed_variables, record_variables, end_of_fixed, begin_of, placed, begins}
-use Rattle.serial_spec.specs.HeaderGrammar.{header_len}
+use Rattle.serial_spec.specs.HeaderBytes.{header_len}
 use Rattle.serial_spec.specs.Redefinition.{Numbered, fixed_of, records_in, size_fault, layout_fault}
 use Rattle.nc_base.specs.declared.errors.LayoutErr.TheVariants as fault
 use Rattle.std.proofs.lemmas.List.Folds.{find-append}

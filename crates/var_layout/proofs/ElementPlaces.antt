@@ -17,7 +17,8 @@ use Rattle.serial_spec.specs.Place.{row, place, record_of, within_record, IsInde
 use Rattle.serial_spec.proofs.RowLaws.{row_below}
 use Rattle.var_layout.specs.Reached.{records_for}
 use Rattle.var_layout.proofs.Soundness.{Keeps, var_kept, header_short}
-use Rattle.serial_spec.specs.HeaderGrammar.{is_sound, header_len}
+use Rattle.serial_spec.specs.HeaderBytes.{header_len}
+use Rattle.serial_spec.specs.SoundHeaders.{is_sound}
 use borrow.Author.Tests.{ltb-true, ltb-false}
 
 -- ---- a row, one dimension at a time

@@ -1,14 +1,13 @@
 -- The end of a file by the measures of its header.
 use Rattle.std.proofs.Common.{◌≡◌, ℕ, zero, suc, ◌+◌, ◌-◌, ◌*◌, ◌<◌, ◌≤◌, List, [], ◌∷◌, map, Bool, true, false, cond, refl, ap, ◌∙◌, arith, inl, inr, ◌⊎◌, max}
-use Rattle.std.specs.Prelude.{◌==◌}
-use Rattle.std.proofs.lemmas.Bool.Decides.{nat_tests}
 use Rattle.nc_base.specs.declared.header.Header.{Header}
 use Rattle.nc_base.specs.declared.header.Var.{Var}
-use Rattle.serial_spec.specs.HeaderGrammar.{header_len}
+use Rattle.serial_spec.specs.HeaderBytes.{header_len}
 use Rattle.serial_spec.specs.Layout.{greatest, is_record, vsize, last_share, recsize, record_size, record_variables, slab, end_of, end_of_var}
 use Rattle.var_layout.specs.Capped.{capped}
 use Rattle.var_layout.specs.Measures.{first_end, record_end}
 use Rattle.var_layout.proofs.Capping.{capped_times}
+use Rattle.list_laws.proofs.Truth.{equal_suc}
 
 -- ---- later records move the ends of the record variables alone
 
@@ -18,13 +17,10 @@ ends header n vs = greatest (map (λ v. end_of_var header n v) vs)
 abbrev first_ends : Header → List Var → ℕ
 first_ends header vs = greatest (map (λ v. first_end header v) vs)
 
-not_zero : (n : ℕ) → (suc n == 0) ≡ false
-not_zero n = grind (arith, nat_tests)
-
 later : (header : Header) (n : ℕ) (v : Var)
     → end_of_var header (suc n) v ≡ cond (is_record header v) (v.begin + n * recsize header + last_share header v) (v.begin + vsize header v)
 later header n v =
-    ap (λ (t : Bool). cond (is_record header v) (cond t 0 (v.begin + (suc n - 1) * recsize header + last_share header v)) (v.begin + vsize header v)) (not_zero n)
+    ap (λ (t : Bool). cond (is_record header v) (cond t 0 (v.begin + (suc n - 1) * recsize header + last_share header v)) (v.begin + vsize header v)) (equal_suc n)
     ∙ ap (λ (m : ℕ). cond (is_record header v) (v.begin + m * recsize header + last_share header v) (v.begin + vsize header v))
     (let o : suc n - 1 ≡ n = omega arith in o)
 

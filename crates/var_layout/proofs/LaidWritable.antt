@@ -17,12 +17,16 @@ use Rattle.nc_base.specs.declared.script.Align.{Align}
 use Rattle.nc_base.specs.declared.errors.LayoutErr.TheVariants as fault
 use Rattle.serial_spec.specs.Limits.{most_dims, most_vars, most_dims_of_var}
 use Rattle.serial_spec.specs.Layout.{vsize, is_record, placed, begins}
-use Rattle.serial_spec.specs.HeaderGrammar.{bad_id, begin_width, is_sound, is_writable, is_writable_list, is_writable_dim, is_writable_attr, is_writable_var, fits_field, fits_count, is_type}
+use Rattle.serial_spec.specs.HeaderBytes.{begin_width}
+use Rattle.serial_spec.specs.HeaderFaults.{bad_id}
+use Rattle.serial_spec.specs.SoundHeaders.{is_sound, is_writable, is_writable_list, is_writable_dim, is_writable_attr, is_writable_var, fits_field, fits_count, is_type}
 use Rattle.serial_spec.specs.Redefinition.{is_large_var, size_fault}
 use Rattle.var_layout.specs.Begins.{lies_too_far, HasPlace}
 use Rattle.var_layout.specs.Unplaced.{is_unplaced, has_writable_names, has_writable_parts}
 use Rattle.var_layout.proofs.CreatedFiles.{in_place, near_end, fixed_fits, record_fits, length-placed}
-use Rattle.var_layout.proofs.LaidOut.{Unplaced, unplaced, Lies, lies_at, get_there, laid_sound}
+use Rattle.var_layout.proofs.LaidPlaces.{Lies, lies_at}
+use Rattle.var_layout.proofs.LaidApart.{get_there}
+use Rattle.var_layout.proofs.LaidOut.{Unplaced, unplaced, laid_sound}
 
 -- ---- tests of lists
 

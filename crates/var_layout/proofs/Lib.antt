@@ -5,5 +5,8 @@ pub mod WrittenLengths
 pub mod ElementPlaces
 pub mod Searches
 pub mod CreatedFiles
+pub mod LaidKept
+pub mod LaidPlaces
+pub mod LaidApart
 pub mod LaidOut
 pub mod LaidWritable

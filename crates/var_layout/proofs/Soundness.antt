@@ -14,7 +14,10 @@ use Rattle.nc_base.specs.declared.header.Var.{Var}
 use Rattle.nc_base.specs.declared.errors.HeaderErr.TheVariants as fault
 use Rattle.serial_spec.specs.Limits.{file_limit}
 use Rattle.serial_spec.specs.Layout.{slab, vsize, is_record, recsize, record_size, record_slabs, record_variables, record_share, last_share, round_up}
-use Rattle.serial_spec.specs.HeaderGrammar.{is_sound, header_len, first_check, fault_if, first_with, two_record_dims, record_later, bad_id, is_too_large, all_ones, measure, past_bound, keeps_bound}
+use Rattle.serial_spec.specs.HeaderBytes.{header_len}
+use Rattle.serial_spec.specs.HeaderGrammar.{all_ones}
+use Rattle.serial_spec.specs.HeaderFaults.{first_check, fault_if, first_with, two_record_dims, record_later, bad_id, is_too_large, measure, past_bound, keeps_bound}
+use Rattle.serial_spec.specs.SoundHeaders.{is_sound}
 use Rattle.var_layout.specs.Capped.{capped}
 
 -- ---- each variable keeps its bound

@@ -8,7 +8,7 @@ use Rattle.serial_spec.proofs.KeepLaws.{count_long}
 use Rattle.nc_base.specs.declared.header.Header.{Header}
 use Rattle.nc_base.specs.declared.header.Var.{Var}
 use Rattle.serial_spec.specs.Layout.{vsize}
-use Rattle.serial_spec.specs.HeaderGrammar.{count, count_width, begin_width, tag, list_of, name, number_of, dimension, attribute, variable, magic, canon, header_len}
+use Rattle.serial_spec.specs.HeaderBytes.{count, count_width, begin_width, tag, list_of, name, number_of, dimension, attribute, variable, magic, canon, header_len}
 use Rattle.var_layout.specs.Capped.{capped}
 
 pub list_len : {A : Type 0} (version t : ℕ) (entry : A → List ℕ) (xs : List A)

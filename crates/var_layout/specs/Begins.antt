@@ -9,7 +9,7 @@ use Rattle.nc_base.specs.declared.header.Var.{Var}
 use Rattle.nc_base.specs.declared.script.Align.{Align}
 use Rattle.serial_spec.specs.Limits.{file_limit}
 use Rattle.serial_spec.specs.Layout.{round_up, vsize, fixed_variables, end_of_fixed, begins}
-use Rattle.serial_spec.specs.HeaderGrammar.{header_len}
+use Rattle.serial_spec.specs.HeaderBytes.{header_len}
 use Rattle.serial_spec.specs.Redefinition.{Numbered, fixed_of, records_in, is_far_begin}
 
 abbrev pub fixed_end : Header → Align → ℕ → ℕ → ℕ

@@ -4,7 +4,7 @@
 use Rattle.std.specs.Prelude.{◌≡◌, ℕ, ◌+◌, map, if◌then◌else◌}
 use Rattle.nc_base.specs.declared.header.Header.{Header}
 use Rattle.nc_base.specs.declared.header.Var.{Var}
-use Rattle.serial_spec.specs.HeaderGrammar.{header_len}
+use Rattle.serial_spec.specs.HeaderBytes.{header_len}
 use Rattle.serial_spec.specs.Layout.{greatest, is_record, last_share, recsize, end_of}
 use Rattle.var_layout.specs.Capped.{capped}
 use Rattle.var_layout.specs.declared.measures.Measures.{Measures}

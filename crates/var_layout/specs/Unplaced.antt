@@ -5,7 +5,9 @@ use Rattle.std.specs.Prelude.{length, Bool, not, ◌&&◌, ◌==◌}
 use Rattle.std.specs.List.{list_any, list_all}
 use Rattle.nc_base.specs.declared.header.Header.{Header}
 use Rattle.nc_base.specs.declared.header.Var.{Var}
-use Rattle.serial_spec.specs.HeaderGrammar.{is_version, counts_are_small, two_record_dims, record_later, bad_id, fits_count, is_type, is_writable_list, is_writable_dim, is_writable_attr}
+use Rattle.serial_spec.specs.HeaderBytes.{is_version}
+use Rattle.serial_spec.specs.HeaderFaults.{two_record_dims, record_later, bad_id}
+use Rattle.serial_spec.specs.SoundHeaders.{counts_are_small, fits_count, is_type, is_writable_list, is_writable_dim, is_writable_attr}
 
 -- a version, counts within the limits, ids in range, one record dimension at most and that only first, and no record
 abbrev pub is_unplaced : Header → Bool

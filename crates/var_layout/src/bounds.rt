@@ -2,7 +2,7 @@
 ghost use Rattle.std.specs.Prelude.{◌≡◌, ◌==◌, ℕ, length};
 ghost use Rattle.std.specs.Result.{result_err};
 ghost use Rattle.serial_spec.specs.Layout as layout;
-ghost use Rattle.serial_spec.specs.HeaderGrammar as grammar;
+ghost use Rattle.serial_spec.specs.HeaderFaults as faults;
 ghost use Rattle.var_layout.specs.Capped.{capped};
 
 use crate::capped;
@@ -16,7 +16,7 @@ use nc_base::{FILE_LIMIT, Header, Var};
 pub fn keeps_bound(header: &Header, lone: bool, size: u64, before: u64, var: &Var) -> bool
     requires lone { lone ≡ (length (layout.record_slabs header.now) == 1) }
     requires size { size ≡ capped (layout.recsize header.now) }
-    ensures { (n : ℕ) → before ≡ capped n → result ≡ grammar.keeps_bound header.now n var.now }
+    ensures { (n : ℕ) → before ≡ capped n → result ≡ faults.keeps_bound header.now n var.now }
 {
     let bytes = vsize_of(header, var);
     let fits = bytes < FILE_LIMIT && capped::sum(var.begin, bytes) < FILE_LIMIT;
@@ -31,7 +31,7 @@ pub fn keeps_bound(header: &Header, lone: bool, size: u64, before: u64, var: &Va
 /// Whether each variable keeps its bound: its vsize, and its begin plus its vsize, are below 2^62, and for a record
 /// variable the vsizes of the record variables up to it, and its end in the last record; else the least that does not.
 pub fn measure(header: &Header) -> Result<(), usize>
-    ensures { result_err result ≡ grammar.measure header.now }
+    ensures { result_err result ≡ faults.measure header.now }
 {
     let lone = is_lone(header);
     let size = record_size(header, lone);

@@ -2,7 +2,8 @@
 ghost use Rattle.std.specs.Prelude.{◌≡◌, ◌==◌, ◌<◌, ◌≤◌, ◌^◌, ℕ, true, length};
 ghost use Rattle.nc_base.specs.declared.header.Header.{Header};
 ghost use Rattle.serial_spec.specs.Layout as layout;
-ghost use Rattle.serial_spec.specs.HeaderGrammar.{is_sound, header_len};
+ghost use Rattle.serial_spec.specs.HeaderBytes.{header_len};
+ghost use Rattle.serial_spec.specs.SoundHeaders.{is_sound};
 ghost use Rattle.var_layout.specs.Capped.{capped};
 
 use crate::capped;

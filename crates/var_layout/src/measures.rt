@@ -1,7 +1,8 @@
 // What the variables of a header come to, measured once.
 ghost use Rattle.std.specs.Prelude.{◌≡◌, ◌==◌, ◌<◌, ◌^◌, true, length};
 ghost use Rattle.serial_spec.specs.Layout as layout;
-ghost use Rattle.serial_spec.specs.HeaderGrammar.{is_sound, header_len};
+ghost use Rattle.serial_spec.specs.HeaderBytes.{header_len};
+ghost use Rattle.serial_spec.specs.SoundHeaders.{is_sound};
 ghost use Rattle.var_layout.specs.Capped.{capped};
 ghost use Rattle.var_layout.specs.Measures.{first_end, record_end, AreMeasures};
 

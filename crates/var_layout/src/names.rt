@@ -1,12 +1,12 @@
 // Variables and dimensions by their names.
 ghost use Rattle.std.specs.Prelude.{◌≡◌};
-ghost use Rattle.serial_spec.specs.RankMachine as machine;
+ghost use Rattle.serial_spec.specs.Looking as looks;
 
 use nc_base::Header;
 
 /// The first variable of this name.
 pub fn find_var(header: &Header, name: &[u8]) -> Option<usize>
-    ensures { result ≡ machine.find_var header.now name.now }
+    ensures { result ≡ looks.find_var header.now name.now }
 {
     header
         .vars
@@ -17,7 +17,7 @@ pub fn find_var(header: &Header, name: &[u8]) -> Option<usize>
 
 /// The first dimension of this name.
 pub fn find_dim(header: &Header, name: &[u8]) -> Option<usize>
-    ensures { result ≡ machine.find_dim header.now name.now }
+    ensures { result ≡ looks.find_dim header.now name.now }
 {
     header
         .dims

@@ -4,8 +4,8 @@ ghost use Rattle.std.specs.Result.{result_err};
 ghost use Rattle.nc_base.specs.declared.errors.LayoutErr.TheVariants as fault;
 ghost use Rattle.serial_spec.specs.Layout.{begins, placed, vsize};
 ghost use Rattle.serial_spec.specs.Layout as layout;
-ghost use Rattle.serial_spec.specs.HeaderGrammar.{is_sound, is_writable};
-ghost use Rattle.serial_spec.specs.HeaderGrammar as grammar;
+ghost use Rattle.serial_spec.specs.SoundHeaders.{is_sound, is_writable};
+ghost use Rattle.serial_spec.specs.HeaderBytes as header_bytes;
 ghost use Rattle.serial_spec.specs.Redefinition.{layout_fault, size_fault, is_large_var};
 ghost use Rattle.var_layout.specs.Begins as spec;
 ghost use Rattle.var_layout.specs.Begins.{lies_too_far, far_fixed, far_record, fixed_end, HasPlace};
@@ -53,9 +53,9 @@ pub fn first_large(header: &Header) -> Option<usize>
 
 /// Refuses a variable or a header that is too large.
 fn check_sizes(header: &Header, len: u64) -> Result<(), LayoutErr>
-    requires { len ≡ capped (grammar.header_len header.now) }
+    requires { len ≡ capped (header_bytes.header_len header.now) }
     ensures fault { result_err result ≡ size_fault header.now }
-    ensures small { OnOk result ((len ≡ grammar.header_len header.now) × (len ≤ 2 ^ 20)) }
+    ensures small { OnOk result ((len ≡ header_bytes.header_len header.now) × (len ≤ 2 ^ 20)) }
 {
     if let Some(k) = first_large(header) {
         return Err(LayoutErr::VarSize(k));
@@ -81,7 +81,7 @@ fn end_after(header: &Header, begin: u64, var: &Var) -> Option<u64>
 
 /// Where the fixed variables end, which come first in the order of the list; refuses the first that lies too far.
 fn end_of_fixed(header: &Header, align: &Align, len: u64) -> Result<u64, LayoutErr>
-    requires len { (len ≡ grammar.header_len header.now) × (len ≤ 2 ^ 20) }
+    requires len { (len ≡ header_bytes.header_len header.now) × (len ≤ 2 ^ 20) }
     requires header_align { (0 < align.now.header) × (align.now.header ≤ 2 ^ 20) }
     requires var_align { (0 < align.now.var) × (align.now.var ≤ 2 ^ 20) }
     ensures fault { result_err result ≡ option_map (λ v. fault.BeginRange v.0) (far_fixed (begins header.now align.now len)) }
@@ -118,7 +118,7 @@ fn check_records(header: &Header, align: &Align, len: u64, first: u64) -> Result
 
 /// Where the records begin; refuses a layout in the order of `lay_out`.
 fn check_layout(header: &Header, align: &Align, len: u64) -> Result<u64, LayoutErr>
-    requires len { len ≡ capped (grammar.header_len header.now) }
+    requires len { len ≡ capped (header_bytes.header_len header.now) }
     requires header_align { (0 < align.now.header) × (align.now.header ≤ 2 ^ 20) }
     requires var_align { (0 < align.now.var) × (align.now.var ≤ 2 ^ 20) }
     ensures fault { result_err result ≡ layout_fault header.now align.now }
@@ -178,7 +178,7 @@ pub fn lay_out(header: &mut Header, align: &Align) -> Result<(), LayoutErr>
     requires header_align { (0 < align.now.header) × (align.now.header ≤ 2 ^ 20) }
     requires var_align { (0 < align.now.var) × (align.now.var ≤ 2 ^ 20) }
     ensures fault { result_err result ≡ layout_fault header.old align.now }
-    ensures begins { OnOk result (header.new ≡ begins header.old align.now (grammar.header_len header.old)) }
+    ensures begins { OnOk result (header.new ≡ begins header.old align.now (header_bytes.header_len header.old)) }
     ensures sound { OnOk result (is_sound header.new ≡ true) }
     ensures writable { OnOk result (has_writable_parts header.old ≡ true → is_writable header.new ≡ true) }
     ensures unchanged { OnErr result (header.new ≡ header.old) }

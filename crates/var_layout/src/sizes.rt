@@ -1,7 +1,7 @@
 // The sizes of one variable.
 ghost use Rattle.std.specs.Prelude.{◌≡◌, ◌<◌, ◌^◌, true, map, length, slice_get, IfSome, Some};
 ghost use Rattle.serial_spec.specs.Layout as layout;
-ghost use Rattle.serial_spec.specs.HeaderGrammar.{is_sound};
+ghost use Rattle.serial_spec.specs.SoundHeaders.{is_sound};
 ghost use Rattle.var_layout.specs.Capped.{capped};
 
 use crate::capped;

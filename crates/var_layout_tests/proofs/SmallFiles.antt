@@ -4,7 +4,8 @@ use Rattle.std.specs.Prelude.{slice_get}
 use Rattle.nc_base.specs.declared.header.Header.{Header}
 use Rattle.nc_base.specs.declared.header.Var.{Var}
 use Rattle.nc_base.specs.declared.header.NcType.TheVariants.{Short, Int}
-use Rattle.serial_spec.specs.HeaderGrammar.{canon, is_sound}
+use Rattle.serial_spec.specs.HeaderBytes.{canon}
+use Rattle.serial_spec.specs.SoundHeaders.{is_sound}
 use Rattle.serial_spec.specs.Place.{IsElement, place}
 
 abbrev pub two_records : Header

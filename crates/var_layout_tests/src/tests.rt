@@ -1,7 +1,8 @@
 // Layouts of small datasets.
 ghost use Rattle.std.specs.Prelude.{◌≡◌, ◌<◌, ◌≤◌, ◌^◌, [], ◌∷◌, true, IfOk};
 ghost use Rattle.nc_base.specs.declared.header.NcType.TheVariants.{Short, Int};
-ghost use Rattle.serial_spec.specs.HeaderGrammar.{is_sound, is_version};
+ghost use Rattle.serial_spec.specs.HeaderBytes.{is_version};
+ghost use Rattle.serial_spec.specs.SoundHeaders.{is_sound};
 ghost use Rattle.var_layout.specs.Unplaced.{is_unplaced};
 
 use nc_base::{

@@ -9,7 +9,7 @@ use Rattle.nc_base.specs.declared.request.Region.{Region}
 use Rattle.nc_base.specs.declared.request.Direction.{Direction}
 use Rattle.nc_base.specs.declared.answer.Code.{Code}
 use Rattle.nc_base.specs.declared.answer.Code.TheVariants as code
-use Rattle.serial_spec.specs.HeaderGrammar.{header_len}
+use Rattle.serial_spec.specs.HeaderBytes.{header_len}
 use Rattle.serial_spec.specs.Layout.{product, end_of}
 use Rattle.serial_spec.specs.Limits.{most_elements, record_limit, file_limit}
 use Rattle.serial_spec.specs.Records.{records_of}

@@ -1,17 +1,11 @@
 -- Counts and positions, one dimension more.
-use Rattle.std.proofs.Common.{◌≡◌, ℕ, ◌+◌, ◌-◌, ◌*◌, ◌<◌, ◌∙◌, ap, sym, List, [], ◌∷◌, length, take, get_or, zip, arith}
+use Rattle.std.proofs.Common.{◌≡◌, ℕ, ◌+◌, ◌-◌, ◌*◌, ◌<◌, ◌∙◌, ap, sym, List, length, take, get_or, zip, arith}
 use Rattle.std.specs.Prelude.{sum_by}
-use Rattle.std.proofs.lemmas.List.{take_more}
 use Rattle.std.proofs.lemmas.List.Sums.{sum_by_more}
 use Rattle.std.proofs.lemmas.Slice.Zip.{length-zip, get_or-zip}
-use Rattle.std.proofs.Math.Nat.{mul-one}
 use Rattle.serial_spec.specs.Layout.{product}
 use Rattle.var_layout.specs.Capped.{capped}
-use Rattle.var_layout.proofs.Capping.{capped_product, product-append}
-
-product_more : (xs : List ℕ) (i d : ℕ) → i < length xs → product (take (i + 1) xs) ≡ product (take i xs) * get_or xs i d
-product_more xs i d h =
-    ap product (take_more xs i d h) ∙ product-append (take i xs) (get_or xs i d ∷ []) ∙ ap (λ (n : ℕ). product (take i xs) * n) (mul-one (get_or xs i d))
+use Rattle.var_layout.proofs.Capping.{capped_product, product_more}
 
 pub one_more : (xs : List ℕ) (i d n : ℕ) → i < length xs → n ≡ capped (product (take i xs)) → capped (n * get_or xs i d) ≡ capped (product (take (i + 1) xs))
 one_more xs i d n h e =

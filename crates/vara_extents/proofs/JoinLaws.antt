@@ -7,6 +7,7 @@ use Rattle.std.proofs.lemmas.List.{append_assoc}
 use Rattle.list_laws.proofs.Ranges.{range_append}
 use Rattle.nc_base.specs.declared.plan.Extent.{Extent}
 use Rattle.vara_extents.specs.Joined.{joined_to, joined, spans, IsNotNext, IsJoined}
+use Rattle.list_laws.proofs.Places.{drop_at}
 
 -- ---- one extent before joined ones
 
@@ -60,11 +61,6 @@ join_far e d es h =
     ∙ ap (λ (ds : List Extent). e ∷ ds) (sym first.2)
 
 -- ---- elements one after another
-
-pub drop_at : {A : Type 0} (xs : List A) (k : ℕ) (x : A) → slice_get xs k ≡ Some x → drop k xs ≡ x ∷ drop (suc k) xs
-drop_at [] k x h = cc
-drop_at (y ∷ xs) zero x h = let same : y ≡ x = cc in ap (λ z. z ∷ xs) same
-drop_at (y ∷ xs) (suc k) x h = drop_at xs k x h
 
 -- so many extents of one length, the first at this place and each next one where the one before it ends
 pub run_joined : (es : List Extent) (len k n at : ℕ) → ((i : ℕ) → i < suc n → slice_get es (k + i) ≡ Some (extent (at + i * len) len))

@@ -11,10 +11,11 @@ use Rattle.serial_spec.specs.ExternalForm.{size_of}
 use Rattle.serial_spec.specs.Layout.{product}
 use Rattle.serial_spec.specs.Place.{row, place, IsIndex}
 use Rattle.serial_spec.specs.Request.{coordinates, index_at, elements, places}
-use Rattle.serial_spec.proofs.ElementLaws.{get_map, length-coordinates, coordinates_at}
+use Rattle.serial_spec.proofs.ElementLaws.{length-coordinates, coordinates_at}
 use Rattle.vara_extents.specs.Joined.{element_extents, joined, joined_to}
 use Rattle.vara_extents.specs.Numbered.{coordinates_of, index_of, AreRuns}
 use Rattle.vara_extents.proofs.JoinLaws.{run_joined}
+use Rattle.list_laws.proofs.Maps.{entry_map}
 
 some_counts : (n p k : ℕ) → k < n * p → 1 ≤ p
 some_counts n zero k h = absurd (omega arith)
@@ -38,14 +39,14 @@ numbered_at counts k h =
     ap (λ (m : ℕ). slice_get (coordinates counts) m) (sym (numbered_row counts k h)) ∙ coordinates_at counts (coordinates_of counts k) (numbered_index counts k h)
 
 pub element_at : (g : Region) (k : ℕ) → k < product g.count → slice_get (elements g) k ≡ Some (index_of g k)
-element_at g k h = get_map (λ c. index_at g.start g.stride c) (coordinates g.count) k (coordinates_of g.count k) (numbered_at g.count k h)
+element_at g k h = entry_map (λ c. index_at g.start g.stride c) (coordinates g.count) k (coordinates_of g.count k) (numbered_at g.count k h)
 
 pub place_at : (header : Header) (v : Var) (g : Region) (k : ℕ) → k < product g.count → slice_get (places header v g) k ≡ Some (place header v (index_of g k))
-place_at header v g k h = get_map (λ i. place header v i) (elements g) k (index_of g k) (element_at g k h)
+place_at header v g k h = entry_map (λ i. place header v i) (elements g) k (index_of g k) (element_at g k h)
 
 pub extent_at : (header : Header) (v : Var) (g : Region) (k : ℕ) → k < product g.count
     → slice_get (element_extents header v g) k ≡ Some (record { at = place header v (index_of g k); len = size_of v.kind })
-extent_at header v g k h = get_map (λ x. record { at = x; len = size_of v.kind }) (places header v g) k (place header v (index_of g k)) (place_at header v g k h)
+extent_at header v g k h = entry_map (λ x. record { at = x; len = size_of v.kind }) (places header v g) k (place header v (index_of g k)) (place_at header v g k h)
 
 pub length-places : (header : Header) (v : Var) (g : Region) → length (places header v g) ≡ product g.count
 length-places header v g =

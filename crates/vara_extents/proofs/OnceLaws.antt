@@ -13,7 +13,7 @@ use Rattle.nc_base.specs.declared.header.Var.{Var}
 use Rattle.nc_base.specs.declared.plan.Post.{Post}
 use Rattle.nc_base.specs.declared.request.Region.{Region}
 use Rattle.serial_spec.specs.ExternalForm.{size_of}
-use Rattle.serial_spec.specs.HeaderGrammar.{is_sound}
+use Rattle.serial_spec.specs.SoundHeaders.{is_sound}
 use Rattle.serial_spec.specs.Layout.{product}
 use Rattle.serial_spec.specs.Place.{row, place, IsIndex, AreApart}
 use Rattle.serial_spec.specs.Request.{index_at, places}

@@ -44,7 +44,7 @@ pub record RowStep (header : Header) (ids starts counts strides : List ℕ) (num
       ≡ before * product (lengths_of header ids) + row_of header ids starts counts strides number
   pub rows : before * len + (s + number / inner * t) ≤ before * product (lengths_of header ids) + row_of header ids starts counts strides number
 
-some_block : (n p k : ℕ) → k < n * p → (1 ≤ n) × (1 ≤ p)
+pub some_block : (n p k : ℕ) → k < n * p → (1 ≤ n) × (1 ≤ p)
 some_block zero p k h = absurd (omega arith)
 some_block (suc n) zero k h = absurd (omega arith)
 some_block (suc n) (suc p) k h = (omega arith, omega arith)

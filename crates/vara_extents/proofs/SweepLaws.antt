@@ -8,7 +8,7 @@ use Rattle.std.specs.List.{swap, All}
 use Rattle.std.specs.List.Sorted.{IsPermutation, IsSortedBy}
 use Rattle.std.specs.Ordering.{is_lt, nat_cmp, ordering_then}
 use Rattle.std.specs.declared.cmp.Ordering.TheVariants.{Less, Equal, Greater}
-use Rattle.std.proofs.lemmas.Bool.{both_ways, ltb-true, lt-ltb, le-ltb, eqb-true, eq-eqb, and_from, and_parts, or_cases, or_left, or_right, or_parts, cases_lt, cases_eq}
+use Rattle.std.proofs.lemmas.Bool.{both_ways, ltb-true, lt-ltb, le-ltb, eqb-true, eq-eqb, and_from, and_parts, or_cases, or_left, or_right, or_parts, cases_lt, cases_eq, and_right}
 use Rattle.std.proofs.lemmas.Cmp.{nat_list_cmp_total}
 use Rattle.std.proofs.lemmas.Nat.{mul-le}
 use Rattle.std.proofs.lemmas.List.{get_or-drop, get_or_default, length-drop}
@@ -23,10 +23,6 @@ use Rattle.serial_spec.specs.RegionCheck.{has_element}
 use Rattle.vara_extents.specs.Boxes.{boxes_meet, is_past, meets_any, some_meet, AreByStart, BeginsBy}
 
 -- ---- past the last index of a box
-
-and_false : (a b : Bool) → b ≡ false → (a && b) ≡ false
-and_false true b e = e
-and_false false b e = refl
 
 -- an index that is not before one that is past the box is past it too
 past_on : (starts counts xs ys : List ℕ) → is_past starts counts xs ≡ true → is_lt (slice_cmp nat_cmp ys xs) ≡ false → is_past starts counts ys ≡ true
@@ -81,7 +77,7 @@ past_apart (s ∷ starts) (n ∷ counts) (t ∷ others) (m ∷ lengths) h =
         λ j. le-ltb (max s t) (min (s + n) (t + m)) (omega (arith, far)) j && boxes_meet starts counts others lengths
     by_case again (inr e) =
         let both = and_parts (eqb (t + 1) (s + n)) (is_past starts counts others) e in
-        and_false (ltb (max s t) (min (s + n) (t + m))) (boxes_meet starts counts others lengths) (again both.1)
+        and_right (ltb (max s t) (min (s + n) (t + m))) (boxes_meet starts counts others lengths) (again both.1)
 past_apart (s ∷ starts) (n ∷ counts) (t ∷ others) [] h = refl
 past_apart (s ∷ starts) (n ∷ counts) [] lengths h = no_false h
 past_apart (s ∷ starts) [] others lengths h = no_false h

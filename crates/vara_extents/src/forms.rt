@@ -1,7 +1,7 @@
 // What a form leaves out.
 ghost use Rattle.std.specs.Prelude.{◌≡◌, ◌<◌, [], length, map, replicate, true, slice_get, IfOk, IfSome, if◌then◌else◌, ◌==◌, ℕ, List};
 ghost use Rattle.nc_base.specs.declared.request.Form.TheVariants as form;
-ghost use Rattle.serial_spec.specs.HeaderGrammar.{is_sound};
+ghost use Rattle.serial_spec.specs.SoundHeaders.{is_sound};
 ghost use Rattle.serial_spec.specs.RegionCheck as spec;
 
 use nc_base::{Form, Given, Header, Memory, Region, SizeList, Var};

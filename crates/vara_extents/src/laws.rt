@@ -7,7 +7,7 @@ ghost use Rattle.nc_base.specs.declared.header.Var.{Var};
 ghost use Rattle.nc_base.specs.declared.plan.Post.{Post};
 ghost use Rattle.nc_base.specs.declared.request.Region.{Region};
 ghost use Rattle.serial_spec.specs.ExternalForm.{size_of};
-ghost use Rattle.serial_spec.specs.HeaderGrammar.{is_sound};
+ghost use Rattle.serial_spec.specs.SoundHeaders.{is_sound};
 ghost use Rattle.serial_spec.specs.Layout.{product, end_of};
 ghost use Rattle.serial_spec.specs.Records.{records_of};
 ghost use Rattle.serial_spec.specs.Request.{places, put};

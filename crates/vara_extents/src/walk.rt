@@ -1,7 +1,7 @@
 // The extents of a region, one after another.
 ghost use Rattle.std.specs.Prelude.{◌≡◌, ℕ, ◌+◌, ◌*◌, ◌<◌, ◌≤◌, ◌^◌, ◌∷◌, length, slice_get, true, IfSome};
 ghost use Rattle.serial_spec.specs.ExternalForm as external;
-ghost use Rattle.serial_spec.specs.HeaderGrammar.{is_sound};
+ghost use Rattle.serial_spec.specs.SoundHeaders.{is_sound};
 ghost use Rattle.vara_extents.specs.Accepted.{IsAccepted};
 ghost use Rattle.vara_extents.specs.Joined.{joined_to, extents_of};
 ghost use Rattle.vara_extents.specs.Left.{extents_from, extents_left, run_place, AreReady, IsRunOf, IsReady};
@@ -52,7 +52,7 @@ struct Run {
 impl<'a> Runs<'a> {
     ghost use Rattle.std.specs.Prelude.{◌≡◌, ◌*◌, ◌<◌, ◌≤◌, ◌+◌, ◌^◌, IfSome, slice_get, true};
     ghost use Rattle.serial_spec.specs.ExternalForm as external;
-    ghost use Rattle.serial_spec.specs.HeaderGrammar.{is_sound};
+    ghost use Rattle.serial_spec.specs.SoundHeaders.{is_sound};
     ghost use Rattle.var_layout.specs.Measures.{AreMeasures};
     ghost use Rattle.vara_extents.specs.Accepted.{IsAccepted};
     ghost use Rattle.vara_extents.specs.Joined.{extents_of};
@@ -199,7 +199,7 @@ struct Taken {
 
 impl<'a> Extents<'a> {
     ghost use Rattle.std.specs.Prelude.{◌≡◌, ◌∷◌, ◌<◌, ◌≤◌, ◌+◌, ◌^◌, IfSome, slice_get, true};
-    ghost use Rattle.serial_spec.specs.HeaderGrammar.{is_sound};
+    ghost use Rattle.serial_spec.specs.SoundHeaders.{is_sound};
     ghost use Rattle.var_layout.specs.Measures.{AreMeasures};
     ghost use Rattle.vara_extents.specs.Accepted.{IsAccepted};
     ghost use Rattle.vara_extents.specs.Joined.{joined_to, extents_of};

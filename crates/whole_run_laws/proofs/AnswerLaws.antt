@@ -34,7 +34,8 @@ use Rattle.join_laws.proofs.RankLaws.{hear_length}
 use Rattle.join_laws.proofs.WholeLaws.{get_map as mapped_from}
 use Rattle.whole_run_laws.specs.Told.{IsToldAt, meeting_call, told_at}
 use Rattle.whole_run_laws.proofs.Courses.{AreOn, first_on, goes_number, heard_by, hears_then, meets, meets_number, met_on, set_cases, solo_on, steps}
-use Rattle.whole_run_laws.proofs.ToldLaws.{answers_after, answers_of, answers_stay, IsLastTold, known_mark, meeting_told, solo_told}
+use Rattle.whole_run_laws.proofs.ToldLaws.{answers_after, answers_of, IsLastTold, known_mark, meeting_told, solo_told}
+use Rattle.whole_run_laws.proofs.AnswersStay.{answers_stay}
 
 -- ---- the number of a meeting's call
 

@@ -1,11 +1,11 @@
 -- The record count of a run: the greater of the old one and the greatest that a completed put needed.
-use Rattle.std.proofs.Common.{◌≡◌, ℕ, zero, suc, ◌<◌, ◌≤◌, refl, sym, ◌∙◌, ap, subst, inl, inr, ◌⊎◌, List, [], ◌∷◌, ◌++◌, map, set, max, Bool, true, false, cond, Option, Some, None, arith}
+use Rattle.std.proofs.Common.{◌≡◌, ℕ, zero, suc, ◌≤◌, refl, sym, ◌∙◌, ap, subst, inl, inr, ◌⊎◌, List, [], ◌∷◌, ◌++◌, map, set, max, true, false, Option, Some, None, arith}
 use Rattle.std.proofs.lemmas.List.{map-append}
 use Rattle.std.proofs.lemmas.Option.{slice_get_within, same_Some}
 use Rattle.std.proofs.lemmas.Bool.Decides.{eqb_tells}
-use Rattle.std.specs.Prelude.{fold, slice_get, nat_lt, ◌==◌}
+use Rattle.std.specs.Prelude.{fold, slice_get, ◌==◌}
 use Rattle.std.specs.List.{list_all}
-use borrow.Author.Tests.{ltb-true, ltb-false}
+use borrow.Author.Tests.{ltb-true}
 use Rattle.list_laws.proofs.Places.{entry_below, entry_set, entry_set_other}
 use Rattle.list_laws.proofs.Truth.{and_first, and_second}
 use Rattle.nc_base.specs.declared.answer.Pair.{Pair}
@@ -17,11 +17,11 @@ use Rattle.nc_base.specs.declared.step.Mark.{Mark}
 use Rattle.nc_base.specs.declared.step.Mark.TheVariants.{Meet, Solo}
 use Rattle.nc_base.specs.declared.step.MeetKind.{MeetKind}
 use Rattle.nc_base.specs.declared.step.Offer.{Offer}
-use Rattle.serial_spec.specs.FileStep.{after_puts, Counted, known_by, meeting, needs, raised, Setting, solo, told}
+use Rattle.serial_spec.specs.FileStep.{after_puts, Counted, known_by, meeting, needs, Setting, solo, told}
 use Rattle.serial_spec.specs.History.{is_of_rank_below, IsLegal}
 use Rattle.serial_spec.specs.Lawful.{is_lawful}
 use Rattle.serial_spec.specs.Layout.{greatest}
-use Rattle.serial_spec.specs.Records.{needed, needed_by, with_records}
+use Rattle.serial_spec.specs.Records.{needed, needed_by}
 use Rattle.serial_spec.specs.SerialEnd.{advance, after_mark, after_meeting, closed, first_going, first_state, Going, hears, offers_of, rank_offer, serial_from, setting_of}
 use Rattle.serial_spec.specs.SharedByte.{Puts}
 use Rattle.join_laws.proofs.RankLaws.{go_went, hear_known, Went}
@@ -29,15 +29,10 @@ use Rattle.join_laws.proofs.StepLaws.{meeting_within}
 use Rattle.join_laws.proofs.WholeLaws.{get_map as mapped_from}
 use Rattle.whole_run_laws.specs.Completed.{completed, completed_from, completed_puts, puts_asked, puts_at, puts_met, unless_told}
 use Rattle.whole_run_laws.proofs.Courses.{AreAlong, AreOn, first_along, Heard, heard_by, hears_then, mark_along, meets, offer_met, offers_met_long, set_cases, Stepped, steps}
+use Rattle.list_laws.proofs.Numbers.{same_le}
+use Rattle.serial_spec.proofs.CountLaws.{greatest_joined, raised_records}
 
 -- ---- counts
-
-raised_is : (s : Setting) (c : Counted) (n : ℕ) → (raised s c n).records ≡ max c.records n
-raised_is s c n = by (nat_lt c.records n) refl
-  where
-    by : (t : Bool) → nat_lt c.records n ≡ t → (cond t (record { file = with_records s.header.version c.file n; records = n }) c).records ≡ max c.records n
-    by true e = let l : c.records < n = ltb-true _ _ e in omega arith
-    by false e = let l : n ≤ c.records = ltb-false _ _ e in omega arith
 
 abbrev known_of : List Going → List ℕ
 known_of goings = map (λ g. g.rank.known) goings
@@ -55,14 +50,10 @@ completed_needs : (s : Setting) (puts : Puts) (pair : Option Pair) → needed_by
 completed_needs s puts None = refl
 completed_needs s puts (Some p) = refl
 
-greatest_both : (xs ys : List ℕ) → greatest (xs ++ ys) ≡ max (greatest xs) (greatest ys)
-greatest_both [] ys = omega arith
-greatest_both (x ∷ xs) ys = let h = greatest_both xs ys in omega arith
-
 needed_both : (header : Header) (a b : Puts) → needed_by header (a ++ b) ≡ max (needed_by header a) (needed_by header b)
 needed_both header a b =
     let f : ℕ × Post → ℕ = λ p. needed header p.1 in
-    ap (λ (xs : List ℕ). greatest xs) (map-append f a b) ∙ greatest_both (map f a) (map f b)
+    ap (λ (xs : List ℕ). greatest xs) (map-append f a b) ∙ greatest_joined (map f a) (map f b)
 
 -- ---- the greatest of the file's count and of those that the ranks know
 
@@ -70,12 +61,6 @@ pub record Counts (n : ℕ) (c : Counted) (goings : List Going) : Type 0 where
   pub count : c.records ≤ n
   pub known : (q : ℕ) (g : Going) → slice_get goings q ≡ Some g → g.rank.known ≤ n
   pub reached : n ≤ max c.records (greatest (known_of goings))
-
-no_less : (a b n : ℕ) → a ≡ b → b ≤ n → a ≤ n
-no_less a b n e h = omega arith
-
-le_two : (a b n : ℕ) → a ≤ b → b ≤ n → a ≤ n
-le_two a b n h k = omega arith
 
 -- ---- a meeting
 
@@ -94,7 +79,7 @@ module _ (s : Setting) (ranks k j n : ℕ) (ks : List MeetKind) (rest : List Mar
       let g = entry_below goings q (omega arith) in
       let at = meets s.header ranks k j q ks rest goings g.0 on g.1 in
       let same : at.asks.offer ≡ o = same_Some at.asks.offer o (sym (offer_met s.header ranks k j q ks rest goings g.0 on g.1) ∙ e) in
-      no_less o.known g.0.rank.known n (sym (ap (λ (z : Offer). z.known) same) ∙ at.asks.told) (counts.known q g.0 g.1)
+      same_le o.known g.0.rank.known n (sym (ap (λ (z : Offer). z.known) same) ∙ at.asks.told) (counts.known q g.0 g.1)
 
   met_most : (meeting s offers c).0.records ≤ max n asked
   met_most = meeting_within s offers c n counts.count offers_within
@@ -103,7 +88,7 @@ module _ (s : Setting) (ranks k j n : ℕ) (ks : List MeetKind) (rest : List Mar
   met_least =
       let known = greatest (map (λ o. known_by o.kind o.known) offers) in
       let file = after_puts s (puts_met offers) (told s (puts_met offers)) c.file in
-      both c.records asked known (meeting s offers c).0.records (raised_is s (record { file = file; records = c.records }) (max asked known))
+      both c.records asked known (meeting s offers c).0.records (raised_records s (record { file = file; records = c.records }) (max asked known))
     where
       both : (a b d m : ℕ) → m ≡ max a (max b d) → (a ≤ m) × (b ≤ m)
       both a b d m e = (omega arith, omega arith)
@@ -231,7 +216,7 @@ ends_known header (g ∷ goings) =
 
 closed_count : (s : Setting) (n : ℕ) (c : Counted) (goings : List Going) → Counts n c goings → (closed s (c, goings)).records ≡ n
 closed_count s n c goings counts =
-    raised_is s c (greatest (known_of (map (λ g. (advance s.header g).0) goings)))
+    raised_records s c (greatest (known_of (map (λ g. (advance s.header g).0) goings)))
     ∙ ap (λ (xs : List ℕ). max c.records (greatest xs)) (ends_known s.header goings)
     ∙ whole c.records (greatest (known_of goings)) counts.count (known_below goings n counts.known) counts.reached
   where
@@ -260,7 +245,7 @@ order_count s ranks n (m ∷ order) state known a counts =
 first_counts : (header : Header) (file : List ℕ) (calls : List (List Call)) → Counts header.records (record { file = file; records = header.records }) (map (first_going header) calls)
 first_counts header file calls = record {
   count = omega arith;
-  known = λ q g e. let own = mapped_from (first_going header) calls q g e in no_less g.rank.known header.records header.records (ap (λ (z : Going). z.rank.known) own.1.1) (omega arith);
+  known = λ q g e. let own = mapped_from (first_going header) calls q g e in same_le g.rank.known header.records header.records (ap (λ (z : Going). z.rank.known) own.1.1) (omega arith);
   reached = omega arith;
 }
 

@@ -1,7 +1,7 @@
 -- The ranks along a legal order: at each mark they stand at the offers of its step.
 use Rattle.std.proofs.Common.{◌≡◌, ℕ, zero, suc, ◌<◌, refl, sym, ◌∙◌, ap, subst, inl, inr, ◌⊎◌, List, [], ◌∷◌, ◌++◌, length, map, set, drop, Bool, true, false, cond, Option, Some, None, arith}
 use Rattle.std.proofs.lemmas.List.{length-map, length-set}
-use Rattle.std.proofs.lemmas.Option.{slice_get-map, same_Some}
+use Rattle.std.proofs.lemmas.Option.{same_Some}
 use Rattle.std.proofs.lemmas.Option.{slice_get_within}
 use Rattle.std.proofs.lemmas.Bool.Decides.{eqb_tells}
 use Rattle.std.specs.Prelude.{fold, slice_get, filter, ◌==◌}
@@ -29,6 +29,7 @@ use Rattle.run_laws.proofs.StandingLaws.{solo_goes}
 use Rattle.join_laws.proofs.RankLaws.{Went, Kinded, at_meeting, at_solo, go_went, hear_mode, hear_length}
 use Rattle.join_laws.proofs.StepLaws.{going_after, goings_long, replied, solo_of_is}
 use Rattle.join_laws.proofs.WholeLaws.{get_map as mapped_from}
+use Rattle.list_laws.proofs.Maps.{entry_map}
 
 -- ---- one rank
 
@@ -203,9 +204,6 @@ offer_at ((g, Some o') ∷ ps) zero p o f e h =
     ap (λ (z : Going × Option Offer). z.1) same ∙ h
 offer_at ((g, Some o') ∷ ps) (suc q) p o f e h = offer_at ps q p o (λ r z d. f (suc r) z d) e h
 
-pub mapped_at : {X Y : Type 0} (f : X → Y) (xs : List X) (q : ℕ) (x : X) → slice_get xs q ≡ Some x → slice_get (map f xs) q ≡ Some (f x)
-mapped_at {X} {Y} f xs q x e = slice_get-map f xs q ∙ ap (λ (m : Option X). elim m as (λ z. Option Y) [ None ↦ None | Some z ↦ Some (f z) ]) e
-
 pub all_ask : (header : Header) (ranks k j : ℕ) (ks : List MeetKind) (rest : List Mark) (goings : List Going) → AreOn ranks k ks (Meet j ∷ rest) goings
     → AllAsk (map (advance header) goings)
 all_ask header ranks k j ks rest goings on q p e =
@@ -218,7 +216,7 @@ pub offer_met : (header : Header) (ranks k j q : ℕ) (ks : List MeetKind) (rest
 offer_met header ranks k j q ks rest goings g on e =
     let at = meets header ranks k j q ks rest goings g on e in
     offer_at (map (advance header) goings) q (advance header g) at.asks.offer (all_ask header ranks k j ks rest goings on)
-    (mapped_at (advance header) goings q g e) at.asks.is_offer
+    (entry_map (advance header) goings q g e) at.asks.is_offer
 
 pub offers_met_long : (header : Header) (ranks k j : ℕ) (ks : List MeetKind) (rest : List Mark) (goings : List Going) → AreOn ranks k ks (Meet j ∷ rest) goings
     → length (offers_of (map (advance header) goings)) ≡ length goings

@@ -13,7 +13,8 @@ use Rattle.nc_base.specs.declared.step.Mark.{Mark}
 use Rattle.nc_base.specs.declared.step.Mark.TheVariants.{Meet, Solo}
 use Rattle.serial_spec.specs.File.{read, written}
 use Rattle.serial_spec.specs.FileStep.{after_puts, Counted, known_by, needs, puts_of, raised, Setting, told}
-use Rattle.serial_spec.specs.HeaderGrammar.{count, count_width, is_sound}
+use Rattle.serial_spec.specs.HeaderBytes.{count, count_width}
+use Rattle.serial_spec.specs.SoundHeaders.{is_sound}
 use Rattle.serial_spec.specs.History.{is_of_rank_below, IsLegal}
 use Rattle.serial_spec.specs.Lawful.{is_lawful}
 use Rattle.serial_spec.specs.Layout.{greatest}
@@ -25,7 +26,7 @@ use Rattle.serial_spec.proofs.SaidLaws.{at-written_inside}
 use Rattle.var_layout.proofs.WrittenLengths.{canon_len}
 use Rattle.whole_run_laws.specs.Completed.{is_held, puts_at, puts_met}
 use Rattle.whole_run_laws.proofs.Courses.{AreAlong, first_along, mark_along, steps}
-use Rattle.whole_run_laws.proofs.FilledLaws.{read_all, read_kept}
+use Rattle.whole_run_laws.proofs.FilledFile.{read_all, read_kept}
 use Rattle.whole_run_laws.proofs.PastLaws.{AllFit, AllPast, first_fits, mark_fit, mark_past}
 use Rattle.whole_run_laws.proofs.ToldLaws.{offered_alone}
 

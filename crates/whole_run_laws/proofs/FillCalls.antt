@@ -18,35 +18,36 @@ use Rattle.serial_spec.specs.ExternalForm.{size_of}
 use Rattle.serial_spec.specs.File.{read}
 use Rattle.serial_spec.specs.FileStep.{Counted, Setting, told}
 use Rattle.serial_spec.specs.Fill.{fill_bytes, share_begin}
-use Rattle.serial_spec.specs.HeaderGrammar.{is_sound}
+use Rattle.serial_spec.specs.SoundHeaders.{is_sound}
 use Rattle.serial_spec.specs.History.{IsLegal}
 use Rattle.serial_spec.specs.Lawful.{is_lawful}
 use Rattle.serial_spec.specs.Layout.{inner_lengths, is_record, product}
 use Rattle.serial_spec.specs.Limits.{most_elements}
 use Rattle.serial_spec.specs.Place.{IsIndex, place}
-use Rattle.serial_spec.specs.RankMachine as machine
-use Rattle.serial_spec.specs.RankMachine.{code_of_look, find_var, fills, fills_record, is_record_past, look_fill, look_record, offers, no_posts, posts_of, Rank, step}
+use Rattle.serial_spec.specs.Looking as looks
+use Rattle.serial_spec.specs.Looking.{find_var, fills, is_record_past, look_fill, look_record}
+use Rattle.serial_spec.specs.RankMachine.{code_of_look, fills_record, offers, no_posts, posts_of, Rank, step}
 use Rattle.serial_spec.specs.SerialEnd.{advance, after_meeting, Going, offers_of, setting_of, state_after}
 use Rattle.run_laws.proofs.OrderLaws.{state_more}
 use Rattle.run_laws.proofs.StandingLaws.{comes_to_meeting}
 use Rattle.whole_run_laws.specs.Completed.{puts_at, puts_met}
 use Rattle.whole_run_laws.specs.Filling.{AllFill, filling, Fills, share_boxes}
 use Rattle.whole_run_laws.proofs.Courses.{AreAlong, meets, offer_met, offers_met_long}
-use Rattle.whole_run_laws.proofs.FilledLaws.{record_puts, record_reads}
-use Rattle.whole_run_laws.proofs.Hints.{some_rank}
+use Rattle.whole_run_laws.proofs.FilledRecord.{record_puts, record_reads}
 use Rattle.whole_run_laws.proofs.ToldLaws.{along_at}
+use Rattle.serial_spec.proofs.LawfulTests.{some_rank}
 
 -- a filling by name is that of the variable
 look_is : (header : Header) (name : List ℕ) (k number r ranks : ℕ) (v : Var) → find_var header name ≡ Some k → slice_get header.vars k ≡ Some v
     → look_fill header name number r ranks ≡ look_record header k number r ranks v
 look_is header name k number r ranks v e f =
-    ap (λ (m : Option ℕ). elim m as (λ z. machine.Look) [
-      | None ↦ machine.Refused code.ENotVar
-      | Some n ↦ elim (slice_get header.vars n) as (λ z. machine.Look) [ None ↦ machine.Refused code.ENotVar | Some w ↦ look_record header n number r ranks w ]
+    ap (λ (m : Option ℕ). elim m as (λ z. looks.Look) [
+      | None ↦ looks.Refused code.ENotVar
+      | Some n ↦ elim (slice_get header.vars n) as (λ z. looks.Look) [ None ↦ looks.Refused code.ENotVar | Some w ↦ look_record header n number r ranks w ]
     ]) e
-    ∙ ap (λ (m : Option Var). elim m as (λ z. machine.Look) [ None ↦ machine.Refused code.ENotVar | Some w ↦ look_record header k number r ranks w ]) f
+    ∙ ap (λ (m : Option Var). elim m as (λ z. looks.Look) [ None ↦ looks.Refused code.ENotVar | Some w ↦ look_record header k number r ranks w ]) f
 
-abbrev share_batch : machine.Look → Batch
+abbrev share_batch : looks.Look → Batch
 share_batch l = record { puts = posts_of l; gets = [] }
 
 -- in collective mode the rank meets with its share
@@ -72,10 +73,10 @@ of_records : (header : Header) (k number r ranks : ℕ) (v : Var) → code_of_lo
 of_records header k number r ranks v e =
     by (is_record header v) (nat_lt most_elements (share_begin (product (inner_lengths header v)) (r + 1) ranks - share_begin (product (inner_lengths header v)) r ranks) || is_record_past header number) e
   where
-    by : (a b : Bool) → code_of_look (elim a as (λ z. machine.Look) [
-      | false ↦ machine.Refused code.ENotRec
-      | true ↦ elim b as (λ z. machine.Look) [
-        | true ↦ machine.Refused code.ETooLarge
+    by : (a b : Bool) → code_of_look (elim a as (λ z. looks.Look) [
+      | false ↦ looks.Refused code.ENotRec
+      | true ↦ elim b as (λ z. looks.Look) [
+        | true ↦ looks.Refused code.ETooLarge
         | false ↦ fills k v number (share_boxes (inner_lengths header v) r ranks)
       ]
     ]) ≡ code.Ok → a ≡ true
@@ -93,7 +94,7 @@ module _ (s : Setting) (ranks j k number : ℕ) (name : List ℕ) (v : Var) (res
 
   accepted : (r : ℕ) (g : Going) → slice_get goings r ≡ Some g → code_of_look (look_record s.header k number r ranks v) ≡ code.Ok
   accepted r g e =
-      sym (ap (λ (l : machine.Look). code_of_look l) (look_is s.header name k number r ranks v found there)) ∙ (fill r g e).accepted
+      sym (ap (λ (l : looks.Look). code_of_look l) (look_is s.header name k number r ranks v found there)) ∙ (fill r g e).accepted
 
   shares_put : AllFill s.header k v number (offers_of (map (advance s.header) goings))
   shares_put r o e =
@@ -104,7 +105,7 @@ module _ (s : Setting) (ranks j k number : ℕ) (name : List ℕ) (v : Var) (res
       let at = meets s.header ranks along.met j r along.kinds_left rest goings g.0 along.on g.1 in
       let same : at.asks.offer ≡ o = same_Some at.asks.offer o (sym (offer_met s.header ranks along.met j r along.kinds_left rest goings g.0 along.on g.1) ∙ e) in
       fill_offer s.header name number ranks r g.0 o (fill r g.0 g.1) (at.asks.is_offer ∙ ap (λ (z : Offer). Some z) same)
-      ∙ ap (λ (l : machine.Look). posts_of l) (look_is s.header name k number r ranks v found there)
+      ∙ ap (λ (l : looks.Look). posts_of l) (look_is s.header name k number r ranks v found there)
       ∙ record_puts s.header k number r ranks v (accepted r g.0 g.1)
       ∙ ap (λ (n : ℕ). filling s.header k v number n r) (sym each)
 

@@ -6,27 +6,10 @@ use Rattle.list_laws.proofs.Truth.{and_first, and_second}
 use Rattle.nc_base.specs.declared.script.Hints.{Hints}
 use Rattle.nc_base.specs.declared.script.Script.{Script}
 use Rattle.serial_spec.specs.Lawful.{are_lawful_hints, is_lawful, is_within}
-
--- the first three tests
-first_tests : (script : Script) → is_lawful script ≡ true → (is_within 1 64 script.ranks ≡ true) × (are_lawful_hints script.hints ≡ true)
-first_tests script h =
-    let t11 = and_first _ _ h in
-    let t10 = and_first _ _ t11 in
-    let t9 = and_first _ _ t10 in
-    let t8 = and_first _ _ t9 in
-    let t7 = and_first _ _ t8 in
-    let t6 = and_first _ _ t7 in
-    let t5 = and_first _ _ t6 in
-    let t4 = and_first _ _ t5 in
-    let t3 = and_first _ _ t4 in
-    let t2 = and_first _ _ t3 in
-    (and_first _ _ t2, and_second _ _ t3)
+use Rattle.serial_spec.proofs.LawfulTests.{tests_of}
 
 at_least_one : (high n : ℕ) → is_within 1 high n ≡ true → 1 ≤ n
 at_least_one high n h = leb-true 1 n (and_first (nat_le 1 n) _ h)
-
-pub some_rank : (script : Script) → is_lawful script ≡ true → 1 ≤ script.ranks
-some_rank script h = at_least_one 64 script.ranks (first_tests script h).0
 
 pub record Buffers (hints : Hints) : Type 0 where
   pub cb : 1 ≤ hints.cb_buffer
@@ -35,7 +18,7 @@ pub record Buffers (hints : Hints) : Type 0 where
 
 pub some_buffers : (script : Script) → is_lawful script ≡ true → Buffers script.hints
 some_buffers script h =
-    let a7 = and_first _ _ (first_tests script h).1 in
+    let a7 = and_first _ _ (tests_of script h).hints in
     let a6 = and_first _ _ a7 in
     let a5 = and_first _ _ a6 in
     let a4 = and_first _ _ a5 in

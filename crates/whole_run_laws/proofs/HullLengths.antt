@@ -20,7 +20,7 @@ use Rattle.nc_base.specs.declared.step.Mark.TheVariants.{Meet, Solo}
 use Rattle.nc_base.specs.declared.step.Offer.{Offer}
 use Rattle.serial_spec.specs.DeviceCalls.{calls_from, collective_windows, domain_size, domains, first_of, get_bytes, gets_of, grow_to, hull_len, in_order, is_empty, last_of, loads, mark_calls, meeting_calls, not_empty, overlays, put_calls, run_calls, sieved, sieving_windows, solo_calls, store_records, windows}
 use Rattle.serial_spec.specs.FileStep.{Counted, Setting, end_for, meeting, puts_of, told}
-use Rattle.serial_spec.specs.HeaderGrammar.{count_width}
+use Rattle.serial_spec.specs.HeaderBytes.{count_width}
 use Rattle.serial_spec.specs.Lawful.{is_lawful}
 use Rattle.serial_spec.specs.Lists.{In}
 use Rattle.serial_spec.specs.Records.{needed_by}
@@ -28,6 +28,7 @@ use Rattle.serial_spec.specs.SerialEnd.{Going, advance, after_mark, closed, firs
 use Rattle.serial_spec.specs.SharedByte.{Puts, bytes_of, covered}
 use Rattle.whole_run_laws.specs.Transfers.{is_count_store, longest, transferred}
 use Rattle.whole_run_laws.proofs.Hints.{some_buffers}
+use Rattle.list_laws.proofs.Numbers.{le_two}
 
 -- ---- hulls
 
@@ -95,9 +96,6 @@ pub sieving_short : (buffer : ℕ) (bytes w : List ℕ) → 1 ≤ buffer → In 
 sieving_short buffer bytes w l h = sieved_short (length bytes) buffer bytes w l h
 
 -- ---- the calls of a step
-
-no_more : (a b n : ℕ) → a ≤ b → b ≤ n → a ≤ n
-no_more a b n h k = omega arith
 
 call_short : (a call : DiskCall) (n : ℕ) → a ≡ call → transferred a ≤ n → transferred call ≤ n
 call_short a call n e h = subst (λ (c : DiskCall). transferred c ≤ n) e h
@@ -184,10 +182,10 @@ solo_short hints s r o c call l m h =
   where
     by : In (put_calls s (sieving_windows hints.wr_buffer) (puts_of (r, o)) (length c.file)) call
         ⊎ In (flat_map loads (sieving_windows hints.rd_buffer (get_bytes s (gets_of o)))) call → transferred call ≤ max hints.wr_buffer hints.rd_buffer
-    by (inl k) = no_more (transferred call) hints.wr_buffer _
+    by (inl k) = le_two (transferred call) hints.wr_buffer _
         (put_short s (sieving_windows hints.wr_buffer) (puts_of (r, o)) (length c.file) hints.wr_buffer call
         (λ w g. sieving_short hints.wr_buffer (in_order (covered s.header (puts_of (r, o)))) w l g) k) (omega arith)
-    by (inr k) = no_more (transferred call) hints.rd_buffer _
+    by (inr k) = le_two (transferred call) hints.rd_buffer _
         (get_short (sieving_windows hints.rd_buffer (get_bytes s (gets_of o))) hints.rd_buffer call
         (λ w g. sieving_short hints.rd_buffer (get_bytes s (gets_of o)) w m g) k) (omega arith)
 
@@ -228,13 +226,13 @@ mark_short : (hints : Hints) (s : Setting) (state : Counted × List Going) (m : 
 mark_short hints s (c, goings) (Meet k) call a b d h = by (meeting_short hints s (offers_of (map (advance s.header) goings)) c call a h)
   where
     by : (transferred call ≤ hints.cb_buffer) ⊎ (is_count_store s.header call ≡ true) → Short hints s.header call
-    by (inl l) = inl (no_more (transferred call) hints.cb_buffer (longest hints) l (omega arith))
+    by (inl l) = inl (le_two (transferred call) hints.cb_buffer (longest hints) l (omega arith))
     by (inr e) = inr e
 mark_short hints s (c, goings) (Solo r n) call a b d h = by (rank_offer s goings r) h
   where
     by : (o : Option Offer) → In (elim o as (λ x. List DiskCall) [ None ↦ [] | Some p ↦ solo_calls hints s r p c ]) call → Short hints s.header call
     by None k = absurd k
-    by (Some o) k = inl (no_more (transferred call) (max hints.wr_buffer hints.rd_buffer) (longest hints) (solo_short hints s r o c call b d k) (omega arith))
+    by (Some o) k = inl (le_two (transferred call) (max hints.wr_buffer hints.rd_buffer) (longest hints) (solo_short hints s r o c call b d k) (omega arith))
 
 calls_short : (hints : Hints) (s : Setting) (state : Counted × List Going) (order : List Mark) (call : DiskCall) → 1 ≤ hints.cb_buffer → 1 ≤ hints.wr_buffer → 1 ≤ hints.rd_buffer
     → In (calls_from hints s state order) call → Short hints s.header call

@@ -1,8 +1,8 @@
 -- What a run leaves of each byte: what the last completed put that holds it says, else the old one.
-use Rattle.std.proofs.Common.{◌≡◌, ℕ, ◌+◌, ◌<◌, ◌≤◌, refl, sym, ◌∙◌, ap, inl, inr, ◌⊎◌, List, [], ◌∷◌, ◌++◌, length, map, set, Bool, true, false, cond, max, Option, Some, None, arith}
+use Rattle.std.proofs.Common.{◌≡◌, ℕ, ◌+◌, ◌<◌, ◌≤◌, refl, sym, ◌∙◌, ap, inl, inr, ◌⊎◌, List, [], ◌∷◌, ◌++◌, length, map, set, Bool, true, false, max, Option, Some, None, arith}
 use Rattle.std.proofs.lemmas.Grind.{common_steps, flat_map-append}
 use Rattle.std.proofs.lemmas.List.{get_or_past}
-use Rattle.std.specs.Prelude.{fold, zip, nat_lt, slice_get}
+use Rattle.std.specs.Prelude.{fold, zip, slice_get}
 use Rattle.nc_base.specs.declared.header.Header.{Header}
 use Rattle.nc_base.specs.declared.answer.Pair.{Pair}
 use Rattle.nc_base.specs.declared.plan.Post.{Post}
@@ -12,18 +12,18 @@ use Rattle.nc_base.specs.declared.step.Mark.TheVariants.{Meet, Solo}
 use Rattle.nc_base.specs.declared.step.Offer.{Offer}
 use Rattle.serial_spec.specs.File.{at, longer, written}
 use Rattle.serial_spec.specs.Fill.{filled}
-use Rattle.serial_spec.specs.HeaderGrammar.{canon, count}
+use Rattle.serial_spec.specs.HeaderBytes.{canon, count}
 use Rattle.serial_spec.specs.Layout.{greatest}
-use Rattle.serial_spec.specs.Records.{needed_by, with_records}
+use Rattle.serial_spec.specs.Records.{needed_by}
 use Rattle.serial_spec.specs.Said.{Cell, said_at, byte_or, write_cells}
 use Rattle.serial_spec.specs.SharedByte.{Puts, bytes_of, said_by_puts}
-use Rattle.serial_spec.specs.FileStep.{Setting, Counted, after_puts, end_for, known_by, meeting, needs, put_post, raised, told}
+use Rattle.serial_spec.specs.FileStep.{Setting, Counted, after_puts, end_for, known_by, meeting, needs, told}
 use Rattle.serial_spec.specs.SerialEnd.{Going, advance, after_mark, closed, first_state, offers_of, serial, serial_from, start, setting_of, solo_of}
 use Rattle.serial_spec.proofs.KeepLaws.{count_long, puts_keep, raised_keeps}
 use Rattle.serial_spec.proofs.FileLaws.{at-longer}
-use Rattle.serial_spec.proofs.SaidLaws.{byte_or_later, puts_are_cells, puts_said, said_append}
-use Rattle.overlay_laws.specs.Entries.{cells_of_puts}
+use Rattle.serial_spec.proofs.SaidLaws.{byte_or_later, puts_said, said_append}
 use Rattle.whole_run_laws.specs.Completed.{completed, completed_from, completed_puts, IsBesideCount, is_held, puts_asked, puts_at, puts_met, unless_told}
+use Rattle.serial_spec.proofs.GrowLaws.{written_grows, raised_grows, mark_grows}
 
 -- ---- a step
 
@@ -131,58 +131,16 @@ opened_kept script header file order x opened h k =
 
 -- ---- lengths
 
-written_long : (file : List ℕ) (x : ℕ) (b : List ℕ) → length file ≤ length (written file x b)
-written_long file x b = grind (arith, common_steps)
-
 cells_long : (cells : List Cell) (file : List ℕ) → length file ≤ length (write_cells file cells)
 cells_long [] file = omega arith
-cells_long (c ∷ cells) file = let a = written_long file c.0 c.1 in let b = cells_long cells (written file c.0 c.1) in omega arith
+cells_long (c ∷ cells) file = let a = written_grows file c.0 c.1 in let b = cells_long cells (written file c.0 c.1) in omega arith
 
 longer_long : (file : List ℕ) (n : ℕ) → length file ≤ length (longer file n)
 longer_long file n = grind (arith, common_steps)
 
-after_long : (s : Setting) (puts : Puts) (pair : Option Pair) (file : List ℕ) → length file ≤ length (after_puts s puts pair file)
-after_long s puts (Some p) file = omega arith
-after_long s puts None file =
-    let whole = longer file (end_for s (needed_by s.header puts)) in
-    let a = longer_long file (end_for s (needed_by s.header puts)) in
-    let b = cells_long (cells_of_puts s.header puts) whole in
-    let e : length (fold (put_post s) whole puts) ≡ length (write_cells whole (cells_of_puts s.header puts)) = ap (λ (f : List ℕ). length f) (puts_are_cells s puts whole) in
-    omega arith
-
-raised_long : (s : Setting) (c : Counted) (n : ℕ) → length c.file ≤ length (raised s c n).file
-raised_long s c n = by (nat_lt c.records n)
-  where
-    by : (t : Bool) → length c.file ≤ length (cond t (record { file = with_records s.header.version c.file n; records = n }) c).file
-    by true = written_long c.file 4 (count s.header.version n)
-    by false = omega arith
-
-solo_long : (s : Setting) (r : ℕ) (c : Counted) (p : Going × Option Offer) → length c.file ≤ length (solo_of s r c p).0.file
-solo_long s r c (g, None) = omega arith
-solo_long s r c (g, Some o) = after_long s (puts_asked r (Some o)) (told s (puts_asked r (Some o))) c.file
-
-mark_long : (s : Setting) (state : Counted × List Going) (m : Mark) → length state.0.file ≤ length (after_mark s state m).0.file
-mark_long s (c, goings) (Meet k) =
-    let offers = offers_of (map (advance s.header) goings) in
-    let puts = puts_met offers in
-    let pair = told s puts in
-    let n = max (needs s puts pair) (greatest (map (λ o. known_by o.kind o.known) offers)) in
-    let a = after_long s puts pair c.file in
-    let b = raised_long s (record { file = after_puts s puts pair c.file; records = c.records }) n in
-    omega arith
-mark_long s (c, goings) (Solo r n) = by (slice_get goings r)
-  where
-    by : (m : Option Going)
-        → length c.file ≤ length (elim m as (λ w. Counted × List Going) [
-          | None ↦ (c, goings)
-          | Some g ↦ ((solo_of s r c (advance s.header g)).0, set goings r (solo_of s r c (advance s.header g)).1)
-        ]).0.file
-    by None = omega arith
-    by (Some g) = solo_long s r c (advance s.header g)
-
 state_long : (s : Setting) (state : Counted × List Going) (order : List Mark) → length state.0.file ≤ length (fold (after_mark s) state order).0.file
 state_long s state [] = omega arith
-state_long s state (m ∷ order) = let a = mark_long s state m in let b = state_long s (after_mark s state m) order in omega arith
+state_long s state (m ∷ order) = let a = mark_grows s state m in let b = state_long s (after_mark s state m) order in omega arith
 
 pub end_long : (script : Script) (header : Header) (file : List ℕ) (order : List Mark) → length file ≤ length (serial_from script header file order).bytes
 end_long script header file order =
@@ -190,5 +148,5 @@ end_long script header file order =
     let state = first_state header file script.calls in
     let last = fold (after_mark s) state order in
     let a = state_long s state order in
-    let b = raised_long s last.0 (greatest (map (λ g. g.rank.known) (map (λ g. (advance s.header g).0) last.1))) in
+    let b = raised_grows s last.0 (greatest (map (λ g. g.rank.known) (map (λ g. (advance s.header g).0) last.1))) in
     omega arith

@@ -5,8 +5,11 @@ pub mod HullLengths
 pub mod Courses
 pub mod CountLaws
 pub mod ToldLaws
-pub mod FilledLaws
+pub mod AnswersStay
+pub mod FilledFile
+pub mod FilledRecord
 pub mod FillCalls
+pub mod HeldSeats
 pub mod StrangerLaws
 pub mod PastLaws
 pub mod FieldLaws

@@ -23,9 +23,9 @@ use Rattle.serial_spec.specs.SerialEnd.{serial_from}
 use Rattle.run_laws.specs.Ways.{is_meeting, kinds_of}
 use Rattle.run_laws.proofs.LawfulLaws.{own_lawful, ranks_lawful}
 use Rattle.run_laws.proofs.WayLaws.{kinds_skip, kinds_take, marks_alone, marks_meet, marks_solo}
-use Rattle.whole_run_laws.proofs.Hints.{some_rank}
 use Rattle.whole_run_laws.specs.Orders.{all_meetings, has_independent, has_solo, is_independent}
 use Rattle.join_laws.proofs.Completing.{collective_kind}
+use Rattle.serial_spec.proofs.LawfulTests.{some_rank}
 
 abbrev is_solo : Mark → Bool
 is_solo m = not (is_meeting m)

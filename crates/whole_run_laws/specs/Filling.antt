@@ -14,7 +14,8 @@ use Rattle.nc_base.specs.declared.request.Part.{Part}
 use Rattle.nc_base.specs.declared.step.Offer.{Offer}
 use Rattle.serial_spec.specs.Fill.{boxes, share_begin}
 use Rattle.serial_spec.specs.Layout.{inner_lengths, product}
-use Rattle.serial_spec.specs.RankMachine.{box_post, code_of_look, look_fill}
+use Rattle.serial_spec.specs.Looking.{box_post, look_fill}
+use Rattle.serial_spec.specs.RankMachine.{code_of_look}
 use Rattle.serial_spec.specs.SerialEnd.{Going}
 use Rattle.run_laws.specs.Standing.{HasCome}
 

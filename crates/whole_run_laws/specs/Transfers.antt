@@ -8,7 +8,7 @@ use Rattle.nc_base.specs.declared.header.Header.{Header}
 use Rattle.nc_base.specs.declared.script.Hints.{Hints}
 use Rattle.nc_base.specs.declared.step.DiskCall.{DiskCall}
 use Rattle.nc_base.specs.declared.step.DiskCall.TheVariants.{Grow, Load, Store}
-use Rattle.serial_spec.specs.HeaderGrammar.{count_width}
+use Rattle.serial_spec.specs.HeaderBytes.{count_width}
 
 abbrev pub transferred : DiskCall → ℕ
 transferred (Grow end) = 0

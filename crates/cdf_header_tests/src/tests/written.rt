@@ -32,7 +32,7 @@ fn variable(rt: &impl Abort, alloc: Global) -> Var
     }
 }
 
-#[tactic(auto, unfolding(serial_spec::specs::HeaderGrammar::canon))]
+#[tactic(auto, unfolding(serial_spec::specs::HeaderBytes::canon))]
 fn header(rt: &impl Abort, alloc: Global) -> Header
     ensures { result ≡ dataset_a }
 {

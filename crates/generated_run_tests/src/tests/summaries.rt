@@ -1,6 +1,6 @@
 // Summaries of runs.
 ghost use Rattle.std.specs.Prelude.{◌≡◌, ◌≤◌, IfOk, true};
-ghost use Rattle.serial_spec.specs.HeaderGrammar.{is_sound};
+ghost use Rattle.serial_spec.specs.SoundHeaders.{is_sound};
 ghost use Rattle.script_spec.specs.Generator.{has_counts};
 ghost use Rattle.var_layout.specs.Unplaced.{is_unplaced};
 

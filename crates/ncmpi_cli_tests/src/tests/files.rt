@@ -70,3 +70,10 @@ pub(crate) const WIDE_UNWRITTEN: &[u8] = &[0; 32];
 
 /// The tag of the attributes that the variable doesn't have: bytes 96 to 99.
 pub(crate) const WIDE_TAG: &[u8] = &[0; 4];
+
+/// What is told of a run of one rank without a call where v begins at 512.
+pub(crate) const ROOM_TEXT: &[u8] = b"\
+    ranks 1\norder\nrank 0\npending 0\n\
+    // file format: CDF-1\nfile header:\n  size = 80 bytes\n  extent = 512 bytes\n\
+    dimensions:\n  x = 4\nfixed-size variables:\n  int v(x):\n    start file offset = 512\n    \
+    end file offset = 528\n    size in bytes = 16\nrecord variables:\n";

@@ -1,7 +1,7 @@
 // Datasets that are opened.
 use crate::tests::files::{
-    A_FRONT, A_STREAM, AT_80, AT_512, ONE_TO_FOUR, ROOM, WIDE_COUNT, WIDE_FRONT, WIDE_MAGIC,
-    WIDE_REST, WIDE_STREAM, WIDE_TAG, WIDE_UNWRITTEN,
+    A_FRONT, A_STREAM, AT_80, AT_512, ONE_TO_FOUR, ROOM, ROOM_TEXT, WIDE_COUNT, WIDE_FRONT,
+    WIDE_MAGIC, WIDE_REST, WIDE_STREAM, WIDE_TAG, WIDE_UNWRITTEN,
 };
 use crate::tests::{PLAIN, Run, Want, all_end};
 use std::test::*;
@@ -16,12 +16,6 @@ const A_TEXT: &[u8] = b"\
     // file format: CDF-1\nfile header:\n  size = 80 bytes\n  extent = 80 bytes\n\
     dimensions:\n  x = 4\nfixed-size variables:\n  int v(x):\n    start file offset = 80\n    \
     end file offset = 96\n    size in bytes = 16\nrecord variables:\n";
-
-const ROOM_TEXT: &[u8] = b"\
-    ranks 1\norder\nrank 0\npending 0\n\
-    // file format: CDF-1\nfile header:\n  size = 80 bytes\n  extent = 512 bytes\n\
-    dimensions:\n  x = 4\nfixed-size variables:\n  int v(x):\n    start file offset = 512\n    \
-    end file offset = 528\n    size in bytes = 16\nrecord variables:\n";
 
 // What a dataset holds, and what its offsets are; nothing of it is changed.
 const KEPT: [(Run, Want); 3] = [

@@ -1,7 +1,7 @@
 // Datasets that are created.
 use crate::tests::files::{
-    A_64, A_FRONT, AT_80, AT_512, B, ONE_TO_FOUR, ROOM, TWO_PUT, UNWRITTEN, WIDE_COUNT, WIDE_FRONT,
-    WIDE_MAGIC, WIDE_REST, WIDE_UNWRITTEN,
+    A_64, A_FRONT, AT_80, AT_512, B, ONE_TO_FOUR, ROOM, ROOM_TEXT, TWO_PUT, UNWRITTEN, WIDE_COUNT,
+    WIDE_FRONT, WIDE_MAGIC, WIDE_REST, WIDE_UNWRITTEN,
 };
 use crate::tests::{PLAIN, Run, Want, all_end};
 use std::test::*;
@@ -196,12 +196,6 @@ fn each_version_is_created(rt: HostRuntime) -> Result<(), Fail> {
     all_end(&rt, rt.alloc(), &VERSIONS)
 }
 
-const HEADER_ALIGN_TEXT: &[u8] = b"\
-    ranks 1\norder\nrank 0\npending 0\n\
-    // file format: CDF-1\nfile header:\n  size = 80 bytes\n  extent = 512 bytes\n\
-    dimensions:\n  x = 4\nfixed-size variables:\n  int v(x):\n    start file offset = 512\n    \
-    end file offset = 528\n    size in bytes = 16\nrecord variables:\n";
-
 const VAR_ALIGN_TEXT: &[u8] = b"\
     ranks 1\norder\nrank 0\npending 0\n\
     // file format: CDF-1\nfile header:\n  size = 116 bytes\n  extent = 128 bytes\n\
@@ -227,7 +221,7 @@ const ALIGNED: [(Run, Want); 2] = [
         },
         Want {
             status: 0,
-            given: HEADER_ALIGN_TEXT,
+            given: ROOM_TEXT,
             held: &[A_FRONT, AT_512, ROOM, UNWRITTEN],
         },
     ),

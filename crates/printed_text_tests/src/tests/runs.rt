@@ -1,6 +1,6 @@
 // Texts of runs.
 ghost use Rattle.std.specs.Prelude.{◌≡◌, true};
-ghost use Rattle.serial_spec.specs.HeaderGrammar.{is_sound};
+ghost use Rattle.serial_spec.specs.SoundHeaders.{is_sound};
 
 use super::NO_MEMORY;
 use super::datasets::{four_ints, laid_out, one_record, two_reals};

@@ -2,11 +2,11 @@
 ghost use Rattle.std.specs.Prelude.{◌≡◌, ◌+◌, ◌<◌, ◌≤◌, ◌^◌, ◌∷◌, ◌||◌, nat_lt, true, map, length, flat_map, IfOk};
 ghost use Rattle.std.specs.List.{range_with_len, AllByRecursion};
 ghost use Rattle.serial_spec.specs.Fill as fill;
-ghost use Rattle.serial_spec.specs.HeaderGrammar.{is_sound};
+ghost use Rattle.serial_spec.specs.SoundHeaders.{is_sound};
 ghost use Rattle.serial_spec.specs.Layout as layout;
 ghost use Rattle.serial_spec.specs.Layout.{product};
 ghost use Rattle.serial_spec.specs.Limits as limits;
-ghost use Rattle.serial_spec.specs.RankMachine as machine;
+ghost use Rattle.serial_spec.specs.Looking as looks;
 ghost use Rattle.var_layout.specs.Measures.{AreMeasures};
 ghost use Rattle.rank_core.specs.Looked.{ComesTo};
 ghost use Rattle.rank_core.specs.Targets as targets;
@@ -83,7 +83,7 @@ fn lengths_of(alloc: Global, header: &Header, ids: &[u32]) -> Result<SizeList, M
 /// Whether a share has more elements than one request may have, or its record lies past a limit.
 fn is_too_large(header: &Header, measures: &Measures, number: u64, elements: u64) -> bool
     requires measured { AreMeasures header.now measures.now }
-    ensures { result ≡ (nat_lt limits.most_elements elements || machine.is_record_past header.now number) }
+    ensures { result ≡ (nat_lt limits.most_elements elements || looks.is_record_past header.now number) }
 {
     elements > MAX_ELEMENTS || is_record_past(header, measures, number)
 }
@@ -91,7 +91,7 @@ fn is_too_large(header: &Header, measures: &Measures, number: u64, elements: u64
 /// Whether a record count or the file's end passes its limit where the file has this record.
 fn is_record_past(header: &Header, measures: &Measures, number: u64) -> bool
     requires measured { AreMeasures header.now measures.now }
-    ensures { result ≡ machine.is_record_past header.now number }
+    ensures { result ≡ looks.is_record_past header.now number }
 {
     if number >= record_limit(header.version) - 1 {
         return true;
@@ -120,7 +120,7 @@ fn box_posts(
     requires sound { is_sound target.now.header.now ≡ true }
     requires there { IsTarget target.now }
     requires few { AllByRecursion IsSmall parts.now }
-    ensures { IfOk result (λ posts. posts ≡ map (machine.box_post target.now.place target.now.var.now number) parts.now) }
+    ensures { IfOk result (λ posts. posts ≡ map (looks.box_post target.now.place target.now.var.now number) parts.now) }
 {
     let mut posts = PostList::new(alloc);
     for part in parts {
@@ -133,7 +133,7 @@ fn box_post(alloc: Global, target: &Target, number: u64, part: &Part) -> Result<
     requires sound { is_sound target.now.header.now ≡ true }
     requires there { IsTarget target.now }
     requires few { IsSmall part.now }
-    ensures { IfOk result (λ post. post ≡ machine.box_post target.now.place target.now.var.now number part.now) }
+    ensures { IfOk result (λ post. post ≡ looks.box_post target.now.place target.now.var.now number part.now) }
 {
     let elements = element_count(part.count.as_slice());
     Ok(Post {
@@ -146,7 +146,7 @@ fn box_post(alloc: Global, target: &Target, number: u64, part: &Part) -> Result<
 
 /// A box of one record as a region of the variable.
 fn box_region(alloc: Global, number: u64, part: &Part) -> Result<Region, Memory>
-    ensures { IfOk result (λ region. region ≡ machine.box_region number part.now) }
+    ensures { IfOk result (λ region. region ≡ looks.box_region number part.now) }
 {
     let ones = vec![in alloc; 1; part.count.len()]?;
     Ok(Region {

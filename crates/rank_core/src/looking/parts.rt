@@ -6,7 +6,7 @@ ghost use Rattle.imap_extents.specs.Refusals.{IsRangeRefusal};
 ghost use Rattle.serial_spec.specs.ExternalForm.{class_of};
 ghost use Rattle.serial_spec.specs.Layout.{product};
 ghost use Rattle.serial_spec.specs.Limits.{most_elements};
-ghost use Rattle.serial_spec.specs.RankMachine as machine;
+ghost use Rattle.serial_spec.specs.Looking as looks;
 ghost use Rattle.serial_spec.specs.RegionCheck as spec;
 ghost use Rattle.serial_spec.specs.Request as request;
 ghost use Rattle.rank_core.specs.Looked.{ext_at, some_unfit, unfit_at, ComesTo, HasValues, IsCode};
@@ -99,7 +99,7 @@ pub(crate) fn element_count(counts: &[u64]) -> u64
 /// Whether the values of a put are of another kind than the type, or fewer than the elements.
 fn check_values(kind: NcType, values: Option<&Values>, elements: u64) -> Result<(), Code>
     ensures right { OnOk result (HasValues kind (option_copied values.entry) elements) }
-    ensures refused { IfErr result (IsCode (machine.parts_code kind elements (option_copied values.entry))) }
+    ensures refused { IfErr result (IsCode (looks.parts_code kind elements (option_copied values.entry))) }
 {
     let Some(values) = values else { return Ok(()) };
     kind_fits(kind, values)?;
@@ -129,7 +129,7 @@ fn part_posts(
 ) -> Result<PostList, CallErr>
     requires few { spec.elements_of_all regions.items ≤ most_elements }
     requires values { HasValues target.now.var.now.kind (option_copied values) (spec.elements_of_all regions.items) }
-    ensures ok { IfOk result (λ posts. posts ≡ machine.part_posts target.now.id target.now.place target.now.var.now.kind (option_copied values.entry) 0 regions.items) }
+    ensures ok { IfOk result (λ posts. posts ≡ looks.part_posts target.now.id target.now.place target.now.var.now.kind (option_copied values.entry) 0 regions.items) }
     ensures right { OnOk result (some_unfit target.now.var.now.kind (option_copied values.entry) 0 (spec.elements_of_all regions.items) ≡ false) }
     ensures refused { IfErr result (IsRangeRefusal (some_unfit target.now.var.now.kind (option_copied values.entry) 0 (spec.elements_of_all regions.items))) }
 {
@@ -159,7 +159,7 @@ fn values_bytes(
 ) -> Result<Blob, CallErr>
     requires few { before + count ≤ most_elements }
     requires values { HasValues kind (option_copied values) (before + count) }
-    ensures ok { IfOk result (λ bytes. bytes ≡ machine.values_bytes kind (option_copied values.entry) before count) }
+    ensures ok { IfOk result (λ bytes. bytes ≡ looks.values_bytes kind (option_copied values.entry) before count) }
     ensures right { OnOk result (some_unfit kind (option_copied values.entry) before count ≡ false) }
     ensures refused { IfErr result (IsRangeRefusal (some_unfit kind (option_copied values.entry) before count)) }
 {
@@ -178,7 +178,7 @@ fn encode_all(
 ) -> Result<Blob, CallErr>
     requires few { before + count ≤ most_elements }
     requires values { HasValues kind (Some values.now) (before + count) }
-    ensures ok { IfOk result (λ bytes. bytes ≡ machine.values_bytes kind (Some values.now) before count) }
+    ensures ok { IfOk result (λ bytes. bytes ≡ looks.values_bytes kind (Some values.now) before count) }
     ensures right { OnOk result (some_unfit kind (Some values.now) before count ≡ false) }
     ensures refused { IfErr result (IsRangeRefusal (some_unfit kind (Some values.now) before count)) }
 {

@@ -6,7 +6,7 @@ ghost use Rattle.nc_base.specs.declared.answer.Code.TheVariants as code;
 ghost use Rattle.imap_extents.specs.Mapped.{IsMapped};
 ghost use Rattle.imap_extents.specs.Refusals.{IsRefusal};
 ghost use Rattle.serial_spec.specs.Layout.{product};
-ghost use Rattle.serial_spec.specs.RankMachine as machine;
+ghost use Rattle.serial_spec.specs.Looking as looks;
 ghost use Rattle.rank_core.specs.Looked.{ComesTo};
 ghost use Rattle.rank_core.specs.Targets as targets;
 ghost use Rattle.rank_core.specs.Targets.{IsMeasured, IsTarget};
@@ -71,9 +71,9 @@ fn data_bytes(
     values: Option<&Values>,
 ) -> Result<Blob, CallErr>
     requires mapped { IsMapped region.now }
-    ensures ok { IfOk result (λ bytes. bytes ≡ machine.data_bytes kind region.now (option_copied values.entry)) }
-    ensures right { OnOk result (machine.data_code kind region.now (option_copied values.entry) ≡ code.Ok) }
-    ensures refused { IfErr result (IsRefusal (machine.data_code kind region.now (option_copied values.entry))) }
+    ensures ok { IfOk result (λ bytes. bytes ≡ looks.data_bytes kind region.now (option_copied values.entry)) }
+    ensures right { OnOk result (looks.data_code kind region.now (option_copied values.entry) ≡ code.Ok) }
+    ensures refused { IfErr result (IsRefusal (looks.data_code kind region.now (option_copied values.entry))) }
 {
     match values {
         None => Ok(Blob::new(alloc)),

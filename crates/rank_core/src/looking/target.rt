@@ -1,8 +1,8 @@
 // The variable that a call is on.
 ghost use Rattle.std.specs.Prelude.{◌≡◌, ◌<◌, true, length};
 ghost use Rattle.std.specs.Option.{option_copied};
-ghost use Rattle.serial_spec.specs.HeaderGrammar.{is_sound};
-ghost use Rattle.serial_spec.specs.RankMachine as machine;
+ghost use Rattle.serial_spec.specs.SoundHeaders.{is_sound};
+ghost use Rattle.serial_spec.specs.Looking as looks;
 ghost use Rattle.var_layout.specs.Measures.{AreMeasures};
 ghost use Rattle.rank_core.specs.Targets.{IsMeasured, IsTarget};
 
@@ -50,7 +50,7 @@ pub(super) fn target_at<'a>(
 }
 
 pub(super) fn direction_of(values: Option<&Values>) -> Direction
-    ensures { result ≡ machine.direction_of (option_copied values.entry) }
+    ensures { result ≡ looks.direction_of (option_copied values.entry) }
 {
     match values {
         None => Direction::Get,

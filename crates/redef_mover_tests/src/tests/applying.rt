@@ -12,7 +12,7 @@ use std::alloc::Global;
 use std::process::Abort;
 
 /// The dimension x of length 4, and the int variable v over it.
-#[tactic(auto, unfolding(serial_spec::specs::HeaderGrammar::canon))]
+#[tactic(auto, unfolding(serial_spec::specs::HeaderBytes::canon))]
 fn fixed(rt: &impl Abort, alloc: Global) -> Header
     ensures { is_redefinable result ≡ true }
 {
@@ -28,7 +28,7 @@ fn fixed(rt: &impl Abort, alloc: Global) -> Header
 }
 
 /// The record dimension t with four records, and the short variable s over it.
-#[tactic(auto, unfolding(serial_spec::specs::HeaderGrammar::canon))]
+#[tactic(auto, unfolding(serial_spec::specs::HeaderBytes::canon))]
 fn recorded(rt: &impl Abort, alloc: Global) -> Header
     ensures { is_redefinable result ≡ true }
 {
@@ -56,7 +56,7 @@ fn three_dims(rt: &impl Abort, alloc: Global) -> DimList
 }
 
 /// A header with two dimensions of one name, and the int variable v over the first.
-#[tactic(auto, unfolding(serial_spec::specs::HeaderGrammar::canon))]
+#[tactic(auto, unfolding(serial_spec::specs::HeaderBytes::canon))]
 fn twice_named(rt: &impl Abort, alloc: Global) -> Header
     ensures { is_redefinable result ≡ true }
 {

@@ -1,6 +1,6 @@
 // Steps by two aggregators: at each room of their lines, on threads and in turn. Calls and bytes are worked out by hand.
 ghost use Rattle.std.specs.Prelude.{◌≡◌, true};
-ghost use Rattle.serial_spec.specs.HeaderGrammar.{is_sound};
+ghost use Rattle.serial_spec.specs.SoundHeaders.{is_sound};
 ghost use Rattle.serial_spec.specs.Lawful.{are_lawful_hints};
 
 use super::steps::{Asked, Dataset, HINTS, get_two, has_got, placed, post, put_two};

@@ -1,7 +1,7 @@
 use Rattle.std.proofs.Common.{List, sym, subst}
 use Rattle.nc_base.specs.declared.header.Attr.{Attr}
 use Rattle.nc_base.specs.declared.header.Dim.{Dim}
-use Rattle.serial_spec.specs.HeaderGrammar.{is_writable_attr, is_writable_dim}
+use Rattle.serial_spec.specs.SoundHeaders.{is_writable_attr, is_writable_dim}
 use Rattle.cdf_header.specs.Writable.{IsWritableList}
 use Rattle.cdf_header.proofs.Parts.{attrs_ready, dims_ready, records_fit, vars_ready}
 use Rattle.cdf_header.proofs.encoding.encode.Goals as goal

@@ -6,7 +6,7 @@ use Rattle.list_laws.proofs.Optional.{if_some_at}
 use Rattle.piece_exchange.specs.Gets.{get_turns}
 use Rattle.piece_exchange.specs.Blobs.{HasRead}
 use Rattle.piece_exchange.specs.Put.{PartState}
-use Rattle.collective_round.proofs.PartLaws.{as_many_parts, domain_of_part, on_some_part}
+use Rattle.collective_round.proofs.PartDomains.{as_many_parts, domain_of_part, on_some_part}
 use Rattle.collective_round.proofs.PutPartLaws.{are_split, cover_room, parts_cause, plan_room, AreSplit}
 use Rattle.collective_round.proofs.GetPartLaws.{gets_follow, part_read, parts_got, told_read, HasGotWhole}
 use Rattle.collective_round.proofs.rounds.get_parts.Given.{Over}

@@ -4,7 +4,8 @@ use Rattle.std.proofs.lemmas.Grind.{common_steps}
 use Rattle.std.specs.Prelude.{flat_map}
 use Rattle.piece_exchange.specs.Plan.{planned_turns, source_in}
 use Rattle.piece_exchange.specs.Put.{PartState}
-use Rattle.collective_round.proofs.PartLaws.{as_many_parts, domain_of_part, HasPutWhole}
+use Rattle.collective_round.proofs.PartDomains.{as_many_parts, domain_of_part}
+use Rattle.collective_round.proofs.PutParts.{HasPutWhole}
 use Rattle.collective_round.proofs.PutPartLaws.{are_split, cover_room, parts_cause, parts_follow, parts_put, plan_room}
 use Rattle.collective_round.proofs.rounds.put_parts.Given.{Over}
 use Rattle.collective_round.proofs.rounds.put_parts.Goals as goal

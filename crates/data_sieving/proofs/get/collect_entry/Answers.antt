@@ -1,7 +1,7 @@
 -- The part's bytes go into the blob of the entry's slot.
 use Rattle.std.proofs.Common.{◌+◌, ◌++◌, ◌∙◌, List, ℕ, length, take, drop, set, get_or, sym, ap}
 use Rattle.std.proofs.Math.Seq.{take-append_seam}
-use Rattle.data_sieving.proofs.GetSteps.{collected_entry}
+use Rattle.data_sieving.proofs.CollectedSteps.{collected_entry}
 use Rattle.data_sieving.proofs.get.collect_entry.Goals as goal
 
 pub returns : goal.returns

@@ -2,7 +2,7 @@
 use Rattle.std.proofs.Common.{◌+◌}
 use Rattle.overlay_laws.proofs.HullLaws.{in_left, in_right}
 use Rattle.data_sieving.proofs.SplitSteps.{extents_left, extents_right}
-use Rattle.data_sieving.proofs.GetSteps.{as_long_twice, collected_twice, fit_as_long}
+use Rattle.data_sieving.proofs.CollectedSteps.{as_long_twice, collected_twice, fit_as_long}
 use Rattle.data_sieving.proofs.get.collect_window.Goals as goal
 
 pub collect_all-requires-clause-ends : goal.collect_all-requires-clause-ends

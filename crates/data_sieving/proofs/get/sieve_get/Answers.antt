@@ -7,16 +7,16 @@ use Rattle.serial_spec.specs.DeviceCalls.{loads}
 use Rattle.nc_outside.specs.Told.{with_end}
 use Rattle.nc_base.specs.declared.step.DiskCall.{DiskCall}
 use Rattle.overlay_laws.specs.Changes.{IsBegun}
-use Rattle.aggregator_rounds.proofs.RoundLaws.{on_err}
 use Rattle.data_sieving.specs.Sieving.{windows_of, AreAsLong, HasGot}
 use Rattle.data_sieving.specs.Serving.{entries_in, entries_left, HasDone, HasGotPart, IsNext, windows_from}
 use Rattle.data_sieving.proofs.PastSteps.{past_twice}
 use Rattle.data_sieving.proofs.WindowSteps.{goes_on}
 use Rattle.data_sieving.proofs.CallSteps.{none_begun}
 use Rattle.data_sieving.proofs.ReachSteps.{begun_in, hull_low, hull_high, hull_end, begun_ends, begun_filled}
-use Rattle.data_sieving.proofs.GetSteps.{as_long_twice, fit_as_long, got_none, got_more, got_all}
+use Rattle.data_sieving.proofs.CollectedSteps.{as_long_twice, fit_as_long, got_none, got_more, got_all}
 use Rattle.data_sieving.proofs.LoopSteps.{all_left, none_carried, walk_begin, walk_ready, calls_begin, loads_more, calls_end}
 use Rattle.data_sieving.proofs.get.sieve_get.Goals as goal
+use Rattle.list_laws.proofs.Results.{on_err}
 
 -- the blobs that were lent, as they come back
 returned : (old now : List (List ℕ)) → AreAsLong old now → refill (length old) old now ≡ now

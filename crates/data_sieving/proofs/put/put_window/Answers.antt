@@ -3,10 +3,11 @@ use Rattle.std.proofs.Common.{◌≡◌, ◌+◌, length, rules, arith}
 use Rattle.std.proofs.lemmas.Grind.{common_steps}
 use Rattle.overlay_laws.specs.Windows.{clips}
 use Rattle.overlay_laws.proofs.WindowLaws.{clips_from, clips_within}
-use Rattle.aggregator_rounds.proofs.RoundLaws.{window_told_by, window_refused_by, window_begun, on_err}
+use Rattle.aggregator_rounds.proofs.RoundLaws.{window_told_by, window_refused_by, window_begun}
 use Rattle.data_sieving.specs.Sieving.{put_cells}
 use Rattle.data_sieving.specs.Serving.{entries_in}
 use Rattle.data_sieving.proofs.put.put_window.Goals as goal
+use Rattle.list_laws.proofs.Results.{on_err}
 
 pub returns-clause-bytes : goal.returns-clause-bytes
 returns-clause-bytes g c =

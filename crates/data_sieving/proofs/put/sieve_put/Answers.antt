@@ -4,7 +4,6 @@ use Rattle.std.specs.Prelude.{flat_map}
 use Rattle.serial_spec.specs.DeviceCalls.{overlays}
 use Rattle.nc_outside.specs.Told.{with_end}
 use Rattle.overlay_laws.specs.Changes.{IsBegun}
-use Rattle.aggregator_rounds.proofs.RoundLaws.{on_err}
 use Rattle.data_sieving.specs.Sieving.{source_of, windows_of}
 use Rattle.data_sieving.specs.Serving.{entries_in, entries_left, HasDone, IsNext, windows_from}
 use Rattle.data_sieving.proofs.PastSteps.{past_twice}
@@ -13,6 +12,7 @@ use Rattle.data_sieving.proofs.PutSteps.{covered_place}
 use Rattle.data_sieving.proofs.ReachSteps.{hull_low, hull_high, hull_end, begun_ends, begun_filled, begun_found}
 use Rattle.data_sieving.proofs.LoopSteps.{all_left, none_carried, walk_begin, walk_ready, calls_begin, stores_more, stores_begun, calls_end, put_begin, put_more, put_refused, put_end}
 use Rattle.data_sieving.proofs.put.sieve_put.Goals as goal
+use Rattle.list_laws.proofs.Results.{on_err}
 
 pub windows-init : goal.windows-init
 windows-init g c = record {

@@ -1,8 +1,8 @@
 use Rattle.dataset_start.proofs.Keeping.{read_kept}
 use Rattle.std.proofs.Common.{inl, inr, refl}
-use Rattle.dataset_start.proofs.NotReady.{on_err}
 use Rattle.dataset_start.proofs.Ready.{unlaid}
 use Rattle.dataset_start.proofs.beginning.begin.Goals as goal
+use Rattle.list_laws.proofs.Results.{on_err}
 
 pub returns-in_err-header-clause-unlaid : goal.returns-in_err-header-clause-unlaid
 returns-in_err-header-clause-unlaid g c =

@@ -1,9 +1,11 @@
 use Rattle.std.proofs.Common.{◌∙◌}
 use Rattle.redef_laws.proofs.MovedLaws.{writable_is_sound}
 use Rattle.dataset_start.proofs.Keeping.{kept_created, kept_hints, kept_records}
-use Rattle.dataset_start.proofs.NotReady.{create_refused, err_as, fill_refused, not_laid, on_err, open_refused}
+use Rattle.dataset_start.proofs.NotReady.{create_refused, fill_refused, not_laid, open_refused}
 use Rattle.dataset_start.proofs.Ready.{created_long, ready-created}
 use Rattle.dataset_start.proofs.beginning.make_ready.Goals as goal
+use Rattle.list_laws.proofs.Results.{on_err}
+use Rattle.std.proofs.lemmas.Result.{on_err_weaker}
 
 pub returns-in_ok-fill-clause-ready : goal.returns-in_ok-fill-clause-ready
 returns-in_ok-fill-clause-ready g c =
@@ -40,4 +42,4 @@ returns-in_err-fill-clause-refused g c =
 
 pub returns-else-script-clause-refused : goal.returns-else-script-clause-refused
 returns-else-script-clause-refused g c =
-    err_as c.open.result (open_refused c.args.script.now (g.D.Disk.held c.args.disk.now) (g.D.Disk.held c.open.new.disk) c.if-script.false) c.open.ensures.refused
+    on_err_weaker c.open.result (open_refused c.args.script.now (g.D.Disk.held c.args.disk.now) (g.D.Disk.held c.open.new.disk) c.if-script.false) c.open.ensures.refused

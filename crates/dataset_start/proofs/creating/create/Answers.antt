@@ -4,17 +4,24 @@ use Rattle.nc_outside.specs.Told.{after}
 use Rattle.serial_spec.specs.File.{longer, written}
 use Rattle.serial_spec.specs.Layout.{end_of}
 use Rattle.nc_base.specs.declared.header.Header.{Header}
-use Rattle.serial_spec.specs.HeaderGrammar.{canon, header_len}
+use Rattle.serial_spec.specs.HeaderBytes.{canon, header_len}
 use Rattle.var_layout.proofs.ElementPlaces.{sound_end}
 use Rattle.dataset_start.proofs.Created.{created, front_fits}
-use Rattle.dataset_start.proofs.NotReady.{grow_refused, head_refused, not_started, on_err, start_refused}
+use Rattle.dataset_start.proofs.NotReady.{grow_refused, head_refused, not_started, start_refused}
 use Rattle.dataset_start.proofs.creating.create.Goals as goal
+use Rattle.list_laws.proofs.Results.{on_err}
 
 pub end_of-end-requires-clause-sound : goal.end_of-end-requires-clause-sound
 end_of-end-requires-clause-sound g c = writable_is_sound c.args.header.now c.requires.writable
 
 pub end_of-end-requires-clause-below : goal.end_of-end-requires-clause-below
 end_of-end-requires-clause-below g c = sound_end c.args.header.now 0 (writable_is_sound c.args.header.now c.requires.writable) (omega arith)
+
+pub grow-requires-clause-below : goal.grow-requires-clause-below
+grow-requires-clause-below g c =
+    let below = sound_end c.args.header.now 0 (writable_is_sound c.args.header.now c.requires.writable) (omega arith) in
+    let end = c.end_of-end.ensures in
+    omega arith
 
 pub returns-clause-bytes : goal.returns-clause-bytes
 returns-clause-bytes g c =

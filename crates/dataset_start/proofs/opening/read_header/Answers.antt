@@ -1,6 +1,6 @@
 use Rattle.std.proofs.Common.{◌≡◌, ◌⊎◌, List, ℕ, subst}
 use Rattle.nc_base.specs.declared.errors.HeaderErr.TheVariants as fault
-use Rattle.serial_spec.specs.HeaderGrammar.{HasFault}
+use Rattle.serial_spec.specs.HeaderFaults.{HasFault}
 use Rattle.cdf_header.specs.Decoding.{BeginsWith}
 use Rattle.dataset_start.proofs.Opened.{faultless, opened, tells}
 use Rattle.redef_laws.proofs.OpenedLaws as laws

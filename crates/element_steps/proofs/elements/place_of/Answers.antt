@@ -2,8 +2,9 @@
 use Rattle.std.proofs.Common.{◌≡◌, ◌∙◌, arith}
 use Rattle.list_laws.proofs.Optional.{if_some_at}
 use Rattle.serial_spec.specs.Place.{place}
-use Rattle.element_steps.proofs.IndexLaws.{index_is, numbered_below, numbered_element, numbered_low, some_below}
+use Rattle.element_steps.proofs.IndexLaws.{index_is, numbered_below, numbered_element, numbered_low}
 use Rattle.element_steps.proofs.elements.place_of.Goals as goal
+use Rattle.std.proofs.lemmas.Option.{slice_get_within}
 
 pub push_index-requires-clause-low : goal.push_index-requires-clause-low
 push_index-requires-clause-low c =
@@ -11,7 +12,7 @@ push_index-requires-clause-low c =
     (numbered_below c.args.header.now c.args.var c.args.of.now c.args.region.now c.args.number c.requires.sound c.requires.there c.requires.accepted c.requires.number)
 
 pub place-requires-clause-there : goal.place-requires-clause-there
-place-requires-clause-there c = some_below c.args.header.now.vars c.args.var c.args.of.now c.requires.there
+place-requires-clause-there c = slice_get_within c.args.header.now.vars c.args.var c.args.of.now c.requires.there
 
 pub place-requires-clause-valid : goal.place-requires-clause-valid
 place-requires-clause-valid c = λ x there.

@@ -9,10 +9,12 @@ use Rattle.serial_spec.specs.DeviceCalls.{stores}
 use Rattle.serial_spec.specs.Fill.{fill_var}
 use Rattle.serial_spec.specs.Layout.{slab, fixed_variables}
 use Rattle.fill_records.specs.Filling.{filled_variable, variable_stores}
-use Rattle.fill_records.proofs.TornLaws.{on_err, variable_refused}
+use Rattle.fill_records.proofs.TornLaws.{variable_refused}
 use Rattle.fill_records.proofs.VariableLaws.{known_at, filled_more, fill_stores_more}
-use Rattle.fill_records.proofs.WindowLaws.{told_more, always_told, calls_more}
+use Rattle.fill_records.proofs.WindowLaws.{told_more, always_told}
 use Rattle.fill_records.proofs.slabs.prefill.Goals as goal
+use Rattle.list_laws.proofs.Results.{on_err}
+use Rattle.nc_outside.proofs.ToldLaws.{calls_more}
 
 pub loop-var-preserved : goal.loop-var-preserved
 loop-var-preserved g c =

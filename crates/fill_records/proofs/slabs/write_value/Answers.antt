@@ -4,9 +4,12 @@ use Rattle.nc_base.specs.declared.step.DiskCall.TheVariants.{Store}
 use Rattle.serial_spec.specs.File.{written}
 use Rattle.fill_records.specs.Filling.{repeated}
 use Rattle.fill_records.proofs.RepeatedLaws.{repeated_long}
-use Rattle.fill_records.proofs.TornLaws.{on_err, part_refused}
-use Rattle.fill_records.proofs.WindowLaws.{window_inside, stores_all, told_more, for_told, calls_more, window_bytes, window_written, stores_before, stores_more}
+use Rattle.fill_records.proofs.TornLaws.{part_refused}
+use Rattle.fill_records.proofs.WindowLaws.{stores_all, told_more, for_told, window_bytes, window_written}
 use Rattle.fill_records.proofs.slabs.write_value.Goals as goal
+use Rattle.list_laws.proofs.Results.{on_err}
+use Rattle.nc_outside.proofs.ToldLaws.{calls_more}
+use Rattle.overlay_laws.proofs.WindowCounts.{window_inside, stores_before, stores_more}
 
 pub loop-window-preserved : goal.loop-window-preserved
 loop-window-preserved g c =

@@ -5,8 +5,8 @@ use Rattle.std.specs.Fmt.{signed_decimal}
 use Rattle.std.proofs.lemmas.Int.{to_z-of_z}
 use Rattle.script_spec.specs.Generator.{call_got, call_put, over_calls, refusals, sum_given}
 use Rattle.script_spec.specs.Texts.{line}
-use Rattle.printed_text.proofs.Appends.{then_append}
 use Rattle.generated_run.proofs.summary.push_answers.Goals as goal
+use Rattle.list_laws.proofs.Appends.{then_append}
 
 pub returns : goal.returns
 returns c =

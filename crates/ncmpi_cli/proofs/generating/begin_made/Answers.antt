@@ -2,8 +2,8 @@ use Rattle.std.proofs.Common.{◌∙◌, refl, subst, sym}
 use Rattle.dataset_start.specs.Dataset.{IsKept}
 use Rattle.ncmpi_cli.proofs.Made.{made_is, made_kept, never_four, never_told}
 use Rattle.ncmpi_cli.proofs.CutOff.{made_unready, unready_made}
-use Rattle.dataset_start.proofs.NotReady.{on_err}
 use Rattle.ncmpi_cli.proofs.generating.begin_made.Goals as goal
+use Rattle.list_laws.proofs.Results.{on_err}
 
 pub make_ready-requires-clause-kept : goal.make_ready-requires-clause-kept
 make_ready-requires-clause-kept g c =

@@ -8,8 +8,8 @@ use Rattle.serial_spec.specs.Lawful.{is_lawful}
 use Rattle.script_spec.specs.Generator.{has_counts, summary_text}
 use Rattle.ncmpi_cli.proofs.CutOff.{made_cut}
 use Rattle.ncmpi_cli.proofs.Made.{made_begins, made_begins_none, made_counts, made_kept, made_ran, made_status, made_wants}
-use Rattle.ncmpi_cli.proofs.Telling.{rose_later}
 use Rattle.ncmpi_cli.proofs.generating.run_made.Goals as goal
+use Rattle.nc_outside.proofs.ToldLaws.{rose_before}
 
 pub run_ranks-end-requires-clause-lawful : goal.run_ranks-end-requires-clause-lawful
 run_ranks-end-requires-clause-lawful g c =
@@ -59,12 +59,12 @@ returns-in-None-clause-cut g c = λ ended.
 pub returns-in-Some-Disk-clause-disk : goal.returns-in-Some-Disk-clause-disk
 returns-in-Some-Disk-clause-disk g c = λ _.
     let failed : c.run_ranks-end.result.fault ≡ Some fault.Disk = search rules in
-    rose_later _ (g.D.Disk.faults c.begin_made.new.disk) _ c.in-Ok.ensures.later (c.run_ranks-end.ensures.run.fault failed)
+    rose_before _ (g.D.Disk.faults c.begin_made.new.disk) _ c.in-Ok.ensures.later (c.run_ranks-end.ensures.run.fault failed)
 
 pub returns-in-Some-Disk-clause-complete : goal.returns-in-Some-Disk-clause-complete
 returns-in-Some-Disk-clause-complete g c = λ sink disk.
     let failed : c.run_ranks-end.result.fault ≡ Some fault.Disk = search rules in
-    absurd (disk (rose_later _ (g.D.Disk.faults c.begin_made.new.disk) _ c.in-Ok.ensures.later (c.run_ranks-end.ensures.run.fault failed)))
+    absurd (disk (rose_before _ (g.D.Disk.faults c.begin_made.new.disk) _ c.in-Ok.ensures.later (c.run_ranks-end.ensures.run.fault failed)))
 
 -- ---- the steps so far
 

@@ -11,8 +11,9 @@ use Rattle.ncmpi_cli.specs.Readings.{pairs_of, readings_of, whole_text}
 use Rattle.ncmpi_cli.proofs.CutOff.{cut_off}
 use Rattle.ncmpi_cli.proofs.Ran.{begins, begins_none, can_have_begun, nobody_read, ran}
 use Rattle.ncmpi_cli.proofs.Reading.{read, told_by_no_text, untold}
-use Rattle.ncmpi_cli.proofs.Telling.{dataset, not_unread, not_wrong, refused, rose_later, wants_memory}
+use Rattle.ncmpi_cli.proofs.Telling.{dataset, not_unread, not_wrong, refused, wants_memory}
 use Rattle.ncmpi_cli.proofs.running.run_script.Goals as goal
+use Rattle.nc_outside.proofs.ToldLaws.{rose_before}
 
 pub returns-in-Err-clause-dataset : goal.returns-in-Err-clause-dataset
 returns-in-Err-clause-dataset g c =
@@ -74,7 +75,7 @@ returns-in-None-clause-front g c = λ ended.
 pub returns-in-Some-Disk-clause-disk : goal.returns-in-Some-Disk-clause-disk
 returns-in-Some-Disk-clause-disk g c = λ _.
     let failed : c.run_beside-run.result.end.fault ≡ Some fault.Disk = search rules in
-    rose_later _ (g.D.Disk.faults c.begin.new.disk) _ c.in-Ok.ensures.later (c.run_beside-run.ensures.run.fault failed)
+    rose_before _ (g.D.Disk.faults c.begin.new.disk) _ c.in-Ok.ensures.later (c.run_beside-run.ensures.run.fault failed)
 
 pub returns-in-Some-Disk-clause-faulty : goal.returns-in-Some-Disk-clause-faulty
 returns-in-Some-Disk-clause-faulty g c = λ asks source disk.
@@ -83,7 +84,7 @@ returns-in-Some-Disk-clause-faulty g c = λ asks source disk.
 pub returns-in-Some-Disk-clause-complete : goal.returns-in-Some-Disk-clause-complete
 returns-in-Some-Disk-clause-complete g c = λ asks source sink disk.
     let failed : c.run_beside-run.result.end.fault ≡ Some fault.Disk = search rules in
-    absurd (disk (rose_later _ (g.D.Disk.faults c.begin.new.disk) _ c.in-Ok.ensures.later (c.run_beside-run.ensures.run.fault failed)))
+    absurd (disk (rose_before _ (g.D.Disk.faults c.begin.new.disk) _ c.in-Ok.ensures.later (c.run_beside-run.ensures.run.fault failed)))
 
 -- ---- the steps so far
 

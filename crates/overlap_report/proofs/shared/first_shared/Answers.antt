@@ -3,15 +3,16 @@ use Rattle.std.proofs.Common.{◌≡◌, ℕ, ◌+◌, ◌^◌, ◌<◌, ◌≤�
 use Rattle.overlap_report.specs.declared.shared.Reach.{Reach}
 use Rattle.overlap_report.specs.Reaching.{same_as}
 use Rattle.overlap_report.proofs.CoverSteps.{entry_ends}
-use Rattle.overlap_report.proofs.KeySteps.{nothing, next_at, at_index}
+use Rattle.overlap_report.proofs.KeySteps.{nothing, next_at}
 use Rattle.overlap_report.proofs.SharedSteps.{Reaches, reach_next, reach_same, first_found, all_clear}
 use Rattle.overlap_report.proofs.shared.first_shared.Goals as goal
 use Rattle.overlap_report.proofs.shared.first_shared.Goals.{then-entry-gt0+else-entry-of_others, else-entry-gt0}
+use Rattle.std.proofs.lemmas.List.{get_or_default}
 
 pub returns-then-entry-of_others : goal.returns-then-entry-of_others
 returns-then-entry-of_others c =
     first_found c.args.list.now c.loop-entry.entry-index c.loop-entry.reach (get_or c.args.list.now c.loop-entry.entry-index nothing) c.loop-entry-test.true
-    (at_index c.args.list.now c.loop-entry.entry-index nothing (get_or c.args.list.now c.loop-entry.entry-index nothing) c.loop-entry-test.true)
+    (get_or_default c.args.list.now c.loop-entry.entry-index nothing (get_or c.args.list.now c.loop-entry.entry-index nothing) c.loop-entry-test.true)
     c.requires.sorted c.if-entry-gt0.true
     (subst (λ (n : ℕ). (get_or c.args.list.now c.loop-entry.entry-index nothing).extent.at < n) c.of_others.ensures c.if-entry-of_others.true) c.loop-entry.invariant
 

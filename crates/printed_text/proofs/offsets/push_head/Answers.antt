@@ -1,8 +1,8 @@
 use Rattle.std.proofs.Common.{List, ℕ, ◌++◌, codes, decimal}
-use Rattle.serial_spec.specs.HeaderGrammar.{header_len}
+use Rattle.serial_spec.specs.HeaderBytes.{header_len}
 use Rattle.script_spec.specs.Texts.{extent_of, text_line}
-use Rattle.printed_text.proofs.Appends.{then_append}
 use Rattle.printed_text.proofs.offsets.push_head.Goals as goal
+use Rattle.list_laws.proofs.Appends.{then_append}
 
 pub returns : goal.returns
 returns c =

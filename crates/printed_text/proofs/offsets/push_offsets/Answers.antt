@@ -3,8 +3,8 @@ use Rattle.std.specs.List.{flat_map}
 use Rattle.serial_spec.specs.Layout.{fixed_variables, record_variables}
 use Rattle.script_spec.specs.Texts.{dim_line, text_line, var_lines}
 use Rattle.printed_text.specs.Offsets.{head_lines}
-use Rattle.printed_text.proofs.Appends.{then_append}
 use Rattle.printed_text.proofs.offsets.push_offsets.Goals as goal
+use Rattle.list_laws.proofs.Appends.{then_append}
 
 pub returns : goal.returns
 returns c =

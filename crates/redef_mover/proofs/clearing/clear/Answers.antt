@@ -6,10 +6,11 @@ use Rattle.serial_spec.specs.File.{written}
 use Rattle.redef_mover.specs.Kept.{IsOutside}
 use Rattle.redef_mover.specs.Moves.{cleared}
 use Rattle.redef_mover.proofs.KeptLaws.{first_kept, kept_long, kept_more, kept_written, outside_part}
-use Rattle.redef_mover.proofs.ClearLaws.{all_stored, stores_before, stores_more, window_cleared, window_zeros, zeros_count}
-use Rattle.redef_mover.proofs.ToldSteps.{calls_more, told_more}
-use Rattle.redef_mover.proofs.WindowLaws.{window_inside, windows_reach}
+use Rattle.redef_mover.proofs.ClearLaws.{all_stored, window_cleared, window_zeros, zeros_count}
+use Rattle.redef_mover.proofs.ToldSteps.{told_more}
 use Rattle.redef_mover.proofs.clearing.clear.Goals as goal
+use Rattle.nc_outside.proofs.ToldLaws.{calls_more}
+use Rattle.overlay_laws.proofs.WindowCounts.{window_inside, windows_reach, stores_before, stores_more}
 
 pub loop-window-preserved : goal.loop-window-preserved
 loop-window-preserved g c =

@@ -2,8 +2,8 @@
 use Rattle.std.proofs.Common.{◌≡◌, ◌*◌, ◌≤◌, min}
 use Rattle.nc_outside.specs.Told.{after, with_end}
 use Rattle.redef_mover.specs.Moves.{cleared}
-use Rattle.redef_mover.proofs.ClearLaws.{stores_before}
 use Rattle.redef_mover.proofs.clearing.clear.Given as goal
+use Rattle.overlay_laws.proofs.WindowCounts.{stores_before}
 
 abbrev pub invariant-loop-window : goal.invariant-loop-window
 invariant-loop-window g l = record {

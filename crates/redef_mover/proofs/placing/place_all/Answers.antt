@@ -1,5 +1,5 @@
 use Rattle.std.proofs.Common.{ℕ, ◌+◌, ◌∙◌, ap}
-use Rattle.serial_spec.specs.HeaderGrammar.{header_len}
+use Rattle.serial_spec.specs.HeaderBytes.{header_len}
 use Rattle.serial_spec.specs.Redefinition.{by_begin, fixed_order, front_after, first_record}
 use Rattle.var_layout.specs.Capped.{capped}
 use Rattle.redef_mover.specs.declared.placing.Side.TheVariants.{Old}

@@ -2,7 +2,7 @@
 // variable over both, 120 with two of them, 76 with a scalar one.
 ghost use Rattle.std.specs.Prelude.{◌≡◌, ◌≤◌, [], ◌∷◌, true};
 ghost use Rattle.nc_base.specs.declared.header.NcType.TheVariants.{Int};
-ghost use Rattle.serial_spec.specs.HeaderGrammar.{is_sound};
+ghost use Rattle.serial_spec.specs.SoundHeaders.{is_sound};
 ghost use Rattle.var_layout.specs.Unplaced.{is_unplaced};
 
 use crate::tests::{NO_MEMORY, one, two};

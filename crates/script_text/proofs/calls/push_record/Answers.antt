@@ -1,7 +1,7 @@
 use Rattle.std.proofs.Common.{List, ℕ, ◌∷◌, ◌++◌, decimal, sym, ap, ◌∙◌}
 use Rattle.printed_text.proofs.WordLaws.{spaced_one}
-use Rattle.printed_text.proofs.Appends.{then_append}
 use Rattle.script_text.proofs.calls.push_record.Goals as goal
+use Rattle.list_laws.proofs.Appends.{then_append}
 
 pub returns : goal.returns
 returns c =

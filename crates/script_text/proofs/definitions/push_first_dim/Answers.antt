@@ -1,9 +1,9 @@
 use Rattle.std.proofs.Common.{List, ℕ, [], ◌∷◌, ◌++◌, map, sym, ap, ◌∙◌}
 use Rattle.std.specs.List.{flat_map}
 use Rattle.script_spec.specs.Shown.{dim_name}
-use Rattle.printed_text.proofs.Appends.{then_append}
 use Rattle.script_text.proofs.PrintingLaws.{joined_parts}
 use Rattle.script_text.proofs.definitions.push_first_dim.Goals as goal
+use Rattle.list_laws.proofs.Appends.{then_append}
 
 pub returns : goal.returns
 returns c =
@@ -11,8 +11,6 @@ returns c =
     let w : List ℕ = dim_name c.args.header.now c.args.first in
     let ws : List (List ℕ) = map (dim_name c.args.header.now) c.args.others.now in
     let rest : List ℕ = flat_map (λ (x : List ℕ). 44 ∷ x) ws in
-    let own = rw c.dim_name.ensures at c.in_ok-push_bytes.ensures in
-    let two = then_append o _ _ (91 ∷ []) w c.in_ok-push.ensures.items own in
-    let three = then_append o _ _ (91 ∷ w) rest two c.in_ok-push_other_dims.ensures in
-    then_append o _ _ (91 ∷ w ++ rest) (93 ∷ []) three c.in_ok-push-2.ensures.items
+    let two = then_append o _ _ (91 ∷ []) (w ++ rest) c.in_ok-push.ensures.items c.in_ok-push_dim_names.ensures in
+    then_append o _ _ (91 ∷ w ++ rest) (93 ∷ []) two c.in_ok-push-2.ensures.items
     ∙ ap (λ (t : List ℕ). o ++ 91 ∷ (t ++ 93 ∷ [])) (sym (joined_parts 44 w ws))

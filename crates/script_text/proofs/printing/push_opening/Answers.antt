@@ -1,8 +1,8 @@
 use Rattle.std.proofs.Common.{List, ℕ, [], ◌∷◌, ◌++◌, cond, codes, decimal}
 use Rattle.script_spec.specs.Shown.{shown_hints}
 use Rattle.script_spec.specs.Texts.{line}
-use Rattle.printed_text.proofs.Appends.{then_append}
 use Rattle.script_text.proofs.printing.push_opening.Goals as goal
+use Rattle.list_laws.proofs.Appends.{then_append}
 
 pub returns : goal.returns
 returns c =

@@ -1,12 +1,11 @@
 -- Nothing went wrong before.
-use Rattle.std.proofs.Common.{◌≡◌, ℕ, sym, subst, None, true, rules}
-use Rattle.serial_spec.specs.HeaderGrammar.{is_sound}
-use Rattle.thread_run.proofs.ThreadEnds.{on_ok}
-use Rattle.std.proofs.Common.{◌∙◌, ap, Some}
+use Rattle.std.proofs.Common.{◌≡◌, ℕ, sym, subst, None, true, rules, ◌∙◌, ap, Some}
+use Rattle.serial_spec.specs.SoundHeaders.{is_sound}
 use Rattle.nc_base.specs.declared.step.StepErr.{StepErr}
 use Rattle.nc_base.specs.declared.step.StepErr.TheVariants as fault
 use Rattle.thread_run.proofs.EndedLaws.{ended_before, ended_err, ended_memory, err_is}
 use Rattle.thread_run.proofs.rank_ends.close_after.Goals as goal
+use Rattle.list_laws.proofs.Results.{on_ok}
 
 pub close_by-requires-clause-known : goal.close_by-requires-clause-known
 close_by-requires-clause-known g c κs within =

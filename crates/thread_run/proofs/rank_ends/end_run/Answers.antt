@@ -1,11 +1,9 @@
 -- The ranks' ends, as a list that is lent.
-use Rattle.std.proofs.Common.{◌≡◌, List, sym, subst, None, true, ap, Err}
+use Rattle.std.proofs.Common.{◌≡◌, List, sym, subst, None, true, ap, Err, inr, refl}
 use Rattle.nc_base.specs.declared.step.StepErr.{StepErr}
 use Rattle.nc_base.specs.declared.run.RankEnd.{RankEnd}
-use Rattle.serial_spec.specs.HeaderGrammar.{is_sound}
-use Rattle.thread_run.specs.Threads.{most_known_of, NoneBroke}
-use Rattle.std.proofs.Common.{inr, refl}
-use Rattle.thread_run.specs.Threads.{EndedAt}
+use Rattle.serial_spec.specs.SoundHeaders.{is_sound}
+use Rattle.thread_run.specs.Threads.{most_known_of, NoneBroke, EndedAt}
 use Rattle.thread_run.proofs.EndedLaws.{ended_as, ended_closed}
 use Rattle.thread_run.proofs.rank_ends.end_run.Goals as goal
 

@@ -7,13 +7,13 @@ use Rattle.thread_run.specs.Resident.{AreResidents, AreSettled}
 use Rattle.thread_run.specs.Serving.{arrived, gained}
 use Rattle.thread_run.specs.declared.resident.Resident.{Resident}
 use Rattle.thread_run.specs.declared.resident.Word.TheVariants.{Go}
-use Rattle.turn_run.proofs.HintLaws.{lawful_hints}
 use Rattle.thread_run.proofs.ThreadAll.{known_sound, owner_of, run_all}
 use Rattle.nc_base.specs.declared.step.StepErr.{StepErr}
 use Rattle.thread_run.proofs.ThreadCut.{run_cut}
 use Rattle.thread_run.proofs.ThreadTold.{run_told}
 use Rattle.thread_run.proofs.ThreadSettles.{AreTold, residents_told, told_all}
 use Rattle.thread_run.proofs.rank_threads.run_started.Goals as goal
+use Rattle.serial_spec.proofs.LawfulTests.{lawful_hints}
 
 pub serve-served-requires-clause-hints : goal.serve-served-requires-clause-hints
 serve-served-requires-clause-hints g c κs within = lawful_hints c.args.lent.now.script.now c.requires.runnable.lawful

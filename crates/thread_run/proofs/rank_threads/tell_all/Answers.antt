@@ -1,9 +1,9 @@
 -- One thread more was told.
 use Rattle.std.proofs.Common.{refl, sym, ◌∙◌, get_or, length-set, arith}
 use Rattle.thread_run.specs.Resident.{IsToldToGo}
-use Rattle.turn_run.proofs.ListLaws.{get_long}
-use Rattle.turn_run.proofs.MeetLists.{each_more, left_more, read_at}
 use Rattle.thread_run.proofs.rank_threads.tell_all.Goals as goal
+use Rattle.std.proofs.lemmas.Option.{slice_get_within, slice_get-get_or}
+use Rattle.list_laws.proofs.Places.{left_more, each_more}
 
 pub loop-one-preserved : goal.loop-one-preserved
 loop-one-preserved g c =
@@ -13,7 +13,7 @@ loop-one-preserved g c =
     let test = c.loop-one-test.true in
     let long = c.loop-one.auto.ones in
     let one = get_or now i c.one-item.result in
-    let own = read_at now i c.one-item.result (omega arith) in
+    let own = slice_get-get_or now i c.one-item.result (omega arith) in
     let first = sym (c.loop-one.invariant.left i (omega arith)) ∙ own in
     record {
       long = length-set now i _ ∙ c.loop-one.invariant.long;
@@ -25,7 +25,7 @@ loop-one-preserved g c =
 
 pub returns-clause-told : goal.returns-clause-told
 returns-clause-told g c = λ r a b e f.
-    let l = get_long c.loop-one.ones r b f in
+    let l = slice_get_within c.loop-one.ones r b f in
     let long = c.loop-one.auto.ones in
     let past = c.loop-one-test.false in
     c.loop-one.invariant.told r a b (omega arith) e f

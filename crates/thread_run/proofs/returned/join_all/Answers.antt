@@ -1,9 +1,9 @@
 -- One thread more was joined.
 use Rattle.std.proofs.Common.{◌≡◌, ◌<◌, ◌++◌, refl, sym, ◌∙◌, ap, length, map, rules}
-use Rattle.turn_run.proofs.ListLaws.{get_long}
 use Rattle.thread_run.proofs.ThreadStarts.{both_long, get_mapped, own_number}
 use Rattle.thread_run.proofs.ThreadJoins.{map_snoc, none_left, of_either, settled_first, settled_push}
 use Rattle.thread_run.proofs.returned.join_all.Goals as goal
+use Rattle.std.proofs.lemmas.Option.{slice_get_within}
 
 pub loop-one-init : goal.loop-one-init
 loop-one-init g c = record {
@@ -26,7 +26,7 @@ join_one-end-requires g c =
 pub push_reserved-requires : goal.push_reserved-requires
 push_reserved-requires g c =
     let ones = ap (λ v. map (λ p. p.0) c.loop-one.yielded ++ v) (sym c.in-Some.ensures.steps.0.0) ∙ c.loop-one.invariant.ones in
-    let low : length c.loop-one.yielded < length c.args.ones.items = get_long c.args.ones.items (length c.loop-one.yielded) c.in-Some.one (get_mapped (λ p. p.0) c.loop-one.yielded c.in-Some.one _ c.args.ones.items ones) in
+    let low : length c.loop-one.yielded < length c.args.ones.items = slice_get_within c.args.ones.items (length c.loop-one.yielded) c.in-Some.one (get_mapped (λ p. p.0) c.loop-one.yielded c.in-Some.one _ c.args.ones.items ones) in
     let long = c.loop-one.invariant.long in
     let room = c.requires.room in
     let same = c.loop-one.invariant.room in

@@ -3,7 +3,8 @@ use Rattle.std.proofs.Common.{◌≡◌, ℕ, sym, ◌∙◌, subst, rules}
 use Rattle.nc_outside.specs.Cause.{Rose}
 use Rattle.collective_round.specs.Rounds.{setting}
 use Rattle.turn_run.specs.Counts.{IsCount}
-use Rattle.thread_run.proofs.EndLaws.{end_bytes, end_calls, end_cut, end_done, end_failed, end_put, end_taken, end_told, outcome_given}
+use Rattle.thread_run.proofs.EndLaws.{outcome_given}
+use Rattle.thread_run.proofs.HaltedLaws.{end_bytes, end_calls, end_cut, end_done, end_failed, end_put, end_taken, end_told}
 use Rattle.thread_run.proofs.serving.serve.Goals as goal
 
 pub serve_to_end-order-requires-clause-count : goal.serve_to_end-order-requires-clause-count

@@ -2,7 +2,8 @@
 use Rattle.std.proofs.Common.{ℕ, ◌≤◌, sym, subst}
 use Rattle.thread_run.specs.Lent.{setting_of}
 use Rattle.thread_run.specs.Owned.{first_standing}
-use Rattle.thread_run.proofs.EndLaws.{halted_lines, outcome, seen_all}
+use Rattle.thread_run.proofs.GainedLaws.{outcome}
+use Rattle.thread_run.proofs.HaltedLaws.{halted_lines, seen_all}
 use Rattle.thread_run.proofs.serving.serve_to_end.Goals as goal
 
 pub finish-requires-clause-few : goal.finish-requires-clause-few

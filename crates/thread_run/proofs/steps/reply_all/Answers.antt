@@ -4,9 +4,10 @@ use Rattle.std.proofs.lemmas.List.{length-set}
 use Rattle.nc_base.specs.declared.step.OwnerItem.TheVariants.{Reply}
 use Rattle.thread_run.specs.Owned.{replies}
 use Rattle.turn_run.specs.Seated.{reply_of}
-use Rattle.turn_run.proofs.MeetLists.{left_more, read_at}
 use Rattle.thread_run.proofs.PutLaws.{all_below, put_below}
 use Rattle.thread_run.proofs.steps.reply_all.Goals as goal
+use Rattle.std.proofs.lemmas.Option.{slice_get-get_or}
+use Rattle.list_laws.proofs.Places.{left_more}
 
 pub loop-number-preserved : goal.loop-number-preserved
 loop-number-preserved g c =
@@ -15,7 +16,7 @@ loop-number-preserved g c =
     let long = c.loop-number.invariant.long in
     let rows = ap (λ (t : List (List (List ℕ))). length t) c.into_vec-table.ensures in
     let end = c.len-number-end.ensures in
-    let row = read_at c.loop-number.table.items i c.index_mut.result.now (omega arith) in
+    let row = slice_get-get_or c.loop-number.table.items i c.index_mut.result.now (omega arith) in
     let its = sym (c.loop-number.invariant.blobs i (omega arith)) ∙ row in
     record {
       lines = put_below c.args.back.now c.loop-number.back c.put_on.new.self i (replies c.args.pair c.args.records c.args.table) (Reply (reply_of c.args.pair c.args.records c.take-got.result)) c.loop-number.invariant.lines

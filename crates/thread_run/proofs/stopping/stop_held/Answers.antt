@@ -2,15 +2,15 @@
 use Rattle.std.proofs.Common.{ap, arith}
 use Rattle.serial_spec.specs.Desk.{stop_held}
 use Rattle.thread_run.specs.Stopping.{held_stops}
-use Rattle.turn_run.proofs.ListLaws.{get_read}
 use Rattle.thread_run.proofs.PutLaws.{all_below, one_more}
 use Rattle.std.proofs.Common.{Some}
 use Rattle.thread_run.proofs.stopping.stop_held.Goals as goal
+use Rattle.list_laws.proofs.Places.{entry_read}
 
 pub loop-number-preserved : goal.loop-number-preserved
 loop-number-preserved g c =
     one_more c.args.back.now c.loop-number.back c.stop_seat.new.back c.loop-number.number (held_stops c.args.seats.now) (stop_held (Some c.index-seats-number.result)) c.loop-number.invariant
-    (ap stop_held (get_read c.args.seats.now c.loop-number.number c.index-seats-number.result c.loop-number-test.true c.index-seats-number.is)) c.stop_seat.ensures
+    (ap stop_held (entry_read c.args.seats.now c.loop-number.number c.index-seats-number.result c.loop-number-test.true c.index-seats-number.is)) c.stop_seat.ensures
 
 pub returns : goal.returns
 returns g c =

@@ -4,7 +4,6 @@ use Rattle.std.specs.Prelude.{slice_get, slice_index_or}
 use Rattle.turn_run.specs.declared.seats.Seat.{Seat}
 use Rattle.turn_run.specs.Seated.{calls_of, HasArrived}
 use Rattle.turn_run.proofs.CountLaws.{count_longer}
-use Rattle.turn_run.proofs.ListLaws.{get_long}
 use Rattle.turn_run.proofs.StageLaws.{has_led_at, has_led_none, has_led_then}
 use Rattle.turn_run.proofs.TurnSteps.{below_other, get_at, gone_led, grown_meetings, seats_begun, seats_step, set_each, step_begun}
 use Rattle.std.proofs.lemmas.Result.{err_from_is_err_and}
@@ -15,10 +14,11 @@ use Rattle.turn_run.specs.Cuts.{IsNext, MayFollow}
 use Rattle.turn_run.specs.Stages.{arrived_all, stage}
 use Rattle.turn_run.proofs.CutLaws.{stopped_at, stopped_then, stopped_as, follows_next, same_err}
 use Rattle.turn_run.proofs.TurnSteps.{calls_there, get_arrived}
-use Rattle.turn_run.proofs.MeetLists.{left_more}
 use Rattle.turn_run.proofs.SaidLaws.{answers_cut, grown_beside}
 use Rattle.turn_run.proofs.TellLaws.{told_at, told_none, told_then}
 use Rattle.turn_run.proofs.in_turn.arrive_all.Goals as goal
+use Rattle.std.proofs.lemmas.Option.{slice_get_within}
+use Rattle.list_laws.proofs.Places.{left_more}
 
 pub loop-number-init : goal.loop-number-init
 loop-number-init g c = record {
@@ -88,7 +88,7 @@ loop-number-preserved g c =
     }
 
 pub returns-clause-arrived : goal.returns-clause-arrived
-returns-clause-arrived g c r seat e = let l = get_long c.loop-number.seats r seat e in c.loop-number.invariant.arrived r seat (omega arith) e
+returns-clause-arrived g c r seat e = let l = slice_get_within c.loop-number.seats r seat e in c.loop-number.invariant.arrived r seat (omega arith) e
 
 pub returns-clause-records : goal.returns-clause-records
 returns-clause-records g c =

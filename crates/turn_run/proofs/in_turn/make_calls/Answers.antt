@@ -10,7 +10,6 @@ use Rattle.run_laws.proofs.LawfulLaws.{ranks_lawful}
 use Rattle.turn_run.specs.Steps.{most_known}
 use Rattle.turn_run.proofs.CutLaws.{same_err}
 use Rattle.turn_run.proofs.CutRuns.{ends_before, ends_closing, raised_torn}
-use Rattle.turn_run.proofs.MeetFile.{raised_records}
 use Rattle.turn_run.proofs.TurnEnds.{are_over}
 use Rattle.turn_run.specs.Said.{all_between, AllSay}
 use Rattle.turn_run.specs.Stages.{stage}
@@ -18,6 +17,7 @@ use Rattle.turn_run.proofs.SaidLaws.{between_up, have_reached, reached_here, rea
 use Rattle.turn_run.proofs.SaidMeet.{all_say_here, keep_own}
 use Rattle.std.proofs.Common.{refl}
 use Rattle.turn_run.proofs.in_turn.make_calls.Goals as goal
+use Rattle.serial_spec.proofs.CountLaws.{raised_records}
 
 pub returns-clause-legal : goal.returns-clause-legal
 returns-clause-legal g c =

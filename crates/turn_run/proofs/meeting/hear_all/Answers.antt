@@ -1,15 +1,14 @@
 -- One more rank has heard.
 use Rattle.std.proofs.Common.{◌≡◌, ℕ, sym, ◌∙◌, subst, map, length, List, Some, get_or, length-set, arith}
 use Rattle.std.specs.Prelude.{slice_get, IfSome}
-use Rattle.std.proofs.lemmas.Option.{same_Some}
+use Rattle.std.proofs.lemmas.Option.{same_Some, slice_get_within, slice_get-get_or}
 use Rattle.serial_spec.specs.RankSide.{wanted}
 use Rattle.turn_run.specs.Seated.{reply_of, IsAnswered}
-use Rattle.turn_run.proofs.ListLaws.{get_long}
 use Rattle.turn_run.proofs.MeetHear.{answered_by}
-use Rattle.turn_run.proofs.MeetLists.{each_more, left_more, read_at}
 use Rattle.turn_run.proofs.SaidMeet.{heard_part}
-use Rattle.turn_run.proofs.HintLaws.{on_err}
 use Rattle.turn_run.proofs.meeting.hear_all.Goals as goal
+use Rattle.list_laws.proofs.Results.{on_err}
+use Rattle.list_laws.proofs.Places.{left_more, each_more}
 
 pub hear-requires-clause-waits : goal.hear-requires-clause-waits
 hear-requires-clause-waits c =
@@ -18,8 +17,8 @@ hear-requires-clause-waits c =
     let long = c.loop-number.auto.seats in
     let rows = c.loop-number.invariant.long in
     let all = c.requires.long in
-    let own = read_at c.loop-number.seats i c.index-seats-number.result (omega arith) in
-    let row = read_at c.loop-number.table.items i c.index_mut.result.now (omega arith) in
+    let own = slice_get-get_or c.loop-number.seats i c.index-seats-number.result (omega arith) in
+    let row = slice_get-get_or c.loop-number.table.items i c.index_mut.result.now (omega arith) in
     (c.requires.fit i _ _ (sym (c.loop-number.invariant.left i (omega arith)) ∙ own) (sym (c.loop-number.invariant.blobs i (omega arith)) ∙ row)).waits
 
 pub hear-requires-clause-fits : goal.hear-requires-clause-fits
@@ -30,8 +29,8 @@ hear-requires-clause-fits c =
     let rows = c.loop-number.invariant.long in
     let all = c.requires.long in
     let seat = get_or c.loop-number.seats i c.index-seats-number.result in
-    let own = read_at c.loop-number.seats i c.index-seats-number.result (omega arith) in
-    let row = read_at c.loop-number.table.items i c.index_mut.result.now (omega arith) in
+    let own = slice_get-get_or c.loop-number.seats i c.index-seats-number.result (omega arith) in
+    let row = slice_get-get_or c.loop-number.table.items i c.index_mut.result.now (omega arith) in
     subst (λ (blobs : List (List ℕ)). IfSome seat.rank.state.«open» (λ o. map (λ blob. length blob) blobs ≡ map (wanted seat.rank.header) o.gets))
     (sym (c.take-got.ensures.taken ∙ c.index_mut.ensures.value))
     (c.requires.fit i _ _ (sym (c.loop-number.invariant.left i (omega arith)) ∙ own) (sym (c.loop-number.invariant.blobs i (omega arith)) ∙ row)).fits
@@ -46,8 +45,8 @@ loop-number-preserved c =
     let rows = c.loop-number.invariant.long in
     let all = c.requires.long in
     let seat = get_or now i c.index-seats-number.result in
-    let own = read_at now i c.index-seats-number.result (omega arith) in
-    let row = read_at c.loop-number.table.items i c.index_mut.result.now (omega arith) in
+    let own = slice_get-get_or now i c.index-seats-number.result (omega arith) in
+    let row = slice_get-get_or c.loop-number.table.items i c.index_mut.result.now (omega arith) in
     let first = sym (c.loop-number.invariant.left i (omega arith)) ∙ own in
     let its = sym (c.loop-number.invariant.blobs i (omega arith)) ∙ row in
     record {
@@ -67,7 +66,7 @@ pub returns-clause-all : goal.returns-clause-all
 returns-clause-all c = record {
   long = c.loop-number.auto.seats;
   each = λ r a b blobs g h t.
-      let l = get_long c.loop-number.seats r b h in
+      let l = slice_get_within c.loop-number.seats r b h in
       let long = c.loop-number.auto.seats in
       let past = c.loop-number-test.false in
       c.loop-number.invariant.heard r a b blobs (omega arith) g h t;
@@ -83,6 +82,6 @@ returns-in_err-hear-clause-part c =
     let rows = c.loop-number.invariant.long in
     let all = c.requires.long in
     let seat = get_or now i c.index-seats-number.result in
-    let own = read_at now i c.index-seats-number.result (omega arith) in
+    let own = slice_get-get_or now i c.index-seats-number.result (omega arith) in
     on_err c.from_residual.result (heard_part c.args.pair c.args.records c.args.table old now i seat c.hear.new.self own
     (λ r a b blobs l g h t. (c.loop-number.invariant.heard r a b blobs l g h t).heard) c.loop-number.invariant.left c.in_err-hear.ensures.kept)

@@ -2,8 +2,7 @@
 use Rattle.std.proofs.Common.{sym, ◌∙◌}
 use Rattle.collective_round.specs.Rounds.{setting}
 use Rattle.run_laws.proofs.LawfulLaws.{ranks_lawful}
-use Rattle.turn_run.proofs.HintLaws.{lawful_hints}
-use Rattle.turn_run.proofs.MeetDone.{are_done, begun_after, begun_before, begun_still, free_after, order_at, seats_after, table_long, to_hear}
+use Rattle.turn_run.proofs.MeetDone.{are_done, begun_after, begun_still, free_after, order_at, seats_after, table_long, to_hear}
 use Rattle.turn_run.proofs.MeetOffers.{meets_job, meets_once, meets_rise}
 use Rattle.turn_run.proofs.MeetStep.{meeting_led}
 use Rattle.std.proofs.Common.{refl, inr}
@@ -19,9 +18,11 @@ use Rattle.turn_run.proofs.SaidLaws.{reached_here}
 use Rattle.turn_run.proofs.SaidMeet.{all_say_here, meeting_between, part_of_freed, reached_deaf}
 use Rattle.turn_run.proofs.TellLaws.{told_meeting, told_none}
 use Rattle.turn_run.proofs.meeting.meet.Goals as goal
+use Rattle.serial_spec.proofs.LawfulTests.{lawful_hints}
+use Rattle.turn_run.proofs.TurnSteps.{seats_begun}
 
 pub returns-in_err-job-clause-begun : goal.returns-in_err-job-clause-begun
-returns-in_err-job-clause-begun g c = begun_before c.args.lent.now.setup.script.now c.args.lent.now.setup.header.now _ c.args.progress.now.order c.args.seats.now c.requires.seats
+returns-in_err-job-clause-begun g c = seats_begun c.args.lent.now.setup.script.now c.args.lent.now.setup.header.now _ c.args.progress.now.order c.args.seats.now c.requires.seats
 
 pub meet_on_file-requires-clause-hints : goal.meet_on_file-requires-clause-hints
 meet_on_file-requires-clause-hints g c κs within = lawful_hints c.args.lent.now.setup.script.now c.requires.lawful
@@ -36,7 +37,7 @@ meet_on_file-requires-clause-known g c κs within =
     meets_rise c.args.lent.now.setup.script.now c.args.lent.now.setup.header.now _ c.args.progress.now.order c.args.seats.now c.in_ok-job.known c.requires.seats c.requires.met c.requires.arrived c.in_ok-job.ensures.known
 
 pub returns-in_err-pair-clause-begun : goal.returns-in_err-pair-clause-begun
-returns-in_err-pair-clause-begun g c = begun_before c.args.lent.now.setup.script.now c.args.lent.now.setup.header.now _ c.args.progress.now.order c.args.seats.now c.requires.seats
+returns-in_err-pair-clause-begun g c = seats_begun c.args.lent.now.setup.script.now c.args.lent.now.setup.header.now _ c.args.progress.now.order c.args.seats.now c.requires.seats
 
 pub returns-in_err-note_step-clause-begun : goal.returns-in_err-note_step-clause-begun
 returns-in_err-note_step-clause-begun g c =

@@ -6,8 +6,8 @@ use Rattle.turn_run.proofs.MeetPosts.{get_of, needed_solo, put_of, ranked_puts, 
 use Rattle.turn_run.proofs.MeetSolo.{solo_replied}
 use Rattle.serial_spec.specs.FileStep.{puts_of, told}
 use Rattle.collective_round.proofs.TornLaws.{done_torn}
-use Rattle.turn_run.proofs.HintLaws.{on_err}
 use Rattle.turn_run.proofs.solo.solo_reply.Goals as goal
+use Rattle.list_laws.proofs.Results.{on_err}
 
 pub put_solo-requires-clause-puts : goal.put_solo-requires-clause-puts
 put_solo-requires-clause-puts g c κs within =

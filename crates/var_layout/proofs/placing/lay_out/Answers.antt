@@ -4,7 +4,7 @@ use Rattle.nc_base.specs.declared.header.Header.{Header}
 use Rattle.nc_base.specs.declared.header.Var.{Var}
 use Rattle.nc_base.specs.declared.script.Align.{Align}
 use Rattle.serial_spec.specs.Layout.{begins, placed}
-use Rattle.serial_spec.specs.HeaderGrammar.{is_sound, is_writable}
+use Rattle.serial_spec.specs.SoundHeaders.{is_sound, is_writable}
 use Rattle.var_layout.specs.Begins.{HasPlace}
 use Rattle.var_layout.proofs.LaidOut.{laid_sound}
 use Rattle.var_layout.proofs.LaidWritable.{laid_writable}

@@ -1,6 +1,6 @@
 use Rattle.std.proofs.Common.{◌∙◌, List, length, ap, arith}
 use Rattle.nc_base.specs.declared.header.Attr.{Attr}
-use Rattle.serial_spec.specs.HeaderGrammar.{attribute}
+use Rattle.serial_spec.specs.HeaderBytes.{attribute}
 use Rattle.var_layout.proofs.WrittenLengths.{list_whole}
 use Rattle.var_layout.proofs.written.attrs_len.Goals as goal
 

@@ -1,7 +1,7 @@
 use Rattle.std.proofs.Common.{◌≡◌, ℕ, ◌*◌, ap, ◌∙◌, arith}
 use Rattle.std.specs.Prelude.{length}
 use Rattle.std.specs.Int.{byte_len}
-use Rattle.serial_spec.specs.HeaderGrammar.{count_width}
+use Rattle.serial_spec.specs.HeaderBytes.{count_width}
 use Rattle.var_layout.proofs.WrittenLengths.{variable_len}
 use Rattle.var_layout.proofs.written.var_len.Goals as goal
 

@@ -1,4 +1,4 @@
-use Rattle.whole_run_laws.proofs.FilledLaws.{filled_reads, filled_stays}
+use Rattle.whole_run_laws.proofs.FilledFile.{filled_reads, filled_stays}
 use Rattle.whole_run_laws.proofs.fills.dataset_law.Goals as goal
 
 pub returns-clause-begins : goal.returns-clause-begins

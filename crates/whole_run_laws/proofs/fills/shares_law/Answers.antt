@@ -1,4 +1,4 @@
-use Rattle.whole_run_laws.proofs.FilledLaws.{shares_all, record_puts}
+use Rattle.whole_run_laws.proofs.FilledRecord.{shares_all, record_puts}
 use Rattle.whole_run_laws.proofs.fills.shares_law.Goals as goal
 
 pub returns-clause-cover : goal.returns-clause-cover

@@ -1,9 +1,10 @@
 use Rattle.std.proofs.Common.{refl}
-use Rattle.whole_run_laws.proofs.ToldLaws.{replies_each, replies_told, pair_is_least, none_shared, only_refused}
+use Rattle.whole_run_laws.proofs.ToldLaws.{replies_told, pair_is_least, none_shared, only_refused}
 use Rattle.whole_run_laws.proofs.overlaps.telling_law.Goals as goal
+use Rattle.join_laws.proofs.StepLaws.{replies_long}
 
 pub returns-clause-one_each : goal.returns-clause-one_each
-returns-clause-one_each c = replies_each
+returns-clause-one_each c = replies_long
 
 pub returns-clause-same_pair : goal.returns-clause-same_pair
 returns-clause-same_pair c = replies_told

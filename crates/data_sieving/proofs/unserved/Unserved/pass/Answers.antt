@@ -3,10 +3,10 @@ use Rattle.std.proofs.Common.{◌⊎◌, ◌++◌, ◌<◌, List, sym, subst}
 use Rattle.nc_base.specs.declared.plan.Owned.{Owned}
 use Rattle.overlay_laws.specs.Entries.{In}
 use Rattle.data_sieving.specs.Serving.{entries_left, IsPast}
-use Rattle.data_sieving.proofs.CoveredBytes.{in_extents}
 use Rattle.data_sieving.proofs.PastSteps.{ahead_in, past_filter, passed_past, passed_begun, kept_begun, first_further, first_ahead, none_ahead}
 use Rattle.data_sieving.proofs.SplitSteps.{extents_left}
 use Rattle.data_sieving.proofs.unserved.Unserved.pass.Goals as goal
+use Rattle.overlay_laws.proofs.EntryLaws.{in_extents}
 
 pub leave_out-requires : goal.leave_out-requires
 leave_out-requires c = record { ends = λ e m. c.requires.ends e (extents_left c.args.self.now.carried.items c.args.self.now.ahead.now e m) }

@@ -2,7 +2,7 @@ use Rattle.std.proofs.Common.{◌≡◌, ◌≤◌, ◌∙◌, sym, ap, ℕ, Lis
 use Rattle.std.specs.List.{AllByRecursion}
 use Rattle.nc_base.specs.declared.request.Part.{Part}
 use Rattle.serial_spec.specs.Layout.{product}
-use Rattle.serial_spec.specs.RankMachine.{box_post}
+use Rattle.serial_spec.specs.Looking.{box_post}
 use Rattle.rank_core.specs.Targets.{IsSmall}
 use Rattle.rank_core.proofs.FillLaws.{not_record, record_filled, record_too_large, share_grows, share_within}
 use Rattle.rank_core.proofs.FillPostLaws.{boxes_small}

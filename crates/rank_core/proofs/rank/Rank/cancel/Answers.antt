@@ -1,7 +1,6 @@
 use Rattle.std.proofs.Common.{◌≡◌, ap, arith, None}
 use Rattle.nc_base.specs.declared.answer.Code.TheVariants as code
 use Rattle.nc_base.specs.declared.step.Want.TheVariants.{Answered}
-use Rattle.serial_spec.specs.RankMachine as machine
 use Rattle.serial_spec.specs.RankMachine.{is_chosen, named}
 use Rattle.run_laws.specs.Requests.{posts_held}
 use Rattle.rank_core.proofs.RequestLaws.{held_without}

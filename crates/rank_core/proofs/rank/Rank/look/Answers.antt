@@ -2,8 +2,8 @@ use Rattle.std.proofs.Common.{◌≡◌, subst}
 use Rattle.std.specs.Prelude.{IfOk}
 use Rattle.std.specs.Option.{option_copied}
 use Rattle.std.proofs.lemmas.Result.{IfOk-weaker}
-use Rattle.serial_spec.specs.RankMachine as machine
-use Rattle.serial_spec.specs.RankMachine.{direction_of}
+use Rattle.serial_spec.specs.Looking as looks
+use Rattle.serial_spec.specs.Looking.{direction_of}
 use Rattle.rank_core.specs.Looked.{as_look, posts_of, AreLooked}
 use Rattle.rank_core.specs.Ranked.{Ranked}
 use Rattle.rank_core.specs.Requests.{AreTowards, HaveId}
@@ -19,7 +19,7 @@ returns-clause-posts c =
     let known = c.self.inside.known in
     let values = option_copied c.args.values in
     subst (λ (r : Ranked). IfOk c.look_over.result (λ l. AreTowards (direction_of values) r.header r.state.known (posts_of l))) c.self.view_is
-    (ok_both c.look_over.result (λ l. as_look l ≡ machine.look header known c.args.id c.args.name.now c.args.given.now values) (AreLooked header known values) _
+    (ok_both c.look_over.result (λ l. as_look l ≡ looks.look header known c.args.id c.args.name.now c.args.given.now values) (AreLooked header known values) _
     (λ l e h. towards header known c.args.id values l (look_is header known c.args.id c.args.name.now c.args.given.now values l e) h)
     c.look_over.ensures.looked c.look_over.ensures.posts)
 

@@ -11,8 +11,9 @@ use Rattle.serial_spec.specs.SerialEnd.{offers_of}
 use Rattle.element_steps.specs.Requests.{counted, setting}
 use Rattle.serial_run.specs.Standing.{all_arrived, AllHear, AreWaiting, DoFit, HaveHeard}
 use Rattle.serial_run.specs.declared.seats.Seat.{Seat}
-use Rattle.serial_run.proofs.StepLaws.{have_heard, meeting_low, meeting_step, offered_in, offers_long, replies_fit, replies_long}
+use Rattle.serial_run.proofs.StepLaws.{have_heard, meeting_low, meeting_step, offered_in, offers_long, replies_fit}
 use Rattle.serial_run.proofs.standing.Stand.meet.Goals as goal
+use Rattle.join_laws.proofs.StepLaws.{replies_long}
 
 pub meeting-requires-clause-ranks : goal.meeting-requires-clause-ranks
 meeting-requires-clause-ranks c =

@@ -8,10 +8,10 @@ use Rattle.thread_run.specs.Lent.{setting_of}
 use Rattle.thread_run.specs.Owned.{desk_of, standing}
 use Rattle.thread_run.proofs.ArriveSteps.{all_stopped, as_item, done_alone, done_ended, done_held, done_together, good_at, held_as, on_ok_three, seat_read, steady_alone, steady_ended, steady_held, stopped_as}
 use Rattle.turn_run.proofs.CountLaws.{count_longer}
-use Rattle.turn_run.proofs.ListLaws.{get_read}
 use Rattle.turn_run.specs.Counts.{IsCount}
 use Rattle.thread_run.proofs.RefusedSteps.{arrival_alone, arrival_ended, arrival_together}
 use Rattle.thread_run.proofs.desk.Desk.arrive.Goals as goal
+use Rattle.list_laws.proofs.Places.{entry_read}
 
 pub do_alone-requires-clause-fit : goal.do_alone-requires-clause-fit
 do_alone-requires-clause-fit g c κs within =
@@ -44,13 +44,13 @@ returns-else-memory-clause-done g c =
     let b = standing g.D.Disk g.T.Told c.args.self.now c.args.out.now in
     as_item c.args.dataset.now.hints.now (setting_of c.args.dataset.now) c.args.number c.args.item (item.Ended c.in-Ended.memory) b _ c.in-Ended.is
     (done_ended c.args.dataset.now.hints.now (setting_of c.args.dataset.now) b c.args.number c.index_mut.result.now c.end.new.self c.in-Ended.memory
-    (get_read c.args.self.now.seats.items c.args.number c.index_mut.result.now c.requires.number c.index_mut.ensures.value) c.end.ensures)
+    (entry_read c.args.self.now.seats.items c.args.number c.index_mut.result.now c.requires.number c.index_mut.ensures.value) c.end.ensures)
 
 pub returns-else-memory-clause-steady : goal.returns-else-memory-clause-steady
 returns-else-memory-clause-steady g c =
     let b = standing g.D.Disk g.T.Told c.args.self.now c.args.out.now in
     steady_ended c.args.dataset.now.header.now (g.D.Disk.len c.args.out.now.disk.now) b c.args.number c.index_mut.result.now c.end.new.self c.in-Ended.memory c.requires.steady
-    (get_read c.args.self.now.seats.items c.args.number c.index_mut.result.now c.requires.number c.index_mut.ensures.value) c.end.ensures
+    (entry_read c.args.self.now.seats.items c.args.number c.index_mut.result.now c.requires.number c.index_mut.ensures.value) c.end.ensures
 
 pub returns-in-Solo-clause-done : goal.returns-in-Solo-clause-done
 returns-in-Solo-clause-done g c =

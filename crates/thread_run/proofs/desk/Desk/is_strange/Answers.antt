@@ -3,11 +3,11 @@ use Rattle.std.proofs.Common.{sym, ◌∙◌, ap}
 use Rattle.nc_base.specs.declared.header.Header.{Header}
 use Rattle.thread_run.specs.Owned.{desk_of}
 use Rattle.thread_run.specs.Strange.{fails_test}
-use Rattle.turn_run.proofs.ListLaws.{get_read}
 use Rattle.thread_run.proofs.StrangeLaws.{strange_is}
 use Rattle.thread_run.proofs.desk.Desk.is_strange.Goals as goal
+use Rattle.list_laws.proofs.Places.{entry_read}
 
 pub returns : goal.returns
 returns c = λ s file records e.
-    strange_is s (desk_of c.args.self.now file records) c.args.number c.args.item.now c.index.result.now (get_read c.args.self.now.seats.items c.args.number c.index.result.now c.requires.number c.index.ensures)
+    strange_is s (desk_of c.args.self.now file records) c.args.number c.args.item.now c.index.result.now (entry_read c.args.self.now.seats.items c.args.number c.index.result.now c.requires.number c.index.ensures)
     ∙ ap (λ (header : Header). fails_test header c.args.self.now.seats.items c.args.self.now.reached c.index.result.now c.args.item.now) e ∙ sym c.fails_test.ensures

@@ -9,9 +9,9 @@ use Rattle.turn_run.proofs.CountLaws.{count_longer, count_max}
 use Rattle.thread_run.proofs.PutLaws.{one_put}
 use Rattle.serial_spec.specs.FileStep.{puts_of, told}
 use Rattle.collective_round.proofs.TornLaws.{done_torn}
-use Rattle.turn_run.proofs.HintLaws.{on_err}
 use Rattle.thread_run.proofs.RefusedSteps.{refused_alone}
 use Rattle.thread_run.proofs.desk.Desk.reply_alone.Goals as goal
+use Rattle.list_laws.proofs.Results.{on_err}
 
 pub returns-clause-done : goal.returns-clause-done
 returns-clause-done g c =

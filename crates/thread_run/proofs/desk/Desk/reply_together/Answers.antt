@@ -15,9 +15,9 @@ use Rattle.turn_run.specs.Steps.{IsJob}
 use Rattle.thread_run.proofs.HeldLaws.{held_job, held_low, held_once, held_rise, steady_freed}
 use Rattle.thread_run.proofs.TogetherSteps.{together}
 use Rattle.std.proofs.Common.{refl}
-use Rattle.turn_run.proofs.HintLaws.{on_err}
 use Rattle.thread_run.proofs.RefusedSteps.{done_once, none_once, refused_once}
 use Rattle.thread_run.proofs.desk.Desk.reply_together.Goals as goal
+use Rattle.list_laws.proofs.Results.{on_err}
 
 pub meet_on_file-requires-clause-job : goal.meet_on_file-requires-clause-job
 meet_on_file-requires-clause-job g c κs within = subst (λ (bs : List Batch). IsJob c.args.dataset.now.header.now (g.D.Disk.len c.args.out.now.disk.now) bs) (sym c.in_ok-job.ensures.batches) (held_job c.args.dataset.now.header.now (g.D.Disk.len c.args.out.now.disk.now) (standing g.D.Disk g.T.Told c.args.self.now c.args.out.now) c.requires.steady)

@@ -12,7 +12,6 @@ use Rattle.nc_base.specs.declared.answer.Answer.{Answer}
 use Rattle.run_laws.proofs.TogetherLaws.{call_number}
 use Rattle.turn_run.specs.declared.seats.Seat.{Seat}
 use Rattle.turn_run.proofs.SeatLaws.{placed_rest, way_rest}
-use Rattle.turn_run.proofs.HintLaws.{on_err}
 use Rattle.turn_run.proofs.AloneLaws.{alone_asks, gone_grown, gone_then, grown_then, same_seat, taken_asks, way_free, went_gone, went_seat}
 use Rattle.std.proofs.lemmas.Result.{err_from_is_err_and}
 use Rattle.turn_run.specs.Cuts.{MayFollow}
@@ -21,6 +20,7 @@ use Rattle.turn_run.specs.Said.{SaysAt}
 use Rattle.turn_run.proofs.SaidLaws.{gone_reached, part_arrived, reached_here, said_part, says_here}
 use Rattle.turn_run.proofs.TellLaws.{told_at, told_gone, told_none}
 use Rattle.turn_run.proofs.seats.Seat.arrive.Goals as goal
+use Rattle.list_laws.proofs.Results.{on_err}
 
 pub own_calls-calls-requires : goal.own_calls-calls-requires
 own_calls-calls-requires g c = let long = (ranks_lawful c.args.lent.now.setup.script.now c.requires.lawful).one_each in omega arith

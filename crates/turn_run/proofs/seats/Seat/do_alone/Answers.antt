@@ -6,7 +6,6 @@ use Rattle.run_laws.specs.Ways.{IsOnWay}
 use Rattle.turn_run.proofs.CountLaws.{count_longer, count_max}
 use Rattle.turn_run.proofs.MeetOffers.{asked_fit}
 use Rattle.turn_run.proofs.SeatLaws.{alone_done, alone_heard, alone_rest, heard_seat, HasRest}
-use Rattle.turn_run.proofs.HintLaws.{lawful_hints, on_err}
 use Rattle.turn_run.proofs.AloneLaws.{alone_led, alone_waits, arrived_free, fits_open, gone_alone, grown_one, heard_known, order_is}
 use Rattle.turn_run.specs.Counts.{IsCount}
 use Rattle.turn_run.specs.Seated.{asking, between, calls_of}
@@ -24,6 +23,8 @@ use Rattle.turn_run.proofs.SaidLaws.{reached_here, reached_unheard, said_here, s
 use Rattle.turn_run.proofs.TellLaws.{told_alone, told_none}
 use Rattle.turn_run.proofs.seats.Seat.do_alone.Goals as goal
 use Rattle.std.proofs.Common.{None, ℕ}
+use Rattle.list_laws.proofs.Results.{on_err}
+use Rattle.serial_spec.proofs.LawfulTests.{lawful_hints}
 
 pub solo_reply-requires-clause-hints : goal.solo_reply-requires-clause-hints
 solo_reply-requires-clause-hints g c κs within = lawful_hints c.args.lent.now.setup.script.now c.requires.lawful

@@ -8,10 +8,11 @@ use Rattle.run_laws.proofs.TogetherLaws.{call_fresh, call_lawful, call_posts}
 use Rattle.run_laws.proofs.CallLaws.{meets_keeps, solo_keeps, alone_keeps}
 use Rattle.turn_run.specs.Counts.{IsAsked}
 use Rattle.turn_run.specs.Seated.{between, asking, IsPlaced}
-use Rattle.turn_run.proofs.HintLaws.{on_err}
-use Rattle.turn_run.proofs.ListLaws.{drop_get}
-use Rattle.turn_run.proofs.SeatLaws.{next_call, way_on, advance_on, placed_meeting, placed_alone, advance_meeting, advance_alone, answers_on_way, said_at, asked_meeting, asked_alone, sound_at, few_at}
+use Rattle.turn_run.proofs.SeatLaws.{next_call, way_on, advance_on, placed_meeting, placed_alone, advance_meeting, advance_alone, answers_on_way, asked_meeting, asked_alone, sound_at, few_at}
 use Rattle.turn_run.proofs.seats.Seat.go_on.Goals as goal
+use Rattle.list_laws.proofs.Results.{on_err}
+use Rattle.list_laws.proofs.Places.{drop_at}
+use Rattle.join_laws.proofs.RankLaws.{said_at}
 
 pub step-requires-clause-fresh : goal.step-requires-clause-fresh
 step-requires-clause-fresh g c =
@@ -19,7 +20,7 @@ step-requires-clause-fresh g c =
     let own = c.args.calls.now in
     let answers = c.calls.self.answers in
     let there : slice_get own (length answers) ≡ Some call = next_call own answers c.len-next.result call (omega arith) (omega arith) c.index-calls-next.is in
-    call_fresh c.args.script.now c.calls.invariant.way.0 c.args.number (between own c.calls.self) call _ c.calls.invariant.way.1 (drop_get own (length answers) call there)
+    call_fresh c.args.script.now c.calls.invariant.way.0 c.args.number (between own c.calls.self) call _ c.calls.invariant.way.1 (drop_at own (length answers) call there)
 
 pub calls-preserved : goal.calls-preserved
 calls-preserved g c =
@@ -32,7 +33,7 @@ calls-preserved g c =
     let a = c.in-Answered.answer in
     let there : slice_get own (length answers) ≡ Some call = next_call own answers c.len-next.result call (omega arith) (omega arith) c.index-calls-next.is in
     let way = c.calls.invariant.way in
-    let lawful = call_lawful c.args.script.now way.0 c.args.number (between own c.calls.self) call _ way.1 (drop_get own (length answers) call there) in
+    let lawful = call_lawful c.args.script.now way.0 c.args.number (between own c.calls.self) call _ way.1 (drop_at own (length answers) call there) in
     let said = said_at header c.calls.self.rank.header rank next call c.in_ok-answer.field-0 (want.Answered a) c.calls.invariant.of_header c.in_ok-answer.ensures.step c.in-Answered.is in
     let posts = c.in_ok-answer.ensures.held c.args.script.now.ranks c.args.number lawful in
     let more = c.in_ok-push-in-Answered.ensures.ok in
@@ -76,7 +77,7 @@ returns-in-Meet-clause-placed g c = λ order way.
     let w = c.in_ok-answer.field-0 in
     let there : slice_get own (length answers) ≡ Some call = next_call own answers c.len-next.result call (omega arith) (omega arith) c.index-calls-next.is in
     let here = c.calls.invariant.kept order way in
-    let lawful = call_lawful script order c.args.number (between own c.calls.self) call _ here (drop_get own (length answers) call there) in
+    let lawful = call_lawful script order c.args.number (between own c.calls.self) call _ here (drop_at own (length answers) call there) in
     let posts = c.in_ok-answer.ensures.held script.ranks c.args.number lawful in
     let by : (w ≡ want.Meet o) ⊎ (w ≡ want.Solo o)
     → IsPlaced script header order c.args.number (asking own (record { rank = c.step.new.self; answers = answers; held = Some o })) (Some o) = λ k. elim k [
@@ -100,7 +101,7 @@ returns-in-Meet-clause-asked g c =
     let w = c.in_ok-answer.field-0 in
     let there : slice_get own (length answers) ≡ Some call = next_call own answers c.len-next.result call (omega arith) (omega arith) c.index-calls-next.is in
     let way = c.calls.invariant.way in
-    let next_is = drop_get own (length answers) call there in
+    let next_is = drop_at own (length answers) call there in
     let lawful = call_lawful script way.0 c.args.number (between own c.calls.self) call _ way.1 next_is in
     let room = call_posts script way.0 c.args.number (between own c.calls.self) call _ way.1 next_is in
     let few = c.in_ok-answer.ensures.few script.ranks c.args.number lawful in

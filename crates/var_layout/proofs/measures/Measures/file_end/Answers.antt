@@ -1,5 +1,5 @@
 use Rattle.std.proofs.Common.{ℕ, ◌∙◌, sym, ap, arith}
-use Rattle.serial_spec.specs.HeaderGrammar.{header_len}
+use Rattle.serial_spec.specs.HeaderBytes.{header_len}
 use Rattle.serial_spec.specs.Layout.{end_of}
 use Rattle.var_layout.specs.Capped.{capped}
 use Rattle.var_layout.specs.Measures.{AreMeasures}

@@ -1,0 +1,166 @@
+-- A disk in parts: which bytes each has, and what is said of the parts and of their states.
+use Rattle.std.proofs.Common.{◌≡◌, ℕ, zero, suc, ◌+◌, ◌-◌, ◌<◌, ◌≤◌, inl, inr, refl, sym, ◌∙◌, ap, subst, List, [], ◌∷◌, length, take, drop, map, Bool, true, false, Option, Some, slice_get, arith}
+use Rattle.std.proofs.lemmas.List.{length-map}
+use Rattle.std.proofs.lemmas.Option.{same_Some}
+use borrow.Author.Tests.{ltb-true, ltb-false}
+use Rattle.std.specs.Prelude.{nat_lt, zip}
+use Rattle.std.specs.List.{range_with_len, AllZip}
+use Rattle.list_laws.proofs.Optional.{no_none_some}
+use Rattle.nc_base.specs.declared.plan.Extent.{Extent}
+use Rattle.nc_base.specs.declared.plan.Owned.{Owned}
+use Rattle.nc_outside.specs.Told.{after}
+use Rattle.serial_spec.specs.Said.{IsFrom}
+use Rattle.overlay_laws.specs.Entries.{cell_of, ranges, In, HaveSame, Source}
+use Rattle.overlay_laws.specs.Walks.{end_after, first_at, spans, IsCover}
+use Rattle.overlay_laws.proofs.HullLaws.{in_flat, in_range}
+use Rattle.overlay_laws.proofs.Members.{in_map, map_in}
+use Rattle.data_sieving.specs.Serving.{IsCovered}
+use Rattle.piece_exchange.specs.Plan.{IsDomainOf}
+use Rattle.piece_exchange.specs.Put.{PartState, SomeZip}
+use Rattle.collective_round.specs.Parts.{begin_or, part_between, parts_of, Adjoin, AreDomains}
+use Rattle.collective_round.proofs.DomainCuts.{within_reach}
+use Rattle.collective_round.proofs.PartSplits.{end_dropped, next_begin}
+
+-- ---- parts and domains
+
+-- as many parts as domains
+pub parts_many : (disk : PartState) (domains : List Extent) → length (parts_of disk domains) ≡ length domains
+parts_many disk [] = refl
+parts_many disk (d ∷ domains) = ap suc (parts_many disk domains)
+
+pub as_many_parts : {D : Type 0} (state : D → PartState) (disk : PartState) (domains : List Extent) (parts : List D) → map state parts ≡ parts_of disk domains → length domains ≡ length parts
+as_many_parts state disk domains parts e = sym (parts_many disk domains) ∙ sym (ap (λ (ps : List PartState). length ps) e) ∙ length-map parts state
+
+covered_in : (list : List Owned) (cover : List Extent) (x : ℕ) → HaveSame (spans cover) (ranges list) → IsCovered list x → In (spans cover) x
+covered_in list cover x same h =
+    let low = h.low in
+    let high = h.high in
+    same.1 x (in_flat (λ (o : Owned). range_with_len o.extent.at o.extent.len) list h.by x h.inside (in_range h.by.extent.at h.by.extent.len x low high))
+
+-- what the cover's end is at most, the domains' end is
+pub domains_room : (cover domains : List Extent) (n : ℕ) → AreDomains cover domains → end_after 0 cover ≤ n → end_after 0 domains ≤ n
+domains_room cover domains n div l = let end = div.end in end_dropped zero domains (first_at cover) n (omega arith)
+
+-- the first part has all covered bytes up to the next one
+first_domain : (list : List Owned) (hi m n : ℕ) (d : Extent) (rest : List Extent) → Adjoin (d ∷ rest) → end_after m (d ∷ rest) ≡ hi → hi ≤ n → ((x : ℕ) → IsCovered list x → x < hi)
+    → IsDomainOf list d.at (begin_or n rest - d.at) d
+first_domain list hi m n d rest line end room high =
+    let next = next_begin d rest m n line (omega arith) in
+    let low = next.0 in
+    record { low = omega arith; high = omega arith; whole = λ x l k covered. (l, by_rest rest line.1 end x k (high x covered)) }
+  where
+    by_rest : (ds : List Extent) → begin_or (d.at + d.len) ds ≡ d.at + d.len → end_after m (d ∷ ds) ≡ hi → (x : ℕ) → x < d.at + (begin_or n ds - d.at) → x < hi → x < d.at + d.len
+    by_rest [] e f x k l = omega arith
+    by_rest (c ∷ ds) e f x k l = omega arith
+
+part_domain : (list : List Owned) (hi m : ℕ) (disk : PartState) (domains : List Extent) → Adjoin domains → end_after m domains ≡ hi → hi ≤ disk.len → ((x : ℕ) → IsCovered list x → x < hi)
+    → (k : ℕ) (p : PartState) (domain : Extent) → slice_get (parts_of disk domains) k ≡ Some p → slice_get domains k ≡ Some domain → IsDomainOf list p.from p.len domain
+part_domain list hi m disk [] line end room high k p domain e f = no_none_some p e
+part_domain list hi m disk (d ∷ rest) line end room high zero p domain e f =
+    let part = same_Some (part_between disk d.at (begin_or disk.len rest)) p e in
+    let same = same_Some d domain f in
+    subst (λ (c : Extent). IsDomainOf list p.from p.len c) same
+    (subst (λ (q : PartState). IsDomainOf list q.from q.len d) part (first_domain list hi m disk.len d rest line end room high))
+part_domain list hi m disk (d ∷ rest) line end room high (suc k) p domain e f =
+    part_domain list hi (d.at + d.len) disk rest line.2 end room high k p domain e f
+
+state_at : {D : Type 0} (state : D → PartState) (parts : List D) (k : ℕ) (part : D) → slice_get parts k ≡ Some part → slice_get (map state parts) k ≡ Some (state part)
+state_at state [] k part e = no_none_some part e
+state_at state (p ∷ parts) zero part e = ap (λ d. Some (state d)) (same_Some p part e)
+state_at state (p ∷ parts) (suc k) part e = state_at state parts k part e
+
+-- each domain has all covered bytes of its part
+pub domain_of_part : {D : Type 0} (state : D → PartState) (list : List Owned) (cover domains : List Extent) (disk : PartState) (parts : List D) → map state parts ≡ parts_of disk domains
+    → IsCover cover → HaveSame (spans cover) (ranges list) → AreDomains cover domains → end_after 0 cover ≤ disk.len
+    → (k : ℕ) (part : D) (domain : Extent) → slice_get parts k ≡ Some part → slice_get domains k ≡ Some domain → IsDomainOf list (state part).from (state part).len domain
+domain_of_part state list cover domains disk parts are h same div room k part domain at_part at_domain =
+    part_domain list (end_after 0 cover) (first_at cover) disk domains div.line div.end room (λ x covered. (within_reach cover x h (covered_in list cover x same covered)).1)
+    k (state part) domain (subst (λ (ps : List PartState). slice_get ps k ≡ Some (state part)) are (state_at state parts k part at_part)) at_domain
+
+-- the first domain begins at the first covered byte
+begins_first : (cover domains : List Extent) (n x : ℕ) → IsCover cover → AreDomains cover domains → In (spans cover) x → begin_or n domains ≤ x
+begins_first cover domains n x h div m = by_first domains div.begin
+  where
+    by_first : (ds : List Extent) → begin_or (end_after 0 cover) ds ≡ first_at cover → begin_or n ds ≤ x
+    by_first [] e = let reach = within_reach cover x h m in let low = reach.0 in let high = reach.1 in absurd (omega arith)
+    by_first (d ∷ ds) e = let reach = within_reach cover x h m in let low = reach.0 in omega arith
+
+-- the cells of entries lie from the begin of the first domain on
+pub cells_behind : (source : Source) (list : List Owned) (cover domains : List Extent) (n : ℕ) → ((o : Owned) → In list o → 1 ≤ o.extent.len)
+    → IsCover cover → HaveSame (spans cover) (ranges list) → AreDomains cover domains → IsFrom (begin_or n domains) (map (λ o. cell_of source o) list)
+cells_behind source list cover domains n filled h same div = each list (λ o m. m)
+  where
+    each : (os : List Owned) → ((o : Owned) → In os o → In list o) → IsFrom (begin_or n domains) (map (λ o. cell_of source o) os)
+    each [] f = tt
+    each (o ∷ os) f = (
+      begins_first cover domains n o.extent.at h div
+          (covered_in list cover o.extent.at same (record { by = o; inside = f o (inl refl); low = omega arith; high = (let some = filled o (f o (inl refl)) in omega arith) })),
+      each os (λ p m. f p (inr m)),
+    )
+
+-- the bytes of a part are those of the disk there
+held_there : (domains : List Extent) (disk : PartState) (file : List ℕ) → disk.held ≡ Some file → (p : PartState) → In (parts_of disk domains) p → p.held ≡ Some (take p.len (drop p.from file))
+held_there [] disk file told p m = absurd m
+held_there (d ∷ rest) disk file told p (inl same) =
+    subst (λ (q : PartState). q.held ≡ Some (take q.len (drop q.from file))) same (ap (λ (h : Option (List ℕ)). after (λ f. take (begin_or disk.len rest - d.at) (drop d.at f)) h) told)
+held_there (d ∷ rest) disk file told p (inr m) = held_there rest disk file told p m
+
+pub part_bytes : {D : Type 0} (state : D → PartState) (domains : List Extent) (disk : PartState) (parts : List D) (file : List ℕ) → map state parts ≡ parts_of disk domains → disk.held ≡ Some file
+    → (part : D) → In parts part → (state part).held ≡ Some (take (state part).len (drop (state part).from file))
+part_bytes state domains disk parts file are told part m =
+    held_there domains disk file told (state part) (subst (λ (ps : List PartState). In ps (state part)) are (in_map state parts part m))
+
+-- each place from the first part on lies on a part
+pub record IsOnSome (parts : List PartState) (x : ℕ) : Type 0 where
+  pub part : PartState
+  pub inside : In parts part
+  pub low : part.from ≤ x
+  pub high : x < part.from + part.len
+
+place_on : (disk : PartState) (domains : List Extent) (m x : ℕ) → Adjoin domains → end_after m domains ≤ disk.len → begin_or disk.len domains ≤ x → x < disk.len → IsOnSome (parts_of disk domains) x
+place_on disk [] m x line room low high = absurd (omega arith)
+place_on disk (d ∷ rest) m x line room low high = by_next (λ l. place_on disk rest (d.at + d.len) x line.2 room l high) (nat_lt x (begin_or disk.len rest)) refl
+  where
+    later : IsOnSome (parts_of disk rest) x → IsOnSome (parts_of disk (d ∷ rest)) x
+    later h = record { part = h.part; inside = inr h.inside; low = h.low; high = h.high }
+
+    by_next : (begin_or disk.len rest ≤ x → IsOnSome (parts_of disk rest) x) → (t : Bool) → nat_lt x (begin_or disk.len rest) ≡ t → IsOnSome (parts_of disk (d ∷ rest)) x
+    by_next found true e = let l = ltb-true _ _ e in record { part = part_between disk d.at (begin_or disk.len rest); inside = inl refl; low = low; high = omega arith }
+    by_next found false e = later (found (ltb-false _ _ e))
+
+-- each covered byte lies on a part
+pub on_some_part : {D : Type 0} (state : D → PartState) (list : List Owned) (cover domains : List Extent) (disk : PartState) (parts : List D) → map state parts ≡ parts_of disk domains
+    → IsCover cover → HaveSame (spans cover) (ranges list) → AreDomains cover domains → end_after 0 cover ≤ disk.len
+    → (x : ℕ) → IsCovered list x → (part : D) × In parts part × ((state part).from ≤ x) × (x < (state part).from + (state part).len)
+on_some_part {D} state list cover domains disk parts are h same div room x covered =
+    let inside = covered_in list cover x same covered in
+    let reach = within_reach cover x h inside in
+    let high = reach.1 in
+    let end = div.end in
+    let found = place_on disk domains (first_at cover) x div.line (omega arith) (begins_first cover domains disk.len x h div inside) (omega arith) in
+    let of = map_in state parts found.part (subst (λ (ps : List PartState). In ps found.part) (sym are) found.inside) in
+    (of.0, of.1, subst (λ (p : PartState). p.from ≤ x) (sym of.2) found.low, subst (λ (p : PartState). x < p.from + p.len) (sym of.2) found.high)
+
+-- ---- what is said of parts is said of their states
+
+pub on_states : {D : Type 0} (state : D → PartState) (R : PartState → Extent → PartState → Type 0) (parts : List D) (domains : List Extent) (news : List D)
+    → AllZip (λ p new. R (state p.0) p.1 (state new)) (zip parts domains) news → AllZip (λ p new. R p.0 p.1 new) (zip (map state parts) domains) (map state news)
+on_states state R [] domains [] h = tt
+on_states state R [] domains (n ∷ news) h = absurd h
+on_states state R (p ∷ parts) [] [] h = tt
+on_states state R (p ∷ parts) [] (n ∷ news) h = absurd h
+on_states state R (p ∷ parts) (d ∷ domains) [] h = absurd h
+on_states state R (p ∷ parts) (d ∷ domains) (n ∷ news) h = (h.0, on_states state R parts domains news h.1)
+
+pub some_states : {D : Type 0} (state : D → PartState) (R : PartState → PartState → Type 0) (parts news : List D) → SomeZip (λ old new. R (state old) (state new)) parts news
+    → SomeZip R (map state parts) (map state news)
+some_states state R [] news h = absurd h
+some_states state R (p ∷ parts) [] h = absurd h
+some_states state R (p ∷ parts) (n ∷ news) (inl r) = inl r
+some_states state R (p ∷ parts) (n ∷ news) (inr h) = inr (some_states state R parts news h)
+
+pub each_weaker : {A B : Type 0} (R Q : A → B → Type 0) (xs : List A) (ys : List B) → ((a : A) (b : B) → R a b → Q a b) → AllZip R xs ys → AllZip Q xs ys
+each_weaker R Q [] [] f h = tt
+each_weaker R Q [] (y ∷ ys) f h = absurd h
+each_weaker R Q (x ∷ xs) [] f h = absurd h
+each_weaker R Q (x ∷ xs) (y ∷ ys) f h = (f x y h.0, each_weaker R Q xs ys f h.1)

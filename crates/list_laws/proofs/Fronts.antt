@@ -1,0 +1,30 @@
+-- Beginnings of lists.
+use Rattle.std.proofs.Common.{◌≡◌, refl, List, [], ◌∷◌, length, take, ◌≤◌, arith, ◌+◌, inl, inr, ◌⊎◌, ◌++◌}
+use mathlib.Core.List.{IsPrefix}
+
+pub first_of : {X : Type 0} (xs ys : List X) → IsPrefix xs ys → xs ≡ take (length xs) ys
+first_of [] ys e = refl
+first_of (x ∷ xs) [] e = cc
+first_of (x ∷ xs) (y ∷ ys) (more, e) =
+    let a : x ≡ y = cc in
+    let b = first_of xs ys (more, cc) in
+    λ i. a i ∷ b i
+
+pub prefix_long : {X : Type 0} (xs ys : List X) → IsPrefix xs ys → length xs ≤ length ys
+prefix_long [] ys e = omega arith
+prefix_long (x ∷ xs) [] e = cc
+prefix_long (x ∷ xs) (y ∷ ys) (more, e) = let a = prefix_long xs ys (more, cc) in omega arith
+
+-- a beginning of a list and one item more is all of it, or a beginning of the list
+pub front_or_all : {X : Type 0} (xs ys : List X) (z : X) → IsPrefix xs (ys ++ z ∷ []) → IsPrefix xs ys ⊎ (xs ≡ ys ++ z ∷ [])
+front_or_all [] ys z e = inl (ys, refl)
+front_or_all (x ∷ xs) [] z (more, e) = inr (one xs more e)
+  where
+    one : (xs more : List _) → (x ∷ xs) ++ more ≡ z ∷ [] → x ∷ xs ≡ z ∷ []
+    one [] more e = let a : x ≡ z = cc in λ i. a i ∷ []
+    one (y ∷ ys) more e = cc
+front_or_all (x ∷ xs) (y ∷ ys) z (more, e) = by (front_or_all xs ys z (more, cc)) cc
+  where
+    by : IsPrefix xs ys ⊎ (xs ≡ ys ++ z ∷ []) → x ≡ y → IsPrefix (x ∷ xs) (y ∷ ys) ⊎ (x ∷ xs ≡ (y ∷ ys) ++ z ∷ [])
+    by (inl (rest, f)) a = inl (rest, λ i. a i ∷ f i)
+    by (inr f) a = inr (λ i. a i ∷ f i)

@@ -1,0 +1,118 @@
+-- What later statements add to what is known; a line of ranks or of a hint.
+use Rattle.std.proofs.Common.{◌≡◌, ◌∙◌, ℕ, ◌+◌, ◌<◌, List, ◌∷◌, ◌++◌, length, Bool, true, false, cond, ◌==◌, Option, Some, None, slice_set, Ok, refl, sym, ap, subst, length-set, arith, bytes_eq, codes}
+use Rattle.std.proofs.lemmas.Bool.{eqb-true}
+use Rattle.list_laws.proofs.Truth.{equal_true}
+use Rattle.list_laws.proofs.Places.{entry_below, entry_set, entry_set_other, position_below}
+use Rattle.script_spec.specs.ScriptWords.{Word, Plain}
+use Rattle.script_spec.specs.ScriptSteps.{◌>>=◌}
+use Rattle.script_spec.specs.HintTable.{hint_table, hint_in}
+use Rattle.script_spec.specs.ScriptDefinitions.{hint_line, ranks_line, var_names, Known}
+use Rattle.script_text.proofs.Steps.{went, same_ok}
+use Rattle.script_spelling.specs.Statements.{Statement, RanksAre, HintIs, Says, Stand}
+use Rattle.script_spelling.specs.Described.{ranks_in, hint_values, fills_in, dims_in, vars_in, own_attrs, attrs_of, extras_in, at_most_one}
+use Rattle.script_spelling.proofs.LinesRead.{ranks_said, hint_said}
+use Rattle.script_spelling.proofs.GrownVars.{are_apart, GrownVars}
+
+-- ---- what later statements add to what is known
+
+abbrev pub flag : Bool → ℕ
+flag b = cond b 1 0
+
+-- of a dataset that is opened, or of a new one
+abbrev pub Part : Bool → Known → List Statement → Known → Type 0
+Part true k ss last =
+    (last.defined ≡ k.defined) × (last.added.extras ≡ k.added.extras ++ extras_in ss) × Stand true k.added.dims k.added.vars k.added.titles ss
+Part false k ss last =
+    (last.added.extras ≡ k.added.extras) × (last.defined.dims ≡ k.defined.dims ++ dims_in ss) × (last.defined.attrs ≡ k.defined.attrs ++ own_attrs ss)
+    × GrownVars last.defined.dims (λ n. attrs_of n ss) k.defined.vars (vars_in ss) last.defined.vars
+    × Stand false k.defined.dims (var_names k.defined.vars) k.defined.titles ss
+
+pub record Grown (opened : Bool) (k : Known) (ss : List Statement) (last : Known) : Type 0 where
+  pub ranks : at_most_one last.ranks ≡ at_most_one k.ranks ++ ranks_in ss
+  pub hints : (h : ℕ) → at_most_one (hint_in h last.hints) ≡ at_most_one (hint_in h k.hints) ++ hint_values h ss
+  pub filled : flag last.defined.filled ≡ flag k.defined.filled + fills_in ss
+  pub part : Part opened k ss last
+
+-- what holds of all that is known
+pub record Fine (k : Known) : Type 0 where
+  pub long : length k.hints ≡ 10
+  pub apart : are_apart (var_names k.defined.vars) ≡ true
+
+-- a line that says a statement, and what is known after it
+pub record Taken (opened : Bool) (version : ℕ) (k : Known) (words : List Word) (next : Known) : Type 0 where
+  pub statement : Statement
+  pub says : Says version words statement
+  pub fine : Fine next
+  pub grown : (ss : List Statement) (last : Known) → Grown opened next ss last → Grown opened k (statement ∷ ss) last
+
+-- ---- ranks and hints
+
+ranks_part : (opened : Bool) (k : Known) (n : ℕ) (ss : List Statement) (last : Known) → Part opened (record k { ranks = Some n }) ss last → Part opened k (RanksAre n ∷ ss) last
+ranks_part true k n ss last p = p
+ranks_part false k n ss last p = p
+
+pub ranks_taken : (opened : Bool) (version : ℕ) (k : Known) (ws : List Word) (next : Known) → Fine k → (ranks_line k.ranks ws >>= λ n. Ok (record k { ranks = Some n })) ≡ Ok next → Taken opened version k (Plain (codes "ranks") ∷ ws) next
+ranks_taken opened version k ws next fine h =
+    let a = went (ranks_line k.ranks ws) (λ n. Ok (record k { ranks = Some n })) next h in
+    let n = a.value in
+    let said = ranks_said version k.ranks ws n a.first in
+    subst (Taken opened version k (Plain (codes "ranks") ∷ ws)) (same_ok (record k { ranks = Some n }) next a.rest) (record {
+      statement = RanksAre n;
+      says = said.0;
+      fine = record { long = fine.long; apart = fine.apart };
+      grown = λ ss last g. record {
+        ranks = g.ranks ∙ ap (λ (o : Option ℕ). at_most_one o ++ n ∷ ranks_in ss) (sym said.1);
+        hints = g.hints;
+        filled = g.filled;
+        part = ranks_part opened k n ss last g.part;
+      };
+    })
+
+abbrev hint_by : Option (Option ℕ) → Option ℕ
+hint_by o = elim o [ None ↦ None | Some x ↦ x ]
+
+hint_here : (hints : List (Option ℕ)) (i v : ℕ) → i < length hints → hint_in i (slice_set hints i (Some v)) ≡ Some v
+hint_here hints i v low = let x = entry_below hints i low in ap hint_by (entry_set hints i x.0 (Some v) x.1)
+
+hint_elsewhere : (hints : List (Option ℕ)) (i j v : ℕ) → (j ≡ i → ⊥) → hint_in j (slice_set hints i (Some v)) ≡ hint_in j hints
+hint_elsewhere hints i j v other = ap hint_by (entry_set_other hints i j (Some v) other)
+
+hint_part : (opened : Bool) (k : Known) (i v : ℕ) (hints : List (Option ℕ)) (ss : List Statement) (last : Known) → Part opened (record k { hints = hints }) ss last → Part opened k (HintIs i v ∷ ss) last
+hint_part true k i v hints ss last p = p
+hint_part false k i v hints ss last p = p
+
+differ : (i j : ℕ) → (i == j) ≡ false → i ≡ j → ⊥
+differ i j e same = let equal = equal_true i j same in absurd (cc)
+
+hint_first : (hints : List (Option ℕ)) (i v j : ℕ) (later found : List ℕ) → hint_in i hints ≡ None → i < length hints → found ≡ at_most_one (hint_in j (slice_set hints i (Some v))) ++ later
+    → found ≡ at_most_one (hint_in j hints) ++ cond (i == j) (v ∷ later) later
+hint_first hints i v j later found free low h = by (i == j) refl
+  where
+    by : (b : Bool) → (i == j) ≡ b → found ≡ at_most_one (hint_in j hints) ++ cond b (v ∷ later) later
+    by true e =
+        let same = eqb-true i j e in
+        let set : hint_in j (slice_set hints i (Some v)) ≡ Some v = subst (λ (n : ℕ). hint_in n (slice_set hints i (Some v)) ≡ Some v) same (hint_here hints i v low) in
+        let none : hint_in j hints ≡ None = subst (λ (n : ℕ). hint_in n hints ≡ None) same free in
+        h ∙ (ap (λ (o : Option ℕ). at_most_one o ++ later) set ∙ ap (λ (o : Option ℕ). at_most_one o ++ v ∷ later) (sym none))
+    by false e = h ∙ ap (λ (o : Option ℕ). at_most_one o ++ later) (hint_elsewhere hints i j v (λ same. differ i j e (sym same)))
+
+pub hint_taken : (opened : Bool) (version : ℕ) (k : Known) (ws : List Word) (next : Known) → Fine k → (hint_line k.hints ws >>= λ h. Ok (record k { hints = slice_set k.hints h.0 (Some h.1) })) ≡ Ok next
+    → Taken opened version k (Plain (codes "hint") ∷ ws) next
+hint_taken opened version k ws next fine h =
+    let a = went (hint_line k.hints ws) (λ x. Ok (record k { hints = slice_set k.hints x.0 (Some x.1) })) next h in
+    let i = a.value.0 in
+    let v = a.value.1 in
+    let hints = slice_set k.hints i (Some v) in
+    let said = hint_said version k.hints ws a.value a.first in
+    let low : i < length k.hints = omega (arith, fine.long, position_below (λ row. bytes_eq said.says.0 row.word) hint_table i said.says.3) in
+    subst (Taken opened version k (Plain (codes "hint") ∷ ws)) (same_ok (record k { hints = hints }) next a.rest) (record {
+      statement = HintIs i v;
+      says = said.says;
+      fine = record { long = length-set k.hints i (Some v) ∙ fine.long; apart = fine.apart };
+      grown = λ ss last g. record {
+        ranks = g.ranks;
+        hints = λ j. hint_first k.hints i v j (hint_values j ss) (at_most_one (hint_in j last.hints)) said.free low (g.hints j);
+        filled = g.filled;
+        part = hint_part opened k i v hints ss last g.part;
+      };
+    })

@@ -1,0 +1,185 @@
+-- One rank, of whose items the owner saw a beginning.
+use Rattle.std.proofs.Common.{◌≡◌, ℕ, zero, suc, ◌+◌, ◌≤◌, refl, sym, ◌∙◌, ap, subst, inl, inr, List, [], ◌∷◌, ◌++◌, length, replicate, Bool, true, false, Option, Some, None, arith}
+use Rattle.std.proofs.lemmas.Option.{same_Some}
+use Rattle.nc_base.specs.declared.header.Header.{Header}
+use Rattle.nc_base.specs.declared.step.Offer.{Offer}
+use Rattle.nc_base.specs.declared.step.OwnerItem.{OwnerItem}
+use Rattle.nc_base.specs.declared.step.OwnerItem.TheVariants.{Reply, Stop}
+use Rattle.nc_base.specs.declared.step.RankItem.{RankItem}
+use Rattle.nc_base.specs.declared.step.RankItem.TheVariants as item
+use Rattle.nc_base.specs.declared.step.Reply as reply
+use Rattle.serial_spec.specs.Desk.{Seat, offers_in}
+use Rattle.serial_spec.specs.History.{is_offer}
+use Rattle.serial_spec.specs.RankSide.{end_by, fits_offer, offered_by, waiting, waiting_end}
+use Rattle.serial_spec.specs.SerialEnd.{Going, advance, hears}
+use Rattle.serial_spec.specs.Torn.{Begins}
+use Rattle.join_laws.specs.Begun.{IsBeginning}
+use Rattle.join_laws.proofs.StreamLaws.{ends_once, seat_end, to_come, waiting_end_reply, waiting_reply}
+use Rattle.join_laws.proofs.TieLaws.{one_if}
+
+-- ---- a beginning of what a rank puts
+
+begin_first : (i j : RankItem) (items whole : List RankItem) → is_offer i ≡ true → IsBeginning (i ∷ items) (j ∷ whole) → (i ≡ j) × IsBeginning items whole
+begin_first i j items whole h ([], m, inl e) = absurd cc
+begin_first i j items whole h ([], m, inr e) = let a : i ≡ item.Ended true = cc in absurd (no_offer (ap is_offer (sym a) ∙ h))
+  where
+    no_offer : false ≡ true → ⊥
+    no_offer k = cc
+begin_first i j items whole h (f ∷ front, (more, m), inl e) =
+    let a : i ≡ f = cc in
+    let b : items ≡ front = cc in
+    let c : f ≡ j = cc in
+    let d : front ++ more ≡ whole = cc in
+    (a ∙ c, (front, (more, d), inl b))
+begin_first i j items whole h (f ∷ front, (more, m), inr e) =
+    let a : i ≡ f = cc in
+    let b : items ≡ front ++ item.Ended true ∷ [] = cc in
+    let c : f ≡ j = cc in
+    let d : front ++ more ≡ whole = cc in
+    (a ∙ c, (front, (more, d), inr b))
+
+begin_offer : (header : Header) (p : Going × Option Offer) (back : List OwnerItem) (c : ℕ) (o : Offer) (items : List RankItem) → IsBeginning (item.Offer c o ∷ items) (offered_by header p back)
+    → (p.1 ≡ Some o) × IsBeginning items (waiting header p.0 o back)
+begin_offer header (g, None) back c o items b = let a = begin_first (item.Offer c o) (item.Ended false) items [] refl b in absurd (apart a.0)
+  where
+    apart : item.Offer c o ≡ item.Ended false → ⊥
+    apart e = cc
+begin_offer header (g, Some p) back c o items b =
+    let a = begin_first (item.Offer c o) (item.Offer (length g.answers) p) items (waiting header g p back) refl b in
+    let same : p ≡ o = same_offer a.0 in
+    (ap (λ (q : Offer). Some q) same, subst (λ (q : Offer). IsBeginning items (waiting header g q back)) same a.1)
+  where
+    same_offer : item.Offer c o ≡ item.Offer (length g.answers) p → p ≡ o
+    same_offer e = cc
+
+nothing_left : (front more : List RankItem) → front ++ more ≡ [] → front ≡ []
+nothing_left [] more e = refl
+nothing_left (x ∷ front) more e = cc
+
+-- its end is the last that it puts
+pub begin_ended : (header : Header) (held : Option Offer) (g : Going) (back : List OwnerItem) (m : Bool) (items : List RankItem) → IsBeginning (item.Ended m ∷ items) (to_come header held g back)
+    → IsBeginning items (to_come header held g back)
+begin_ended header held g back m items ([], b, inl e) = absurd cc
+begin_ended header held g back m items ([], b, inr e) = let a : items ≡ [] = cc in ([], (to_come header held g back, refl), inl a)
+begin_ended header held g back m items (f ∷ front, (more, b), inl e) =
+    let first : f ≡ item.Ended m = cc in
+    let rest : items ≡ front = cc in
+    let none = nothing_left front more (ends_once header held g back m (front ++ more) (ap (λ (i : RankItem). i ∷ (front ++ more)) (sym first) ∙ b)) in
+    ([], (to_come header held g back, refl), inl (rest ∙ none))
+begin_ended header held g back m items (f ∷ front, (more, b), inr e) =
+    let first : f ≡ item.Ended m = cc in
+    let rest : items ≡ front ++ item.Ended true ∷ [] = cc in
+    let none = nothing_left front more (ends_once header held g back m (front ++ more) (ap (λ (i : RankItem). i ∷ (front ++ more)) (sym first) ∙ b)) in
+    ([], (to_come header held g back, refl), inr (rest ∙ ap (λ (is : List RankItem). is ++ item.Ended true ∷ []) none))
+
+-- ---- one rank
+
+-- what it still puts, by what it takes of these items, and where it ends
+pub record Sits (header : Header) (x : Seat) (g : Going) (items : List RankItem) (given : List OwnerItem) (end : Going) : Type 0 where
+  pub back : List OwnerItem
+  pub begins : Begins back given
+  pub stream : IsBeginning items (to_come header x.held g back)
+  pub waits : (o : Offer) → x.held ≡ Some o → (advance header g).1 ≡ Some o
+  pub enough : one_if x.held + offers_in items ≤ length back
+  pub ends : seat_end header x.held g back ≡ end
+
+pub record Waits (header : Header) (t : Going) (o : Offer) (items : List RankItem) (given : List OwnerItem) (end : Going) : Type 0 where
+  pub back : List OwnerItem
+  pub begins : Begins back given
+  pub stream : IsBeginning items (waiting header t o back)
+  pub enough : suc (offers_in items) ≤ length back
+  pub ends : waiting_end header t o back ≡ end
+
+-- an offer of it arrives
+pub offered_now : (header : Header) (x : Seat) (g : Going) (c : ℕ) (o : Offer) (items : List RankItem) (given : List OwnerItem) (end : Going) → x.held ≡ None
+    → Sits header x g (item.Offer c o ∷ items) given end → ((advance header g).1 ≡ Some o) × Waits header (advance header g).0 o items given end
+offered_now header x g c o items given end free t =
+    let b = begin_offer header (advance header g) t.back c o items (subst (λ (m : Option Offer). IsBeginning (item.Offer c o ∷ items) (to_come header m g t.back)) free t.stream) in (
+      b.0,
+      record {
+        back = t.back;
+        begins = t.begins;
+        stream = b.1;
+        enough = let k = t.enough in let none = ap one_if free in omega arith;
+        ends = ended (advance header g) b.0 ∙ ap (λ (m : Option Offer). seat_end header m g t.back) (sym free) ∙ t.ends;
+      },
+    )
+  where
+    ended : (p : Going × Option Offer) → p.1 ≡ Some o → waiting_end header p.0 o t.back ≡ end_by header p t.back
+    ended (h, None) e = cc
+    ended (h, Some q) e = ap (λ (z : Offer). waiting_end header h z t.back) (sym (same_Some q o e))
+
+pub held_now : (header : Header) (x : Seat) (g : Going) (o : Offer) (items : List RankItem) (given : List OwnerItem) (end : Going) → x.held ≡ Some o → Sits header x g items given end
+    → Waits header (advance header g).0 o items given end
+held_now header x g o items given end held t = record {
+  back = t.back;
+  begins = t.begins;
+  stream = subst (λ (m : Option Offer). IsBeginning items (to_come header m g t.back)) held t.stream;
+  enough = let k = t.enough in let one = ap one_if held in omega arith;
+  ends = ap (λ (m : Option Offer). seat_end header m g t.back) (sym held) ∙ t.ends;
+}
+
+pub hold_it : (header : Header) (x : Seat) (g : Going) (o : Offer) (items : List RankItem) (given : List OwnerItem) (end : Going) → x.held ≡ Some o → (advance header g).1 ≡ Some o
+    → Waits header (advance header g).0 o items given end → Sits header x g items given end
+hold_it header x g o items given end held next t = record {
+  back = t.back;
+  begins = t.begins;
+  stream = subst (λ (m : Option Offer). IsBeginning items (to_come header m g t.back)) (sym held) t.stream;
+  waits = λ p e. next ∙ sym held ∙ e;
+  enough = let k = t.enough in let one = ap one_if held in omega arith;
+  ends = ap (λ (m : Option Offer). seat_end header m g t.back) held ∙ t.ends;
+}
+
+-- it takes its reply
+pub heard_now : (header : Header) (x : Seat) (t : Going) (o : Offer) (y : reply.Reply) (items : List RankItem) (more : List OwnerItem) (end : Going) → x.held ≡ None → fits_offer header o y ≡ true
+    → Waits header t o items (Reply y ∷ more) end → Sits header x (hears header t y) items more end
+heard_now header x t o y items more end free fits w = by_back w.back w.begins w.stream w.enough w.ends
+  where
+    by_back : (back : List OwnerItem) → Begins back (Reply y ∷ more) → IsBeginning items (waiting header t o back) → suc (offers_in items) ≤ length back → waiting_end header t o back ≡ end
+        → Sits header x (hears header t y) items more end
+    by_back [] b i n e = absurd (omega arith)
+    by_back (z ∷ back) (left, b) i n e =
+        let first : z ≡ Reply y = cc in
+        let rest : back ++ left ≡ more = cc in
+        record {
+          back = back;
+          begins = (left, rest);
+          stream = subst (λ (m : Option Offer). IsBeginning items (to_come header m (hears header t y) back)) (sym free)
+              (subst (λ (is : List RankItem). IsBeginning items is) (waiting_reply header t o y back fits)
+              (subst (λ (u : OwnerItem). IsBeginning items (waiting header t o (u ∷ back))) first i));
+          waits = λ p f. absurd (none_held (sym free ∙ f));
+          enough = let none = ap one_if free in omega arith;
+          ends = ap (λ (m : Option Offer). seat_end header m (hears header t y) back) free ∙ sym (waiting_end_reply header t o y back fits)
+              ∙ ap (λ (u : OwnerItem). waiting_end header t o (u ∷ back)) (sym first) ∙ e;
+        }
+      where
+        none_held : {p : Offer} → None ≡ Some p → ⊥
+        none_held k = cc
+
+pub sits_as : (header : Header) (x y : Seat) (g : Going) (items same : List RankItem) (given more : List OwnerItem) (end : Going) → x.held ≡ y.held → items ≡ same → given ≡ more
+    → Sits header x g items given end → Sits header y g same more end
+sits_as header x y g items same given more end h e f t = record {
+  back = t.back;
+  begins = subst (λ (xs : List OwnerItem). Begins t.back xs) f t.begins;
+  stream = subst (λ (is : List RankItem). IsBeginning is (to_come header y.held g t.back)) e (subst (λ (m : Option Offer). IsBeginning items (to_come header m g t.back)) h t.stream);
+  waits = λ o k. t.waits o (h ∙ k);
+  enough = subst (λ (is : List RankItem). one_if y.held + offers_in is ≤ length t.back) e (subst (λ (m : Option Offer). one_if m + offers_in items ≤ length t.back) h t.enough);
+  ends = ap (λ (m : Option Offer). seat_end header m g t.back) (sym h) ∙ t.ends;
+}
+
+-- where no reply is left, it ended where it goes up to
+pub last_end : (header : Header) (x : Seat) (g : Going) (items : List RankItem) (n : ℕ) (end : Going) → Sits header x g items (replicate n Stop) end → (advance header g).0 ≡ end
+last_end header x g items n end t = sym (by_held x.held) ∙ t.ends
+  where
+    waits_still : (back : List OwnerItem) (k : ℕ) → Begins back (replicate k Stop) → (h : Going) (o : Offer) → waiting_end header h o back ≡ h
+    waits_still [] k b h o = refl
+    waits_still (z ∷ back) zero (left, b) h o = absurd cc
+    waits_still (z ∷ back) (suc k) (left, b) h o = let first : z ≡ Stop = cc in ap (λ (u : OwnerItem). waiting_end header h o (u ∷ back)) first
+
+    by_next : (p : Going × Option Offer) → end_by header p t.back ≡ p.0
+    by_next (h, None) = refl
+    by_next (h, Some o) = waits_still t.back n t.begins h o
+
+    by_held : (m : Option Offer) → seat_end header m g t.back ≡ (advance header g).0
+    by_held None = by_next (advance header g)
+    by_held (Some o) = waits_still t.back n t.begins (advance header g).0 o

@@ -1,0 +1,106 @@
+-- The part of a run on threads that was done when a fault cut it off, from what the owner tells.
+use Rattle.std.proofs.Common.{◌≡◌, ℕ, suc, ◌-◌, ◌<◌, refl, sym, ◌∙◌, ap, List, [], ◌∷◌, ◌++◌, length, map, replicate, Bool, true, false, Option, Some, None, arith}
+use Rattle.std.proofs.lemmas.List.{append-nil}
+use Rattle.std.specs.Prelude.{slice_get, filter}
+use Rattle.nc_base.specs.declared.script.Hints.{Hints}
+use Rattle.nc_base.specs.declared.step.Mark.{Mark}
+use Rattle.nc_base.specs.declared.step.Offer.{Offer}
+use Rattle.nc_base.specs.declared.step.OwnerItem.{OwnerItem}
+use Rattle.nc_base.specs.declared.step.OwnerItem.TheVariants.{Stop}
+use Rattle.nc_base.specs.declared.step.RankItem.{RankItem}
+use Rattle.nc_base.specs.declared.step.StepErr.{StepErr}
+use Rattle.serial_spec.specs.Desk.{Desk, Seat, event, given_along, is_strange, own_items, owed, served, stop_held, stops}
+use Rattle.serial_spec.specs.FileStep.{Setting}
+use Rattle.serial_spec.specs.History.{Arrival, is_offer}
+use Rattle.thread_run.specs.Refused.{HasCutService}
+use Rattle.join_laws.proofs.JoinLaws.{owed_stop, served_on}
+use Rattle.thread_run.proofs.DeskRuns.{goes_on, stops_at}
+
+-- ---- the part of a run that was done
+
+-- what came before the first strange arrival, or before the fault
+pub record Service (s : Setting) (d : Desk) (ranks : ℕ) (arrivals : List Arrival) (given : ℕ → List OwnerItem) (order : List Mark) : Type 0 where
+  pub first : List Arrival
+  pub later : List Arrival
+  pub all : arrivals ≡ first ++ later
+  pub none : (served s d first).stranger ≡ None
+  pub order_is : order ≡ (served s d first).marks
+  pub gives : (q : ℕ) → q < ranks → (k : ℕ) × (given q ≡ given_along s d first q ++ replicate k Stop)
+
+unfoldable pub service_cut : (s : Setting) (d : Desk) (ranks n : ℕ) (e : StepErr) (arrivals : List Arrival) (given : ℕ → List OwnerItem) (order : List Mark) (held : Option (List ℕ)) → ranks ≡ length d.seats
+    → HasCutService s e d arrivals order held n given → Service s d ranks arrivals given order
+service_cut s d ranks n e arrivals given order held long h = record {
+  first = h.first;
+  later = h.later;
+  all = h.all;
+  none = h.service.no_stranger;
+  order_is = h.service.in_order;
+  gives = λ q l.
+      let low : q < length d.seats = omega arith in
+      let g = h.service.gives q low in
+      (g.stopped, g.whole ∙ ap (λ (items : List OwnerItem). items ++ replicate g.stopped Stop) (sym (append-nil g.replies) ∙ ap (λ (items : List OwnerItem). g.replies ++ items) (sym (h.all_heard q low)) ∙ g.begins));
+}
+
+-- without a fault
+record Front (s : Setting) (d : Desk) (arrivals : List Arrival) : Type 0 where
+  first : List Arrival
+  later : List Arrival
+  all : arrivals ≡ first ++ later
+  none : (served s d first).stranger ≡ None
+  marks : (served s d arrivals).marks ≡ (served s d first).marks
+  desk : (served s d arrivals).desk ≡ (served s d first).desk
+  owes : (q : ℕ) → owed s (served s d first).desk later q ≡ stops (served s d first).desk later q
+
+front : (s : Setting) (arrivals : List Arrival) (d : Desk) → Front s d arrivals
+front s [] d = record { first = []; later = []; all = refl; none = refl; marks = refl; desk = refl; owes = λ q. refl }
+front s (a ∷ rest) d = by (is_strange s d a) refl (front s rest (event s d a).desk)
+  where
+    by : (v : Bool) → is_strange s d a ≡ v → Front s (event s d a).desk rest → Front s d (a ∷ rest)
+    by true f again =
+        let at = stops_at s d a rest f in
+        record { first = []; later = a ∷ rest; all = refl; none = refl; marks = at.marks; desk = at.desk; owes = λ q. owed_stop s d a rest q f }
+    by false f again =
+        let long = served_on s d a rest f in
+        let short = served_on s d a again.first f in
+        record {
+          first = a ∷ again.first;
+          later = again.later;
+          all = ap (λ (xs : List Arrival). a ∷ xs) again.all;
+          none = short.stranger ∙ again.none;
+          marks = long.marks ∙ ap (λ (ms : List Mark). (event s d a).marks ++ ms) again.marks ∙ sym short.marks;
+          desk = long.desk ∙ again.desk ∙ sym short.desk;
+          owes = λ q. ap (λ (e : Desk). owed s e again.later q) short.desk ∙ again.owes q ∙ ap (λ (e : Desk). stops e again.later q) (sym short.desk);
+        }
+
+stops_are : (xs : List RankItem) → map (λ (i : RankItem). Stop) xs ≡ replicate (length xs) Stop
+stops_are [] = refl
+stops_are (x ∷ xs) = ap (λ (items : List OwnerItem). Stop ∷ items) (stops_are xs)
+
+only_stops : (m : Option Seat) (xs : List RankItem) → (k : ℕ) × (stop_held m ++ map (λ (i : RankItem). Stop) xs ≡ replicate k Stop)
+only_stops None xs = (length xs, stops_are xs)
+only_stops (Some x) xs = by_held x.held x.ended
+  where
+    by_held : (held : Option Offer) (ended : Option Bool) → (k : ℕ) × (stop_held (Some (record { held = held; ended = ended })) ++ map (λ (i : RankItem). Stop) xs ≡ replicate k Stop)
+    by_held None ended = (length xs, stops_are xs)
+    by_held (Some p) ended = (suc (length xs), ap (λ (items : List OwnerItem). Stop ∷ items) (stops_are xs))
+
+pub service_done : (hints : Hints) (s : Setting) (d : Desk) (ranks : ℕ) (arrivals : List Arrival) (given : ℕ → List OwnerItem) (order : List Mark) → order ≡ (served s d arrivals).marks
+    → ((q : ℕ) → q < ranks → given q ≡ owed s d arrivals q) → (h : Service s d ranks arrivals given order) × ((served s d h.first).desk ≡ (served s d arrivals).desk)
+service_done hints s d ranks arrivals given order e owes =
+    let f = front s arrivals d in
+    let on = goes_on hints s d f.first f.later f.none in (
+      record {
+        first = f.first;
+        later = f.later;
+        all = f.all;
+        none = f.none;
+        order_is = e ∙ f.marks;
+        gives = λ q l.
+            let k = only_stops (slice_get (served s d f.first).desk.seats q) (filter is_offer (own_items q f.later)) in (
+              k.0,
+              owes q l ∙ ap (λ (xs : List Arrival). owed s d xs q) f.all ∙ on.owed_items q
+                  ∙ ap (λ (items : List OwnerItem). given_along s d f.first q ++ items) (f.owes q ∙ k.1),
+            );
+      },
+      sym f.desk,
+    )

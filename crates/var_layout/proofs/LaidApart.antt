@@ -1,0 +1,185 @@
+-- No two variables of a laid out header share a byte.
+use Rattle.std.proofs.Common.{◌≡◌, ℕ, zero, suc, ◌+◌, ◌-◌, ◌<◌, ◌≤◌, List, [], ◌∷◌, length, map, Bool, true, false, cond, ◌&&◌, ◌||◌, Some, None, refl, sym, ap, subst, ◌∙◌, arith, max}
+use Rattle.std.specs.Prelude.{filter, sum_by, nat_lt, nat_le, ◌==◌, slice_get}
+use Rattle.std.specs.Option.{option_or}
+use Rattle.std.proofs.lemmas.Bool.Decides.{nat_tests}
+use Rattle.std.proofs.lemmas.List.{length-map}
+use Rattle.std.proofs.lemmas.Option.{slice_get_read}
+use Rattle.serial_spec.proofs.RoomLaws.{slab_below}
+use Rattle.nc_base.specs.declared.header.Header.{Header}
+use Rattle.nc_base.specs.declared.header.Var.{Var}
+use Rattle.nc_base.specs.declared.script.Align.{Align}
+use Rattle.serial_spec.specs.Layout.{slab, vsize, is_record, recsize, record_size, record_slabs, record_variables, sharing, sharing_with, sharing_from, share, meet, placed, begins, begin_of}
+use Rattle.var_layout.specs.Begins.{HasPlace}
+use Rattle.var_layout.proofs.Soundness.{recsize_shared}
+use Rattle.var_layout.proofs.CreatedFiles.{in_place}
+use Rattle.var_layout.proofs.LaidPlaces.{Lies, lies_at, fixed_grows, all_records, records_grow, fixed_at, record_at, first_low, header_low}
+
+-- ---- no two variables share a byte
+
+-- of two variables, whether each is a record variable, their begins and slabs, and the size of a record
+abbrev pub shares_by : Bool → Bool → ℕ → ℕ → ℕ → ℕ → ℕ → Bool
+shares_by t u a n b m size =
+    cond t (cond u (cond (nat_le a b) (nat_lt b (a + n) || nat_lt (a + size) (b + m)) (nat_lt a (b + m) || nat_lt (b + size) (a + n))) (nat_lt a (b + m)))
+    (cond u (nat_lt b (a + n)) (meet a n b m))
+
+fixed_apart : (a n b m size : ℕ) → a + n ≤ b → shares_by false false a n b m size ≡ false
+fixed_apart a n b m size h = ap (λ (t : Bool). t && nat_lt (max a b) (b + m)) (let e : nat_lt (max a b) (a + n) ≡ false = grind (arith, nat_tests) in e)
+
+pub fixed_then_record : (a n b m size : ℕ) → a + n ≤ b → shares_by false true a n b m size ≡ false
+fixed_then_record a n b m size h = let e : nat_lt b (a + n) ≡ false = grind (arith, nat_tests) in e
+
+pub record_then_fixed : (a n b m size : ℕ) → b + m ≤ a → shares_by true false a n b m size ≡ false
+record_then_fixed a n b m size h = let e : nat_lt a (b + m) ≡ false = grind (arith, nat_tests) in e
+
+records_apart : (a n b m size : ℕ) → a + n ≤ b → b + m ≤ a + size → shares_by true true a n b m size ≡ false
+records_apart a n b m size h g =
+    let order : nat_le a b ≡ true = grind (arith, nat_tests) in
+    let front : nat_lt b (a + n) ≡ false = grind (arith, nat_tests) in
+    let back : nat_lt (a + size) (b + m) ≡ false = grind (arith, nat_tests) in
+    ap (λ (t : Bool). cond t (nat_lt b (a + n) || nat_lt (a + size) (b + m)) (nat_lt a (b + m) || nat_lt (b + size) (a + n))) order
+    ∙ ap (λ (t : Bool). t || nat_lt (a + size) (b + m)) front ∙ back
+
+placed_slabs : (header : Header) (align : Align) (first n : ℕ) (vs : List Var)
+    → map (λ v. slab header v) (record_variables header (placed header align first n vs)) ≡ map (λ v. slab header v) (record_variables header vs)
+placed_slabs header align first n [] = refl
+placed_slabs header align first n (v ∷ vs) = by_test (is_record header v) (placed_slabs header align first (suc n) vs)
+  where
+    by_test : (t : Bool) → map (λ w. slab header w) (record_variables header (placed header align first (suc n) vs)) ≡ map (λ w. slab header w) (record_variables header vs)
+        → map (λ w. slab header w) (cond t (in_place header align first n v ∷ record_variables header (placed header align first (suc n) vs)) (record_variables header (placed header align first (suc n) vs)))
+        ≡ map (λ w. slab header w) (cond t (v ∷ record_variables header vs) (record_variables header vs))
+    by_test true rest = ap (λ ns. slab header v ∷ ns) rest
+    by_test false rest = rest
+
+laid_recsize : (header : Header) (align : Align) (first : ℕ) → recsize (begins header align first) ≡ recsize header
+laid_recsize header align first = ap (λ ns. record_size ns) (placed_slabs header align first 0 header.vars)
+
+pub count_one : {A : Type 0} (p : A → Bool) (xs : List A) (k : ℕ) (x : A) → slice_get xs k ≡ Some x → p x ≡ true → 1 ≤ length (filter p xs)
+count_one p [] k x h e = cc
+count_one p (y ∷ xs) zero x h e =
+    let same : y ≡ x = cc in
+    let f = ap (λ (t : Bool). length (cond t (y ∷ filter p xs) (filter p xs))) (ap (λ z. p z) same ∙ e) in
+    omega arith
+count_one p (y ∷ xs) (suc k) x h e = by_test (p y) (count_one p xs k x h e)
+  where
+    by_test : (t : Bool) → 1 ≤ length (filter p xs) → 1 ≤ length (cond t (y ∷ filter p xs) (filter p xs))
+    by_test true l = omega arith
+    by_test false l = l
+
+pub count_two : {A : Type 0} (p : A → Bool) (xs : List A) (i j : ℕ) (x y : A) → i < j → slice_get xs i ≡ Some x → slice_get xs j ≡ Some y → p x ≡ true → p y ≡ true
+    → 2 ≤ length (filter p xs)
+count_two p [] i j x y l h g e f = cc
+count_two p (z ∷ xs) i zero x y l h g e f = absurd (omega arith)
+count_two p (z ∷ xs) zero (suc j) x y l h g e f =
+    let same : z ≡ x = cc in
+    let later = count_one p xs j y g f in
+    let here = ap (λ (t : Bool). length (cond t (z ∷ filter p xs) (filter p xs))) (ap (λ w. p w) same ∙ e) in
+    omega arith
+count_two p (z ∷ xs) (suc i) (suc j) x y l h g e f = by_test (p z) (count_two p xs i j x y (omega arith) h g e f)
+  where
+    by_test : (t : Bool) → 2 ≤ length (filter p xs) → 2 ≤ length (cond t (z ∷ filter p xs) (filter p xs))
+    by_test true m = omega arith
+    by_test false m = m
+
+-- with two record variables at least, a record has the sum of their vsizes
+recsize_of_two : (header : Header) → 2 ≤ length (record_variables header header.vars) → recsize header ≡ sum_by (λ v. vsize header v) (record_variables header header.vars)
+recsize_of_two header h =
+    let long = length-map (record_variables header header.vars) (λ v. slab header v) in
+    recsize_shared header
+    ∙ ap (λ (t : Bool). sum_by (λ v. cond t (slab header v) (vsize header v)) (record_variables header header.vars)) (not_one (length (record_slabs header)) (omega arith))
+  where
+    not_one : (n : ℕ) → 2 ≤ n → (n == 1) ≡ false
+    not_one n l = grind (arith, nat_tests)
+
+pub get_there : (header : Header) (k : ℕ) (v : Var) → Lies header k v → slice_get header.vars k ≡ Some v
+get_there header k v lies = slice_get_read header.vars (length header.vars) k v refl lies.within lies.there
+
+laid_apart : (header : Header) (align : Align) (len first : ℕ) → 0 < align.var → HasPlace header align len first → (i j : ℕ) (v w : Var) → i < j → Lies header i v → Lies header j w
+    → (t u : Bool) → is_record header v ≡ t → is_record header w ≡ u
+    → shares_by t u (begin_of header align len i v) (slab header v) (begin_of header align len j w) (slab header w) (recsize header) ≡ false
+laid_apart header align len first pos place i j v w l lies lies' false false e f =
+    let a = fixed_at header align len i v pos lies e in
+    let b = fixed_at header align len j w pos lies' f in
+    let grows = fixed_grows header align len (i + 1) j v pos (omega arith) (let q = lies'.within in omega arith) in
+    let s = slab_below header v in
+    let high = a.high in
+    let low = b.low in
+    fixed_apart (begin_of header align len i v) (slab header v) (begin_of header align len j w) (slab header w) (recsize header) (omega arith)
+laid_apart header align len first pos place i j v w l lies lies' false true e f =
+    let a = fixed_at header align len i v pos lies e in
+    let b = record_at header align len j w lies' f in
+    let grows = fixed_grows header align len (i + 1) (length header.vars) v pos (let q = lies.within in omega arith) (omega arith) in
+    let base = first_low header align len pos in
+    let s = slab_below header v in
+    let high = a.high in
+    let low = b.low in
+    fixed_then_record (begin_of header align len i v) (slab header v) (begin_of header align len j w) (slab header w) (recsize header) (omega arith)
+laid_apart header align len first pos place i j v w l lies lies' true false e f =
+    let a = record_at header align len i v lies e in
+    let b = fixed_at header align len j w pos lies' f in
+    let grows = fixed_grows header align len (j + 1) (length header.vars) v pos (let q = lies'.within in omega arith) (omega arith) in
+    let base = first_low header align len pos in
+    let s = slab_below header w in
+    let high = b.high in
+    let low = a.low in
+    record_then_fixed (begin_of header align len i v) (slab header v) (begin_of header align len j w) (slab header w) (recsize header) (omega arith)
+laid_apart header align len first pos place i j v w l lies lies' true true e f =
+    let a = record_at header align len i v lies e in
+    let b = record_at header align len j w lies' f in
+    let grows = records_grow header (i + 1) j v (omega arith) (let q = lies'.within in omega arith) in
+    let all = records_grow header (j + 1) (length header.vars) v (let q = lies'.within in omega arith) (omega arith) in
+    let size = recsize_of_two header (count_two (λ x. is_record header x) header.vars i j v w l (get_there header i v lies) (get_there header j w lies') e f) in
+    let whole = all_records header in
+    let s = slab_below header v in
+    let s' = slab_below header w in
+    let a_high = a.high in
+    let a_low = a.low in
+    let b_high = b.high in
+    let b_low = b.low in
+    records_apart (begin_of header align len i v) (slab header v) (begin_of header align len j w) (slab header w) (recsize header) (omega arith) (omega arith)
+
+pub no_sharing_with : (header : Header) (v : Var) (k m : ℕ) (ws : List Var) → ((j : ℕ) (w : Var) → slice_get ws j ≡ Some w → share header v w ≡ false) → sharing_with header v k m ws ≡ None
+no_sharing_with header v k m [] h = refl
+no_sharing_with header v k m (w ∷ ws) h =
+    ap (λ (t : Bool). cond t (Some (k, m)) (sharing_with header v k (suc m) ws)) (h 0 w refl) ∙ no_sharing_with header v k (suc m) ws (λ j x g. h (suc j) x g)
+
+pub no_sharing_from : (header : Header) (first k : ℕ) (vs : List Var) → ((i : ℕ) (v : Var) → slice_get vs i ≡ Some v → first ≤ v.begin)
+    → ((i j : ℕ) (v w : Var) → i < j → slice_get vs i ≡ Some v → slice_get vs j ≡ Some w → share header v w ≡ false) → sharing_from header first k vs ≡ None
+no_sharing_from header first k [] low h = refl
+no_sharing_from header first k (v ∷ vs) low h =
+    ap (λ (t : Bool). cond t (Some (k, k)) (option_or (sharing_with header v k (suc k) vs) (sharing_from header first (suc k) vs))) (past v (low 0 v refl))
+    ∙ ap (λ o. option_or o (sharing_from header first (suc k) vs)) (no_sharing_with header v k (suc k) vs (λ j w g. h 0 (suc j) v w (omega arith) refl g))
+    ∙ no_sharing_from header first (suc k) vs (λ i w g. low (suc i) w g) (λ i j x y l g f. h (suc i) (suc j) x y (omega arith) g f)
+  where
+    past : (x : Var) → first ≤ x.begin → nat_lt x.begin first ≡ false
+    past x l = grind (arith, nat_tests)
+
+pub laid_sharing : (header : Header) (align : Align) (len first : ℕ) → 0 < align.header → 0 < align.var → HasPlace header align len first → sharing (begins header align len) len ≡ None
+laid_sharing header align len first pos pos' place =
+    no_sharing_from (begins header align len) len 0 (placed header align len 0 header.vars)
+    (λ i w g. low i w (lies_at header align len i w g))
+    (λ i j x y l g f. apart i j x y l (lies_at header align len i x g) (lies_at header align len j y f))
+  where
+    low : (i : ℕ) (w : Var) → ((v : Var) × Lies header i v × (in_place header align len i v ≡ w)) → len ≤ w.begin
+    low i w found = subst (λ (x : Var). len ≤ x.begin) found.2 (by_test (is_record header found.0) refl)
+      where
+        by_test : (t : Bool) → is_record header found.0 ≡ t → len ≤ begin_of header align len i found.0
+        by_test true e =
+            let a = record_at header align len i found.0 found.1 e in
+            let base = first_low header align len pos' in
+            let past = header_low header align len (length header.vars) found.0 pos pos' (omega arith) in
+            let at = a.low in
+            omega arith
+        by_test false e =
+            let a = fixed_at header align len i found.0 pos' found.1 e in
+            let past = header_low header align len i found.0 pos pos' (let q = found.1.within in omega arith) in
+            let at = a.low in
+            omega arith
+
+    apart : (i j : ℕ) (x y : Var) → i < j → ((v : Var) × Lies header i v × (in_place header align len i v ≡ x)) → ((w : Var) × Lies header j w × (in_place header align len j w ≡ y))
+        → share (begins header align len) x y ≡ false
+    apart i j x y l a b =
+        sym (ap (λ (z : Var). share (begins header align len) z y) a.2)
+        ∙ sym (ap (λ (z : Var). share (begins header align len) (in_place header align len i a.0) z) b.2)
+        ∙ ap (λ (n : ℕ). shares_by (is_record header a.0) (is_record header b.0) (begin_of header align len i a.0) (slab header a.0) (begin_of header align len j b.0) (slab header b.0) n) (laid_recsize header align len)
+        ∙ laid_apart header align len first pos' place i j a.0 b.0 l a.1 b.1 (is_record header a.0) (is_record header b.0) refl refl

@@ -1,0 +1,207 @@
+-- Each variable of a laid out header lies where it is placed, before the next of its kind, and keeps its bound.
+use Rattle.std.proofs.Common.{◌≡◌, ℕ, zero, suc, ◌+◌, ◌-◌, ◌*◌, ◌^◌, ◌<◌, ◌≤◌, List, [], ◌∷◌, length, take, get_or, Bool, true, false, cond, ◌&&◌, ◌||◌, Some, None, refl, sym, ap, ◌∙◌, arith}
+use Rattle.std.specs.Prelude.{sum_by, not, nat_lt, ◌==◌, slice_get}
+use Rattle.std.proofs.lemmas.Bool.Decides.{nat_tests}
+use Rattle.std.proofs.lemmas.List.{take_all, get_or_default}
+use Rattle.std.proofs.lemmas.List.Sums.{sum_by-cons}
+use Rattle.std.proofs.lemmas.Option.{slice_get_within, get_or_from_slice_get}
+use Rattle.std.proofs.lemmas.Bool.{and_from}
+use Rattle.nc_base.specs.declared.header.Header.{Header}
+use Rattle.nc_base.specs.declared.header.Var.{Var}
+use Rattle.nc_base.specs.declared.script.Align.{Align}
+use Rattle.serial_spec.specs.Layout.{vsize, is_record, recsize, record_variables, record_share, last_share, round_up, placed, begins, begin_of, end_of_fixed, fixed_variables}
+use Rattle.serial_spec.specs.HeaderFaults.{measure, past_bound, keeps_bound}
+use Rattle.var_layout.specs.Begins.{fixed_end, first_record, HasPlace}
+use Rattle.var_layout.proofs.Soundness.{shares_are}
+use Rattle.var_layout.proofs.CreatedFiles.{in_place, fixed_end_more, fixed_end_same, records_more, records_same, begin_fixed, begin_record, fixed_near, record_near}
+use Rattle.var_layout.proofs.LaidKept.{placed_sum_front}
+
+-- ---- each variable lies where it is placed
+
+pub record Lies (header : Header) (k : ℕ) (v : Var) : Type 0 where
+  pub within : k < length header.vars
+  pub there : v ≡ get_or header.vars k v
+
+placed_get : (header : Header) (align : Align) (first n : ℕ) (vs : List Var) (k : ℕ) (w : Var) → slice_get (placed header align first n vs) k ≡ Some w
+    → (v : Var) × (slice_get vs k ≡ Some v) × (in_place header align first (n + k) v ≡ w)
+placed_get header align first n [] k w h = cc
+placed_get header align first n (v ∷ vs) zero w h =
+    (v, refl, ap (λ (m : ℕ). in_place header align first m v) (let e : n + 0 ≡ n = omega arith in e) ∙ (let e : in_place header align first n v ≡ w = cc in e))
+placed_get header align first n (v ∷ vs) (suc k) w h =
+    let rest = placed_get header align first (suc n) vs k w h in
+    (rest.0, rest.1, ap (λ (m : ℕ). in_place header align first m rest.0) (let e : n + suc k ≡ suc n + k = omega arith in e) ∙ rest.2)
+
+pub lies_at : (header : Header) (align : Align) (first k : ℕ) (w : Var) → slice_get (placed header align first 0 header.vars) k ≡ Some w
+    → (v : Var) × Lies header k v × (in_place header align first k v ≡ w)
+lies_at header align first k w h =
+    let found = placed_get header align first 0 header.vars k w h in
+    let v = found.0 in (
+      v,
+      record { within = slice_get_within header.vars k v found.1; there = sym (get_or_from_slice_get header.vars k v v found.1) },
+      ap (λ (m : ℕ). in_place header align first m v) (let e : k ≡ 0 + k = omega arith in e) ∙ found.2,
+    )
+
+up : (unit n : ℕ) → 0 < unit → n ≤ round_up unit n
+up unit n h = omega arith
+
+itself : (header : Header) (k : ℕ) (d : Var) → k < length header.vars → get_or header.vars k d ≡ get_or header.vars k (get_or header.vars k d)
+itself header k d h = get_or_default header.vars k d (get_or header.vars k d) h
+
+fixed_step : (header : Header) (align : Align) (first k : ℕ) (d : Var) → 0 < align.var → k < length header.vars → fixed_end header align first k ≤ fixed_end header align first (k + 1)
+fixed_step header align first k d pos h = by_test (is_record header (get_or header.vars k d)) refl
+  where
+    by_test : (t : Bool) → is_record header (get_or header.vars k d) ≡ t → fixed_end header align first k ≤ fixed_end header align first (k + 1)
+    by_test true e = let same = fixed_end_same header align first k (get_or header.vars k d) h (itself header k d h) e in omega arith
+    by_test false e =
+        let more = fixed_end_more header align first k (get_or header.vars k d) h (itself header k d h) e in
+        let l = up align.var (fixed_end header align first k) pos in
+        omega arith
+
+fixed_on : (header : Header) (align : Align) (first k : ℕ) (d : Var) (j : ℕ) → 0 < align.var → k + j ≤ length header.vars → fixed_end header align first k ≤ fixed_end header align first (k + j)
+fixed_on header align first k d zero pos h = let e = ap (λ (m : ℕ). fixed_end header align first m) (let z : k + 0 ≡ k = omega arith in z) in omega arith
+fixed_on header align first k d (suc j) pos h =
+    let rest = fixed_on header align first k d j pos (omega arith) in
+    let step = fixed_step header align first (k + j) d pos (omega arith) in
+    let e = ap (λ (m : ℕ). fixed_end header align first m) (let z : k + suc j ≡ k + j + 1 = omega arith in z) in
+    omega arith
+
+pub fixed_grows : (header : Header) (align : Align) (first k m : ℕ) (d : Var) → 0 < align.var → k ≤ m → m ≤ length header.vars → fixed_end header align first k ≤ fixed_end header align first m
+fixed_grows header align first k m d pos l h =
+    let on = fixed_on header align first k d (m - k) pos (omega arith) in
+    let e = ap (λ (n : ℕ). fixed_end header align first n) (let z : k + (m - k) ≡ m = omega arith in z) in
+    omega arith
+
+pub records_before : Header → ℕ → ℕ
+records_before header k = sum_by (λ v. vsize header v) (record_variables header (take k header.vars))
+
+records_step : (header : Header) (k : ℕ) (d : Var) → k < length header.vars → records_before header k ≤ records_before header (k + 1)
+unfolding records_before
+records_step header k d h = by_test (is_record header (get_or header.vars k d)) refl
+  where
+    by_test : (t : Bool) → is_record header (get_or header.vars k d) ≡ t
+        → sum_by (λ v. vsize header v) (record_variables header (take k header.vars)) ≤ sum_by (λ v. vsize header v) (record_variables header (take (k + 1) header.vars))
+    by_test true e = let more = records_more header k (get_or header.vars k d) h (itself header k d h) e in omega arith
+    by_test false e = let same = records_same header k (get_or header.vars k d) h (itself header k d h) e in omega arith
+
+records_on : (header : Header) (k : ℕ) (d : Var) (j : ℕ) → k + j ≤ length header.vars → records_before header k ≤ records_before header (k + j)
+records_on header k d zero h = let e = ap (λ (m : ℕ). records_before header m) (let z : k + 0 ≡ k = omega arith in z) in omega arith
+records_on header k d (suc j) h =
+    let rest = records_on header k d j (omega arith) in
+    let step = records_step header (k + j) d (omega arith) in
+    let e = ap (λ (m : ℕ). records_before header m) (let z : k + suc j ≡ k + j + 1 = omega arith in z) in
+    omega arith
+
+pub records_grow : (header : Header) (k m : ℕ) (d : Var) → k ≤ m → m ≤ length header.vars → records_before header k ≤ records_before header m
+records_grow header k m d l h =
+    let on = records_on header k d (m - k) (omega arith) in
+    let e = ap (λ (n : ℕ). records_before header n) (let z : k + (m - k) ≡ m = omega arith in z) in
+    omega arith
+
+pub all_records : (header : Header) → records_before header (length header.vars) ≡ sum_by (λ v. vsize header v) (record_variables header header.vars)
+unfolding records_before
+all_records header = ap (λ vs. sum_by (λ v. vsize header v) (record_variables header vs)) (take_all (length header.vars) header.vars (omega arith))
+
+-- a fixed variable ends where the next one may begin, a record variable where the next record variable begins
+pub record FixedAt (header : Header) (align : Align) (first k begin : ℕ) (v : Var) : Type 0 where
+  pub low : fixed_end header align first k ≤ begin
+  pub high : begin + vsize header v ≡ fixed_end header align first (k + 1)
+
+pub fixed_at : (header : Header) (align : Align) (first k : ℕ) (v : Var) → 0 < align.var → Lies header k v → is_record header v ≡ false → FixedAt header align first k (begin_of header align first k v) v
+fixed_at header align first k v pos lies e =
+    let at = begin_fixed header align first k v e in
+    let more = fixed_end_more header align first k v lies.within lies.there e in
+    let l = up align.var (fixed_end header align first k) pos in
+    record { low = omega arith; high = omega arith }
+
+pub record RecordAt (header : Header) (align : Align) (first k begin : ℕ) (v : Var) : Type 0 where
+  pub low : begin ≡ first_record header align first + records_before header k
+  pub high : begin + vsize header v ≡ first_record header align first + records_before header (k + 1)
+
+pub record_at : (header : Header) (align : Align) (first k : ℕ) (v : Var) → Lies header k v → is_record header v ≡ true → RecordAt header align first k (begin_of header align first k v) v
+unfolding records_before
+record_at header align first k v lies e =
+    let at = begin_record header align first k v e in
+    let more = records_more header k v lies.within lies.there e in
+    record { low = at; high = omega arith }
+
+pub first_low : (header : Header) (align : Align) (first : ℕ) → 0 < align.var → fixed_end header align first (length header.vars) ≤ first_record header align first
+first_low header align first pos =
+    let l = up align.var (fixed_end header align first (length header.vars)) pos in
+    let f = ap (λ vs. round_up align.var (end_of_fixed header align.var (round_up align.header first) (fixed_variables header vs))) (take_all (length header.vars) header.vars (omega arith)) in
+    omega arith
+
+pub header_low : (header : Header) (align : Align) (first k : ℕ) (d : Var) → 0 < align.header → 0 < align.var → k ≤ length header.vars → first ≤ fixed_end header align first k
+header_low header align first k d pos pos' h =
+    let l = up align.header first pos in
+    let grows = fixed_grows header align first 0 k d pos' (omega arith) h in
+    omega arith
+
+-- ---- each variable keeps its bound
+
+pub past_none : (header : Header) (vs : List Var) (before n : ℕ)
+    → ((k : ℕ) (v : Var) → slice_get vs k ≡ Some v → keeps_bound header (before + sum_by (λ w. record_share header w) (take k vs)) v ≡ true)
+    → past_bound header before n vs ≡ None
+past_none header [] before n h = refl
+past_none header (v ∷ vs) before n h =
+    let here : keeps_bound header before v ≡ true =
+    ap (λ (m : ℕ). keeps_bound header m v) (let e : before ≡ before + 0 = omega arith in e) ∙ h 0 v refl in
+    let rest = past_none header vs (before + record_share header v) (suc n)
+    (λ k w g. ap (λ (m : ℕ). keeps_bound header m w) (shifted before (record_share header v) (sum_by (λ x. record_share header x) (take k vs)) _ (sum_by-cons (λ x. record_share header x) v (take k vs))) ∙ h (suc k) w g) in
+    ap (λ (t : Bool). cond t (past_bound header (before + record_share header v) (suc n) vs) (Some n)) here ∙ rest
+  where
+    shifted : (b s r t : ℕ) → t ≡ s + r → b + s + r ≡ b + t
+    shifted b s r t e = omega arith
+
+fits : (n : ℕ) → n < 2 ^ 62 → nat_lt n (2 ^ 62) ≡ true
+fits n h = grind (arith, nat_tests)
+
+pub record Fits (header : Header) (before : ℕ) (v : Var) : Type 0 where
+  pub end : v.begin + vsize header v < 2 ^ 62
+  pub records : is_record header v ≡ true → before + vsize header v < 2 ^ 62
+
+keeps : (header : Header) (before : ℕ) (v : Var) → header.records ≡ 0 → Fits header before v → keeps_bound header before v ≡ true
+keeps header before v none h =
+    let end = h.end in
+    and_from (nat_lt (vsize header v) (2 ^ 62) && nat_lt (v.begin + vsize header v) (2 ^ 62)) _ (and_from _ _ (fits (vsize header v) (omega arith)) (fits (v.begin + vsize header v) end))
+    (by_test (is_record header v) refl)
+  where
+    past : Bool
+    past = nat_lt (v.begin + (header.records - 1) * recsize header + last_share header v) (2 ^ 62)
+
+    by_test : (t : Bool) → is_record header v ≡ t
+        → (not (is_record header v) || (nat_lt (before + vsize header v) (2 ^ 62) && (header.records == 0 || nat_lt (v.begin + (header.records - 1) * recsize header + last_share header v) (2 ^ 62)))) ≡ true
+    by_test false e =
+        ap (λ (t : Bool). not t || (nat_lt (before + vsize header v) (2 ^ 62) && (header.records == 0 || nat_lt (v.begin + (header.records - 1) * recsize header + last_share header v) (2 ^ 62)))) e
+    by_test true e =
+        ap (λ (t : Bool). not t || (nat_lt (before + vsize header v) (2 ^ 62) && (header.records == 0 || nat_lt (v.begin + (header.records - 1) * recsize header + last_share header v) (2 ^ 62)))) e
+        ∙ and_from _ _ (fits (before + vsize header v) (h.records e))
+        (ap (λ (n : ℕ). n == 0 || nat_lt (v.begin + (header.records - 1) * recsize header + last_share header v) (2 ^ 62)) none)
+
+pub laid_measure : (header : Header) (align : Align) (len first : ℕ) → header.records ≡ 0 → HasPlace header align len first → measure (begins header align len) ≡ None
+unfolding records_before
+laid_measure header align len first none place =
+    past_none (begins header align len) (placed header align len 0 header.vars) 0 0 (λ k w g. kept k w (lies_at header align len k w g))
+  where
+    kept : (k : ℕ) (w : Var) → ((v : Var) × Lies header k v × (in_place header align len k v ≡ w))
+        → keeps_bound (begins header align len) (0 + sum_by (λ x. record_share header x) (take k (placed header align len 0 header.vars))) w ≡ true
+    kept k w found =
+        let v = found.0 in
+        let before = placed_sum_front (λ x. record_share header x) (λ x b. refl) header align len 0 header.vars k ∙ shares_are header (take k header.vars) in
+        ap (λ (x : Var). keeps_bound (begins header align len) (0 + sum_by (λ y. record_share header y) (take k (placed header align len 0 header.vars))) x) (sym found.2)
+        ∙ keeps (begins header align len) _ (in_place header align len k v) none (by_test (is_record header v) refl before)
+      where
+        by_test : (t : Bool) → is_record header found.0 ≡ t
+            → sum_by (λ x. record_share header x) (take k (placed header align len 0 header.vars)) ≡ sum_by (λ x. vsize header x) (record_variables header (take k header.vars))
+            → Fits (begins header align len) (0 + sum_by (λ x. record_share header x) (take k (placed header align len 0 header.vars))) (in_place header align len k found.0)
+        by_test true e before =
+            let near = record_near header align len k found.0 place.records_fit found.1.within found.1.there e in
+            let at = begin_record header align len k found.0 e in
+            record { end = omega arith; records = λ f. omega arith }
+        by_test false e before =
+            let near = fixed_near header align len k found.0 place.fixed_fit found.1.within found.1.there e in
+            let at = begin_fixed header align len k found.0 e in
+            record { end = omega arith; records = λ f. absurd (contrary (is_record header found.0) e f) }
+          where
+            contrary : (t : Bool) → t ≡ false → t ≡ true → ⊥
+            contrary true a b = cc
+            contrary false a b = cc

@@ -1,0 +1,243 @@
+-- A filled file reads its fill values: elements that were written, no two of which share a byte.
+use Rattle.std.proofs.Common.{◌≡◌, ℕ, zero, suc, ◌+◌, ◌-◌, ◌<◌, ◌≤◌, refl, sym, ◌∙◌, ap, subst, inl, inr, ◌⊎◌, List, [], ◌∷◌, length, map, get_or, Bool, true, false, not, Option, Some, None, arith}
+use Rattle.std.proofs.lemmas.Bool.Decides.{eqb_tells}
+use Rattle.std.proofs.lemmas.Grind.{fold-append}
+use Rattle.std.proofs.lemmas.List.Folds.{fold-map}
+use Rattle.std.proofs.lemmas.Option.{same_Some}
+use Rattle.std.specs.Prelude.{flat_map, fold, slice_get, ◌==◌, MatchBool}
+use Rattle.std.specs.List.{enumerate_from}
+use Rattle.std.specs.Option.{option_or}
+use Rattle.list_laws.proofs.Optional.{first_counts, second_counts}
+use Rattle.overlay_laws.proofs.HullLaws.{filter_in, flat_in, in_flat}
+use Rattle.overlay_laws.proofs.Members.{at_in, each_in, in_at, in_filter, in_map, map_in}
+use Rattle.nc_base.specs.declared.header.Header.{Header}
+use Rattle.nc_base.specs.declared.header.Var.{Var}
+use Rattle.nc_base.specs.declared.script.Script.{Script}
+use Rattle.nc_base.specs.declared.step.Mark.{Mark}
+use Rattle.serial_spec.specs.ExternalForm.{size_of}
+use Rattle.serial_spec.specs.File.{at, longer, read, written}
+use Rattle.serial_spec.specs.FileStep.{end_for}
+use Rattle.serial_spec.specs.Fill.{fill_bytes, fill_var, filled}
+use Rattle.serial_spec.specs.HeaderBytes.{canon, header_len}
+use Rattle.serial_spec.specs.SoundHeaders.{is_sound}
+use Rattle.serial_spec.specs.Layout.{fixed_variables, inner_lengths, is_record}
+use Rattle.serial_spec.specs.Lists.{In}
+use Rattle.serial_spec.specs.Place.{AreApart, HasRecord, IsElement, IsIndex, place, row, within_record}
+use Rattle.serial_spec.specs.Looking.{fills}
+use Rattle.serial_spec.specs.Request.{cells, coordinates}
+use Rattle.serial_spec.specs.Said.{byte_or, Cell, said_at, said_by, write_cells}
+use Rattle.serial_spec.specs.SerialEnd.{serial, setting_of, start}
+use Rattle.serial_spec.proofs.AcceptLaws.{coordinates_all}
+use Rattle.serial_spec.proofs.ApartLaws.{elements_apart, elements_past_header}
+use Rattle.serial_spec.proofs.ElementLaws.{coordinates_at}
+use Rattle.serial_spec.proofs.RowLaws.{row_once}
+use Rattle.serial_spec.proofs.SaidLaws.{cells_said, said_append, said_below, said_inside, said_past}
+use Rattle.var_layout.proofs.WrittenLengths.{canon_len}
+use Rattle.whole_run_laws.specs.Completed.{completed_puts, IsBesideCount, is_held}
+use Rattle.whole_run_laws.proofs.KeptLaws.{end_kept}
+use Rattle.serial_spec.proofs.ValueLaws.{found_long}
+
+-- ---- cells of which each is another one's or apart from it
+
+abbrev pub IsThatOrApart : Cell → Cell → Type 0
+IsThatOrApart e d = (d ≡ e) ⊎ AreApart d.0 (length d.1) e.0 (length e.1)
+
+module _ (e : Cell) (i : ℕ) (inside : i < length e.1) where
+  abbrev x : ℕ
+  x = e.0 + i
+
+  abbrev byte : Option ℕ
+  byte = Some (get_or e.1 i 0)
+
+  own : said_at (enumerate_from e.0 e.1) (e.0 + i) ≡ Some (get_or e.1 i 0)
+  own =
+      let back : e.0 + i - e.0 ≡ i = omega arith in
+      said_inside e.0 e.1 (e.0 + i) 0 (omega arith) (omega arith) ∙ ap (λ (n : ℕ). Some (get_or e.1 n 0)) back
+
+  one : (d : Cell) → IsThatOrApart e d → (said_at (enumerate_from d.0 d.1) (e.0 + i) ≡ None) ⊎ (said_at (enumerate_from d.0 d.1) (e.0 + i) ≡ Some (get_or e.1 i 0))
+  one d (inl f) = inr (ap (λ (z : Cell). said_at (enumerate_from z.0 z.1) (e.0 + i)) f ∙ own)
+  one d (inr (inl h)) = inl (said_past d.0 d.1 (e.0 + i) (omega arith))
+  one d (inr (inr h)) = inl (said_below d.0 d.1 (e.0 + i) (omega arith))
+
+  joined : (d : Cell) (cells : List Cell) → said_at (said_by (d ∷ cells)) (e.0 + i) ≡ option_or (said_at (said_by cells) (e.0 + i)) (said_at (enumerate_from d.0 d.1) (e.0 + i))
+  joined d cells = said_append (enumerate_from d.0 d.1) (said_by cells) (e.0 + i)
+
+  some_or_that : (cells : List Cell) → ((d : Cell) → In cells d → IsThatOrApart e d)
+      → (said_at (said_by cells) (e.0 + i) ≡ None) ⊎ (said_at (said_by cells) (e.0 + i) ≡ Some (get_or e.1 i 0))
+  some_or_that [] f = inl refl
+  some_or_that (d ∷ cells) f = by (some_or_that cells (λ z h. f z (inr h))) (one d (f d (inl refl)))
+    where
+      by : (said_at (said_by cells) (e.0 + i) ≡ None) ⊎ (said_at (said_by cells) (e.0 + i) ≡ Some (get_or e.1 i 0))
+          → (said_at (enumerate_from d.0 d.1) (e.0 + i) ≡ None) ⊎ (said_at (enumerate_from d.0 d.1) (e.0 + i) ≡ Some (get_or e.1 i 0))
+          → (said_at (said_by (d ∷ cells)) (e.0 + i) ≡ None) ⊎ (said_at (said_by (d ∷ cells)) (e.0 + i) ≡ Some (get_or e.1 i 0))
+      by (inr a) b = inr (joined d cells ∙ first_counts (said_at (said_by cells) (e.0 + i)) _ _ a)
+      by (inl a) (inl b) = inl (joined d cells ∙ second_counts (said_at (said_by cells) (e.0 + i)) _ a ∙ b)
+      by (inl a) (inr b) = inr (joined d cells ∙ second_counts (said_at (said_by cells) (e.0 + i)) _ a ∙ b)
+
+  pub says_that : (cells : List Cell) → In cells e → ((d : Cell) → In cells d → IsThatOrApart e d) → said_at (said_by cells) (e.0 + i) ≡ Some (get_or e.1 i 0)
+  says_that [] h f = absurd h
+  says_that (d ∷ cells) (inr h) f =
+      joined d cells ∙ first_counts (said_at (said_by cells) (e.0 + i)) _ _ (says_that cells h (λ z k. f z (inr k)))
+  says_that (d ∷ cells) (inl g) f = by (some_or_that cells (λ z k. f z (inr k)))
+    where
+      by : (said_at (said_by cells) (e.0 + i) ≡ None) ⊎ (said_at (said_by cells) (e.0 + i) ≡ Some (get_or e.1 i 0)) → said_at (said_by (d ∷ cells)) (e.0 + i) ≡ Some (get_or e.1 i 0)
+      by (inr a) = joined d cells ∙ first_counts (said_at (said_by cells) (e.0 + i)) _ _ a
+      by (inl a) = joined d cells ∙ second_counts (said_at (said_by cells) (e.0 + i)) _ a ∙ ap (λ (z : Cell). said_at (enumerate_from z.0 z.1) (e.0 + i)) g ∙ own
+
+-- ---- reading
+
+pub read_all : (file value : List ℕ) (p n : ℕ) → n ≡ length value → ((i : ℕ) → i < length value → at file (p + i) ≡ get_or value i 0) → read file p n ≡ value
+read_all file [] p zero e f = refl
+read_all file [] p (suc n) e f = absurd (omega arith)
+read_all file (v ∷ value) p zero e f = absurd (omega arith)
+read_all file (v ∷ value) p (suc n) e f =
+    let here : p ≡ p + 0 = omega arith in
+    let first : at file p ≡ v = ap (λ (k : ℕ). at file k) here ∙ f 0 (omega arith) in
+    let rest : read file (p + 1) n ≡ value = read_all file value (p + 1) n (omega arith) (λ i l.
+    let next : p + 1 + i ≡ p + suc i = omega arith in
+    ap (λ (k : ℕ). at file k) next ∙ f (suc i) (omega arith)) in
+    λ t. first t ∷ rest t
+
+-- ---- elements of a header
+
+abbrev pub cell_of : Header → Var → List ℕ → Cell
+cell_of header v index = (place header v index, fill_bytes v)
+
+pub fill_long : (v : Var) → length (fill_bytes v) ≡ size_of v.kind
+fill_long v = found_long v.kind v.attrs
+
+apart_long : (a n n' b m m' : ℕ) → n ≡ n' → m ≡ m' → AreApart a n b m → AreApart a n' b m'
+apart_long a n n' b m m' e f (inl h) = inl (omega arith)
+apart_long a n n' b m m' e f (inr h) = inr (omega arith)
+
+pub cells_apart : (header : Header) (k m : ℕ) (v w : Var) (i j : List ℕ) → is_sound header ≡ true → slice_get header.vars k ≡ Some v → slice_get header.vars m ≡ Some w
+    → IsElement header v i → IsElement header w j → ((m ≡ k) × (j ≡ i)) ⊎ (((k ≡ m) × (i ≡ j)) → ⊥) → IsThatOrApart (cell_of header v i) (cell_of header w j)
+cells_apart header k m v w i j sound e f p q (inl (a, b)) =
+    let same : w ≡ v = same_Some w v (sym f ∙ ap (λ (z : ℕ). slice_get header.vars z) a ∙ e) in
+    inl (λ t. cell_of header (same t) (b t))
+cells_apart header k m v w i j sound e f p q (inr n) =
+    inr (turned (place header v i) (length (fill_bytes v)) (place header w j) (length (fill_bytes w)) (apart_long (place header v i) (size_of v.kind) (length (fill_bytes v)) (place header w j) (size_of w.kind) (length (fill_bytes w)) (sym (fill_long v)) (sym (fill_long w))
+    (elements_apart header k m v w i j sound e f p q n)))
+  where
+    turned : (a n b m : ℕ) → AreApart a n b m → AreApart b m a n
+    turned a n b m (inl h) = inr h
+    turned a n b m (inr h) = inl h
+
+fixed_element : (header : Header) (v : Var) (index : List ℕ) → is_record header v ≡ false → IsIndex (inner_lengths header v) index → IsElement header v index
+fixed_element header v index e h =
+    subst (λ (t : Bool). MatchBool t (HasRecord index × IsIndex (inner_lengths header v) (within_record index)) (IsIndex (inner_lengths header v) index)) (sym e) h
+
+pub record_element : (header : Header) (v : Var) (number : ℕ) (index : List ℕ) → is_record header v ≡ true → IsIndex (inner_lengths header v) index → IsElement header v (number ∷ index)
+record_element header v number index e h =
+    subst (λ (t : Bool). MatchBool t (HasRecord (number ∷ index) × IsIndex (inner_lengths header v) index) (IsIndex (inner_lengths header v) (number ∷ index))) (sym e) (tt, h)
+
+pub index_in : (lengths index : List ℕ) → IsIndex lengths index → In (coordinates lengths) index
+index_in lengths index h = at_in (coordinates lengths) (row lengths index) index (coordinates_at lengths index h)
+
+pub in_index : (lengths index : List ℕ) → In (coordinates lengths) index → IsIndex lengths index
+in_index lengths index h = each_in (IsIndex lengths) (coordinates lengths) index (coordinates_all lengths) h
+
+-- two indices are one, or not
+pub same_or_not : (lengths i j : List ℕ) → IsIndex lengths i → IsIndex lengths j → (j ≡ i) ⊎ (i ≡ j → ⊥)
+same_or_not lengths i j h k = by (eqb_tells (row lengths j) (row lengths i))
+  where
+    by : (((row lengths j == row lengths i) ≡ true) × (row lengths j ≡ row lengths i)) ⊎ (((row lengths j == row lengths i) ≡ false) × (row lengths j ≡ row lengths i → ⊥))
+        → (j ≡ i) ⊎ (i ≡ j → ⊥)
+    by (inl (f, g)) = inl (row_once lengths j i k h g)
+    by (inr (f, n)) = inr (λ g. n (ap (λ (z : List ℕ). row lengths z) (sym g)))
+
+-- ---- a filled file
+
+abbrev cells_of_var : Header → Var → List Cell
+cells_of_var header v = map (cell_of header v) (coordinates (inner_lengths header v))
+
+abbrev cells_of_vars : Header → List Var → List Cell
+cells_of_vars header vars = flat_map (cells_of_var header) vars
+
+var_cells : (header : Header) (v : Var) (file : List ℕ) → fill_var header file v ≡ write_cells file (cells_of_var header v)
+var_cells header v file =
+    sym (fold-map (λ (f : List ℕ) (cell : Cell). written f cell.0 cell.1) (cell_of header v) file (coordinates (inner_lengths header v)))
+
+vars_cells : (header : Header) (vars : List Var) (file : List ℕ) → fold (fill_var header) file vars ≡ write_cells file (cells_of_vars header vars)
+vars_cells header [] file = refl
+vars_cells header (v ∷ vars) file =
+    vars_cells header vars (fill_var header file v)
+    ∙ ap (λ (f : List ℕ). write_cells f (cells_of_vars header vars)) (var_cells header v file)
+    ∙ sym (fold-append (λ (f : List ℕ) (cell : Cell). written f cell.0 cell.1) file (cells_of_var header v) (cells_of_vars header vars))
+
+filled_apart : (header : Header) (k : ℕ) (v : Var) (index : List ℕ) → is_sound header ≡ true → slice_get header.vars k ≡ Some v → is_record header v ≡ false
+    → IsIndex (inner_lengths header v) index → (d : Cell) → In (cells_of_vars header (fixed_variables header header.vars)) d → IsThatOrApart (cell_of header v index) d
+filled_apart header k v index sound e fixed h d m =
+    let w = flat_in (cells_of_var header) (fixed_variables header header.vars) d m in
+    let kept = filter_in (λ z. not (is_record header z)) header.vars w.0 w.1 in
+    let number = in_at header.vars w.0 kept.0 in
+    let j = map_in (cell_of header w.0) (coordinates (inner_lengths header w.0)) d w.2 in
+    let other = in_index (inner_lengths header w.0) j.0 j.1 in
+    subst (λ (z : Cell). IsThatOrApart (cell_of header v index) z) j.2
+    (cells_apart header k number.0 v w.0 index j.0 sound e number.1 (fixed_element header v index fixed h)
+    (fixed_element header w.0 j.0 (not_so (is_record header w.0) kept.1) other)
+    (by number.0 w.0 j.0 number.1 other (eqb_tells number.0 k)))
+  where
+    not_so : (t : Bool) → not t ≡ true → t ≡ false
+    not_so true g = cc
+    not_so false g = refl
+
+    by : (n : ℕ) (w : Var) (j : List ℕ) → slice_get header.vars n ≡ Some w → IsIndex (inner_lengths header w) j
+        → (((n == k) ≡ true) × (n ≡ k)) ⊎ (((n == k) ≡ false) × (n ≡ k → ⊥)) → ((n ≡ k) × (j ≡ index)) ⊎ (((k ≡ n) × (index ≡ j)) → ⊥)
+    by n w j f g (inr (a, ne)) = inr (λ p. ne (sym p.0))
+    by n w j f g (inl (a, b)) =
+        let same : w ≡ v = same_Some w v (sym f ∙ ap (λ (z : ℕ). slice_get header.vars z) b ∙ e) in
+        elim (same_or_not (inner_lengths header v) index j h (subst (λ (z : Var). IsIndex (inner_lengths header z) j) same g)) [
+          | inl p ↦ inl (b, p)
+          | inr ne ↦ inr (λ p. ne p.1)
+        ]
+
+pub filled_reads : (header : Header) (file : List ℕ) (k : ℕ) (v : Var) (index : List ℕ) → is_sound header ≡ true → slice_get header.vars k ≡ Some v
+    → is_record header v ≡ false → IsIndex (inner_lengths header v) index → read (filled header file) (place header v index) (size_of v.kind) ≡ fill_bytes v
+filled_reads header file k v index sound e fixed h =
+    let all = cells_of_vars header (fixed_variables header header.vars) in
+    let there : In (fixed_variables header header.vars) v =
+    in_filter (λ z. not (is_record header z)) header.vars v (at_in header.vars k v e) (ap not fixed) in
+    let mine = in_flat (cells_of_var header) (fixed_variables header header.vars) v (cell_of header v index) there
+    (in_map (cell_of header v) (coordinates (inner_lengths header v)) index (index_in (inner_lengths header v) index h)) in
+    read_all (filled header file) (fill_bytes v) (place header v index) (size_of v.kind) (sym (fill_long v)) (λ i l.
+    ap (λ (f : List ℕ). at f (place header v index + i)) (vars_cells header (fixed_variables header header.vars) file)
+    ∙ cells_said all file (place header v index + i)
+    ∙ ap (λ (o : Option ℕ). byte_or o (at file (place header v index + i)))
+    (says_that (cell_of header v index) i l all mine (filled_apart header k v index sound e fixed h)))
+
+pub past_count : (header : Header) (x : ℕ) → header_len header ≤ x → IsBesideCount header x
+past_count header x h = let whole = canon_len header in inr (omega arith)
+
+pub read_kept : (new old : List ℕ) (p n : ℕ) → ((i : ℕ) → i < n → at new (p + i) ≡ at old (p + i)) → read new p n ≡ read old p n
+read_kept new old p zero f = refl
+read_kept new old p (suc n) f =
+    let here : p ≡ p + 0 = omega arith in
+    let first : at new p ≡ at old p = ap (λ (k : ℕ). at new k) here ∙ f 0 (omega arith) ∙ ap (λ (k : ℕ). at old k) (sym here) in
+    let rest : read new (p + 1) n ≡ read old (p + 1) n = read_kept new old (p + 1) n (λ i l.
+    let next : p + 1 + i ≡ p + suc i = omega arith in
+    ap (λ (k : ℕ). at new k) next ∙ f (suc i) (omega arith) ∙ ap (λ (k : ℕ). at old k) (sym next)) in
+    λ t. first t ∷ rest t
+
+starts_filled : (script : Script) (header : Header) (file : List ℕ) → script.fresh ≡ true → script.filled ≡ true
+    → start script header file ≡ filled header (longer (canon header) (end_for (setting_of script header) 0))
+starts_filled script header file e f = λ t. elim (e t) as (λ z. List ℕ) [
+  | false ↦ longer file (end_for (setting_of script header) header.records)
+  | true ↦ elim (f t) as (λ z. List ℕ) [
+    | false ↦ longer (canon header) (end_for (setting_of script header) 0)
+    | true ↦ filled header (longer (canon header) (end_for (setting_of script header) 0))
+  ]
+]
+
+pub filled_stays : (script : Script) (header : Header) (file : List ℕ) (order : List Mark) (k : ℕ) (v : Var) (index : List ℕ)
+    → script.fresh ≡ true → script.filled ≡ true → is_sound header ≡ true → slice_get header.vars k ≡ Some v
+    → is_record header v ≡ false → IsIndex (inner_lengths header v) index
+    → ((i : ℕ) → i < size_of v.kind → is_held header (completed_puts script header (start script header file) order) (place header v index + i) ≡ false)
+    → read (serial script header file order).bytes (place header v index) (size_of v.kind) ≡ fill_bytes v
+filled_stays script header file order k v index fresh fills sound e fixed h untouched =
+    let first = start script header file in
+    let past = elements_past_header header k v index sound e (fixed_element header v index fixed h) in
+    read_kept (serial script header file order).bytes first (place header v index) (size_of v.kind)
+    (λ i l. end_kept script header first order (place header v index + i) (past_count header (place header v index + i) (omega arith)) (untouched i l))
+    ∙ ap (λ (f : List ℕ). read f (place header v index) (size_of v.kind)) (starts_filled script header file fresh fills)
+    ∙ filled_reads header (longer (canon header) (end_for (setting_of script header) 0)) k v index sound e fixed h

@@ -1,0 +1,260 @@
+-- A record that all ranks filled reads its fill values.
+use Rattle.std.proofs.Common.{◌≡◌, ℕ, zero, suc, ◌+◌, ◌-◌, ◌*◌, ◌/◌, ◌<◌, ◌≤◌, refl, sym, ◌∙◌, ap, subst, inl, inr, List, [], ◌∷◌, ◌++◌, length, map, take, drop, replicate, Bool, true, false, Option, Some, None, add-one, arith}
+use Rattle.std.proofs.Math.Nat.{mul-div_cancel, mul-le-mul_left}
+use Rattle.std.proofs.Math.Seq.{drop-append-add, take-add, take_all}
+use Rattle.std.proofs.lemmas.Grind.{flat_map-append}
+use Rattle.std.proofs.lemmas.List.{append-nil, drop-drop, length-map, map-append, take_at}
+use Rattle.std.specs.Prelude.{flat_map, slice_get, zip, ◌||◌, nat_lt}
+use Rattle.std.specs.List.{AllByRecursion, enumerate_from, range_with_len}
+use Rattle.list_laws.proofs.Each.{each_weaker}
+use Rattle.list_laws.proofs.Maps.{map_map}
+use Rattle.overlay_laws.proofs.HullLaws.{div_grows}
+use Rattle.overlay_laws.proofs.Members.{in_map, map_in}
+use Rattle.nc_base.specs.declared.header.Header.{Header}
+use Rattle.nc_base.specs.declared.header.Var.{Var}
+use Rattle.nc_base.specs.declared.plan.Post.{Post}
+use Rattle.nc_base.specs.declared.request.Part.{Part}
+use Rattle.nc_base.specs.declared.step.Offer.{Offer}
+use Rattle.nc_base.specs.declared.answer.Code.TheVariants as code
+use Rattle.nc_base.specs.declared.answer.Pair.{Pair}
+use Rattle.serial_spec.specs.ExternalForm.{size_of}
+use Rattle.serial_spec.specs.File.{at, read}
+use Rattle.serial_spec.specs.FileStep.{Counted, meeting, puts_of, Setting, told}
+use Rattle.serial_spec.specs.Fill.{box_indices, fill_bytes, share_begin, shifted}
+use Rattle.serial_spec.specs.SoundHeaders.{is_sound}
+use Rattle.serial_spec.specs.Layout.{inner_lengths, is_record, product}
+use Rattle.serial_spec.specs.Limits.{most_elements}
+use Rattle.serial_spec.specs.Lists.{In}
+use Rattle.serial_spec.specs.Place.{IsIndex, place}
+use Rattle.serial_spec.specs.Looking as looks
+use Rattle.serial_spec.specs.Looking.{box_post, box_region, fills, is_record_past, look_record}
+use Rattle.serial_spec.specs.RankMachine.{code_of_look, posts_of}
+use Rattle.serial_spec.specs.Request.{cells, coordinates, elements, index_at}
+use Rattle.serial_spec.specs.Said.{byte_or, Cell, said_at, said_by}
+use Rattle.serial_spec.specs.SharedByte.{bytes_of, bytes_of_some, said_by_puts}
+use Rattle.serial_spec.proofs.AcceptLaws.{coordinates_all}
+use Rattle.serial_spec.proofs.ApartLaws.{elements_past_header}
+use Rattle.serial_spec.proofs.BoxLaws.{boxes_right}
+use Rattle.serial_spec.proofs.ElementLaws.{length-coordinates}
+use Rattle.serial_spec.proofs.SaidLaws.{post_says}
+use Rattle.var_layout.proofs.ElementPlaces.{same_len}
+use Rattle.rank_core.proofs.FillLaws.{share_grows, share_within}
+use Rattle.rank_core.proofs.FillPostLaws.{shifted_is}
+use Rattle.whole_run_laws.specs.Completed.{completed, puts_met, unless_told}
+use Rattle.whole_run_laws.specs.Filling.{AllFill, filling, share_boxes}
+use Rattle.whole_run_laws.proofs.KeptLaws.{meeting_said}
+use Rattle.whole_run_laws.proofs.FilledFile.{IsThatOrApart, read_all, cell_of, fill_long, cells_apart, record_element, index_in, in_index, same_or_not, past_count, says_that}
+use Rattle.rank_core.proofs.FillLookLaws.{posts_filled}
+
+-- ---- the shares of all ranks
+
+-- the entries from `from` to below `to`
+abbrev part : {A : Type 0} → ℕ → ℕ → List A → List A
+part from to xs = take (to - from) (drop from xs)
+
+part_joined : {A : Type 0} (xs : List A) (from mid to : ℕ) → from ≤ mid → mid ≤ to → part from mid xs ++ part mid to xs ≡ part from to xs
+part_joined xs from mid to h k =
+    let whole : to - from ≡ (mid - from) + (to - mid) = omega arith in
+    let middle : from + (mid - from) ≡ mid = omega arith in
+    sym (ap (λ (n : ℕ). take n (drop from xs)) whole
+    ∙ take-add (mid - from) (to - mid) (drop from xs)
+    ∙ ap (λ ys. take (mid - from) (drop from xs) ++ take (to - mid) ys) (drop-drop (mid - from) from xs ∙ ap (λ (n : ℕ). drop n xs) middle))
+
+part_none : {A : Type 0} (xs : List A) (from to : ℕ) → to ≡ from → [] ≡ part from to xs
+part_none xs from to h = let none : 0 ≡ to - from = omega arith in ap (λ (n : ℕ). take n (drop from xs)) none
+
+share_rises : (total a b ranks : ℕ) → 0 < ranks → a ≤ b → share_begin total a ranks ≤ share_begin total b ranks
+share_rises total a b ranks h k = div_grows (total * a) (total * b) ranks (omega arith) (mul-le-mul_left total k)
+
+module _ (lengths : List ℕ) (ranks : ℕ) (some : 0 < ranks) where
+  abbrev begins : ℕ → ℕ
+  begins r = share_begin (product lengths) r ranks
+
+  abbrev share : ℕ → List (List ℕ)
+  share r = flat_map box_indices (share_boxes lengths r ranks)
+
+  shares_from : (a n : ℕ) → a + n ≤ ranks → flat_map share (range_with_len a n) ≡ part (begins a) (begins (a + n)) (coordinates lengths)
+  shares_from a zero h =
+      let same : a + zero ≡ a = omega arith in
+      part_none (coordinates lengths) (begins a) (begins (a + zero)) (ap begins same)
+  shares_from a (suc n) h =
+      let next : a + 1 + n ≡ a + suc n = omega arith in
+      let here : share a ≡ part (begins a) (begins (a + 1)) (coordinates lengths) =
+      boxes_right lengths (begins a) (begins (a + 1)) (share_grows (product lengths) a ranks (omega arith)) (share_within (product lengths) a ranks (omega arith)) in
+      let later = shares_from (a + 1) n (omega arith) in
+      (λ t. here t ++ later t)
+      ∙ part_joined (coordinates lengths) (begins a) (begins (a + 1)) (begins (a + 1 + n)) (share_rises (product lengths) a (a + 1) ranks some (omega arith))
+      (share_rises (product lengths) (a + 1) (a + 1 + n) ranks some (omega arith))
+      ∙ ap (λ (m : ℕ). part (begins a) (begins m) (coordinates lengths)) next
+
+  first_begins : begins 0 ≡ 0
+  first_begins =
+      let none : product lengths * 0 ≡ 0 * ranks = omega arith in
+      ap (λ (z : ℕ). z / ranks) none ∙ mul-div_cancel 0 {n = ranks} some
+
+  last_ends : begins (0 + ranks) ≡ product lengths
+  last_ends =
+      let all : 0 + ranks ≡ ranks = omega arith in
+      ap begins all ∙ mul-div_cancel (product lengths) {n = ranks} some
+
+  pub shares_cover : flat_map share (range_with_len 0 ranks) ≡ coordinates lengths
+  shares_cover =
+      let long = length-coordinates lengths in
+      let from = first_begins in
+      let to = last_ends in
+      shares_from 0 ranks (omega arith)
+      ∙ (λ t. part (from t) (to t) (coordinates lengths))
+      ∙ take_all (product lengths - 0) (coordinates lengths) (omega arith)
+
+pub shares_all : (lengths : List ℕ) (ranks : ℕ) → 0 < ranks → flat_map (λ r. flat_map box_indices (share_boxes lengths r ranks)) (range_with_len 0 ranks) ≡ coordinates lengths
+shares_all lengths ranks some = shares_cover lengths ranks some
+
+pub record_puts : (header : Header) (k number r ranks : ℕ) (v : Var) → code_of_look (look_record header k number r ranks v) ≡ code.Ok
+    → posts_of (look_record header k number r ranks v) ≡ filling header k v number ranks r
+record_puts header k number r ranks v e =
+    by (is_record header v) (nat_lt most_elements (share_begin (product (inner_lengths header v)) (r + 1) ranks - share_begin (product (inner_lengths header v)) r ranks) || is_record_past header number) e
+  where
+    by : (a b : Bool) → code_of_look (elim a as (λ z. looks.Look) [
+      | false ↦ looks.Refused code.ENotRec
+      | true ↦ elim b as (λ z. looks.Look) [
+        | true ↦ looks.Refused code.ETooLarge
+        | false ↦ fills k v number (share_boxes (inner_lengths header v) r ranks)
+      ]
+    ]) ≡ code.Ok
+        → posts_of (elim a as (λ z. looks.Look) [
+          | false ↦ looks.Refused code.ENotRec
+          | true ↦ elim b as (λ z. looks.Look) [
+            | true ↦ looks.Refused code.ETooLarge
+            | false ↦ fills k v number (share_boxes (inner_lengths header v) r ranks)
+          ]
+        ]) ≡ filling header k v number ranks r
+    by false b f = absurd cc
+    by true true f = absurd cc
+    by true false f = posts_filled k v number (share_boxes (inner_lengths header v) r ranks)
+
+-- ---- what the puts of a filling say
+
+map_each : {A B : Type 0} (f g : A → B) (xs : List A) → AllByRecursion (λ x. f x ≡ g x) xs → map f xs ≡ map g xs
+map_each f g [] h = refl
+map_each f g (x ∷ xs) h = λ t. h.0 t ∷ map_each f g xs h.1 t
+
+abbrev at_box : ℕ → Part → List ℕ → List ℕ
+at_box number p c = index_at (number ∷ p.start) (replicate (length p.count + 1) 1) c
+
+one_index : (number : ℕ) (p : Part) (c : List ℕ) → IsIndex p.count c → at_box number p (0 ∷ c) ≡ number ∷ shifted p.start c
+one_index number p c h =
+    let long = same_len p.count c h in
+    let ones : ◌≡◌ {A = List ℕ} (replicate (length p.count + 1) 1) (1 ∷ replicate (length p.count) 1) = ap (λ (n : ℕ). replicate n 1) (add-one (length p.count)) in
+    let first : number + 0 * 1 ≡ number = omega arith in
+    ap (λ (strides : List ℕ). index_at (number ∷ p.start) strides (0 ∷ c)) ones
+    ∙ (λ j. first j ∷ shifted_is p.start c (length p.count) (omega (arith, long)) j)
+
+box_elements : (number : ℕ) (p : Part) → elements (box_region number p) ≡ map (λ c. number ∷ c) (box_indices p)
+box_elements number p =
+    ap (λ cs. map (at_box number p) cs) (append-nil (map (λ (c : List ℕ). 0 ∷ c) (coordinates p.count)))
+    ∙ map_map (at_box number p) (λ (c : List ℕ). 0 ∷ c) (coordinates p.count)
+    ∙ map_each (λ (c : List ℕ). at_box number p (0 ∷ c)) (λ (c : List ℕ). number ∷ shifted p.start c) (coordinates p.count)
+    (each_weaker (IsIndex p.count) (λ c. at_box number p (0 ∷ c) ≡ number ∷ shifted p.start c) (one_index number p) (coordinates p.count) (coordinates_all p.count))
+    ∙ sym (map_map (λ (c : List ℕ). number ∷ c) (shifted p.start) (coordinates p.count))
+
+cells_repeat : (size : ℕ) (value xs : List ℕ) (a n : ℕ) → length value ≡ size → n ≡ length xs
+    → cells size xs (flat_map (λ m. value) (range_with_len a n)) ≡ map (λ x. let cell : Cell = (x, value) in cell) xs
+cells_repeat size value [] a n e h = refl
+cells_repeat size value (x ∷ xs) a zero e h = absurd (omega arith)
+cells_repeat size value (x ∷ xs) a (suc n) e h =
+    let rest = flat_map (λ (m : ℕ). value) (range_with_len (a + 1) n) in
+    let front : take size (value ++ rest) ≡ value = take_at value rest size e in
+    let whole : size ≡ length value + 0 = omega arith in
+    let back : drop size (value ++ rest) ≡ rest = ap (λ (m : ℕ). drop m (value ++ rest)) whole ∙ drop-append-add value rest 0 in
+    let later = ap (λ (b : List ℕ). cells size xs b) back ∙ cells_repeat size value xs (a + 1) n e (omega arith) in
+    λ t. (x, front t) ∷ later t
+
+module _ (header : Header) (k number : ℕ) (v : Var) (there : slice_get header.vars k ≡ Some v) where
+  abbrev cell_at : List ℕ → Cell
+  cell_at c = cell_of header v (number ∷ c)
+
+  box_said : (p : Part) → zip (bytes_of header (box_post k v number p)) (box_post k v number p).bytes ≡ said_by (map cell_at (box_indices p))
+  box_said p =
+      let post = box_post k v number p in
+      let at = λ (i : List ℕ). place header v i in
+      let paired = λ (x : ℕ). let cell : Cell = (x, fill_bytes v) in cell in
+      let long : product p.count ≡ length (map at (elements (box_region number p))) = places_long in
+      ap (λ (o : Option Var). zip (bytes_of_some header o post) post.bytes) there
+      ∙ sym (post_says header (Some v) post)
+      ∙ ap (λ (cs : List Cell). said_by cs)
+      (cells_repeat (size_of v.kind) (fill_bytes v) (map at (elements (box_region number p))) 0 (product p.count) (fill_long v) long
+      ∙ map_map paired at (elements (box_region number p))
+      ∙ ap (λ (es : List (List ℕ)). map (λ (i : List ℕ). paired (at i)) es) (box_elements number p)
+      ∙ map_map (λ (i : List ℕ). paired (at i)) (λ (c : List ℕ). number ∷ c) (box_indices p))
+    where
+      places_long : product p.count ≡ length (map (λ (i : List ℕ). place header v i) (elements (box_region number p)))
+      places_long =
+          let one : product (1 ∷ p.count) ≡ product p.count = omega arith in
+          sym (length-map (elements (box_region number p)) (λ (i : List ℕ). place header v i)
+          ∙ length-map (coordinates (1 ∷ p.count)) (λ (c : List ℕ). index_at (number ∷ p.start) (replicate (length p.count + 1) 1) c)
+          ∙ length-coordinates (1 ∷ p.count) ∙ one)
+
+  said_joined : (a b : List (List ℕ)) → said_by (map cell_at a) ++ said_by (map cell_at b) ≡ said_by (map cell_at (a ++ b))
+  said_joined a b =
+      sym (flat_map-append (λ (cell : Cell). enumerate_from cell.0 cell.1) (map cell_at a) (map cell_at b)) ∙ ap (λ (cs : List Cell). said_by cs) (sym (map-append cell_at a b))
+
+  boxes_said : (r : ℕ) (parts : List Part) → said_by_puts header (map (λ (post : Post). (r, post)) (map (box_post k v number) parts)) ≡ said_by (map cell_at (flat_map box_indices parts))
+  boxes_said r [] = refl
+  boxes_said r (p ∷ parts) =
+      let here = box_said p in
+      let later = boxes_said r parts in
+      (λ t. here t ++ later t) ∙ said_joined (box_indices p) (flat_map box_indices parts)
+
+  all_said : (offers : List Offer) (a ranks : ℕ) → ((r : ℕ) (o : Offer) → slice_get offers r ≡ Some o → o.batch.puts ≡ filling header k v number ranks (a + r))
+      → said_by_puts header (flat_map puts_of (enumerate_from a offers))
+      ≡ said_by (map cell_at (flat_map (λ r. flat_map box_indices (share_boxes (inner_lengths header v) r ranks)) (range_with_len a (length offers))))
+  all_said [] a ranks f = refl
+  all_said (o ∷ offers) a ranks f =
+      let lengths = inner_lengths header v in
+      let share = λ (r : ℕ). flat_map box_indices (share_boxes lengths r ranks) in
+      let here : a + 0 ≡ a = omega arith in
+      let long : suc (length offers) ≡ length (o ∷ offers) = omega arith in
+      let own : said_by_puts header (puts_of (a, o)) ≡ said_by (map cell_at (share a)) =
+      ap (λ (ps : List Post). said_by_puts header (map (λ (post : Post). (a, post)) ps)) (f 0 o refl ∙ ap (λ (r : ℕ). filling header k v number ranks r) here)
+      ∙ boxes_said a (share_boxes lengths a ranks) in
+      let later = all_said offers (a + 1) ranks (λ r p e. let next : a + suc r ≡ a + 1 + r = omega arith in f (suc r) p e ∙ ap (λ (z : ℕ). filling header k v number ranks z) next) in
+      flat_map-append (λ (p : ℕ × Post). zip (bytes_of header p.1) p.1.bytes) (puts_of (a, o)) (flat_map puts_of (enumerate_from (a + 1) offers))
+      ∙ (λ t. own t ++ later t)
+      ∙ said_joined (share a) (flat_map share (range_with_len (a + 1) (length offers)))
+      ∙ ap (λ (n : ℕ). said_by (map cell_at (flat_map share (range_with_len a n)))) long
+
+-- ---- a filled record
+
+pub record_reads : (s : Setting) (offers : List Offer) (c : Counted) (k number : ℕ) (v : Var) (index : List ℕ)
+    → is_sound s.header ≡ true → slice_get s.header.vars k ≡ Some v → is_record s.header v ≡ true → AllFill s.header k v number offers
+    → 0 < length offers → told s (puts_met offers) ≡ None → IsIndex (inner_lengths s.header v) index
+    → read (meeting s offers c).0.file (place s.header v (number ∷ index)) (size_of v.kind) ≡ fill_bytes v
+record_reads s offers c k number v index sound there of_records fill some none h =
+    let header = s.header in
+    let puts = puts_met offers in
+    let lengths = inner_lengths header v in
+    let cell = λ (i : List ℕ). cell_of header v (number ∷ i) in
+    let mine = in_map cell (coordinates lengths) index (index_in lengths index h) in
+    let past = elements_past_header header k v (number ∷ index) sound there (record_element header v number index of_records h) in
+    let says : said_by_puts header (completed s puts) ≡ said_by (map cell (coordinates lengths)) =
+    ap (λ (pair : Option Pair). said_by_puts header (unless_told puts pair)) none
+    ∙ all_said header k number v there offers 0 (length offers) (λ r o e. let here : r ≡ 0 + r = omega arith in fill r o e ∙ ap (λ (z : ℕ). filling header k v number (length offers) z) here)
+    ∙ ap (λ (es : List (List ℕ)). said_by (map cell es)) (shares_all lengths (length offers) some) in
+    read_all (meeting s offers c).0.file (fill_bytes v) (place header v (number ∷ index)) (size_of v.kind) (sym (fill_long v)) (λ i l.
+    meeting_said s offers c (place header v (number ∷ index) + i) (past_count header (place header v (number ∷ index) + i) (omega arith))
+    ∙ ap (λ (ps : List (ℕ × ℕ)). byte_or (said_at ps (place header v (number ∷ index) + i)) (at c.file (place header v (number ∷ index) + i))) says
+    ∙ ap (λ (o : Option ℕ). byte_or o (at c.file (place header v (number ∷ index) + i)))
+    (says_that (cell index) i l (map cell (coordinates lengths)) mine apart))
+  where
+    apart : (d : Cell) → In (map (λ (i : List ℕ). cell_of s.header v (number ∷ i)) (coordinates (inner_lengths s.header v))) d → IsThatOrApart (cell_of s.header v (number ∷ index)) d
+    apart d m =
+        let lengths = inner_lengths s.header v in
+        let j = map_in (λ (i : List ℕ). cell_of s.header v (number ∷ i)) (coordinates lengths) d m in
+        let other = in_index lengths j.0 j.1 in
+        subst (λ (z : Cell). IsThatOrApart (cell_of s.header v (number ∷ index)) z) j.2
+        (cells_apart s.header k k v v (number ∷ index) (number ∷ j.0) sound there there (record_element s.header v number index of_records h)
+        (record_element s.header v number j.0 of_records other)
+        (elim (same_or_not lengths index j.0 h other) [
+          | inl p ↦ inl (refl, ap (λ (z : List ℕ). number ∷ z) p)
+          | inr ne ↦ inr (λ p. ne (ap (λ (z : List ℕ). drop 1 z) p.1))
+        ]))
