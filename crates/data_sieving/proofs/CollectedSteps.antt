@@ -1,7 +1,7 @@
 -- The entries of one window, which are collected from its buffer one after another.
 use Rattle.std.proofs.Common.{◌≡◌, ◌≢◌, ℕ, zero, suc, ◌+◌, ◌-◌, ◌<◌, ◌≤◌, refl, sym, ◌∙◌, ap, subst, List, [], ◌∷◌, ◌++◌, length, take, drop, get_or, set, Bool, true, false, cond, Option, Some, None, arith}
 use Rattle.std.proofs.lemmas.Grind.{fold-append}
-use Rattle.std.proofs.lemmas.List.{map-append, length-take, length-set, take_more, get_or-set_same, get_or-set_other, set-set, get_or_default}
+use Rattle.std.proofs.lemmas.List.{map-append, length-take, length-set, take_more, get_or-set_same, get_or-set_other, get_or_default}
 use Rattle.std.specs.Prelude.{map, ◌==◌, IfSome}
 use borrow.Author.Tests.{eqb-true, eqb-false}
 use Rattle.serial_spec.proofs.FileLaws.{length-written_inside}
@@ -36,13 +36,12 @@ pub slot_below : (blobs : List (List ℕ)) (o : Owned) → 1 ≤ o.extent.len �
 slot_below blobs o h k = blob_in blobs o.slot (omega arith)
 
 -- the bytes of an entry's part put into its blob
-pub collected_entry : (lo hi : ℕ) (buf : List ℕ) (o p : Owned) (blobs : List (List ℕ)) (d emptied taken bytes now : List ℕ) → 1 ≤ o.extent.len
+pub collected_entry : (lo hi : ℕ) (buf : List ℕ) (o p : Owned) (blobs : List (List ℕ)) (d taken bytes now : List ℕ) → 1 ≤ o.extent.len
     → o.from + o.extent.len ≤ length (blob_at blobs o.slot) → taken ≡ get_or blobs o.slot d → p ≡ part_in lo hi o
     → bytes ≡ take p.extent.len (drop (p.extent.at - lo) buf) → now ≡ written taken p.from bytes
-    → set (set blobs o.slot emptied) o.slot now ≡ set blobs o.slot (written (blob_at blobs o.slot) (buffer_cell lo hi buf o).0 (buffer_cell lo hi buf o).1)
-collected_entry lo hi buf o p blobs d emptied taken bytes now some fit is part of e =
-    set-set blobs o.slot emptied now
-    ∙ ap (λ (b : List ℕ). set blobs o.slot b)
+    → set blobs o.slot now ≡ set blobs o.slot (written (blob_at blobs o.slot) (buffer_cell lo hi buf o).0 (buffer_cell lo hi buf o).1)
+collected_entry lo hi buf o p blobs d taken bytes now some fit is part of e =
+    ap (λ (b : List ℕ). set blobs o.slot b)
     (e
     ∙ ap (λ (b : List ℕ). written b p.from bytes) (is ∙ get_or_default blobs o.slot d [] (slot_below blobs o some fit))
     ∙ ap (λ (b : List ℕ). written (blob_at blobs o.slot) p.from b) of

@@ -51,38 +51,7 @@ pub fn sieve_get<D: Disk>(
     ensures sure { D.sure disk.old → D.sure disk.new }
     ensures cause { HasDiskCause (D.faults disk.old) (D.faults disk.new) result }
 {
-    let mut blobs = into.take().into_vec();
-    let result = get_windows(alloc, disk, list, buf, &mut blobs);
-    *into = BlobList::from_vec(blobs);
-    result
-}
-
-// Reads the entries' bytes into blobs that are taken out of their list.
-fn get_windows<D: Disk>(
-    alloc: Global,
-    disk: &mut D,
-    list: &[Owned],
-    buf: &mut [u8],
-    blobs: &mut [Blob],
-) -> Result<(), DiskErr>
-    requires sorted { IsByPlace (extents list.now) }
-    requires ends { EndBelow (2 ^ 62) (extents list.now) }
-    requires filled { AreFilled list.now }
-    requires on_disk { LieOn (D.from disk.old) (D.len disk.old) list.now }
-    requires fit { FitBlobs blobs.old list.now }
-    requires one_place { HaveOnePlace list.now }
-    requires buffer { 1 ≤ length buf.old }
-    ensures from { D.from disk.new ≡ D.from disk.old }
-    ensures len { D.len disk.new ≡ D.len disk.old }
-    ensures bytes { D.held disk.new ≡ D.held disk.old }
-    ensures read { OnOk result (IfSome (D.held disk.old) (λ file. HasGot (D.from disk.old) file list.now blobs.old blobs.new)) }
-    ensures blobs { AreAsLong blobs.old blobs.new }
-    ensures calls { OnOk result (D.calls disk.new ≡ with_end (D.calls disk.old) (flat_map loads (windows_of (length buf.old) list.now))) }
-    ensures begun { OnErr result (IsBegun (flat_map loads (windows_of (length buf.old) list.now)) (D.calls disk.old) (D.calls disk.new)) }
-    ensures certain { D.sure disk.old → IsOk result }
-    ensures sure { D.sure disk.old → D.sure disk.new }
-    ensures cause { HasDiskCause (D.faults disk.old) (D.faults disk.new) result }
-{
+    let blobs = into.as_mut_slice();
     let mut walk = SieveWalk {
         entries: Unserved::new(alloc, list),
         from: 0,
@@ -166,19 +135,9 @@ pub fn collect_entry(hull: Extent, entry: &Owned, buf: &[u8], blobs: &mut [Blob]
     ensures { blobs.new ≡ slice_set blobs.old entry.now.slot (written (blob_at blobs.old entry.now.slot) (buffer_cell hull.at (hull.at + hull.len) buf.now entry.now).0 (buffer_cell hull.at (hull.at + hull.len) buf.now entry.now).1) }
 {
     let slot = entry.slot as usize;
-    let blob = blobs[slot].take();
+    let blob = blobs[slot].as_mut_slice();
     let part = cut(entry, hull);
     let at = (part.extent.at - hull.at) as usize;
     let bytes = part_of(buf, at, part.extent.len as usize);
-    blobs[slot] = with_bytes(blob, part.from as usize, bytes);
-}
-
-// A blob with these bytes from an index on.
-fn with_bytes(blob: Blob, at: usize, bytes: &[u8]) -> Blob
-    requires { at + length bytes.now ≤ length blob }
-    ensures { result ≡ written blob at bytes.now }
-{
-    let mut list = blob.into_vec();
-    copy_to(&mut list, at, bytes);
-    Blob::from_vec(list)
+    copy_to(blob, part.from as usize, bytes);
 }

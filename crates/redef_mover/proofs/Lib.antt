@@ -1,5 +1,6 @@
 mod Additions
 mod IndexLaws
+mod Refills
 mod Sorting
 mod Places
 mod Ranges

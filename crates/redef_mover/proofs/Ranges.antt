@@ -1,6 +1,6 @@
 -- The begins that are out of range.
-use Rattle.std.proofs.Common.{◌≡◌, ℕ, zero, suc, ◌+◌, ◌-◌, ◌*◌, ◌^◌, ◌<◌, ◌≤◌, List, [], ◌∷◌, ◌++◌, length, take, drop, get_or, map, Bool, true, false, cond, Option, Some, None, refl, sym, ap, ◌∙◌, arith}
-use Rattle.std.specs.Prelude.{sum_by, count_by, find, slice_get, nat_lt, ◌==◌, ◌||◌}
+use Rattle.std.proofs.Common.{◌≡◌, ℕ, zero, suc, ◌+◌, ◌<◌, ◌≤◌, List, [], ◌∷◌, ◌++◌, length, take, drop, get_or, map, Bool, true, false, cond, Option, Some, None, refl, sym, ap, ◌∙◌, arith}
+use Rattle.std.specs.Prelude.{sum_by, count_by, find, slice_get, nat_lt, ◌==◌}
 use Rattle.std.specs.List.{enumerate_from}
 use Rattle.std.proofs.lemmas.Bool.Decides.{nat_tests}
 use Rattle.std.proofs.lemmas.List.{take_more, take_all, drop_more, drop_all, get_or_default, map-append, get_or-map, length-map}
@@ -10,22 +10,13 @@ use Rattle.std.proofs.lemmas.Option.{slice_get_read}
 use Rattle.nc_base.specs.declared.header.Header.{Header}
 use Rattle.nc_base.specs.declared.header.Var.{Var}
 use Rattle.nc_base.specs.declared.header.NcType.TheVariants.{Byte}
-use Rattle.serial_spec.specs.Layout.{record_share, recsize, last_share}
+use Rattle.serial_spec.specs.Layout.{record_share}
 use Rattle.serial_spec.specs.Redefinition.{Numbered, is_bad_begin}
 use Rattle.var_layout.specs.Capped.{capped}
-use Rattle.var_layout.proofs.Capping.{capped_sum_more, capped_end}
+use Rattle.var_layout.proofs.Capping.{capped_sum_more}
 use Rattle.redef_mover.specs.declared.placing.Place.{Place}
 use Rattle.redef_mover.specs.Placing.{pairs, HasOneEach}
-use Rattle.redef_mover.specs.Ranges.{ends_below, is_bad, is_bad_var}
-
-pub below_cap : (n : ℕ) → nat_lt (capped n) (2 ^ 62) ≡ nat_lt n (2 ^ 62)
-below_cap n = by_tests (nat_lt (capped n) (2 ^ 62)) (nat_lt n (2 ^ 62)) refl refl
-  where
-    by_tests : (t u : Bool) → nat_lt (capped n) (2 ^ 62) ≡ t → nat_lt n (2 ^ 62) ≡ u → t ≡ u
-    by_tests true true e f = refl
-    by_tests true false e f = absurd (grind (arith, nat_tests))
-    by_tests false true e f = absurd (grind (arith, nat_tests))
-    by_tests false false e f = refl
+use Rattle.redef_mover.specs.Ranges.{is_bad, is_bad_var}
 
 -- ---- one variable after another
 
@@ -60,16 +51,6 @@ pub ranged_whole : (header : Header) (k : ℕ) (bad : List Bool) (before : ℕ) 
 ranged_whole header k bad before past so_far =
     let long = length-enumerate_from 0 header.vars in
     so_far.told ∙ ap (λ xs. map (λ (w : Numbered). is_bad_var header w.0 w.1) xs) (take_all k (enumerate_from 0 header.vars) (omega arith))
-
--- the end in the last record, by its parts
-pub ends_is : (header : Header) (v : Var) (size before begin share end : ℕ) → (header.records ≡ 0 → ⊥) → size ≡ capped (recsize header)
-    → before ≡ capped ((header.records - 1) * size) → begin ≡ capped (v.begin + before) → share ≡ capped (last_share header v) → end ≡ capped (begin + share)
-    → nat_lt end (2 ^ 62) ≡ ends_below header v
-ends_is header v size before begin share end some e f g h i =
-    let none : (header.records == 0) ≡ false = grind (arith, nat_tests) in
-    let whole = capped_end v.begin (header.records - 1) size (last_share header v) begin (recsize header) share end e (g ∙ ap (λ (n : ℕ). capped (v.begin + n)) f) h i in
-    ap (λ (n : ℕ). nat_lt n (2 ^ 62)) whole ∙ below_cap (v.begin + (header.records - 1) * recsize header + last_share header v)
-    ∙ ap (λ (t : Bool). t || nat_lt (v.begin + (header.records - 1) * recsize header + last_share header v) (2 ^ 62)) (sym none)
 
 -- ---- each variable has one place
 

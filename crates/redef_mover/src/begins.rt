@@ -6,7 +6,7 @@ ghost use Rattle.serial_spec.specs.Redefinition as spec;
 ghost use Rattle.redef_mover.specs.Placing.{pairs, HasOneEach};
 
 use crate::placing::Place;
-use nc_base::{Header, Var, VarList};
+use nc_base::{Header, Var};
 
 fn write_begins(vars: &mut [Var], places: &[Place])
     requires { HasOneEach (length vars.old) (pairs places.now) }
@@ -22,7 +22,5 @@ pub(crate) fn set_begins(header: &mut Header, places: &[Place])
     requires { HasOneEach (length header.old.vars) (pairs places.now) }
     ensures { header.new ≡ spec.with_begins header.old (pairs places.now) }
 {
-    let mut vars = header.vars.take().into_vec();
-    write_begins(vars.as_mut_slice(), places);
-    header.vars = VarList::from_vec(vars);
+    write_begins(header.vars.as_mut_slice(), places);
 }

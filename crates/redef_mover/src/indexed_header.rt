@@ -5,7 +5,7 @@ ghost use Rattle.serial_spec.specs.Redefinition as spec;
 ghost use Rattle.redef_mover.specs.Indexed.{attrs_at, given};
 
 use crate::name_index::{NameIndex, add_attr, add_place};
-use nc_base::{Attr, Dim, Header, Memory, Var, VarList};
+use nc_base::{Attr, Dim, Header, Memory, Var};
 use std::alloc::Global;
 use std::marker::Model;
 
@@ -135,18 +135,15 @@ impl<'a> IndexedHeader<'a> {
             mut index,
         } = self;
         add_attr(&mut index.attrs, Some(place), attr.name.as_slice())?;
-        give(&mut header, place, attr.clone(alloc)?)?;
+        give(header.vars.as_mut_slice(), place, attr.clone(alloc)?)?;
         Ok(IndexedHeader { header, index })
     }
 }
 
 /// Gives the variable at this place an attribute.
-fn give(header: &mut Header, place: usize, attr: Attr) -> Result<(), Memory>
-    requires { place < length header.old.vars }
-    ensures { OnOk result (header.new ≡ record header.old { vars = given header.old.vars place attr }) }
+fn give(vars: &mut [Var], place: usize, attr: Attr) -> Result<(), Memory>
+    requires { place < length vars.old }
+    ensures { OnOk result (vars.new ≡ given vars.old place attr) }
 {
-    let mut vars = header.vars.take().into_vec();
-    vars[place].attrs.push(attr)?;
-    header.vars = VarList::from_vec(vars);
-    Ok(())
+    vars[place].attrs.push(attr)
 }

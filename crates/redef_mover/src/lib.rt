@@ -4,7 +4,6 @@
 mod adding;
 mod applying;
 mod begins;
-mod capped;
 mod carrying;
 mod clearing;
 mod extra_faults;

@@ -11,10 +11,9 @@ ghost use Rattle.var_layout.specs.Capped.{capped};
 ghost use Rattle.redef_mover.specs.declared.placing.Side.TheVariants.{Old, New};
 ghost use Rattle.redef_mover.specs.Placing.{pairs, capped_pairs, fixed_var, record_var, in_order, on_side, fixed_at, records_at};
 
-use crate::capped;
 use nc_base::{FILE_LIMIT, Header, Items, Memory, Var};
 use std::alloc::Global;
-use var_layout::{is_record, slab_of, vsize_of};
+use var_layout::{capped, is_record, slab_of, vsize_of};
 
 /// A variable: its place in the header's list, its begin so far, and its bytes, of a record variable those of one record.
 #[derive(Drop)]
@@ -99,22 +98,21 @@ fn push_records(order: &mut Items<NumberedVar>, header: &Header, n: usize) -> Re
     Ok(())
 }
 
-/// The variables by their begins, the lowest first; those of one begin stay as they stood.
-fn by_begin(vars: Items<NumberedVar>) -> Result<Items<NumberedVar>, Memory>
-    ensures { IfOk result (λ order. order ≡ in_order vars) }
+/// Sorts variables by their begins, the lowest first; those of one begin stay as they stood.
+fn sort_by_begin(alloc: Global, vars: &mut [NumberedVar]) -> Result<(), Memory>
+    ensures { OnOk result (vars.new ≡ in_order vars.old) }
 {
-    let mut sorted = vars.into_vec();
-    sorted.sort_by_key(|var: &NumberedVar| var.begin)?;
-    Ok(Items::from_vec(sorted))
+    vars.sort_by_key(alloc, |var: &NumberedVar| var.begin)?;
+    Ok(())
 }
 
 /// The fixed variables as they are placed: the old ones by their begins, then the new ones, where the first `n` variables are old.
 fn fixed_order(alloc: Global, header: &Header, n: usize) -> Result<Items<NumberedVar>, Memory>
     ensures { IfOk result (λ order. order ≡ map (fixed_var header.now) (spec.fixed_order header.now n)) }
 {
-    let mut old = Items::new(alloc);
-    push_fixed(&mut old, header, n, Side::Old)?;
-    let mut order = by_begin(old)?;
+    let mut order = Items::new(alloc);
+    push_fixed(&mut order, header, n, Side::Old)?;
+    sort_by_begin(alloc, order.as_mut_slice())?;
     push_fixed(&mut order, header, n, Side::New)?;
     Ok(order)
 }
@@ -123,9 +121,10 @@ fn fixed_order(alloc: Global, header: &Header, n: usize) -> Result<Items<Numbere
 fn record_order(alloc: Global, header: &Header, n: usize) -> Result<Items<NumberedVar>, Memory>
     ensures { IfOk result (λ order. order ≡ map (record_var header.now) (spec.by_begin (records_at header.now n Old))) }
 {
-    let mut old = Items::new(alloc);
-    push_records(&mut old, header, n)?;
-    by_begin(old)
+    let mut order = Items::new(alloc);
+    push_records(&mut order, header, n)?;
+    sort_by_begin(alloc, order.as_mut_slice())?;
+    Ok(order)
 }
 
 /// Where a variable begins that began at `begin`: there, if the front has not passed it.

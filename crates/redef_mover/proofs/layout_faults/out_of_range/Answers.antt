@@ -13,8 +13,8 @@ loop-var-preserved c =
     let item = c.var-item.result in
     let same = ap (λ (vs : List Var). length vs) c.as_slice-var-items.ensures in
     let there = c.var-item.is ∙ ap (λ (vs : List Var). get_or vs k item) c.as_slice-var-items.ensures in
-    ranged_next header k item c.loop-var.bad c.push.new.self c.is_out_of_range.result c.loop-var.before c.sum-before.result c.share_of.result (omega arith) there
-    c.is_out_of_range.ensures c.in_ok-push.ensures.ok c.share_of.ensures c.sum-before.ensures c.loop-var.invariant
+    ranged_next header k item c.loop-var.bad c.push.new.self c.is_out_of_range.result c.loop-var.before c.sum-before.result c.record_share.result (omega arith) there
+    c.is_out_of_range.ensures c.in_ok-push.ensures.ok c.record_share.ensures c.sum-before.ensures c.loop-var.invariant
 
 pub returns : goal.returns
 returns c =

@@ -1,23 +1,32 @@
 -- Each window brings the blobs' bytes up to its end.
-use Rattle.std.proofs.Common.{◌∙◌, refl, sym, ap, subst, List, length, ℕ, Option, arith}
-use Rattle.std.specs.Prelude.{flat_map}
+use Rattle.std.proofs.Common.{◌≡◌, ◌++◌, ◌∙◌, refl, sym, ap, subst, List, length, take, drop, ℕ, Option, arith}
+use Rattle.std.specs.Prelude.{flat_map, IfSome}
+use Rattle.std.specs.List.{refill}
+use Rattle.std.proofs.Math.Seq.{take-append_seam}
 use Rattle.serial_spec.specs.DeviceCalls.{loads}
 use Rattle.nc_outside.specs.Told.{with_end}
 use Rattle.nc_base.specs.declared.step.DiskCall.{DiskCall}
 use Rattle.overlay_laws.specs.Changes.{IsBegun}
-use Rattle.data_sieving.specs.Sieving.{windows_of}
-use Rattle.data_sieving.specs.Serving.{entries_in, entries_left, HasDone, IsNext, windows_from}
+use Rattle.data_sieving.specs.Sieving.{windows_of, AreAsLong, HasGot}
+use Rattle.data_sieving.specs.Serving.{entries_in, entries_left, HasDone, HasGotPart, IsNext, windows_from}
 use Rattle.data_sieving.proofs.PastSteps.{past_twice}
 use Rattle.data_sieving.proofs.WindowSteps.{goes_on}
 use Rattle.data_sieving.proofs.CallSteps.{none_begun}
 use Rattle.data_sieving.proofs.ReachSteps.{begun_in, hull_low, hull_high, hull_end, begun_ends, begun_filled}
 use Rattle.data_sieving.proofs.CollectedSteps.{as_long_twice, fit_as_long, got_none, got_more, got_all}
 use Rattle.data_sieving.proofs.LoopSteps.{all_left, none_carried, walk_begin, walk_ready, calls_begin, loads_more, calls_end}
-use Rattle.data_sieving.proofs.get.get_windows.Goals as goal
+use Rattle.data_sieving.proofs.get.sieve_get.Goals as goal
 use Rattle.list_laws.proofs.Results.{on_err}
 
+-- the blobs that were lent, as they come back
+returned : (old now : List (List ℕ)) → AreAsLong old now → refill (length old) old now ≡ now
+returned old now long = ap (λ (n : ℕ). take n (now ++ drop (length now) old)) (sym long.0) ∙ take-append_seam now (drop (length now) old)
+
+returned_long : (old now : List (List ℕ)) → AreAsLong old now → AreAsLong old (refill (length old) old now)
+returned_long old now long = subst (λ (bs : List (List ℕ)). AreAsLong old bs) (sym (returned old now long)) long
+
 pub windows-init : goal.windows-init
-windows-init g c = record {
+windows-init g c = let lent = c.as_mut_slice-blobs.ensures.seen in record {
   past = walk_begin c.args.list.now (entries_left c.new.result) (all_left c.args.list.now c.new.result.carried.items c.new.result.ahead.now c.new.ensures.carried c.new.ensures.ahead);
   left = walk_ready c.args.list.now (entries_left c.new.result) (length c.args.buf.now) (all_left c.args.list.now c.new.result.carried.items c.new.result.ahead.now c.new.ensures.carried c.new.ensures.ahead) c.requires.sorted c.requires.ends c.requires.filled c.requires.buffer;
   begun = none_carried c.new.result.carried.items c.new.ensures.carried;
@@ -25,8 +34,9 @@ windows-init g c = record {
   from = refl;
   len = refl;
   bytes = refl;
-  got = got_none (g.D.Disk.held c.args.disk.now) (g.D.Disk.from c.args.disk.now) (g.D.Disk.len c.args.disk.now) c.args.list.now c.args.blobs.now c.requires.on_disk c.requires.fit;
-  long = (refl, (λ k. refl));
+  got = subst (λ (bs : List (List ℕ)). IfSome (g.D.Disk.held c.args.disk.now) (λ file. HasGotPart 0 0 (g.D.Disk.from c.args.disk.now) file c.args.list.now c.args.into.now bs)) (sym lent)
+      (got_none (g.D.Disk.held c.args.disk.now) (g.D.Disk.from c.args.disk.now) (g.D.Disk.len c.args.disk.now) c.args.list.now c.args.into.now c.requires.on_disk c.requires.fit);
+  long = subst (λ (bs : List (List ℕ)). AreAsLong c.args.into.now bs) (sym lent) (refl, (λ k. refl));
   calls = calls_begin loads (length c.args.buf.now) c.args.list.now (g.D.Disk.calls c.args.disk.now);
   sure = λ s. s;
   faults = omega arith;
@@ -59,7 +69,7 @@ read_window-requires-clause-filled g c κs within =
 
 pub read_window-requires-clause-fit : goal.read_window-requires-clause-fit
 read_window-requires-clause-fit g c κs within = λ o m.
-    fit_as_long c.args.blobs.now c.windows.blobs c.args.list.now c.windows.invariant.long c.requires.fit o
+    fit_as_long c.args.into.now c.windows.blobs c.args.list.now c.windows.invariant.long c.requires.fit o
     (begun_in c.windows.walk.from c.in-Some.next.stop c.args.list.now (entries_left c.windows.walk.entries) (entries_in c.in-Some.next) o c.windows.invariant.past c.in-Some.ensures.next.begun m)
 
 pub windows-preserved : goal.windows-preserved
@@ -80,9 +90,9 @@ windows-preserved g c =
       bytes = c.in_ok-read_window.ensures.bytes ∙ c.windows.invariant.bytes;
       got = got_more (g.D.Disk.held c.args.disk.now) (g.D.Disk.held c.windows.disk) (g.D.Disk.from c.args.disk.now) (g.D.Disk.from c.windows.disk) (g.D.Disk.len c.args.disk.now)
           c.args.list.now (entries_left c.windows.walk.entries) c.windows.walk.from c.windows.walk.size c.in-Some.next.window (entries_in c.in-Some.next)
-          c.pass.new.self.from c.args.blobs.now c.windows.blobs c.read_window.new.blobs c.windows.invariant.bytes c.windows.invariant.from c.requires.on_disk
+          c.pass.new.self.from c.args.into.now c.windows.blobs c.read_window.new.blobs c.windows.invariant.bytes c.windows.invariant.from c.requires.on_disk
           c.requires.one_place c.requires.fit c.windows.invariant.past next c.windows.invariant.got c.in_ok-read_window.ensures.read;
-      long = as_long_twice c.args.blobs.now c.windows.blobs c.read_window.new.blobs c.windows.invariant.long c.in_ok-read_window.ensures.blobs;
+      long = as_long_twice c.args.into.now c.windows.blobs c.read_window.new.blobs c.windows.invariant.long c.in_ok-read_window.ensures.blobs;
       calls = subst (λ (n : ℕ). HasDone (flat_map loads (windows_of n c.args.list.now)) (flat_map loads (windows_from n c.pass.new.self.from c.args.list.now))
           (g.D.Disk.calls c.args.disk.now) (g.D.Disk.calls c.read_window.new.disk)) (sym c.pass.ensures.size)
           (loads_more c.args.list.now (entries_left c.windows.walk.entries) c.windows.walk.from c.windows.walk.size c.in-Some.next.window (entries_in c.in-Some.next) c.pass.new.self.from (flat_map loads (windows_of c.windows.walk.size c.args.list.now))
@@ -102,12 +112,17 @@ returns-in_err-read_window-clause-begun g c =
 
 pub returns-in_err-read_window-clause-blobs : goal.returns-in_err-read_window-clause-blobs
 returns-in_err-read_window-clause-blobs g c =
-    as_long_twice c.args.blobs.now c.windows.blobs c.read_window.new.blobs c.windows.invariant.long c.in_err-read_window.ensures.blobs
+    returned_long c.args.into.now c.read_window.new.blobs (as_long_twice c.args.into.now c.windows.blobs c.read_window.new.blobs c.windows.invariant.long c.in_err-read_window.ensures.blobs)
 
 pub returns-clause-read : goal.returns-clause-read
 returns-clause-read g c =
-    got_all (g.D.Disk.held c.args.disk.now) (g.D.Disk.from c.args.disk.now) c.args.list.now (entries_left c.windows.walk.entries) c.windows.walk.from c.args.blobs.now c.windows.blobs
-    c.in_default.ensures.none c.windows.invariant.past c.windows.invariant.got
+    subst (λ (bs : List (List ℕ)). IfSome (g.D.Disk.held c.args.disk.now) (λ file. HasGot (g.D.Disk.from c.args.disk.now) file c.args.list.now c.args.into.now bs))
+    (sym (returned c.args.into.now c.windows.blobs c.windows.invariant.long))
+    (got_all (g.D.Disk.held c.args.disk.now) (g.D.Disk.from c.args.disk.now) c.args.list.now (entries_left c.windows.walk.entries) c.windows.walk.from c.args.into.now c.windows.blobs
+    c.in_default.ensures.none c.windows.invariant.past c.windows.invariant.got)
+
+pub returns-clause-blobs : goal.returns-clause-blobs
+returns-clause-blobs g c = returned_long c.args.into.now c.windows.blobs c.windows.invariant.long
 
 pub returns-clause-calls : goal.returns-clause-calls
 returns-clause-calls g c =

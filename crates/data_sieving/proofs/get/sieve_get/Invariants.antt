@@ -4,7 +4,7 @@ use Rattle.std.specs.Prelude.{flat_map, IfSome}
 use Rattle.serial_spec.specs.DeviceCalls.{loads}
 use Rattle.data_sieving.specs.Sieving.{windows_of, AreAsLong}
 use Rattle.data_sieving.specs.Serving.{entries_left, IsPast, AreLeft, HasDone, HaveBegun, HasGotPart, windows_from}
-use Rattle.data_sieving.proofs.get.get_windows.Given as goal
+use Rattle.data_sieving.proofs.get.sieve_get.Given as goal
 
 abbrev pub invariant-windows : goal.invariant-windows
 invariant-windows g l = record {
@@ -15,8 +15,8 @@ invariant-windows g l = record {
   from : g.D.Disk.from l.disk ≡ g.D.Disk.from l.initial.disk;
   len : g.D.Disk.len l.disk ≡ g.D.Disk.len l.initial.disk;
   bytes : g.D.Disk.held l.disk ≡ g.D.Disk.held l.initial.disk;
-  got : IfSome (g.D.Disk.held l.initial.disk) (λ file. HasGotPart 0 l.walk.from (g.D.Disk.from l.initial.disk) file l.list l.initial.blobs l.blobs);
-  long : AreAsLong l.initial.blobs l.blobs;
+  got : IfSome (g.D.Disk.held l.initial.disk) (λ file. HasGotPart 0 l.walk.from (g.D.Disk.from l.initial.disk) file l.list l.fn.into l.blobs);
+  long : AreAsLong l.fn.into l.blobs;
   calls : HasDone (flat_map loads (windows_of l.walk.size l.list)) (flat_map loads (windows_from l.walk.size l.walk.from l.list)) (g.D.Disk.calls l.initial.disk) (g.D.Disk.calls l.disk);
   sure : g.D.Disk.sure l.initial.disk → g.D.Disk.sure l.disk;
   faults : g.D.Disk.faults l.initial.disk ≤ g.D.Disk.faults l.disk;
