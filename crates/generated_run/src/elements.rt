@@ -73,7 +73,7 @@ pub(crate) fn added(a: u64, b: u64) -> Result<u64, Memory>
 }
 
 /// The elements of a region.
-#[tactic(auto, using(serial_spec::proofs::RowLaws::product_more))]
+#[tactic(auto, using(var_layout::proofs::Capping::product_more))]
 fn elements(given: &Given) -> Result<u64, Memory>
     ensures { IfOk result (λ n. n ≡ elements_given given.now) }
 {
