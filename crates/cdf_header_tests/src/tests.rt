@@ -1,6 +1,4 @@
 // Headers of public tools, and headers with faults.
-ghost use Rattle.std.specs.Prelude.{◌≡◌, [], ◌∷◌};
-
 mod changed;
 mod describing;
 mod files;
@@ -10,21 +8,8 @@ mod whole;
 mod written;
 
 use cdf_header::decode;
-use nc_base::{Header, HeaderErr, Items, MAX_HEADER_BYTES};
+use nc_base::{Header, HeaderErr, MAX_HEADER_BYTES};
 use std::alloc::Global;
-use std::process::Abort;
-
-/// What a test says that has no memory.
-const NO_MEMORY: &str = "memory";
-
-/// The list of one item.
-fn one<T: Drop>(rt: &impl Abort, alloc: Global, item: T) -> Items<T>
-    ensures { result ≡ item ∷ [] }
-{
-    let mut list = Items::new(alloc);
-    list.push(item).expect(rt, NO_MEMORY);
-    list
-}
 
 /// What is read of bytes that are a dataset's first.
 fn read(alloc: Global, bytes: &[u8]) -> Result<(Header, u64), HeaderErr> {

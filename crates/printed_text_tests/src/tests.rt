@@ -5,6 +5,3 @@ mod fault_lines;
 mod layouts;
 mod runs;
 mod words;
-
-/// What a test says that has no memory.
-const NO_MEMORY: &str = "memory";

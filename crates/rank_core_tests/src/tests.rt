@@ -1,90 +1,34 @@
 // Calls on a variable `v` of four elements, and the codes that refuse them.
-ghost use Rattle.std.specs.Prelude.{◌≡◌, [], ◌∷◌, true};
+ghost use Rattle.std.specs.Prelude.{◌≡◌, true};
 ghost use Rattle.serial_spec.specs.SoundHeaders.{is_sound};
-ghost use Rattle.var_layout.specs.Unplaced.{is_unplaced};
 
 use nc_base::{
-    Align, AttrList, Call, Code, Dim, Form, Given, Header, Items, Name, NcType, NumberList, Part,
-    PartList, Post, PostKind, SizeList, Values, Var, Want,
+    Call, Code, Form, Given, Header, NcType, NumberList, Part, PartList, Post, PostKind, SizeList,
+    Values, Want,
 };
 use rank_core::{Names, Rank};
 use std::alloc::Global;
 use std::process::Abort;
-use std::test::*;
-use var_layout::lay_out;
+use test_fixtures::{NO_LAYOUT, NO_MEMORY, dimension, laid_out, one, over_one, two, variable};
 
-const NO_MEMORY: &str = "memory";
-
-/// The list of one item.
-fn one<T: Drop>(rt: &impl Abort, alloc: Global, item: T) -> Items<T>
-    ensures { result ≡ item ∷ [] }
-{
-    let mut list = Items::new(alloc);
-    list.push(item).expect(rt, NO_MEMORY);
-    list
-}
-
-/// The list of two items.
-fn two<T: Drop>(rt: &impl Abort, alloc: Global, item: T, other: T) -> Items<T>
-    ensures { result ≡ item ∷ other ∷ [] }
-{
-    let mut list = one(rt, alloc, item);
-    list.push(other).expect(rt, NO_MEMORY);
-    list
-}
-
-fn variable(rt: &impl Abort, alloc: Global, kind: NcType) -> Var
-    ensures { result ≡ record { name = 118 ∷ []; dims = 0 ∷ []; attrs = []; kind = kind; begin = 0 } }
-{
-    Var {
-        name: one(rt, alloc, b'v'),
-        dims: one(rt, alloc, 0),
-        attrs: AttrList::new(alloc),
-        kind,
-        begin: 0,
-    }
-}
-
-fn dimension(alloc: Global, len: u64) -> Dim
-    ensures { result ≡ record { name = []; len = len } }
-{
-    Dim {
-        name: Name::new(alloc),
-        len,
-    }
-}
-
-/// A dimension of this length, and two variables `v` over it.
-fn unplaced(rt: &impl Abort, alloc: Global, len: u64, kind: NcType) -> Header
-    ensures { is_unplaced result ≡ true }
-{
-    let x = dimension(alloc, len);
-    let first = variable(rt, alloc, kind);
-    let second = variable(rt, alloc, kind);
-    Header {
-        version: 1,
-        records: 0,
-        dims: one(rt, alloc, x),
-        attrs: AttrList::new(alloc),
-        vars: two(rt, alloc, first, second),
-    }
-}
-
+/// A dimension x of this length, and two variables `v` over it.
 fn header_of(rt: &impl Abort, alloc: Global, len: u64, kind: NcType) -> Header
     ensures { is_sound result ≡ true }
 {
-    let mut header = unplaced(rt, alloc, len, kind);
-    let answer = lay_out(&mut header, &Align { header: 4, var: 4 });
-    assert!(rt; answer.is_ok());
-    header
+    let x = dimension(alloc, b'x', len).expect(rt, NO_MEMORY);
+    let first = variable(alloc, b'v', kind, 0).expect(rt, NO_MEMORY);
+    let second = variable(alloc, b'v', kind, 0).expect(rt, NO_MEMORY);
+    let vars = two(alloc, first, second).expect(rt, NO_MEMORY);
+    let header = over_one(alloc, x, vars).expect(rt, NO_MEMORY);
+    laid_out(header).expect(rt, NO_LAYOUT)
 }
 
 fn parts(rt: &impl Abort, alloc: Global, boxes: &[(u64, u64)]) -> PartList {
     let mut parts = PartList::new(alloc);
     for (start, count) in boxes {
         let part = Part {
-            start: one(rt, alloc, *start),
-            count: one(rt, alloc, *count),
+            start: one(alloc, *start).expect(rt, NO_MEMORY),
+            count: one(alloc, *count).expect(rt, NO_MEMORY),
         };
         parts.push(part).expect(rt, NO_MEMORY);
     }
@@ -107,8 +51,8 @@ fn boxes(rt: &impl Abort, alloc: Global, boxes: &[(u64, u64)]) -> Given {
 fn first(rt: &impl Abort, alloc: Global, count: u64) -> Given {
     Given {
         form: Form::Vara,
-        start: one(rt, alloc, 0),
-        count: one(rt, alloc, count),
+        start: one(alloc, 0).expect(rt, NO_MEMORY),
+        count: one(alloc, count).expect(rt, NO_MEMORY),
         stride: SizeList::new(alloc),
         imap: SizeList::new(alloc),
         parts: PartList::new(alloc),
@@ -128,7 +72,7 @@ fn put(rt: &impl Abort, alloc: Global, header: &Header, given: Given, values: Va
     let mut rank = Rank::new(alloc, header, &names, 7);
     let call = Call::Put {
         all: true,
-        var: one(rt, alloc, b'v'),
+        var: one(alloc, b'v').expect(rt, NO_MEMORY),
         given,
         values,
     };
@@ -144,7 +88,7 @@ fn iput(rt: &impl Abort, alloc: Global, header: &Header, given: Given, values: V
     let call = Call::Post {
         id: 7,
         kind: PostKind::Iput,
-        var: one(rt, alloc, b'v'),
+        var: one(alloc, b'v').expect(rt, NO_MEMORY),
         given,
         values,
     };
@@ -158,7 +102,7 @@ fn fill(rt: &impl Abort, alloc: Global, header: &Header) -> Want
     let names = Names::new(alloc, header).expect(rt, NO_MEMORY);
     let mut rank = Rank::new(alloc, header, &names, 7);
     let call = Call::FillRec {
-        var: one(rt, alloc, b'v'),
+        var: one(alloc, b'v').expect(rt, NO_MEMORY),
         number: 2,
         share: 1,
         of: 2,
@@ -254,7 +198,7 @@ fn regions_and_their_codes(rt: HostRuntime) {
 #[test]
 fn a_text_is_no_number(rt: HostRuntime) {
     let alloc = rt.alloc();
-    let text = Values::Text(one(&rt, alloc, b'a'));
+    let text = Values::Text(one(alloc, b'a').expect(&rt, NO_MEMORY));
     let given = first(&rt, alloc, 1);
     assert!(rt; code_of_put(&rt, alloc, NcType::Short, given, text) == Code::EChar);
 }

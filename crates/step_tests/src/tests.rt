@@ -1,6 +1,4 @@
 // The leaves of a step, and whole steps, on small files.
-ghost use Rattle.std.specs.Prelude.{◌≡◌, [], ◌∷◌};
-
 mod aggregators;
 mod domains;
 mod overlaps;
@@ -12,39 +10,13 @@ use nc_base::{Blob, DiskCall, Items};
 use nc_outside::{Fail, FailOp, MemDisk};
 use std::alloc::Global;
 use std::process::Abort;
-
-/// What a test says that has no memory.
-const NO_MEMORY: &str = "memory";
+use test_fixtures::NO_MEMORY;
 
 /// What it says where a disk should tell its calls.
 const NO_CALLS: &str = "calls";
 
 /// What it says of a file that ends too soon.
 const TOO_SHORT: &str = "too short";
-
-/// The list of one item.
-fn one<T: Drop>(rt: &impl Abort, alloc: Global, item: T) -> Items<T>
-    ensures { result ≡ item ∷ [] }
-{
-    let mut list = Items::new(alloc);
-    list.push(item).expect(rt, NO_MEMORY);
-    list
-}
-
-/// The list of two items.
-fn two<T: Drop>(rt: &impl Abort, alloc: Global, item: T, other: T) -> Items<T>
-    ensures { result ≡ item ∷ other ∷ [] }
-{
-    let mut list = one(rt, alloc, item);
-    list.push(other).expect(rt, NO_MEMORY);
-    list
-}
-
-fn blob(rt: &impl Abort, alloc: Global, bytes: &[u8]) -> Blob
-    ensures { result ≡ bytes.now }
-{
-    Blob::from_vec(Vec::from_slice(alloc, bytes).expect(rt, NO_MEMORY))
-}
 
 /// A file whose byte at each place is the place.
 fn numbered(rt: &impl Abort, alloc: Global, len: u8) -> Blob {

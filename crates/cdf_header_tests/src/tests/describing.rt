@@ -1,10 +1,10 @@
 // A header as `ncdump -h` shows it.
 ghost use Rattle.std.specs.Prelude.{◌<◌};
 
-use crate::tests::NO_MEMORY;
 use nc_base::{Attr, AttrList, Dim, Header, Name, NcType, Var};
 use std::alloc::{AllocError, Global};
 use std::process::Abort;
+use test_fixtures::NO_MEMORY;
 
 /// The lines of `ncdump -h`, without the first one and the last.
 pub(crate) fn described(rt: &impl Abort, alloc: Global, header: &Header) -> String {

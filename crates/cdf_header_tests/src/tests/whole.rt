@@ -1,8 +1,9 @@
 // Faults of whole headers.
-use crate::tests::{NO_MEMORY, fault, files};
+use crate::tests::{fault, files};
 use nc_base::HeaderErr;
 use std::alloc::Global;
 use std::process::Abort;
+use test_fixtures::NO_MEMORY;
 
 /// The lengths of dimensions, and of each variable its dimensions and its begin.
 struct Whole {

@@ -1,10 +1,10 @@
 // Lines that tell a fault.
 
-use super::NO_MEMORY;
 use nc_base::{HeaderErr, LayoutErr, LimitName, RedefErr, ScriptErr, ScriptKind};
 use printed_text::{disk_line, header_line, layout_line, redef_line, script_line, usage_line};
 use std::alloc::Global;
 use std::process::Abort;
+use test_fixtures::NO_MEMORY;
 
 fn told_of_script<R: Abort>(rt: &R, alloc: Global, line: u32, kind: ScriptKind, told: &str) {
     let text = script_line(alloc, &ScriptErr { line, kind }).expect(rt, NO_MEMORY);

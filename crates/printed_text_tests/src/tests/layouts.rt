@@ -1,12 +1,12 @@
 // Where variables lie.
 
-use super::NO_MEMORY;
-use super::datasets::{four_ints, laid_out, one_record};
+use super::datasets::{four_ints, one_record};
 use printed_text::offsets_text;
+use test_fixtures::NO_MEMORY;
 
 #[test]
 fn a_record_variable_is_told(rt: HostRuntime) {
-    let header = laid_out(&rt, one_record(&rt, rt.alloc()));
+    let header = one_record(&rt, rt.alloc());
     let text = offsets_text(rt.alloc(), &header).expect(&rt, NO_MEMORY);
     let told = b"// file format: CDF-1
 file header:
@@ -26,7 +26,7 @@ record variables:
 
 #[test]
 fn a_fixed_variable_is_told(rt: HostRuntime) {
-    let header = laid_out(&rt, four_ints(&rt, rt.alloc()));
+    let header = four_ints(&rt, rt.alloc());
     let text = offsets_text(rt.alloc(), &header).expect(&rt, NO_MEMORY);
     let told = b"// file format: CDF-1
 file header:

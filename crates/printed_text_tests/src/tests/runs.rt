@@ -2,8 +2,7 @@
 ghost use Rattle.std.specs.Prelude.{◌≡◌, true};
 ghost use Rattle.serial_spec.specs.SoundHeaders.{is_sound};
 
-use super::NO_MEMORY;
-use super::datasets::{four_ints, laid_out, one_record, two_reals};
+use super::datasets::{four_ints, one_record, two_reals};
 use nc_base::{
     Answer, AnswerList, AnswerTable, AttrList, BitList, Call, CallList, CallTable, Choice, Code,
     DimList, ExtraList, Form, Given, Header, Hints, Item, ItemList, Mark, MarkList, Name,
@@ -12,6 +11,7 @@ use nc_base::{
 use printed_text::run_text;
 use std::alloc::Global;
 use std::process::Abort;
+use test_fixtures::NO_MEMORY;
 
 const HINTS: Hints = Hints {
     cb_nodes: 1,
@@ -158,7 +158,7 @@ fn end_of_two(rt: &impl Abort, alloc: Global) -> RunEnd {
 
 #[test]
 fn two_ranks_are_told(rt: HostRuntime) {
-    let header = laid_out(&rt, four_ints(&rt, rt.alloc()));
+    let header = four_ints(&rt, rt.alloc());
     let script = two_puts(&rt, rt.alloc());
     let end = end_of_two(&rt, rt.alloc());
     let text = run_text(rt.alloc(), &script, &header, &end).expect(&rt, NO_MEMORY);
@@ -202,7 +202,7 @@ fn two_patterns(rt: &impl Abort, alloc: Global) -> Vec<Answer> {
 #[test]
 fn bits_have_the_digits_of_their_type(rt: HostRuntime) {
     let alloc = rt.alloc();
-    let header = laid_out(&rt, two_reals(&rt, alloc));
+    let header = two_reals(&rt, alloc);
     let end = end_of_one(&rt, alloc, two_patterns(&rt, alloc), 0);
     let text = b"ranks 1
 order m0 s0.12
@@ -240,7 +240,7 @@ fn three_items(rt: &impl Abort, alloc: Global) -> Vec<Answer> {
 #[test]
 fn items_of_a_wait_are_told(rt: HostRuntime) {
     let alloc = rt.alloc();
-    let header = laid_out(&rt, two_reals(&rt, alloc));
+    let header = two_reals(&rt, alloc);
     let end = end_of_one(&rt, alloc, three_items(&rt, alloc), 3);
     let text = b"ranks 1
 order m0 s0.12
@@ -285,7 +285,7 @@ fn puts_and_length(rt: &impl Abort, alloc: Global) -> Vec<Call> {
 #[test]
 fn shared_bytes_are_told(rt: HostRuntime) {
     let alloc = rt.alloc();
-    let header = laid_out(&rt, one_record(&rt, alloc));
+    let header = one_record(&rt, alloc);
     let end = end_of_one(&rt, alloc, shared(&rt, alloc), 0);
     let text = b"ranks 1
 order m0 s0.12

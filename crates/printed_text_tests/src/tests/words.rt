@@ -1,10 +1,10 @@
 // Values.
 
-use super::NO_MEMORY;
 use nc_base::{BitList, Blob, NumberList, Values};
 use printed_text::words::push_values;
 use std::alloc::Global;
 use std::process::Abort;
+use test_fixtures::NO_MEMORY;
 
 fn printed<R: Abort>(rt: &R, alloc: Global, digits: u8, values: &Values, text: &[u8]) {
     let mut out = Vec::new(alloc);

@@ -5,28 +5,22 @@ ghost use Rattle.request_queue.specs.Queued.{with_request};
 
 mod cases;
 
-use super::{NO_MEMORY, REFUSED, one};
-use nc_base::{Blob, CallErr, Choice, Code, IdList, ItemList, Post, PostKind, Region, SizeList};
+use super::REFUSED;
+use nc_base::{Blob, CallErr, Choice, Code, IdList, ItemList, Post, PostKind};
 use request_queue::Queue;
 use std::alloc::Global;
 use std::process::Abort;
+use test_fixtures::{NO_MEMORY, list, region};
 
 /// A post of `count` ints of the first variable from the index `at`, with four bytes each.
 fn ints(rt: &impl Abort, alloc: Global, id: u32, at: u64, count: u16) -> Post
     ensures { result.id ≡ id }
 {
-    let region = Region {
-        start: one(rt, alloc, at),
-        count: one(rt, alloc, u64::from(count)),
-        stride: one(rt, alloc, 1),
-        imap: SizeList::new(alloc),
-        packed: true,
-    };
     let bytes = vec![in alloc; 7; usize::from(count) * 4].expect(rt, NO_MEMORY);
     Post {
         id,
         var: 0,
-        region,
+        region: region(alloc, at, u64::from(count), 1).expect(rt, NO_MEMORY),
         bytes: Blob::from_vec(bytes),
     }
 }
@@ -38,7 +32,7 @@ fn one_int(rt: &impl Abort, alloc: Global, id: u32) -> Post
 }
 
 fn listed(rt: &impl Abort, alloc: Global, ids: &[u32]) -> Choice {
-    Choice::Listed(IdList::from_vec(Vec::from_slice(alloc, ids).expect(rt, NO_MEMORY)))
+    Choice::Listed(list(alloc, ids).expect(rt, NO_MEMORY))
 }
 
 fn expect_items(rt: &impl Abort, items: &ItemList, wanted: &[(u32, Code)]) {

@@ -1,46 +1,20 @@
 mod extents;
 mod parts;
 
-use super::{NO_MEMORY, one};
-use nc_base::{
-    AttrList, Code, Dim, Direction, Form, Given, Header, Name, NcType, PartList, Region, SizeList,
-    Var,
-};
+use nc_base::{Code, Direction, Form, Given, Header, NcType, PartList, Region, SizeList};
 use std::alloc::Global;
 use std::process::Abort;
+use test_fixtures::{NO_MEMORY, one_variable, region};
 use var_layout::Measures;
 use vara_extents::{check, widen};
 
-/// A header with one dimension of this length, and a byte variable over it.
+/// The dimension x of this length, and the byte variable v over it.
 fn header_of(rt: &impl Abort, alloc: Global, len: u64) -> Header {
-    let dim = Dim {
-        name: Name::new(alloc),
-        len,
-    };
-    let var = Var {
-        name: Name::new(alloc),
-        dims: one(rt, alloc, 0),
-        attrs: AttrList::new(alloc),
-        kind: NcType::Byte,
-        begin: 80,
-    };
-    Header {
-        version: 1,
-        records: 0,
-        dims: one(rt, alloc, dim),
-        attrs: AttrList::new(alloc),
-        vars: one(rt, alloc, var),
-    }
+    one_variable(alloc, len, NcType::Byte, 80).expect(rt, NO_MEMORY)
 }
 
 fn region_of(rt: &impl Abort, alloc: Global, start: u64, count: u64, stride: u64) -> Region {
-    Region {
-        start: one(rt, alloc, start),
-        count: one(rt, alloc, count),
-        stride: one(rt, alloc, stride),
-        imap: SizeList::new(alloc),
-        packed: true,
-    }
+    region(alloc, start, count, stride).expect(rt, NO_MEMORY)
 }
 
 /// The refusal of a put.

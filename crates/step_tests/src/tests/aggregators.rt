@@ -3,7 +3,8 @@ ghost use Rattle.std.specs.Prelude.{◌≡◌, true};
 ghost use Rattle.serial_spec.specs.SoundHeaders.{is_sound};
 ghost use Rattle.serial_spec.specs.Lawful.{are_lawful_hints};
 
-use super::steps::{Asked, Dataset, HINTS, get_two, has_got, placed, post, put_two};
+use super::steps::gets::has_got;
+use super::steps::{Dataset, HINTS, get_two, placed, posted, put_two};
 use super::{failing_disk, has_calls, has_file, numbered, numbered_disk};
 use collective_round::PutEnd;
 use nc_base::{Blob, DiskCall, GotTable, Hints, NcType, StepErr};
@@ -12,6 +13,7 @@ use std::alloc::Global;
 use std::process::Abort;
 use std::sync::Wait;
 use std::thread::Threads;
+use test_fixtures::Asked;
 
 /// The room of the lines, and whether aggregators have threads.
 #[derive(Clone, Copy)]
@@ -97,7 +99,7 @@ fn put<R: Abort + Threads + Wait + Sync>(
     requires hints { are_lawful_hints set.now.hints ≡ true }
 {
     let [a, b] = &PUTS;
-    let (a, b) = (post(rt, alloc, a), post(rt, alloc, b));
+    let (a, b) = (posted(rt, alloc, a), posted(rt, alloc, b));
     let (end, records) = put_two(rt, alloc, disk, set, a, b);
     assert!(rt; records == 0);
     end
@@ -129,7 +131,7 @@ fn get<R: Abort + Threads + Wait + Sync>(
     requires hints { are_lawful_hints set.now.hints ≡ true }
 {
     let [a, b] = &GETS;
-    let (a, b) = (post(rt, alloc, a), post(rt, alloc, b));
+    let (a, b) = (posted(rt, alloc, a), posted(rt, alloc, b));
     get_two(rt, alloc, disk, set, a, b)
 }
 

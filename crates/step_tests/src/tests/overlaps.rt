@@ -5,11 +5,11 @@ ghost use Rattle.overlay_laws.specs.Entries.{In};
 ghost use Rattle.overlay_laws.specs.Lines.{extents, IsByPlace, EndBelow};
 ghost use Rattle.overlay_laws.specs.Origins.{origins, IsOnceEach};
 
-use super::NO_MEMORY;
 use nc_base::{Extent, Owned, OwnedList, Pair};
 use overlap_report::{cover, first_pair, gather, resolve};
 use std::alloc::Global;
 use std::process::Abort;
+use test_fixtures::NO_MEMORY;
 
 fn entry(at: u64, len: u64, rank: u32, request: u32) -> Owned {
     Owned {

@@ -2,12 +2,13 @@
 ghost use Rattle.std.specs.Prelude.{◌≡◌, ◌+◌, ◌*◌, ◌<◌, ◌≤◌, slice_get, length};
 ghost use Rattle.data_sieving.specs.Sieving.{bytes_of_post, blob_at};
 
-use super::{blob, failing_disk, has_bytes, has_call_count, has_calls, numbered_disk, one, two};
+use super::{failing_disk, has_bytes, has_call_count, has_calls, numbered_disk};
 use data_sieving::{sieve_get, sieve_put};
 use nc_base::{BlobList, DiskCall, Extent, Owned, Post, PostList, Region, SizeList};
 use nc_outside::{Disk, DiskErr, FailOp, MemDisk};
 use std::alloc::Global;
 use std::process::Abort;
+use test_fixtures::{NO_MEMORY, list, one, two};
 
 fn entry(slot: u32, at: u64, len: u64, from: u64) -> Owned {
     Owned {
@@ -37,9 +38,9 @@ fn posts(rt: &impl Abort, alloc: Global, bytes: &[u8]) -> PostList
         id: 0,
         var: 0,
         region: no_region(alloc),
-        bytes: blob(rt, alloc, bytes),
+        bytes: list(alloc, bytes).expect(rt, NO_MEMORY),
     };
-    one(rt, alloc, post)
+    one(alloc, post).expect(rt, NO_MEMORY)
 }
 
 // Two blobs of eight bytes.
@@ -47,9 +48,9 @@ fn two_blobs(rt: &impl Abort, alloc: Global) -> BlobList
     ensures first { length (blob_at result 0) ≡ 8 }
     ensures second { length (blob_at result 1) ≡ 8 }
 {
-    let first = blob(rt, alloc, &[255; 8]);
-    let second = blob(rt, alloc, &[255; 8]);
-    two(rt, alloc, first, second)
+    let first = list(alloc, &[255; 8]).expect(rt, NO_MEMORY);
+    let second = list(alloc, &[255; 8]).expect(rt, NO_MEMORY);
+    two(alloc, first, second).expect(rt, NO_MEMORY)
 }
 
 // Puts two entries of one post, whose bytes are given, through a buffer of so many bytes.

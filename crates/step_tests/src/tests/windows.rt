@@ -1,11 +1,12 @@
 // Windows that are put and got.
-use super::{blob, failing_disk, has_bytes, has_call_count, has_calls, numbered_disk};
+use super::{failing_disk, has_bytes, has_call_count, has_calls, numbered_disk};
 use aggregator_rounds::{close_window, get_window, lay, open_window, put_window};
 use file_domains::Window;
 use nc_base::{DiskCall, Extent, Piece};
 use nc_outside::{Disk, DiskErr, FailOp, MemDisk};
 use std::alloc::Global;
 use std::process::Abort;
+use test_fixtures::{NO_MEMORY, list};
 
 fn window(at: u64, len: u64, full: bool) -> Window {
     Window {
@@ -20,7 +21,7 @@ fn piece(rt: &impl Abort, alloc: Global, at: u64, bytes: &[u8]) -> Piece {
         round: 0,
         rank: 0,
         at,
-        bytes: blob(rt, alloc, bytes),
+        bytes: list(alloc, bytes).expect(rt, NO_MEMORY),
     }
 }
 

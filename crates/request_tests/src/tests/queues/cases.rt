@@ -1,9 +1,10 @@
 // Worked cases of posting, waiting and cancelling, with the items that they give.
 use super::{expect_detached_once, expect_items, expect_taken, ints, listed, one_int, pile};
-use crate::tests::{NO_MEMORY, REFUSED, two};
+use crate::tests::REFUSED;
 use nc_base::{CallErr, Choice, Code, PostKind, PostList};
 use request_queue::Queue;
 use std::process::Abort;
+use test_fixtures::{NO_MEMORY, two};
 
 /// The items of ten requests that wait.
 const TEN: [(u32, Code); 10] = [
@@ -88,7 +89,7 @@ fn parts_of_one_request_are_taken_together(rt: HostRuntime) {
     let alloc = rt.alloc();
     let mut queue = Queue::new(alloc);
     let (late, early) = (ints(&rt, alloc, 0, 4, 2), ints(&rt, alloc, 0, 1, 1));
-    let parts = two(&rt, alloc, late, early);
+    let parts = two(alloc, late, early).expect(&rt, NO_MEMORY);
     queue.post_parts(PostKind::Iput, parts).expect(&rt, REFUSED);
     let taken = queue.take(alloc, &Choice::Every).expect(&rt, NO_MEMORY);
     expect_items(&rt, &taken.items, &[(0, Code::Ok)]);

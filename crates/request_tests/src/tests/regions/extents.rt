@@ -5,13 +5,13 @@ ghost use Rattle.nc_base.specs.declared.header.NcType.TheVariants.{Int};
 ghost use Rattle.serial_spec.specs.SoundHeaders.{is_sound};
 ghost use Rattle.var_layout.specs.Unplaced.{is_unplaced};
 
-use crate::tests::{NO_MEMORY, one, two};
 use nc_base::{
-    Align, AttrList, Dim, Direction, Header, IdList, Name, NcType, Region, SizeList, Var, VarList,
+    AttrList, Dim, Direction, Header, IdList, Name, NcType, Region, SizeList, Var, VarList,
 };
 use std::alloc::Global;
 use std::process::Abort;
-use var_layout::{Measures, lay_out};
+use test_fixtures::{NO_LAYOUT, NO_MEMORY, laid_out, list, one, two};
+use var_layout::Measures;
 use vara_extents::{Extents, check};
 
 fn dimension(alloc: Global, len: u64) -> Dim
@@ -40,7 +40,7 @@ fn variable(alloc: Global, dims: IdList) -> Var
 fn grid(rt: &impl Abort, alloc: Global) -> Var
     ensures { result ≡ record { name = []; dims = 0 ∷ 1 ∷ []; attrs = []; kind = Int; begin = 0 } }
 {
-    variable(alloc, two(rt, alloc, 0, 1))
+    variable(alloc, two(alloc, 0, 1).expect(rt, NO_MEMORY))
 }
 
 /// A header of these variables over y and x.
@@ -57,7 +57,7 @@ fn header_of(rt: &impl Abort, alloc: Global, y: u64, x: u64, vars: VarList) -> H
     Header {
         version: 1,
         records: 0,
-        dims: two(rt, alloc, y, x),
+        dims: two(alloc, y, x).expect(rt, NO_MEMORY),
         attrs: AttrList::new(alloc),
         vars,
     }
@@ -69,7 +69,7 @@ fn one_grid(rt: &impl Abort, alloc: Global, y: u64, x: u64) -> Header
     ensures { is_unplaced result ≡ true }
 {
     let grid = grid(rt, alloc);
-    header_of(rt, alloc, y, x, one(rt, alloc, grid))
+    header_of(rt, alloc, y, x, one(alloc, grid).expect(rt, NO_MEMORY))
 }
 
 /// Two variables over y and x.
@@ -78,7 +78,13 @@ fn two_grids(rt: &impl Abort, alloc: Global, y: u64, x: u64) -> Header
     ensures { is_unplaced result ≡ true }
 {
     let (first, second) = (grid(rt, alloc), grid(rt, alloc));
-    header_of(rt, alloc, y, x, two(rt, alloc, first, second))
+    header_of(
+        rt,
+        alloc,
+        y,
+        x,
+        two(alloc, first, second).expect(rt, NO_MEMORY),
+    )
 }
 
 /// A scalar variable.
@@ -86,21 +92,7 @@ fn one_scalar(rt: &impl Abort, alloc: Global) -> Header
     ensures { is_unplaced result ≡ true }
 {
     let scalar = variable(alloc, IdList::new(alloc));
-    header_of(rt, alloc, 3, 4, one(rt, alloc, scalar))
-}
-
-/// The header with its begins.
-fn laid_out(rt: &impl Abort, mut header: Header) -> Header
-    requires { is_unplaced header ≡ true }
-    ensures { is_sound result ≡ true }
-{
-    let answer = lay_out(&mut header, &Align { header: 4, var: 4 });
-    assert!(rt; answer.is_ok());
-    header
-}
-
-fn list(rt: &impl Abort, alloc: Global, numbers: &[u64]) -> SizeList {
-    SizeList::from_vec(Vec::from_slice(alloc, numbers).expect(rt, NO_MEMORY))
+    header_of(rt, alloc, 3, 4, one(alloc, scalar).expect(rt, NO_MEMORY))
 }
 
 /// The start, the count and the stride of a region, and its extents, each with its place and its length.
@@ -112,9 +104,9 @@ struct Case {
 fn region_of(rt: &impl Abort, alloc: Global, lists: [&[u64]; 3]) -> Region {
     let [start, count, stride] = lists;
     Region {
-        start: list(rt, alloc, start),
-        count: list(rt, alloc, count),
-        stride: list(rt, alloc, stride),
+        start: list(alloc, start).expect(rt, NO_MEMORY),
+        count: list(alloc, count).expect(rt, NO_MEMORY),
+        stride: list(alloc, stride).expect(rt, NO_MEMORY),
         imap: SizeList::new(alloc),
         packed: true,
     }
@@ -205,7 +197,7 @@ const GRIDS: [(u64, u64, Case); 7] = [
 fn regions_of_one_variable(rt: HostRuntime) {
     for (y, x, case) in &GRIDS {
         assert!(rt; 1 <= *x);
-        let header = laid_out(&rt, one_grid(&rt, rt.alloc(), *y, *x));
+        let header = laid_out(one_grid(&rt, rt.alloc(), *y, *x)).expect(&rt, NO_LAYOUT);
         assert_extents(&rt, rt.alloc(), &header, case);
     }
 }
@@ -217,7 +209,7 @@ const RECORDS: Case = Case {
 
 #[test]
 fn records_of_two_variables_are_apart(rt: HostRuntime) {
-    let header = laid_out(&rt, two_grids(&rt, rt.alloc(), 0, 4));
+    let header = laid_out(two_grids(&rt, rt.alloc(), 0, 4)).expect(&rt, NO_LAYOUT);
     assert_extents(&rt, rt.alloc(), &header, &RECORDS);
 }
 
@@ -228,6 +220,6 @@ const SCALAR: Case = Case {
 
 #[test]
 fn scalar_is_one_extent(rt: HostRuntime) {
-    let header = laid_out(&rt, one_scalar(&rt, rt.alloc()));
+    let header = laid_out(one_scalar(&rt, rt.alloc())).expect(&rt, NO_LAYOUT);
     assert_extents(&rt, rt.alloc(), &header, &SCALAR);
 }

@@ -1,9 +1,9 @@
 // Calls of many boxes, against the order of their causes.
 use super::header_of;
-use crate::tests::{NO_MEMORY, one};
 use nc_base::{CallErr, Code, Direction, Form, Given, Header, Part, PartList, SizeList};
 use std::alloc::Global;
 use std::process::Abort;
+use test_fixtures::{NO_MEMORY, one};
 use var_layout::Measures;
 use vara_extents::{Ends, check_parts};
 
@@ -15,8 +15,8 @@ fn given_of(rt: &impl Abort, alloc: Global, boxes: Boxes) -> Given {
     let mut parts = PartList::new(alloc);
     for (start, count) in boxes {
         let part = Part {
-            start: one(rt, alloc, start),
-            count: one(rt, alloc, count),
+            start: one(alloc, start).expect(rt, NO_MEMORY),
+            count: one(alloc, count).expect(rt, NO_MEMORY),
         };
         parts.push(part).expect(rt, NO_MEMORY);
     }
