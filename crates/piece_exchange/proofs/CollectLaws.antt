@@ -17,7 +17,7 @@ use Rattle.overlay_laws.proofs.HullLaws.{filter_in}
 use Rattle.overlay_laws.proofs.Members.{in_filter}
 use Rattle.data_sieving.specs.Sieving.{AreFilled}
 use Rattle.data_sieving.specs.Serving.{buffer_cell, part_in}
-use Rattle.piece_exchange.specs.Blobs.{blob_at, of_request, with_blob, AreAsLong, FitTable}
+use Rattle.piece_exchange.specs.Blobs.{blob_at, of_request, with_blob, AreAsLong, FitTable, HasCollected}
 use Rattle.piece_exchange.specs.Cursor.{AreServed}
 use Rattle.piece_exchange.proofs.TurnLaws.{served_in}
 use Rattle.std.proofs.lemmas.List.Elements.{filter-append}
@@ -151,6 +151,20 @@ collected_more lo hi buf old mid now list i o d l e some is h r s = by_test (o.r
         ∙ blob_other mid o.rank o.slot r s (written (blob_at mid o.rank o.slot) (buffer_cell lo hi buf o).0 (buffer_cell lo hi buf o).1) some f
         ∙ h r s
         ∙ all [] (more false f)
+
+-- some entries, and then others
+pub collected_joined : (lo hi : ℕ) (buf : List ℕ) (first second : List Owned) (old mid now : List (List (List ℕ))) → HasCollected lo hi buf first old mid → HasCollected lo hi buf second mid now
+    → HasCollected lo hi buf (first ++ second) old now
+collected_joined lo hi buf first second old mid now f g r s =
+    g r s
+    ∙ ap (λ (b : List ℕ). write_cells b (cells second)) (f r s)
+    ∙ sym (fold-append (λ f cell. written f cell.0 cell.1) (blob_at old r s) (cells first) (cells second))
+    ∙ ap (λ (cs : List Cell). write_cells (blob_at old r s) cs)
+    (sym (map-append (λ q. buffer_cell lo hi buf q) (of_request r s first) (of_request r s second))
+    ∙ ap (λ (os : List Owned). map (λ q. buffer_cell lo hi buf q) os) (sym (filter_joined (λ (q : Owned). q.rank == r && q.slot == s) first second)))
+  where
+    cells : List Owned → List Cell
+    cells os = map (λ q. buffer_cell lo hi buf q) (of_request r s os)
 
 pub collected_long : (lo hi : ℕ) (buf : List ℕ) (mid now : List (List (List ℕ))) (o : Owned) → o.from + o.extent.len ≤ length (blob_at mid o.rank o.slot)
     → now ≡ with_blob mid o.rank o.slot (written (blob_at mid o.rank o.slot) (buffer_cell lo hi buf o).0 (buffer_cell lo hi buf o).1) → AreAsLong mid now

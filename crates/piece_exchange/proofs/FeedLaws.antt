@@ -8,7 +8,7 @@ use Rattle.list_laws.proofs.Places.{entry_set, entry_set_other}
 use Rattle.nc_base.specs.declared.plan.Owned.{Owned}
 use Rattle.overlay_laws.specs.Entries.{In}
 use Rattle.aggregator_rounds.specs.Pieces.{told_window}
-use Rattle.data_sieving.specs.Serving.{AreBegun, IsPast}
+use Rattle.data_sieving.specs.Serving.{IsPast}
 use Rattle.data_sieving.proofs.PastSteps.{past_later, past_none, past_short}
 use Rattle.piece_exchange.specs.Feeds.{earlier_of, pieces_left_of, turns_left_of, AreApart, FitsInFor, IsAhead, IsFeedOf}
 use Rattle.piece_exchange.specs.Pieces.{pieces_in, pieces_of}
@@ -16,21 +16,19 @@ use Rattle.piece_exchange.specs.Turns.{Told, turns_ahead, IsTurnWalk}
 use Rattle.piece_exchange.specs.declared.walk.Turn.{Turn}
 use Rattle.piece_exchange.specs.declared.walk.TurnWalk.{TurnWalk}
 use Rattle.piece_exchange.proofs.PieceLaws.{pieces_served}
-use Rattle.piece_exchange.specs.Cursor.{AreServed}
+use Rattle.piece_exchange.specs.Cursor.{AreInFront, AreServed}
 use Rattle.piece_exchange.proofs.TurnLaws.{served_ends}
 
 -- ---- one window more
 
-begun_served : (list begun : List Owned) (lo hi : ℕ) → AreBegun hi list begun → AreServed list begun lo hi
-begun_served list begun lo hi b = record { left = list; past = past_none lo list; rest = b.rest; joined = b.joined; later = b.later }
+begun_served : (list begun : List Owned) (lo hi : ℕ) → AreInFront hi list begun → AreServed list begun lo hi
+begun_served list begun lo hi b = record { left = list; past = past_none lo list; front = b }
 
 past_served : (list later : List Owned) (p lo hi : ℕ) → IsPast p list later → p ≤ lo → AreServed list later lo hi
 past_served list later p lo hi h l = record {
   left = later;
   past = past_later p lo list later l h;
-  rest = [];
-  joined = sym (append-nil later);
-  later = λ o m. absurd m;
+  front = record { rest = []; joined = sym (append-nil later); later = λ o m. absurd m };
 }
 
 pieces_past : (ranks p : ℕ) (list later : List Owned) (ts : List Told) → IsPast p list later → ((u : Told) → In ts u → p ≤ u.0)
@@ -41,27 +39,27 @@ pieces_past ranks p list later (t ∷ ts) h l =
     ∙ ap (λ (os : List Owned). pieces_in ranks later t ++ os) (pieces_past ranks p list later ts h (λ u m. l u (inr m)))
 
 -- what is left after a window
-pub left_next : (ranks : ℕ) (next : Option Turn) (w v : TurnWalk) → AreApart (turns_ahead w)
-    → IfNone next (turns_ahead w ≡ []) → IfSome next (λ t. turns_ahead w ≡ told_window t.window ∷ turns_ahead v)
-    → IfSome next (λ t. AreBegun (t.window.hull.at + t.window.hull.len) w.entries.now t.entries.now)
+pub left_next : (ranks : ℕ) (next : Option Turn) (w v : TurnWalk) → AreApart (turns_ahead w.windows)
+    → IfNone next (turns_ahead w.windows ≡ []) → IfSome next (λ t. turns_ahead w.windows ≡ told_window t.window ∷ turns_ahead v.windows)
+    → IfSome next (λ t. AreInFront (t.window.hull.at + t.window.hull.len) w.entries.now t.entries.now)
     → IfSome next (λ t. IsPast (t.window.hull.at + t.window.hull.len) w.entries.now v.entries.now)
-    → pieces_left_of ranks next v ≡ pieces_of ranks w.entries.now (turns_ahead w)
+    → pieces_left_of ranks next v ≡ pieces_of ranks w.entries.now (turns_ahead w.windows)
 left_next ranks None w v apart none some begun past = sym (ap (λ (ts : List Told). pieces_of ranks w.entries.now ts) none)
 left_next ranks (Some t) w v apart none some begun past =
     let told = told_window t.window in
-    let order : AreApart (told ∷ turns_ahead v) = subst (λ (ts : List Told). AreApart ts) some apart in
+    let order : AreApart (told ∷ turns_ahead v.windows) = subst (λ (ts : List Told). AreApart ts) some apart in
     sym (ap (λ (ts : List Told). pieces_of ranks w.entries.now ts) some
-    ∙ (λ i. sym (pieces_served ranks w.entries.now t.entries.now told (begun_served w.entries.now t.entries.now told.0 (told.0 + told.1) begun)) i ++ pieces_of ranks w.entries.now (turns_ahead v))
-    ∙ ap (λ (os : List Owned). pieces_in ranks t.entries.now told ++ os) (pieces_past ranks (told.0 + told.1) w.entries.now v.entries.now (turns_ahead v) past order.0))
+    ∙ (λ i. sym (pieces_served ranks w.entries.now t.entries.now told (begun_served w.entries.now t.entries.now told.0 (told.0 + told.1) begun)) i ++ pieces_of ranks w.entries.now (turns_ahead v.windows))
+    ∙ ap (λ (os : List Owned). pieces_in ranks t.entries.now told ++ os) (pieces_past ranks (told.0 + told.1) w.entries.now v.entries.now (turns_ahead v.windows) past order.0))
 
-pub feed_next : (next : Option Turn) (w v : TurnWalk) → IsTurnWalk w → AreApart (turns_ahead w)
-    → IfSome next (λ _. IsTurnWalk v) → IfSome next (λ t. turns_ahead w ≡ told_window t.window ∷ turns_ahead v)
-    → IfSome next (λ t. AreBegun (t.window.hull.at + t.window.hull.len) w.entries.now t.entries.now)
+pub feed_next : (next : Option Turn) (w v : TurnWalk) → IsTurnWalk w → AreApart (turns_ahead w.windows)
+    → IfSome next (λ _. IsTurnWalk v) → IfSome next (λ t. turns_ahead w.windows ≡ told_window t.window ∷ turns_ahead v.windows)
+    → IfSome next (λ t. AreInFront (t.window.hull.at + t.window.hull.len) w.entries.now t.entries.now)
     → IsFeedOf next v
 feed_next None w v walk apart ready some begun = tt
 feed_next (Some t) w v walk apart ready some begun =
     let told = told_window t.window in
-    let order : AreApart (told ∷ turns_ahead v) = subst (λ (ts : List Told). AreApart ts) some apart in
+    let order : AreApart (told ∷ turns_ahead v.windows) = subst (λ (ts : List Told). AreApart ts) some apart in
     record {
       walk = ready;
       apart = order.1;
@@ -69,15 +67,15 @@ feed_next (Some t) w v walk apart ready some begun =
       limit = walk.limit told (subst (λ (ts : List Told). In ts told) (sym some) (inl refl));
     }
 
-pub fewer_next : (next : Option Turn) (w v : TurnWalk) (t : Told) → IfSome next (λ t. turns_ahead w ≡ told_window t.window ∷ turns_ahead v)
-    → length (turns_left_of next v) < length (t ∷ turns_ahead w)
+pub fewer_next : (next : Option Turn) (w v : TurnWalk) (t : Told) → IfSome next (λ t. turns_ahead w.windows ≡ told_window t.window ∷ turns_ahead v.windows)
+    → length (turns_left_of next v) < length (t ∷ turns_ahead w.windows)
 fewer_next None w v t some = omega arith
 fewer_next (Some u) w v t some = let same = ap (λ (ts : List Told). length ts) some in omega arith
 
 -- ---- room for the entries
 
 pub fits_next : (room : ℕ) (next : Option Turn) (w v : TurnWalk) → length w.entries.now ≤ room
-    → IfSome next (λ t. AreBegun (t.window.hull.at + t.window.hull.len) w.entries.now t.entries.now)
+    → IfSome next (λ t. AreInFront (t.window.hull.at + t.window.hull.len) w.entries.now t.entries.now)
     → IfSome next (λ t. IsPast (t.window.hull.at + t.window.hull.len) w.entries.now v.entries.now)
     → FitsInFor room next v
 fits_next room None w v l begun past = tt
@@ -206,7 +204,7 @@ earlier_none None other e = (refl, e)
 -- ---- one window of one feed
 
 pub fed_next : (ranks : ℕ) (old next : Option Turn) (t : Turn) (w v : TurnWalk) (before now : List Owned) → old ≡ Some t → IsFeedOf old w
-    → now ≡ before ++ pieces_in ranks t.entries.now (told_window t.window) → (AreApart (turns_ahead w) → pieces_left_of ranks next v ≡ pieces_of ranks w.entries.now (turns_ahead w))
+    → now ≡ before ++ pieces_in ranks t.entries.now (told_window t.window) → (AreApart (turns_ahead w.windows) → pieces_left_of ranks next v ≡ pieces_of ranks w.entries.now (turns_ahead w.windows))
     → now ++ pieces_left_of ranks next v ≡ before ++ pieces_left_of ranks old w
 fed_next ranks old next t w v before now is ready put left =
     let ahead : IsAhead t w = subst (λ (o : Option Turn). IsFeedOf o w) is ready in
@@ -216,7 +214,7 @@ fed_next ranks old next t w v before now is ready put left =
     ∙ ap (λ (os : List Owned). before ++ (pieces_in ranks t.entries.now (told_window t.window) ++ os)) (left ahead.apart)
     ∙ sym (ap (λ (o : Option Turn). before ++ pieces_left_of ranks o w) is)
 
-pub fewer_left : (old next : Option Turn) (t : Turn) (w v : TurnWalk) → old ≡ Some t → IfSome next (λ t. turns_ahead w ≡ told_window t.window ∷ turns_ahead v)
+pub fewer_left : (old next : Option Turn) (t : Turn) (w v : TurnWalk) → old ≡ Some t → IfSome next (λ t. turns_ahead w.windows ≡ told_window t.window ∷ turns_ahead v.windows)
     → length (turns_left_of next v) < length (turns_left_of old w)
 fewer_left old next t w v is some =
     subst (λ (o : Option Turn). length (turns_left_of next v) < length (turns_left_of o w)) (sym is) (fewer_next next w v (told_window t.window) some)

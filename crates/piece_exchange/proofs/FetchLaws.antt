@@ -12,26 +12,27 @@ use Rattle.nc_outside.specs.declared.disk.DiskErr.{DiskErr}
 use Rattle.overlay_laws.specs.Changes.{load_calls}
 use Rattle.overlay_laws.specs.Entries.{In}
 use Rattle.serial_spec.specs.File.{read}
+use Rattle.file_domains.specs.Rounds.{IsWalk}
+use Rattle.file_domains.specs.declared.walk.WindowWalk.{WindowWalk}
 use Rattle.piece_exchange.specs.Fetched.{DidAsTold, HasFetched}
 use Rattle.piece_exchange.specs.Gets.{get_turns, reading_of, AreRead, HasGot, IsGetPlan}
 use Rattle.piece_exchange.specs.Hulls.{LieOnPart}
 use Rattle.piece_exchange.specs.Plan.{IsDomainOf}
 use Rattle.piece_exchange.specs.Put.{PartState}
 use Rattle.piece_exchange.specs.Shelves.{domain_of, IsReadSeat}
-use Rattle.piece_exchange.specs.Turns.{Told, turns_ahead, turns_of, IsTurnWalk}
+use Rattle.piece_exchange.specs.Turns.{Told, turns_ahead, turns_of}
 use Rattle.piece_exchange.specs.declared.crew.Word.{Word}
 use Rattle.piece_exchange.specs.declared.gets.reading.Reading.{Reading}
 use Rattle.piece_exchange.specs.declared.gets.reading.Reading.TheVariants.{Hull}
 use Rattle.piece_exchange.specs.declared.gets.starting.ReadSeat.{ReadSeat}
 use Rattle.piece_exchange.specs.declared.plan.GetPlan.{GetPlan}
-use Rattle.piece_exchange.specs.declared.walk.TurnWalk.{TurnWalk}
 use Rattle.piece_exchange.proofs.DomainTurns.{domain_part}
 
 abbrev readings : ℕ → List ℕ → List Told → List Reading
 readings from file ts = map (λ t. reading_of from file t) ts
 
-pub record IsFetching (from len : ℕ) (all : List Told) (w : TurnWalk) (put : List Reading) (held : Option (List ℕ)) (calls made : Option (List DiskCall)) : Type 0 where
-  pub ready : IsTurnWalk w
+pub record IsFetching (from len : ℕ) (all : List Told) (w : WindowWalk) (put : List Reading) (held : Option (List ℕ)) (calls made : Option (List DiskCall)) : Type 0 where
+  pub ready : IsWalk w
   pub on_part : LieOnPart from len (turns_ahead w)
   pub many : length put + length (turns_ahead w) ≡ length all
   pub read : IfSome held (λ file. put ++ readings from file (turns_ahead w) ≡ readings from file all)
@@ -41,7 +42,7 @@ pub get_on : (list : List Owned) (cover : List Extent) (size from len : ℕ) (do
     → LieOnPart from len (turns_of size domain cover)
 get_on list cover size from len domain p d = λ t m. domain_part size domain cover from len p.some p.covers d.low d.high t m
 
-pub fetch_begin : (from len : ℕ) (all : List Told) (w : TurnWalk) (put : List Reading) (held : Option (List ℕ)) (calls : Option (List DiskCall)) → IsTurnWalk w → turns_ahead w ≡ all
+pub fetch_begin : (from len : ℕ) (all : List Told) (w : WindowWalk) (put : List Reading) (held : Option (List ℕ)) (calls : Option (List DiskCall)) → IsWalk w → turns_ahead w ≡ all
     → LieOnPart from len all → put ≡ [] → IsFetching from len all w put held calls calls
 fetch_begin from len all w put held calls ready ahead on none = record {
   ready = ready;
@@ -55,22 +56,22 @@ fetch_begin from len all w put held calls ready ahead on none = record {
     by_held None = tt
     by_held (Some file) = ap (λ (rs : List Reading). rs ++ readings from file (turns_ahead w)) none ∙ ap (λ (ts : List Told). readings from file ts) ahead
 
-ahead_on : (from len : ℕ) (all : List Told) (w v : TurnWalk) (t : Told) (put : List Reading) (held : Option (List ℕ)) (calls made : Option (List DiskCall))
+ahead_on : (from len : ℕ) (all : List Told) (w v : WindowWalk) (t : Told) (put : List Reading) (held : Option (List ℕ)) (calls made : Option (List DiskCall))
     → IsFetching from len all w put held calls made → turns_ahead w ≡ t ∷ turns_ahead v → (from ≤ t.0) × (t.0 + t.1 ≤ from + len)
 ahead_on from len all w v t put held calls made s e = s.on_part t (subst (λ (ts : List Told). In ts t) (sym e) (inl refl))
 
 -- where the next window lies
-pub fetch_low : (from here len : ℕ) (all : List Told) (w v : TurnWalk) (t : Told) (put : List Reading) (held : Option (List ℕ)) (calls made : Option (List DiskCall))
+pub fetch_low : (from here len : ℕ) (all : List Told) (w v : WindowWalk) (t : Told) (put : List Reading) (held : Option (List ℕ)) (calls made : Option (List DiskCall))
     → IsFetching from len all w put held calls made → turns_ahead w ≡ t ∷ turns_ahead v → here ≡ from → here ≤ t.0
 fetch_low from here len all w v t put held calls made s e same = let on = (ahead_on from len all w v t put held calls made s e).0 in omega arith
 
-pub fetch_high : (from here len long : ℕ) (all : List Told) (w v : TurnWalk) (t : Told) (put : List Reading) (held : Option (List ℕ)) (calls made : Option (List DiskCall))
+pub fetch_high : (from here len long : ℕ) (all : List Told) (w v : WindowWalk) (t : Told) (put : List Reading) (held : Option (List ℕ)) (calls made : Option (List DiskCall))
     → IsFetching from len all w put held calls made → turns_ahead w ≡ t ∷ turns_ahead v → here ≡ from → long ≡ len → t.0 + t.1 ≤ here + long
 fetch_high from here len long all w v t put held calls made s e same last = let on = (ahead_on from len all w v t put held calls made s e).1 in omega arith
 
 -- one window more
-pub fetch_next : (from here len : ℕ) (all : List Told) (w v : TurnWalk) (t : Told) (put now : List Reading) (hull : List ℕ) (held told : Option (List ℕ)) (calls made drawn : Option (List DiskCall))
-    → IsFetching from len all w put held calls made → turns_ahead w ≡ t ∷ turns_ahead v → IsTurnWalk v → now ≡ put ++ Hull hull ∷ []
+pub fetch_next : (from here len : ℕ) (all : List Told) (w v : WindowWalk) (t : Told) (put now : List Reading) (hull : List ℕ) (held told : Option (List ℕ)) (calls made drawn : Option (List DiskCall))
+    → IsFetching from len all w put held calls made → turns_ahead w ≡ t ∷ turns_ahead v → IsWalk v → now ≡ put ++ Hull hull ∷ []
     → here ≡ from → told ≡ held → IfSome told (λ file. hull ≡ read file (t.0 - here) t.1) → drawn ≡ with_end made (load_calls t) → IsFetching from len all v now held calls drawn
 fetch_next from here len all w v t put now hull held told calls made drawn s e ready more same kept got device = record {
   ready = ready;
@@ -100,7 +101,7 @@ fetch_next from here len all w v t put now hull held told calls made drawn s e r
         ∙ sym (ap (λ (ts : List Told). put ++ readings from file ts) e)
         ∙ r
 
-pub fetch_end : (from len : ℕ) (all : List Told) (w : TurnWalk) (put : List Reading) (held : Option (List ℕ)) (calls made : Option (List DiskCall)) → IsFetching from len all w put held calls made
+pub fetch_end : (from len : ℕ) (all : List Told) (w : WindowWalk) (put : List Reading) (held : Option (List ℕ)) (calls made : Option (List DiskCall)) → IsFetching from len all w put held calls made
     → turns_ahead w ≡ [] → (length put ≡ length all) × IfSome held (λ file. put ≡ readings from file all) × (made ≡ with_end calls (flat_map load_calls all))
 fetch_end from len all w put held calls made s none = (
   (let a = ap (λ (ts : List Told). length ts) none in let b = s.many in omega arith),

@@ -7,19 +7,19 @@ use Rattle.nc_outside.specs.Told.{after, with_end, BothTold}
 use Rattle.serial_spec.specs.Said.{said_by, IsOneValued}
 use Rattle.overlay_laws.specs.Changes.{store_calls, IsBetween}
 use Rattle.overlay_laws.specs.Entries.{In, Source, cell_of}
-use Rattle.data_sieving.specs.Serving.{AreBegun, IsPast}
+use Rattle.data_sieving.specs.Serving.{IsPast}
 use Rattle.data_sieving.proofs.PutSteps.{covered_place}
 use Rattle.piece_exchange.specs.declared.walk.TurnWalk.{TurnWalk}
 use Rattle.piece_exchange.specs.Pieces.{ArePieces}
 use Rattle.piece_exchange.specs.Put.{put_part}
 use Rattle.piece_exchange.specs.Taken.{cells_in, put_window, IsFilledBy}
 use Rattle.piece_exchange.specs.Turns.{Told, turns_ahead, IsTurnWalk}
-use Rattle.piece_exchange.specs.Hulls.{AreTurns, HaveWindows, IsTurn, LieOnPart}
+use Rattle.piece_exchange.specs.Hulls.{HaveWindows, IsTurn, LieOnPart}
 use Rattle.piece_exchange.proofs.PieceLaws.{pieces_found}
 use Rattle.piece_exchange.proofs.PutLaws.{IsPutSoFar, told_begin, told_between, told_end, told_more, told_next}
 use Rattle.piece_exchange.proofs.ServeLaws.{calls_more, calls_none}
-use Rattle.piece_exchange.specs.Cursor.{AreServed, IsAt}
-use Rattle.piece_exchange.proofs.TurnLaws.{at_begin, at_next, served_are, served_covered, served_now, served_picked}
+use Rattle.piece_exchange.specs.Cursor.{AreInFront, AreServed, IsAt}
+use Rattle.piece_exchange.proofs.TurnLaws.{at_next, served_are, served_covered, served_now, served_picked}
 
 -- the entries that may have bytes in a window fill it
 pub served_filled : (source : Source) (list begun : List Owned) (room : ℕ) (t : Told) → AreServed list begun t.0 (t.0 + t.1) → ArePieces source list → IsTurn list room t
@@ -29,51 +29,54 @@ served_filled source list begun room t s pieces turn f x l h =
     (served_covered list begun t.0 (t.0 + t.1) x s l h (turn.full f x l h))
 
 pub record IsInTurn (source : Source) (from len room : ℕ) (list : List Owned) (all : List Told) (w : TurnWalk) (held now : Option (List ℕ)) (calls made : Option (List DiskCall)) : Type 0 where
-  pub here : IsAt list room w
-  pub on_part : LieOnPart from len (turns_ahead w)
-  pub bytes : BothTold (λ old left. IsPutSoFar source list from (turns_ahead w) old left) held now
-  pub device : with_end made (flat_map store_calls (turns_ahead w)) ≡ with_end calls (flat_map store_calls all)
+  pub ready : IsTurnWalk w
+  pub here : IsAt list room (turns_ahead w.windows) w.entries.now
+  pub on_part : LieOnPart from len (turns_ahead w.windows)
+  pub bytes : BothTold (λ old left. IsPutSoFar source list from (turns_ahead w.windows) old left) held now
+  pub device : with_end made (flat_map store_calls (turns_ahead w.windows)) ≡ with_end calls (flat_map store_calls all)
 
 pub in_turn_begin : (source : Source) (from len room : ℕ) (list : List Owned) (all : List Told) (w : TurnWalk) (held : Option (List ℕ)) (calls : Option (List DiskCall))
-    → IsTurnWalk w → w.entries.now ≡ list → turns_ahead w ≡ all → AreTurns list room all → LieOnPart from len all → HaveWindows from len list all
+    → IsTurnWalk w → IsAt list room (turns_ahead w.windows) w.entries.now → turns_ahead w.windows ≡ all → LieOnPart from len all → HaveWindows from len list all
     → IfSome held (λ file. length file ≡ len) → IsInTurn source from len room list all w held held calls calls
-in_turn_begin source from len room list all w held calls ready entries ahead turns on windows told = record {
-  here = at_begin list room w ready entries (subst (λ (ts : List Told). AreTurns list room ts) (sym ahead) turns);
+in_turn_begin source from len room list all w held calls ready at ahead on windows told = record {
+  ready = ready;
+  here = at;
   on_part = subst (λ (ts : List Told). LieOnPart from len ts) (sym ahead) on;
-  bytes = told_begin source list from len (turns_ahead w) held told (subst (λ (ts : List Told). HaveWindows from len list ts) (sym ahead) windows);
+  bytes = told_begin source list from len (turns_ahead w.windows) held told (subst (λ (ts : List Told). HaveWindows from len list ts) (sym ahead) windows);
   device = ap (λ (ts : List Told). with_end calls (flat_map store_calls ts)) ahead;
 }
 
-ahead_on : (from len : ℕ) (w v : TurnWalk) (t : Told) → LieOnPart from len (turns_ahead w) → turns_ahead w ≡ t ∷ turns_ahead v → (from ≤ t.0) × (t.0 + t.1 ≤ from + len)
+ahead_on : (from len : ℕ) (w v : TurnWalk) (t : Told) → LieOnPart from len (turns_ahead w.windows) → turns_ahead w.windows ≡ t ∷ turns_ahead v.windows → (from ≤ t.0) × (t.0 + t.1 ≤ from + len)
 ahead_on from len w v t on e = on t (subst (λ (ts : List Told). In ts t) (sym e) (inl refl))
 
 pub in_turn_next : (source : Source) (from len room : ℕ) (list begun : List Owned) (all : List Told) (w v : TurnWalk) (t : Told) (held mid now : Option (List ℕ)) (calls made drawn : Option (List DiskCall))
     → IfSome held (λ file. length file ≡ len) → IsOneValued (said_by (map (λ o. cell_of source o) list)) → IsInTurn source from len room list all w held mid calls made
-    → turns_ahead w ≡ t ∷ turns_ahead v → IsTurnWalk v → AreBegun (t.0 + t.1) w.entries.now begun → IsPast (t.0 + t.1) w.entries.now v.entries.now
+    → turns_ahead w.windows ≡ t ∷ turns_ahead v.windows → IsTurnWalk v → AreInFront (t.0 + t.1) w.entries.now begun → IsPast (t.0 + t.1) w.entries.now v.entries.now
     → now ≡ after (put_window source from t begun) mid → drawn ≡ with_end made (store_calls t) → IsInTurn source from len room list all v held now calls drawn
 in_turn_next source from len room list begun all w v t held mid now calls made drawn told one s e ready b past put device =
     let on = ahead_on from len w v t s.on_part e in
-    let served = served_now list room w v t begun s.here e b in
+    let served = served_now list w.entries.now begun room (turns_ahead w.windows) (turns_ahead v.windows) t s.here e b in
     record {
-      here = at_next list room w v t s.here e ready past;
+      ready = ready;
+      here = at_next list w.entries.now v.entries.now room (turns_ahead w.windows) (turns_ahead v.windows) t s.here e past;
       on_part = λ u m. s.on_part u (subst (λ (ts : List Told). In ts u) (sym e) (inr m));
-      bytes = told_next source list begun from len t (turns_ahead v) held mid now told one (served_picked list begun t served) on.0 on.1
+      bytes = told_next source list begun from len t (turns_ahead v.windows) held mid now told one (served_picked list begun t served) on.0 on.1
           (subst (λ (ts : List Told). BothTold (λ old left. IsPutSoFar source list from ts old left) held mid) e s.bytes) put;
-      device = calls_more t (turns_ahead v) made drawn device ∙ sym (ap (λ (ts : List Told). with_end made (flat_map store_calls ts)) e) ∙ s.device;
+      device = calls_more t (turns_ahead v.windows) made drawn device ∙ sym (ap (λ (ts : List Told). with_end made (flat_map store_calls ts)) e) ∙ s.device;
     }
 
 -- a window that was cut off
 pub in_turn_cut : (source : Source) (from len room : ℕ) (list begun : List Owned) (all : List Told) (w v : TurnWalk) (t : Told) (held mid now : Option (List ℕ)) (calls made : Option (List DiskCall))
     → IfSome held (λ file. length file ≡ len) → IsOneValued (said_by (map (λ o. cell_of source o) list)) → IsInTurn source from len room list all w held mid calls made
-    → turns_ahead w ≡ t ∷ turns_ahead v → AreBegun (t.0 + t.1) w.entries.now begun
+    → turns_ahead w.windows ≡ t ∷ turns_ahead v.windows → AreInFront (t.0 + t.1) w.entries.now begun
     → BothTold (λ old left. IsBetween old (put_window source from t begun old) left) mid now → BothTold (λ old left. IsBetween old (put_part source list from old) left) held now
 in_turn_cut source from len room list begun all w v t held mid now calls made told one s e b put =
     let on = ahead_on from len w v t s.on_part e in
-    let served = served_now list room w v t begun s.here e b in
-    told_more source list begun from len t held mid now told one (served_picked list begun t served) on.0 on.1 (told_between source list from (turns_ahead w) held mid s.bytes) put
+    let served = served_now list w.entries.now begun room (turns_ahead w.windows) (turns_ahead v.windows) t s.here e b in
+    told_more source list begun from len t held mid now told one (served_picked list begun t served) on.0 on.1 (told_between source list from (turns_ahead w.windows) held mid s.bytes) put
 
 pub in_turn_end : (source : Source) (from len room : ℕ) (list : List Owned) (all : List Told) (w : TurnWalk) (held now : Option (List ℕ)) (calls made : Option (List DiskCall))
-    → IsInTurn source from len room list all w held now calls made → turns_ahead w ≡ [] → (now ≡ after (put_part source list from) held) × (made ≡ with_end calls (flat_map store_calls all))
+    → IsInTurn source from len room list all w held now calls made → turns_ahead w.windows ≡ [] → (now ≡ after (put_part source list from) held) × (made ≡ with_end calls (flat_map store_calls all))
 in_turn_end source from len room list all w held now calls made s none = (
   told_end source list from held now (subst (λ (ts : List Told). BothTold (λ old left. IsPutSoFar source list from ts old left) held now) none s.bytes),
   sym (ap (λ (ts : List Told). with_end made (flat_map store_calls ts)) none ∙ calls_none made) ∙ s.device,
@@ -81,4 +84,4 @@ in_turn_end source from len room list all w held now calls made s none = (
 
 pub in_turn_whole : (source : Source) (from len room : ℕ) (list : List Owned) (all : List Told) (w : TurnWalk) (held now : Option (List ℕ)) (calls made : Option (List DiskCall))
     → IsInTurn source from len room list all w held now calls made → BothTold (λ old left. IsBetween old (put_part source list from old) left) held now
-in_turn_whole source from len room list all w held now calls made s = told_between source list from (turns_ahead w) held now s.bytes
+in_turn_whole source from len room list all w held now calls made s = told_between source list from (turns_ahead w.windows) held now s.bytes

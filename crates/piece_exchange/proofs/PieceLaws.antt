@@ -47,9 +47,9 @@ flat_same f g (x ∷ xs) h = (λ i. h x i ++ flat_map f xs) ∙ ap (λ r. g x ++
 rank_served : (list begun : List Owned) (lo hi r : ℕ) → AreServed list begun lo hi → of_rank lo hi r begun ≡ of_rank lo hi r list
 rank_served list begun lo hi r s =
     sym (past_same t lo list s.left (λ o e. and_false (o.rank == r) (meets lo hi o) (ended_out lo hi o e)) s.past
-    ∙ ap (λ (es : List Owned). filter t es) s.joined
-    ∙ filter-append t begun s.rest
-    ∙ ap (λ (es : List Owned). filter t begun ++ es) (filter_none t s.rest (λ o m. and_false (o.rank == r) (meets lo hi o) (later_out lo hi o (s.later o m))))
+    ∙ ap (λ (es : List Owned). filter t es) s.front.joined
+    ∙ filter-append t begun s.front.rest
+    ∙ ap (λ (es : List Owned). filter t begun ++ es) (filter_none t s.front.rest (λ o m. and_false (o.rank == r) (meets lo hi o) (later_out lo hi o (s.front.later o m))))
     ∙ append-nil (filter t begun))
   where
     t : Owned → Bool

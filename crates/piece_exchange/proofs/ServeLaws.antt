@@ -8,19 +8,19 @@ use Rattle.nc_outside.specs.Told.{after, with_end, BothTold}
 use Rattle.serial_spec.specs.Said.{said_by, IsOneValued}
 use Rattle.overlay_laws.specs.Changes.{store_calls, IsBetween}
 use Rattle.overlay_laws.specs.Entries.{In, Source, cell_of}
-use Rattle.data_sieving.specs.Serving.{AreBegun, IsPast}
+use Rattle.data_sieving.specs.Serving.{IsPast}
 use Rattle.data_sieving.proofs.PutSteps.{covered_place}
 use Rattle.piece_exchange.specs.declared.walk.TurnWalk.{TurnWalk}
 use Rattle.piece_exchange.specs.Pieces.{pieces_in, pieces_of, ArePieces}
 use Rattle.piece_exchange.specs.Put.{put_part}
 use Rattle.piece_exchange.specs.Taken.{cells_in, put_window, HasPutTaken, HasTaken, IsFilledBy}
 use Rattle.piece_exchange.specs.Turns.{Told, turns_ahead, IsTurnWalk}
-use Rattle.piece_exchange.specs.Hulls.{AreTurns, HaveWindows, IsTurn, LieOnPart}
+use Rattle.piece_exchange.specs.Hulls.{HaveWindows, IsTurn, LieOnPart}
 use Rattle.piece_exchange.proofs.PieceLaws.{pieces_are, pieces_covered, pieces_found, pieces_picked, pieces_served}
 use Rattle.piece_exchange.proofs.PutLaws.{IsPutSoFar, told_begin, told_end, told_more, told_next, told_nothing}
 use Rattle.piece_exchange.proofs.TakenLaws.{append_parts}
-use Rattle.piece_exchange.specs.Cursor.{IsAt}
-use Rattle.piece_exchange.proofs.TurnLaws.{at_begin, at_next, served_now, turn_now}
+use Rattle.piece_exchange.specs.Cursor.{AreInFront, IsAt}
+use Rattle.piece_exchange.proofs.TurnLaws.{at_next, served_now, turn_now}
 
 -- ---- calls
 
@@ -53,26 +53,28 @@ pieces_filled source ranks room list t pieces below turn f x l h =
 
 pub record IsServed {T E : Type 0} (source : Source) (from len ranks room : ℕ) (list : List Owned) (all : List Told) (w : TurnWalk) (taken : List Owned)
     (held now : Option (List ℕ)) (calls made : Option (List DiskCall)) (end : Result T E) : Type 0 where
-  pub here : IsAt list room w
-  pub on_part : LieOnPart from len (turns_ahead w)
+  pub ready : IsTurnWalk w
+  pub here : IsAt list room (turns_ahead w.windows) w.entries.now
+  pub on_part : LieOnPart from len (turns_ahead w.windows)
   pub done : List Owned
-  pub whole : pieces_of ranks list all ≡ done ++ pieces_of ranks list (turns_ahead w)
+  pub whole : pieces_of ranks list all ≡ done ++ pieces_of ranks list (turns_ahead w.windows)
   pub many : length taken ≡ length done
   pub between : taken ≡ done → BothTold (λ old left. IsBetween old (put_part source list from old) left) held now
-  pub bytes : OnOk end (taken ≡ done → BothTold (λ old left. IsPutSoFar source list from (turns_ahead w) old left) held now)
-  pub device : OnOk end (with_end made (flat_map store_calls (turns_ahead w)) ≡ with_end calls (flat_map store_calls all))
+  pub bytes : OnOk end (taken ≡ done → BothTold (λ old left. IsPutSoFar source list from (turns_ahead w.windows) old left) held now)
+  pub device : OnOk end (with_end made (flat_map store_calls (turns_ahead w.windows)) ≡ with_end calls (flat_map store_calls all))
 
 pub served_begin : {T E : Type 0} (source : Source) (from len ranks room : ℕ) (list : List Owned) (all : List Told) (w : TurnWalk) (taken : List Owned) (held : Option (List ℕ))
-    (calls : Option (List DiskCall)) (x : T) → IsTurnWalk w → w.entries.now ≡ list → turns_ahead w ≡ all → AreTurns list room all → LieOnPart from len all → HaveWindows from len list all
+    (calls : Option (List DiskCall)) (x : T) → IsTurnWalk w → IsAt list room (turns_ahead w.windows) w.entries.now → turns_ahead w.windows ≡ all → LieOnPart from len all → HaveWindows from len list all
     → IfSome held (λ file. length file ≡ len) → taken ≡ [] → IsServed {E = E} source from len ranks room list all w taken held held calls calls (Ok x)
-served_begin source from len ranks room list all w taken held calls x ready entries ahead turns on windows told none = record {
-  here = at_begin list room w ready entries (subst (λ (ts : List Told). AreTurns list room ts) (sym ahead) turns);
+served_begin source from len ranks room list all w taken held calls x ready at ahead on windows told none = record {
+  ready = ready;
+  here = at;
   on_part = subst (λ (ts : List Told). LieOnPart from len ts) (sym ahead) on;
   done = [];
   whole = sym (ap (λ (ts : List Told). pieces_of ranks list ts) ahead);
   many = ap (λ (os : List Owned). length os) none;
   between = λ e. told_nothing held (put_part source list from);
-  bytes = λ e. told_begin source list from len (turns_ahead w) held told (subst (λ (ts : List Told). HaveWindows from len list ts) (sym ahead) windows);
+  bytes = λ e. told_begin source list from len (turns_ahead w.windows) held told (subst (λ (ts : List Told). HaveWindows from len list ts) (sym ahead) windows);
   device = ap (λ (ts : List Told). with_end calls (flat_map store_calls ts)) ahead;
 }
 
@@ -146,28 +148,29 @@ next_calls t ts whole calls made drawn before (Err y) ok device b = tt
 pub served_next : {T E : Type 0} (source : Source) (from len ranks room count : ℕ) (list begun : List Owned) (all : List Told) (w v : TurnWalk) (t : Told) (taken more : List Owned)
     (held mid now : Option (List ℕ)) (calls made drawn : Option (List DiskCall)) (before end : Result T E)
     → IsGiven source ranks list from len held → IsServed source from len ranks room list all w taken held mid calls made before
-    → turns_ahead w ≡ t ∷ turns_ahead v → IsTurnWalk v → AreBegun (t.0 + t.1) w.entries.now begun → IsPast (t.0 + t.1) w.entries.now v.entries.now
+    → turns_ahead w.windows ≡ t ∷ turns_ahead v.windows → IsTurnWalk v → AreInFront (t.0 + t.1) w.entries.now begun → IsPast (t.0 + t.1) w.entries.now v.entries.now
     → count ≡ length (pieces_in ranks begun t) → DidTurn source from count t taken more mid now made drawn before end
     → IsServed source from len ranks room list all v more held now calls drawn end
 served_next source from len ranks room count list begun all w v t taken more held mid now calls made drawn before end given s e ready b past counts d =
-    let turn = turn_now list room w v t s.here e in
+    let turn = turn_now list w.entries.now room (turns_ahead w.windows) (turns_ahead v.windows) t s.here e in
     let on = s.on_part t (subst (λ (ts : List Told). In ts t) (sym e) (inl refl)) in
-    let same = ap (λ (os : List Owned). length os) (pieces_served ranks list begun t (served_now list room w v t begun s.here e b)) in
+    let same = ap (λ (os : List Owned). length os) (pieces_served ranks list begun t (served_now list w.entries.now begun room (turns_ahead w.windows) (turns_ahead v.windows) t s.here e b)) in
     let a = length-append taken d.took.got in
     let c = length-append s.done (pieces_in ranks list t) in
     let long : length more ≡ length (taken ++ d.took.got) = ap (λ (os : List Owned). length os) d.took.taken in
     let many = s.many in
     let got = d.took.many in
     record {
-      here = at_next list room w v t s.here e ready past;
+      ready = ready;
+      here = at_next list w.entries.now v.entries.now room (turns_ahead w.windows) (turns_ahead v.windows) t s.here e past;
       on_part = λ u m. s.on_part u (subst (λ (ts : List Told). In ts u) (sym e) (inr m));
       done = s.done ++ pieces_in ranks list t;
-      whole = s.whole ∙ ap (λ (ts : List Told). s.done ++ pieces_of ranks list ts) e ∙ sym (append_assoc s.done (pieces_in ranks list t) (pieces_of ranks list (turns_ahead v)));
+      whole = s.whole ∙ ap (λ (ts : List Told). s.done ++ pieces_of ranks list ts) e ∙ sym (append_assoc s.done (pieces_in ranks list t) (pieces_of ranks list (turns_ahead v.windows)));
       many = omega arith;
       between = next_between source from len ranks room count list t s.done taken more held mid now made drawn before end given turn on.0 on.1 s.many d s.between;
-      bytes = next_bytes source from len ranks room count list t (turns_ahead v) s.done taken more held mid now made drawn before end given turn on.0 on.1 s.many d
+      bytes = next_bytes source from len ranks room count list t (turns_ahead v.windows) s.done taken more held mid now made drawn before end given turn on.0 on.1 s.many d
           (subst (λ (ts : List Told). OnOk before (taken ≡ s.done → BothTold (λ old left. IsPutSoFar source list from ts old left) held mid)) e s.bytes);
-      device = next_calls t (turns_ahead v) (with_end calls (flat_map store_calls all)) calls made drawn before end d.ok d.device
+      device = next_calls t (turns_ahead v.windows) (with_end calls (flat_map store_calls all)) calls made drawn before end d.ok d.device
           (subst (λ (ts : List Told). OnOk before (with_end made (flat_map store_calls ts) ≡ with_end calls (flat_map store_calls all))) e s.device);
     }
 
@@ -190,12 +193,12 @@ calls_end ts whole made (Err x) none b = tt
 
 pub served_end : {T E : Type 0} (source : Source) (from len ranks room : ℕ) (list : List Owned) (all : List Told) (w : TurnWalk) (taken : List Owned)
     (held now : Option (List ℕ)) (calls made : Option (List DiskCall)) (end : Result T E)
-    → IsServed source from len ranks room list all w taken held now calls made end → turns_ahead w ≡ [] → IsThrough source from ranks list all taken held now calls made end
+    → IsServed source from len ranks room list all w taken held now calls made end → turns_ahead w.windows ≡ [] → IsThrough source from ranks list all taken held now calls made end
 served_end source from len ranks room list all w taken held now calls made end s none =
     let whole : pieces_of ranks list all ≡ s.done = s.whole ∙ ap (λ (ts : List Told). s.done ++ pieces_of ranks list ts) none ∙ append-nil s.done in
     record {
       many = s.many ∙ sym (ap (λ (os : List Owned). length os) whole);
       between = λ e. s.between (e ∙ whole);
-      bytes = λ e. bytes_end source from list taken s.done (turns_ahead w) held now end none (e ∙ whole) s.bytes;
-      device = calls_end (turns_ahead w) (with_end calls (flat_map store_calls all)) made end none s.device;
+      bytes = λ e. bytes_end source from list taken s.done (turns_ahead w.windows) held now end none (e ∙ whole) s.bytes;
+      device = calls_end (turns_ahead w.windows) (with_end calls (flat_map store_calls all)) made end none s.device;
     }

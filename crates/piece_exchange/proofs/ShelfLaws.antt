@@ -1,38 +1,36 @@
--- The next window of a part, whose hull is to be taken, and the walk behind it.
-use Rattle.std.proofs.Common.{◌≡◌, ℕ, ◌+◌, ◌^◌, sym, subst, List, [], ◌∷◌, Option, Some, None}
+-- The next window of a part, whose hull is to be taken, and what is left behind it.
+use Rattle.std.proofs.Common.{◌≡◌, ℕ, ◌<◌, sym, ap, subst, List, [], ◌∷◌, length, Option, Some, None, arith}
 use Rattle.std.specs.Prelude.{IfSome, IfNone}
 use Rattle.nc_base.specs.declared.plan.Owned.{Owned}
-use Rattle.overlay_laws.specs.Lines.{extents, EndBelow}
+use Rattle.file_domains.specs.Rounds.{IsWalk}
+use Rattle.file_domains.specs.declared.walk.Window.{Window}
+use Rattle.file_domains.specs.declared.walk.WindowWalk.{WindowWalk}
 use Rattle.aggregator_rounds.specs.Pieces.{told_window}
-use Rattle.data_sieving.specs.Serving.{AreBegun, IsPast}
+use Rattle.data_sieving.specs.Serving.{entries_left}
 use Rattle.piece_exchange.specs.Cursor.{IsAt}
-use Rattle.piece_exchange.specs.Feeds.{turns_left_of}
-use Rattle.piece_exchange.specs.Hulls.{AreTurns}
-use Rattle.piece_exchange.specs.Shelves.{IsShelfOf}
-use Rattle.piece_exchange.specs.Turns.{Told, turns_ahead, IsTurnWalk}
-use Rattle.piece_exchange.specs.declared.walk.Turn.{Turn}
-use Rattle.piece_exchange.specs.declared.walk.TurnWalk.{TurnWalk}
-use Rattle.piece_exchange.proofs.TurnLaws.{at_next, served_now, turn_end, turn_now}
+use Rattle.piece_exchange.specs.Shelves.{turns_due_of, IsShelfOf}
+use Rattle.piece_exchange.specs.Turns.{Told, turns_ahead}
+use Rattle.piece_exchange.specs.declared.gets.walk.ReadWalk.{ReadWalk}
 
-pub shelf_next : (list : List Owned) (room : ℕ) (next : Option Turn) (w v : TurnWalk) → EndBelow (2 ^ 62) (extents list) → IsAt list room w
-    → IfSome next (λ _. IsTurnWalk v) → IfSome next (λ t. turns_ahead w ≡ told_window t.window ∷ turns_ahead v)
-    → IfSome next (λ t. AreBegun (t.window.hull.at + t.window.hull.len) w.entries.now t.entries.now)
-    → IfSome next (λ t. IsPast (t.window.hull.at + t.window.hull.len) w.entries.now v.entries.now)
-    → IsShelfOf list room next v
-shelf_next list room None w v ends a ready some begun past = tt
-shelf_next list room (Some t) w v ends a ready some begun past =
-    let told = told_window t.window in
-    let turn = turn_now list room w v told a some in
-    let turns : AreTurns list room (told ∷ turns_ahead v) = subst (λ (ts : List Told). AreTurns list room ts) some a.turns in
-    record {
-      at = at_next list room w v told a some ready past;
-      turn = turn;
-      served = served_now list room w v told t.entries.now a some begun;
-      apart = turns.1;
-      limit = turn_end list room told ends turn;
-    }
+-- the first window
+pub shelf_first : (list left : List Owned) (room : ℕ) (next : Option Window) (ahead : List Told) (walk : ReadWalk) → IsAt list room ahead left → entries_left walk.entries ≡ left
+    → IfSome next (λ _. IsWalk walk.windows) → IfSome next (λ w. ahead ≡ told_window w ∷ turns_ahead walk.windows) → IsShelfOf list room next walk
+shelf_first list left room None ahead walk a same ready some = tt
+shelf_first list left room (Some w) ahead walk a same ready some = record {
+  ready = ready;
+  at = subst (λ (os : List Owned). IsAt list room (told_window w ∷ turns_ahead walk.windows) os) (sym same) (subst (λ (ts : List Told). IsAt list room ts left) some a);
+}
 
-pub due_next : (next : Option Turn) (w v : TurnWalk) → IfNone next (turns_ahead w ≡ []) → IfSome next (λ t. turns_ahead w ≡ told_window t.window ∷ turns_ahead v)
-    → turns_left_of next v ≡ turns_ahead w
-due_next None w v none some = sym none
-due_next (Some t) w v none some = sym some
+pub due_next : (next : Option Window) (ahead : List Told) (rest : WindowWalk) → IfNone next (ahead ≡ []) → IfSome next (λ w. ahead ≡ told_window w ∷ turns_ahead rest) → turns_due_of next rest ≡ ahead
+due_next None ahead rest none some = sym none
+due_next (Some w) ahead rest none some = sym some
+
+fewer_next : (next : Option Window) (t : Told) (ahead : List Told) (rest : WindowWalk) → IfSome next (λ w. ahead ≡ told_window w ∷ turns_ahead rest)
+    → length (turns_due_of next rest) < length (t ∷ ahead)
+fewer_next None t ahead rest some = omega arith
+fewer_next (Some w) t ahead rest some = let same = ap (λ (ts : List Told). length ts) some in omega arith
+
+pub fewer_due : (old next : Option Window) (w : Window) (before rest : WindowWalk) → old ≡ Some w → IfSome next (λ u. turns_ahead before ≡ told_window u ∷ turns_ahead rest)
+    → length (turns_due_of next rest) < length (turns_due_of old before)
+fewer_due old next w before rest is some =
+    subst (λ (o : Option Window). length (turns_due_of next rest) < length (turns_due_of o before)) (sym is) (fewer_next next (told_window w) (turns_ahead before) rest some)

@@ -3,14 +3,14 @@ use Rattle.std.proofs.Common.{◌≡◌, ℕ, ◌+◌, ◌^◌, ◌<◌, ◌≤�
 use Rattle.nc_base.specs.declared.plan.Extent.{Extent}
 use Rattle.nc_base.specs.declared.plan.Owned.{Owned}
 use Rattle.overlay_laws.specs.Entries.{In, Source}
-use Rattle.overlay_laws.specs.Lines.{extents, EndBelow}
-use Rattle.overlay_laws.proofs.HullLaws.{in_left, in_right, in_either}
+use Rattle.overlay_laws.specs.Lines.{extents, EndBelow, IsByPlace}
+use Rattle.overlay_laws.proofs.HullLaws.{in_left, in_either}
 use Rattle.data_sieving.specs.Serving.{IsCovered, AreBegun, IsPast}
-use Rattle.data_sieving.proofs.PastSteps.{past_in, past_kept, past_later, past_none, past_twice}
-use Rattle.piece_exchange.specs.Cursor.{AreServed, IsAt}
-use Rattle.piece_exchange.specs.declared.walk.TurnWalk.{TurnWalk}
+use Rattle.data_sieving.specs.Sieving.{AreFilled}
+use Rattle.data_sieving.proofs.PastSteps.{past_extents, past_in, past_kept, past_later, past_sorted, past_twice}
+use Rattle.piece_exchange.specs.Cursor.{AreInFront, AreServed, IsAt}
 use Rattle.piece_exchange.specs.Pieces.{ArePieces}
-use Rattle.piece_exchange.specs.Turns.{Told, turns_ahead, IsTurnWalk}
+use Rattle.piece_exchange.specs.Turns.{Told}
 use Rattle.piece_exchange.specs.Hulls.{AreTurns, IsTurn, LieOnPart}
 use Rattle.piece_exchange.proofs.PutLaws.{ArePicked}
 use Rattle.overlay_laws.proofs.EntryLaws.{in_extents}
@@ -30,47 +30,62 @@ turn_in list room (u ∷ ts) t h (inr m) = turn_in list room ts t h.2 m
 
 -- ---- the entries
 
-pub at_begin : (list : List Owned) (room : ℕ) (w : TurnWalk) → IsTurnWalk w → w.entries.now ≡ list → AreTurns list room (turns_ahead w) → IsAt list room w
-at_begin list room w ready e turns = record {
-  ready = ready;
-  past = λ t m. subst (λ (l : List Owned). IsPast t.0 list l) (sym e) (past_none t.0 list);
-  turns = turns;
-}
+pub at_begin : (list left : List Owned) (room place : ℕ) (ahead : List Told) → IsPast place list left → ((t : Told) → In ahead t → place ≤ t.0) → AreTurns list room ahead
+    → IsAt list room ahead left
+at_begin list left room place ahead p low turns = record { past = λ t m. past_later place t.0 list left (low t m) p; turns = turns }
 
-pub at_next : (list : List Owned) (room : ℕ) (w v : TurnWalk) (t : Told) → IsAt list room w → turns_ahead w ≡ t ∷ turns_ahead v → IsTurnWalk v
-    → IsPast (t.0 + t.1) w.entries.now v.entries.now → IsAt list room v
-at_next list room w v t a e ready p =
-    let turns : AreTurns list room (t ∷ turns_ahead v) = subst (λ (ts : List Told). AreTurns list room ts) e a.turns in
+pub at_next : (list left later : List Owned) (room : ℕ) (ahead rest : List Told) (t : Told) → IsAt list room ahead left → ahead ≡ t ∷ rest → IsPast (t.0 + t.1) left later
+    → IsAt list room rest later
+at_next list left later room ahead rest t a e p =
+    let turns : AreTurns list room (t ∷ rest) = subst (λ (ts : List Told). AreTurns list room ts) e a.turns in
     record {
-      ready = ready;
       past = λ u k. (let order = turns.1 u k in
-          past_later (t.0 + t.1) u.0 list v.entries.now order
-          (past_twice t.0 (t.0 + t.1) list w.entries.now v.entries.now (omega arith) (a.past t (subst (λ (ts : List Told). In ts t) (sym e) (inl refl))) p));
+          past_later (t.0 + t.1) u.0 list later order
+          (past_twice t.0 (t.0 + t.1) list left later (omega arith) (a.past t (subst (λ (ts : List Told). In ts t) (sym e) (inl refl))) p));
       turns = turns.2;
     }
 
-pub served_now : (list : List Owned) (room : ℕ) (w v : TurnWalk) (t : Told) (begun : List Owned) → IsAt list room w → turns_ahead w ≡ t ∷ turns_ahead v
-    → AreBegun (t.0 + t.1) w.entries.now begun → AreServed list begun t.0 (t.0 + t.1)
-served_now list room w v t begun a e b = record {
-  left = w.entries.now;
-  past = a.past t (subst (λ (ts : List Told). In ts t) (sym e) (inl refl));
+pub begun_front : (place : ℕ) (left begun : List Owned) → AreBegun place left begun → AreInFront place left begun
+begun_front place left begun b = record { rest = b.rest; joined = b.joined; later = b.later }
+
+-- those carried are in front of all others
+pub front_carried : (place : ℕ) (carried ahead begun : List Owned) → AreBegun place ahead begun → AreInFront place (carried ++ ahead) (carried ++ begun)
+front_carried place carried ahead begun b = record {
   rest = b.rest;
-  joined = b.joined;
+  joined = ap (λ (os : List Owned). carried ++ os) b.joined ∙ sym (append_assoc carried begun b.rest);
   later = b.later;
 }
 
-pub turn_now : (list : List Owned) (room : ℕ) (w v : TurnWalk) (t : Told) → IsAt list room w → turns_ahead w ≡ t ∷ turns_ahead v → IsTurn list room t
-turn_now list room w v t a e = (subst (λ (ts : List Told). AreTurns list room ts) e a.turns).0
+pub served_now : (list left begun : List Owned) (room : ℕ) (ahead rest : List Told) (t : Told) → IsAt list room ahead left → ahead ≡ t ∷ rest → AreInFront (t.0 + t.1) left begun
+    → AreServed list begun t.0 (t.0 + t.1)
+served_now list left begun room ahead rest t a e f = record { left = left; past = a.past t (subst (λ (ts : List Told). In ts t) (sym e) (inl refl)); front = f }
+
+pub turn_now : (list left : List Owned) (room : ℕ) (ahead rest : List Told) (t : Told) → IsAt list room ahead left → ahead ≡ t ∷ rest → IsTurn list room t
+turn_now list left room ahead rest t a e = (subst (λ (ts : List Told). AreTurns list room ts) e a.turns).0
+
+-- what is left where a window is next is in order, as the list is
+pub left_sorted : (list left : List Owned) (room : ℕ) (ahead rest : List Told) (t : Told) → IsByPlace (extents list) → IsAt list room ahead left → ahead ≡ t ∷ rest → IsByPlace (extents left)
+left_sorted list left room ahead rest t sorted a e = past_sorted t.0 list left sorted (a.past t (subst (λ (ts : List Told). In ts t) (sym e) (inl refl)))
+
+pub left_ends : (list left : List Owned) (room : ℕ) (ahead rest : List Told) (t : Told) → EndBelow (2 ^ 62) (extents list) → IsAt list room ahead left → ahead ≡ t ∷ rest
+    → EndBelow (2 ^ 62) (extents left)
+left_ends list left room ahead rest t ends a e x m = ends x (past_extents t.0 list left x (a.past t (subst (λ (ts : List Told). In ts t) (sym e) (inl refl))) m)
+
+pub left_filled : (list left : List Owned) (room : ℕ) (ahead rest : List Told) (t : Told) → AreFilled list → IsAt list room ahead left → ahead ≡ t ∷ rest → AreFilled left
+left_filled list left room ahead rest t filled a e o m = filled o (past_in t.0 list left o (a.past t (subst (λ (ts : List Told). In ts t) (sym e) (inl refl))) m)
+
+pub turn_limit : (list left : List Owned) (room : ℕ) (ahead rest : List Told) (t : Told) → EndBelow (2 ^ 62) (extents list) → IsAt list room ahead left → ahead ≡ t ∷ rest → t.0 + t.1 < 2 ^ 62
+turn_limit list left room ahead rest t ends a e = turn_end list room t ends (turn_now list left room ahead rest t a e)
 
 pub served_in : (list begun : List Owned) (lo hi : ℕ) (o : Owned) → AreServed list begun lo hi → In begun o → In list o
 served_in list begun lo hi o s m =
-    past_in lo list s.left o s.past (subst (λ (l : List Owned). In l o) (sym s.joined) (in_left begun s.rest o m))
+    past_in lo list s.left o s.past (subst (λ (l : List Owned). In l o) (sym s.front.joined) (in_left begun s.front.rest o m))
 
 pub in_served : (list begun : List Owned) (lo hi : ℕ) (o : Owned) → AreServed list begun lo hi → In list o → o.extent.at < hi → lo < o.extent.at + o.extent.len → In begun o
 in_served list begun lo hi o s m b k =
-    elim (in_either begun s.rest o (subst (λ (q : List Owned). In q o) s.joined (past_kept lo list s.left o s.past m k))) [
+    elim (in_either begun s.front.rest o (subst (λ (q : List Owned). In q o) s.front.joined (past_kept lo list s.left o s.past m k))) [
       | inl i ↦ i
-      | inr i ↦ (let e = s.later o i in absurd (omega arith))
+      | inr i ↦ (let e = s.front.later o i in absurd (omega arith))
     ]
 
 pub served_covered : (list begun : List Owned) (lo hi x : ℕ) → AreServed list begun lo hi → lo ≤ x → x < hi → IsCovered list x → IsCovered begun x
@@ -107,16 +122,17 @@ pub record IsDue (list begun : List Owned) (room from len : ℕ) (t : Told) : Ty
   pub ends : EndBelow (2 ^ 62) (extents begun)
   pub limit : t.0 + t.1 < 2 ^ 62
 
-pub due_now : (list begun : List Owned) (room from len : ℕ) (w v : TurnWalk) (t : Told) → EndBelow (2 ^ 62) (extents list) → IsAt list room w → LieOnPart from len (turns_ahead w)
-    → turns_ahead w ≡ t ∷ turns_ahead v → AreBegun (t.0 + t.1) w.entries.now begun → IsDue list begun room from len t
-due_now list begun room from len w v t ends a on e b =
+pub due_now : (list left begun : List Owned) (room from len : ℕ) (ahead rest : List Told) (t : Told) → EndBelow (2 ^ 62) (extents list) → IsAt list room ahead left → LieOnPart from len ahead
+    → ahead ≡ t ∷ rest → AreInFront (t.0 + t.1) left begun → IsDue list begun room from len t
+due_now list left begun room from len ahead rest t ends a on e f =
     let here = on t (subst (λ (ts : List Told). In ts t) (sym e) (inl refl)) in
-    let served = served_now list room w v t begun a e b in
+    let served = served_now list left begun room ahead rest t a e f in
+    let turn = turn_now list left room ahead rest t a e in
     record {
-      turn = turn_now list room w v t a e;
+      turn = turn;
       low = here.0;
       high = here.1;
       served = served;
       ends = served_ends list begun t.0 (t.0 + t.1) served ends;
-      limit = turn_end list room t ends (turn_now list room w v t a e);
+      limit = turn_end list room t ends turn;
     }

@@ -30,14 +30,14 @@ use Rattle.piece_exchange.specs.declared.walk.TurnWalk.{TurnWalk}
 
 abbrev pub turns_left_of : Option Turn → TurnWalk → List Told
 turns_left_of None walk = []
-turns_left_of (Some t) walk = told_window t.window ∷ turns_ahead walk
+turns_left_of (Some t) walk = told_window t.window ∷ turns_ahead walk.windows
 
 abbrev pub turns_left : Feed → List Told
 turns_left f = turns_left_of f.turn f.walk
 
 abbrev pub pieces_left_of : ℕ → Option Turn → TurnWalk → List Owned
 pieces_left_of ranks None walk = []
-pieces_left_of ranks (Some t) walk = pieces_in ranks t.entries.now (told_window t.window) ++ pieces_of ranks walk.entries.now (turns_ahead walk)
+pieces_left_of ranks (Some t) walk = pieces_in ranks t.entries.now (told_window t.window) ++ pieces_of ranks walk.entries.now (turns_ahead walk.windows)
 
 abbrev pub feed_left : ℕ → Feed → List Owned
 feed_left ranks f = pieces_left_of ranks f.turn f.walk
@@ -49,7 +49,7 @@ AreApart (t ∷ ts) = ((u : Told) → In ts u → t.0 + t.1 ≤ u.0) × AreApart
 
 pub record IsAhead (t : Turn) (w : TurnWalk) : Type 0 where
   pub walk : IsTurnWalk w
-  pub apart : AreApart (turns_ahead w)
+  pub apart : AreApart (turns_ahead w.windows)
   pub ends : EndBelow (2 ^ 62) (extents t.entries.now)
   pub limit : t.window.hull.at + t.window.hull.len < 2 ^ 62
 

@@ -7,40 +7,41 @@
 --     IsFresh plan seat            it was told nothing, and all windows of its domain are left to be taken
 --     IsSent plan seat             it was told to go
 --     IsToldToGo old new           it was told to go, and nothing else was done
-use Rattle.std.specs.Prelude.{◌≡◌, ℕ, ◌+◌, ◌^◌, ◌<◌, ◌≤◌, ◌++◌, ◌∷◌, [], min, List, Option, Some, None}
+use Rattle.std.specs.Prelude.{◌≡◌, ℕ, ◌++◌, ◌∷◌, [], min, List, Option, Some, None}
 use Rattle.nc_base.specs.declared.plan.Extent.{Extent}
 use Rattle.nc_base.specs.declared.plan.Owned.{Owned}
-use Rattle.overlay_laws.specs.Entries.{In}
+use Rattle.file_domains.specs.Rounds.{IsWalk}
+use Rattle.file_domains.specs.declared.walk.Window.{Window}
+use Rattle.file_domains.specs.declared.walk.WindowWalk.{WindowWalk}
 use Rattle.aggregator_rounds.specs.Pieces.{told_window}
-use Rattle.piece_exchange.specs.Cursor.{AreServed, IsAt}
-use Rattle.piece_exchange.specs.Feeds.{turns_left_of}
+use Rattle.data_sieving.specs.Serving.{entries_left}
+use Rattle.piece_exchange.specs.Cursor.{IsAt}
 use Rattle.piece_exchange.specs.Gets.{get_turns}
-use Rattle.piece_exchange.specs.Hulls.{IsTurn}
 use Rattle.piece_exchange.specs.Turns.{Told, turns_ahead}
 use Rattle.piece_exchange.specs.declared.crew.Word.TheVariants.{Go}
 use Rattle.piece_exchange.specs.declared.gets.shelf.Shelf.{Shelf}
 use Rattle.piece_exchange.specs.declared.gets.starting.ReadSeat.{ReadSeat}
+use Rattle.piece_exchange.specs.declared.gets.walk.ReadWalk.{ReadWalk}
 use Rattle.piece_exchange.specs.declared.plan.GetPlan.{GetPlan}
-use Rattle.piece_exchange.specs.declared.walk.Turn.{Turn}
-use Rattle.piece_exchange.specs.declared.walk.TurnWalk.{TurnWalk}
+
+abbrev pub turns_due_of : Option Window → WindowWalk → List Told
+turns_due_of None rest = []
+turns_due_of (Some w) rest = told_window w ∷ turns_ahead rest
 
 abbrev pub turns_due : Shelf → List Told
-turns_due s = turns_left_of s.turn s.walk
+turns_due s = turns_due_of s.next s.walk.windows
 
--- a window that was given, and the walk behind it
-pub record IsNextUp (list : List Owned) (room : ℕ) (t : Turn) (w : TurnWalk) : Type 0 where
-  pub at : IsAt list room w
-  pub turn : IsTurn list room (told_window t.window)
-  pub served : AreServed list t.entries.now t.window.hull.at (t.window.hull.at + t.window.hull.len)
-  pub apart : (u : Told) → In (turns_ahead w) u → t.window.hull.at + t.window.hull.len ≤ u.0
-  pub limit : t.window.hull.at + t.window.hull.len < 2 ^ 62
+-- a window that is next, and what is left
+pub record IsNextUp (list : List Owned) (room : ℕ) (w : Window) (walk : ReadWalk) : Type 0 where
+  pub ready : IsWalk walk.windows
+  pub at : IsAt list room (told_window w ∷ turns_ahead walk.windows) (entries_left walk.entries)
 
-abbrev pub IsShelfOf : List Owned → ℕ → Option Turn → TurnWalk → Type 0
+abbrev pub IsShelfOf : List Owned → ℕ → Option Window → ReadWalk → Type 0
 IsShelfOf list room None walk = Unit {0}
-IsShelfOf list room (Some t) walk = IsNextUp list room t walk
+IsShelfOf list room (Some w) walk = IsNextUp list room w walk
 
 abbrev pub IsShelf : List Owned → ℕ → Shelf → Type 0
-IsShelf list room s = IsShelfOf list room s.turn s.walk
+IsShelf list room s = IsShelfOf list room s.next s.walk
 
 -- ---- seats
 

@@ -8,5 +8,6 @@ mod lending;
 mod reading;
 mod shelf;
 mod starting;
+mod walk;
 
 pub use exchange::exchange_get;

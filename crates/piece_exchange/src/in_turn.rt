@@ -43,12 +43,7 @@ pub(crate) fn lay_in_turn<R: Wait, D: Disk, G: Gate>(
 {
     let _size = part.size();
     let batches = plan.job.batches.as_slice();
-    let mut walk = TurnWalk::new(
-        plan.list,
-        plan.cover,
-        plan.hints.cb_buffer,
-        aggregator.domain,
-    );
+    let mut walk = TurnWalk::new(plan, aggregator.domain);
     'turns: while let Some(turn) = walk.next_turn() {
         tools.gate.pass(
             tools.rt,

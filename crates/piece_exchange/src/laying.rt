@@ -54,12 +54,7 @@ pub(crate) fn lay_part<R: Wait, D: Disk, G: Gate>(
     let _size = part.size();
     let batches = plan.job.batches.as_slice();
     let ranks = batches.len() as u32;
-    let mut walk = TurnWalk::new(
-        plan.list,
-        plan.cover,
-        plan.hints.cb_buffer,
-        aggregator.domain,
-    );
+    let mut walk = TurnWalk::new(plan, aggregator.domain);
     let mut end = Ok(());
     'turns: while let Some(turn) = walk.next_turn() {
         tools.gate.pass(

@@ -42,7 +42,7 @@ pub(crate) fn feed_of<'a>(plan: &PutPlan<'a>, domain: Extent, line: LinePut<Owne
     ensures line { result.line ≡ line }
     ensures left { (ranks : ℕ) → feed_left ranks result ≡ pieces_of ranks plan.now.list.now (planned_turns plan.now domain) }
 {
-    let mut walk = TurnWalk::new(plan.list, plan.cover, plan.hints.cb_buffer, domain);
+    let mut walk = TurnWalk::new(plan, domain);
     let turn = walk.next_turn();
     Feed { line, turn, walk }
 }

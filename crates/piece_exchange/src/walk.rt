@@ -1,15 +1,18 @@
 // A cursor over the windows of one part and over the sorted entries.
-ghost use Rattle.std.specs.Prelude.{◌≡◌, ◌∷◌, [], ◌+◌, ◌≤◌, ◌^◌, length, take, drop, IfNone, IfSome};
+ghost use Rattle.std.specs.Prelude.{◌≡◌, ◌∷◌, [], ◌+◌, ◌^◌, ◌≤◌, length, min, take, drop, IfNone, IfSome};
+ghost use Rattle.file_domains.specs.Rounds.{IsWalk};
 ghost use Rattle.aggregator_rounds.specs.Pieces.{told_window};
-ghost use Rattle.data_sieving.specs.Serving.{AreBegun, IsPast};
-ghost use Rattle.overlay_laws.specs.Entries.{ranges, HaveSame};
-ghost use Rattle.overlay_laws.specs.Lines.{extents, EndBelow, IsByPlace};
-ghost use Rattle.overlay_laws.specs.Walks.{spans, IsCover};
+ghost use Rattle.data_sieving.specs.Serving.{IsPast};
+ghost use Rattle.overlay_laws.specs.Lines.{EndBelow};
+ghost use Rattle.overlay_laws.specs.Walks.{IsCover};
+ghost use Rattle.piece_exchange.specs.Cursor.{AreInFront, IsAt};
+ghost use Rattle.piece_exchange.specs.Plan.{planned_turns, IsPlanned};
 ghost use Rattle.piece_exchange.specs.Turns.{turns_ahead, turns_of, IsTurnWalk};
 
+use crate::plan::PutPlan;
 use data_sieving::{begun_before, ended_by};
 use file_domains::{Window, WindowWalk, windows};
-use nc_base::{Extent, ExtentList, Owned, OwnedList};
+use nc_base::{Extent, ExtentList, Owned};
 
 /// A window, and the entries that may have bytes in it.
 #[derive(Clone, Copy, Drop)]
@@ -27,21 +30,17 @@ pub(crate) struct TurnWalk<'a> {
 }
 
 impl<'a> TurnWalk<'a> {
-    /// All windows of a domain, each `size` bytes long, given the cover of the entries.
-    pub fn new(list: &'a OwnedList, cover: &'a ExtentList, size: u64, domain: Extent) -> Self
-        requires sorted { IsByPlace (extents list.now) }
-        requires ends { EndBelow (2 ^ 62) (extents list.now) }
-        requires cover { IsCover cover.now }
-        requires cover_ends { EndBelow (2 ^ 62) cover.now }
-        requires cover_bytes { HaveSame (spans cover.now) (ranges list.now) }
-        requires some { 1 ≤ size }
+    /// All windows of a domain.
+    pub fn new(plan: &PutPlan<'a>, domain: Extent) -> Self
+        requires { IsPlanned plan.now }
         ensures ready { IsTurnWalk result }
-        ensures entries { result.entries.now ≡ list.now }
-        ensures windows { turns_ahead result ≡ turns_of size domain cover.now }
+        ensures entries { result.entries.now ≡ plan.now.list.now }
+        ensures windows { turns_ahead result.windows ≡ planned_turns plan.now domain }
+        ensures at { IsAt plan.now.list.now (min plan.now.hints.now.cb_buffer domain.len) (turns_ahead result.windows) result.entries.now }
     {
         TurnWalk {
-            windows: windows(domain, cover.as_slice(), size),
-            entries: list.as_slice(),
+            windows: domain_windows(plan.cover, plan.hints.cb_buffer, domain),
+            entries: plan.list.as_slice(),
         }
     }
 
@@ -49,17 +48,38 @@ impl<'a> TurnWalk<'a> {
     pub fn next_turn(&mut self) -> Option<Turn<'a>>
         requires { IsTurnWalk self.old }
         ensures ready { IfSome result (λ _. IsTurnWalk self.new) }
-        ensures none { IfNone result (turns_ahead self.old ≡ []) }
-        ensures some { IfSome result (λ t. turns_ahead self.old ≡ told_window t.window ∷ turns_ahead self.new) }
-        ensures begun { IfSome result (λ t. AreBegun (t.window.hull.at + t.window.hull.len) self.old.entries.now t.entries.now) }
+        ensures none { IfNone result (turns_ahead self.old.windows ≡ []) }
+        ensures some { IfSome result (λ t. turns_ahead self.old.windows ≡ told_window t.window ∷ turns_ahead self.new.windows) }
+        ensures front { IfSome result (λ t. AreInFront (t.window.hull.at + t.window.hull.len) self.old.entries.now t.entries.now) }
         ensures past { IfSome result (λ t. IsPast (t.window.hull.at + t.window.hull.len) self.old.entries.now self.new.entries.now) }
     {
-        let window = self.windows.next()?;
+        let window = next_window(&mut self.windows)?;
         let stop = window.hull.at + window.hull.len;
         let entries = head(self.entries, begun_before(self.entries, stop));
         self.entries = tail(self.entries, ended_by(self.entries, stop));
         Some(Turn { window, entries })
     }
+}
+
+/// The windows of a domain, each `size` bytes long, given the cover of the entries.
+pub(crate) fn domain_windows<'a>(cover: &'a ExtentList, size: u64, domain: Extent) -> WindowWalk<'a>
+    requires cover { IsCover cover.now }
+    requires ends { EndBelow (2 ^ 62) cover.now }
+    requires size { 1 ≤ size }
+    ensures ready { IsWalk result }
+    ensures windows { turns_ahead result ≡ turns_of size domain cover.now }
+{
+    windows(domain, cover.as_slice(), size)
+}
+
+/// The next window, in order of places.
+pub(crate) fn next_window(windows: &mut WindowWalk) -> Option<Window>
+    requires { IsWalk windows.old }
+    ensures ready { IfSome result (λ _. IsWalk windows.new) }
+    ensures none { IfNone result (turns_ahead windows.old ≡ []) }
+    ensures some { IfSome result (λ w. turns_ahead windows.old ≡ told_window w ∷ turns_ahead windows.new) }
+{
+    windows.next()
 }
 
 fn head(list: &[Owned], count: usize) -> &[Owned]

@@ -6,6 +6,7 @@ ghost use Rattle.overlay_laws.specs.Lines.{extents, EndBelow};
 ghost use Rattle.data_sieving.specs.Sieving.{AreFilled};
 ghost use Rattle.data_sieving.specs.Serving.{buffer_cell};
 ghost use Rattle.piece_exchange.specs.Blobs.{blob_at, with_blob, AreAsLong, FitTable, HasCollected, HaveOnePlaces};
+ghost use Rattle.piece_exchange.specs.Cursor.{entries_in};
 ghost use Rattle.piece_exchange.specs.Gets.{IsGetPlanned};
 ghost use Rattle.piece_exchange.specs.Lenders.{AreReady};
 ghost use Rattle.piece_exchange.specs.Logs.{HasTakenTurn, HaveTakenTurns, IsKept, IsShelfIn};
@@ -16,8 +17,9 @@ use crate::gets::lending::Lenders;
 use crate::gets::reading::Reading;
 use crate::gets::shelf::Shelf;
 use crate::gets::starting::ReadSeat;
+use crate::gets::walk::ReadTurn;
 use crate::plan::GetPlan;
-use crate::walk::Turn;
+use crate::walk::next_window;
 use data_sieving::collect_entry;
 use nc_base::{Blob, BlobList, Extent, Owned};
 use nc_outside::{Disk, DiskErr};
@@ -49,7 +51,7 @@ pub(crate) fn take_all<R: Wait, D: Disk>(
         let shelf = &mut seats[k].shelf;
         let (came, blob) = take_turn(rt, plan, shelf, table);
         end = end.and(came);
-        hand_on(rt, lenders, k, shelf.turn.is_none(), blob);
+        hand_on(rt, lenders, k, shelf.next.is_none(), blob);
     }
     end
 }
@@ -87,7 +89,7 @@ fn round_before(shelf: &Shelf, than: Option<u64>) -> Option<u64>
     ensures some { IfSome result (λ _. turns_due shelf.now ≡ [] → ⊥) }
     ensures none { IfNone result (than ≡ None → turns_due shelf.now ≡ []) }
 {
-    let round = shelf.turn?.window.round;
+    let round = shelf.next?.round;
     match than {
         Some(other) if other <= round => None,
         _ => Some(round),
@@ -113,42 +115,58 @@ pub(crate) fn take_turn<R: Wait>(
     ensures taken { OnOk result.0 (HasTakenTurn plan.now.list.now shelf.old shelf.new table.old table.new) }
     ensures memory { IfErr result.0 (λ e. e ≡ Memory) }
 {
-    let Some(turn) = shelf.turn else {
+    let Some(window) = shelf.next else {
         return (Ok(()), None);
     };
     match shelf.line.take(rt) {
         Reading::Hull(blob) => {
+            let turn = shelf.walk.turn(window);
             let came = collect_hull(&turn, &blob, table);
-            shelf.turn = shelf.walk.next_turn();
+            shelf.walk.go_past(window);
+            shelf.next = next_window(&mut shelf.walk.windows);
             (came, Some(blob))
         }
         Reading::Ended(blob) => {
-            shelf.turn = None;
+            shelf.next = None;
             (Err(DiskErr::Memory), Some(blob))
         }
     }
 }
 
 // Copies the entries' bytes out of those of a window's hull. What another thread put is known only by its type, so its length is tested.
-fn collect_hull(turn: &Turn, bytes: &Blob, table: &mut [BlobList]) -> Result<(), DiskErr>
+fn collect_hull(turn: &ReadTurn, bytes: &Blob, table: &mut [BlobList]) -> Result<(), DiskErr>
     requires hull { turn.now.window.hull.at + turn.now.window.hull.len < 2 ^ 62 }
-    requires ends { EndBelow (2 ^ 62) (extents turn.now.entries.now) }
-    requires filled { AreFilled turn.now.entries.now }
-    requires fit { FitTable table.old turn.now.entries.now }
+    requires ends { EndBelow (2 ^ 62) (extents (entries_in turn.now)) }
+    requires filled { AreFilled (entries_in turn.now) }
+    requires fit { FitTable table.old (entries_in turn.now) }
     ensures long { OnOk result (length bytes.now ≡ turn.now.window.hull.len) }
-    ensures collected { OnOk result (HasCollected turn.now.window.hull.at (turn.now.window.hull.at + turn.now.window.hull.len) bytes.now turn.now.entries.now table.old table.new) }
+    ensures collected { OnOk result (HasCollected turn.now.window.hull.at (turn.now.window.hull.at + turn.now.window.hull.len) bytes.now (entries_in turn.now) table.old table.new) }
     ensures blobs { AreAsLong table.old table.new }
     ensures memory { IfErr result (λ e. e ≡ Memory) }
 {
     if bytes.len() as u64 != turn.window.hull.len {
         return Err(DiskErr::Memory);
     }
-    collect_all(turn.window.hull, turn.entries, bytes.as_slice(), table);
+    collect_entries(turn, bytes.as_slice(), table);
     Ok(())
 }
 
-/// Copies the bytes that entries have in a hull out of the hull's, one entry after another.
-pub(crate) fn collect_all(hull: Extent, entries: &[Owned], buf: &[u8], table: &mut [BlobList])
+/// Copies the bytes of a window's entries out of its hull's.
+pub(crate) fn collect_entries(turn: &ReadTurn, buf: &[u8], table: &mut [BlobList])
+    requires hull { turn.now.window.hull.at + turn.now.window.hull.len < 2 ^ 62 }
+    requires room { length buf.now ≡ turn.now.window.hull.len }
+    requires ends { EndBelow (2 ^ 62) (extents (entries_in turn.now)) }
+    requires filled { AreFilled (entries_in turn.now) }
+    requires fit { FitTable table.old (entries_in turn.now) }
+    ensures each { HasCollected turn.now.window.hull.at (turn.now.window.hull.at + turn.now.window.hull.len) buf.now (entries_in turn.now) table.old table.new }
+    ensures long { AreAsLong table.old table.new }
+{
+    collect_all(turn.window.hull, turn.carried, buf, table);
+    collect_all(turn.window.hull, turn.fresh, buf, table);
+}
+
+// Copies the bytes that entries have in a hull out of the hull's, one entry after another.
+fn collect_all(hull: Extent, entries: &[Owned], buf: &[u8], table: &mut [BlobList])
     requires hull { hull.at + hull.len < 2 ^ 62 }
     requires room { length buf.now ≡ hull.len }
     requires ends { EndBelow (2 ^ 62) (extents entries.now) }

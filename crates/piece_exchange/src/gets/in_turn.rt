@@ -11,15 +11,17 @@ ghost use Rattle.overlay_laws.specs.Lines.{extents, EndBelow};
 ghost use Rattle.aggregator_rounds.specs.Pieces.{told_window};
 ghost use Rattle.data_sieving.specs.Sieving.{AreFilled};
 ghost use Rattle.piece_exchange.specs.Blobs.{AreAsLong, FitTable, HaveOnePlaces};
+ghost use Rattle.piece_exchange.specs.Cursor.{entries_in};
 ghost use Rattle.piece_exchange.specs.Gets.{get_turns, HasGot, IsGetPlanned};
 ghost use Rattle.piece_exchange.specs.Logs.{HasReadParts, HasReadTurn, HasReadTurns};
 ghost use Rattle.piece_exchange.specs.Plan.{IsDomainOf};
 ghost use Rattle.piece_exchange.specs.Put.{SomeZip};
 
-use crate::gets::collecting::collect_all;
+use crate::gets::collecting::collect_entries;
+use crate::gets::walk::{ReadTurn, ReadWalk};
 use crate::in_turn::longest;
 use crate::plan::{Aggregator, GetPlan, Tools};
-use crate::walk::{Turn, TurnWalk};
+use crate::walk::next_window;
 use aggregator_rounds::get_window;
 use nc_base::{BlobList, Extent, GotTable};
 use nc_outside::{Disk, DiskErr, Gate, Point};
@@ -168,18 +170,14 @@ fn collect_part<R: Wait, D: Disk, G: Gate>(
     ensures blobs { AreAsLong table.old table.new }
     ensures failed { IsErrOf result Failed → Rose (D.faults part.old) (D.faults part.new) }
 {
-    let mut walk = TurnWalk::new(
-        plan.list,
-        plan.cover,
-        plan.hints.cb_buffer,
-        aggregator.domain,
-    );
-    'turns: while let Some(turn) = walk.next_turn() {
-        tools.gate.pass(
-            tools.rt,
-            Point::Window(aggregator.number, turn.window.round),
-        );
+    let mut walk = ReadWalk::new(tools.alloc, plan, aggregator.domain);
+    'turns: while let Some(window) = next_window(&mut walk.windows) {
+        tools
+            .gate
+            .pass(tools.rt, Point::Window(aggregator.number, window.round));
+        let turn = walk.turn(window);
         collect_turn(tools.alloc, part, &turn, buf, table)?;
+        walk.go_past(window);
     }
     Ok(())
 }
@@ -188,18 +186,18 @@ fn collect_part<R: Wait, D: Disk, G: Gate>(
 fn collect_turn<D: Disk>(
     alloc: Global,
     part: &mut D,
-    turn: &Turn,
+    turn: &ReadTurn,
     buf: &mut [u8],
     table: &mut [BlobList],
 ) -> Result<(), DiskErr>
     requires low { D.from part.old ≤ turn.now.window.hull.at }
     requires high { turn.now.window.hull.at + turn.now.window.hull.len ≤ D.from part.old + D.len part.old }
     requires hull { turn.now.window.hull.at + turn.now.window.hull.len < 2 ^ 62 }
-    requires ends { EndBelow (2 ^ 62) (extents turn.now.entries.now) }
-    requires filled { AreFilled turn.now.entries.now }
-    requires fit { FitTable table.old turn.now.entries.now }
+    requires ends { EndBelow (2 ^ 62) (extents (entries_in turn.now)) }
+    requires filled { AreFilled (entries_in turn.now) }
+    requires fit { FitTable table.old (entries_in turn.now) }
     requires room { turn.now.window.hull.len ≤ length buf.old }
-    ensures read { OnOk result (HasReadTurn turn.now.entries.now (D.from part.old) (D.held part.old) (told_window turn.now.window) table.old table.new) }
+    ensures read { OnOk result (HasReadTurn (entries_in turn.now) (D.from part.old) (D.held part.old) (told_window turn.now.window) table.old table.new) }
     ensures blobs { AreAsLong table.old table.new }
     ensures calls { OnOk result (D.calls part.new ≡ with_end (D.calls part.old) (load_calls (told_window turn.now.window))) }
     ensures bytes { D.held part.new ≡ D.held part.old }
@@ -209,6 +207,6 @@ fn collect_turn<D: Disk>(
 {
     let bytes = &mut buf[..turn.window.hull.len as usize];
     get_window(alloc, part, &turn.window, bytes)?;
-    collect_all(turn.window.hull, turn.entries, bytes, table);
+    collect_entries(turn, bytes, table);
     Ok(())
 }

@@ -112,7 +112,7 @@ impl<'a> Lenders<'a> {
     ghost use Rattle.piece_exchange.specs.Gets.{IsGetPlanned};
     ghost use Rattle.piece_exchange.specs.Lenders.{AreReady};
 
-    /// Makes blobs, each with room for the longest hull of all, and lends them: two for each item that a line may hold, but no more than
+    /// Makes blobs, each with room for the longest hull of all, and lends them: one for each item that a line may hold, but no more than
     /// one to a helper. So many windows are read side by side.
     pub fn lend_first<R: Wait, G>(
         &mut self,
@@ -125,7 +125,7 @@ impl<'a> Lenders<'a> {
         ensures { AreReady self.new.each.items }
     {
         let longest = longest_hull(plan, domains) as usize;
-        let count = (plan.hints.line_room as usize).saturating_mul(2);
+        let count = plan.hints.line_room as usize;
         for _ in 0..count.min(self.each.len()) {
             self.lend(tools.rt, Blob::with_capacity(tools.alloc, longest)?);
         }

@@ -10,7 +10,7 @@ ghost use Rattle.piece_exchange.specs.Gets.{get_turns, reading_of, HasGot, IsGet
 ghost use Rattle.piece_exchange.specs.Plan.{IsDomainOf};
 
 use crate::plan::{Aggregator, GetPlan, Tools};
-use crate::walk::TurnWalk;
+use crate::walk::{domain_windows, next_window};
 use aggregator_rounds::get_window;
 use file_domains::Window;
 use nc_base::Blob;
@@ -52,19 +52,13 @@ pub(crate) fn read_part<R: Wait, D: Disk, G: Gate>(
         (record { from = D.from part.new; len = D.len part.new; held = D.held part.new; calls = D.calls part.new; faults = D.faults part.new }) result }
     ensures failed { IsErrOf result Failed → Rose (D.faults part.old) (D.faults part.new) }
 {
-    let mut walk = TurnWalk::new(
-        plan.list,
-        plan.cover,
-        plan.hints.cb_buffer,
-        aggregator.domain,
-    );
-    'turns: while let Some(turn) = walk.next_turn() {
-        tools.gate.pass(
-            tools.rt,
-            Point::Window(aggregator.number, turn.window.round),
-        );
+    let mut walk = domain_windows(plan.cover, plan.hints.cb_buffer, aggregator.domain);
+    'turns: while let Some(window) = next_window(&mut walk) {
+        tools
+            .gate
+            .pass(tools.rt, Point::Window(aggregator.number, window.round));
         let mut bytes = spare.take(tools.rt).into_vec();
-        match read_turn(tools.alloc, &turn.window, part, &mut bytes) {
+        match read_turn(tools.alloc, &window, part, &mut bytes) {
             Ok(()) => line.put(tools.rt, Reading::Hull(Blob::from_vec(bytes))),
             Err(fault) => {
                 line.put(tools.rt, Reading::Ended(Blob::from_vec(bytes)));

@@ -107,7 +107,7 @@ fn start_one<'s, E, D: Disk + 's, G: Gate, R: Threads + Wait + Sync>(
         lines: GetLines { line: put, spare },
     };
     let helper = start(scope, tools, plan, aggregator, go, ends)?;
-    let shelf = shelf_of(plan, aggregator.domain, taken);
+    let shelf = shelf_of(tools.alloc, plan, aggregator.domain, taken);
     Ok(ReadSeat { helper, shelf })
 }
 

@@ -5,8 +5,8 @@ use Rattle.aggregator_rounds.specs.Pieces.{told_window}
 use Rattle.piece_exchange.specs.Pieces.{pieces_in}
 use Rattle.piece_exchange.specs.Plan.{planned_turns, source_in}
 use Rattle.piece_exchange.specs.Taken.{HasPutTaken}
-use Rattle.piece_exchange.specs.Turns.{source_of}
-use Rattle.piece_exchange.proofs.PlanLaws.{plan_on, plan_turns, plan_windows}
+use Rattle.piece_exchange.specs.Turns.{source_of, turns_ahead}
+use Rattle.piece_exchange.proofs.PlanLaws.{plan_on, plan_windows}
 use Rattle.piece_exchange.proofs.ServeLaws.{served_begin, served_next, served_end}
 use Rattle.piece_exchange.proofs.TurnLaws.{due_now}
 use Rattle.piece_exchange.proofs.laying.lay_part.Goals as goal
@@ -24,8 +24,8 @@ turns-init g c =
     record {
       of = refl;
       served = served_begin (source_in plan) from len (length batches) (min size domain.len) list (planned_turns plan domain) c.new-walk.result c.args.line.now.items
-          (g.D.Disk.held c.args.part.now) (g.D.Disk.calls c.args.part.now) _ c.new-walk.ensures.ready c.new-walk.ensures.entries c.new-walk.ensures.windows
-          (plan_turns batches list cover size domain c.requires.plan) (plan_on batches list cover size from len domain c.requires.plan c.requires.domain)
+          (g.D.Disk.held c.args.part.now) (g.D.Disk.calls c.args.part.now) _ c.new-walk.ensures.ready c.new-walk.ensures.at c.new-walk.ensures.windows
+          (plan_on batches list cover size from len domain c.requires.plan c.requires.domain)
           (plan_windows batches list cover size from len domain c.requires.plan c.requires.domain) c.size-size.ensures.told c.requires.empty;
       from = refl;
       len = refl;
@@ -37,15 +37,15 @@ pub piece_count-count-requires-clause-ends : goal.piece_count-count-requires-cla
 piece_count-count-requires-clause-ends g c =
     let plan = c.args.plan.now in
     let room = min plan.hints.now.cb_buffer c.args.aggregator.domain.len in
-    (due_now plan.list.now c.in-Some.turn.entries.now room (g.D.Disk.from c.args.part.now) (g.D.Disk.len c.args.part.now) c.turns.walk c.next_turn.new.self (told_window c.in-Some.turn.window)
-    c.requires.plan.ends c.turns.invariant.served.here c.turns.invariant.served.on_part c.in-Some.ensures.some c.in-Some.ensures.begun).ends
+    (due_now plan.list.now c.turns.walk.entries.now c.in-Some.turn.entries.now room (g.D.Disk.from c.args.part.now) (g.D.Disk.len c.args.part.now) (turns_ahead c.turns.walk.windows) (turns_ahead c.next_turn.new.self.windows) (told_window c.in-Some.turn.window)
+    c.requires.plan.ends c.turns.invariant.served.here c.turns.invariant.served.on_part c.in-Some.ensures.some c.in-Some.ensures.front).ends
 
 pub serve_turn-end-requires-clause-low : goal.serve_turn-end-requires-clause-low
 serve_turn-end-requires-clause-low g c κs within =
     let plan = c.args.plan.now in
     let room = min plan.hints.now.cb_buffer c.args.aggregator.domain.len in
-    let due = due_now plan.list.now c.in-Some.turn.entries.now room (g.D.Disk.from c.args.part.now) (g.D.Disk.len c.args.part.now) c.turns.walk c.next_turn.new.self
-    (told_window c.in-Some.turn.window) c.requires.plan.ends c.turns.invariant.served.here c.turns.invariant.served.on_part c.in-Some.ensures.some c.in-Some.ensures.begun in
+    let due = due_now plan.list.now c.turns.walk.entries.now c.in-Some.turn.entries.now room (g.D.Disk.from c.args.part.now) (g.D.Disk.len c.args.part.now) (turns_ahead c.turns.walk.windows) (turns_ahead c.next_turn.new.self.windows)
+    (told_window c.in-Some.turn.window) c.requires.plan.ends c.turns.invariant.served.here c.turns.invariant.served.on_part c.in-Some.ensures.some c.in-Some.ensures.front in
     let low = due.low in
     let from = c.turns.invariant.from in
     omega arith
@@ -54,8 +54,8 @@ pub serve_turn-end-requires-clause-high : goal.serve_turn-end-requires-clause-hi
 serve_turn-end-requires-clause-high g c κs within =
     let plan = c.args.plan.now in
     let room = min plan.hints.now.cb_buffer c.args.aggregator.domain.len in
-    let due = due_now plan.list.now c.in-Some.turn.entries.now room (g.D.Disk.from c.args.part.now) (g.D.Disk.len c.args.part.now) c.turns.walk c.next_turn.new.self
-    (told_window c.in-Some.turn.window) c.requires.plan.ends c.turns.invariant.served.here c.turns.invariant.served.on_part c.in-Some.ensures.some c.in-Some.ensures.begun in
+    let due = due_now plan.list.now c.turns.walk.entries.now c.in-Some.turn.entries.now room (g.D.Disk.from c.args.part.now) (g.D.Disk.len c.args.part.now) (turns_ahead c.turns.walk.windows) (turns_ahead c.next_turn.new.self.windows)
+    (told_window c.in-Some.turn.window) c.requires.plan.ends c.turns.invariant.served.here c.turns.invariant.served.on_part c.in-Some.ensures.some c.in-Some.ensures.front in
     let high = due.high in
     let from = c.turns.invariant.from in
     let len = c.turns.invariant.len in
@@ -65,8 +65,8 @@ pub serve_turn-end-requires-clause-room : goal.serve_turn-end-requires-clause-ro
 serve_turn-end-requires-clause-room g c κs within =
     let plan = c.args.plan.now in
     let room = min plan.hints.now.cb_buffer c.args.aggregator.domain.len in
-    let due = due_now plan.list.now c.in-Some.turn.entries.now room (g.D.Disk.from c.args.part.now) (g.D.Disk.len c.args.part.now) c.turns.walk c.next_turn.new.self
-    (told_window c.in-Some.turn.window) c.requires.plan.ends c.turns.invariant.served.here c.turns.invariant.served.on_part c.in-Some.ensures.some c.in-Some.ensures.begun in
+    let due = due_now plan.list.now c.turns.walk.entries.now c.in-Some.turn.entries.now room (g.D.Disk.from c.args.part.now) (g.D.Disk.len c.args.part.now) (turns_ahead c.turns.walk.windows) (turns_ahead c.next_turn.new.self.windows)
+    (told_window c.in-Some.turn.window) c.requires.plan.ends c.turns.invariant.served.here c.turns.invariant.served.on_part c.in-Some.ensures.some c.in-Some.ensures.front in
     let short = due.turn.short in
     let long = c.requires.room in
     omega arith
@@ -89,7 +89,7 @@ turns-preserved g c =
           (g.D.Disk.held c.args.part.now) (g.D.Disk.held c.turns.part) (g.D.Disk.held c.serve_turn-end.new.part)
           (g.D.Disk.calls c.args.part.now) (g.D.Disk.calls c.turns.part) (g.D.Disk.calls c.serve_turn-end.new.part) c.turns.end c.serve_turn-end.result
           (record { pieces = c.requires.plan.pieces; below = c.requires.plan.below; one = c.requires.plan.one; told = c.size-size.ensures.told })
-          c.turns.invariant.served c.in-Some.ensures.some c.in-Some.ensures.ready c.in-Some.ensures.begun c.in-Some.ensures.past
+          c.turns.invariant.served c.in-Some.ensures.some c.in-Some.ensures.ready c.in-Some.ensures.front c.in-Some.ensures.past
           (c.piece_count-count.ensures ∙ ap (λ (bs : List Batch). length (pieces_in (length bs) begun t)) c.as_slice-batches.ensures)
           (record {
             took = c.serve_turn-end.ensures.taken;

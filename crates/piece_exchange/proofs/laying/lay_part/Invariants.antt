@@ -21,4 +21,4 @@ invariant-turns g l = record {
 }
 
 abbrev pub decreases-turns : goal.decreases-turns
-decreases-turns g l = length (turns_ahead l.walk)
+decreases-turns g l = length (turns_ahead l.walk.windows)

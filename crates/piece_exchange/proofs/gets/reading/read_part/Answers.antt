@@ -14,8 +14,8 @@ turns-init g c =
     record {
       of = refl;
       spare_of = refl;
-      fetching = fetch_begin from len (get_turns plan c.args.aggregator.domain) c.new-walk.result c.args.line.now.items (g.D.Disk.held c.args.part.now) (g.D.Disk.calls c.args.part.now)
-          c.new-walk.ensures.ready c.new-walk.ensures.windows
+      fetching = fetch_begin from len (get_turns plan c.args.aggregator.domain) c.domain_windows-walk.result c.args.line.now.items (g.D.Disk.held c.args.part.now) (g.D.Disk.calls c.args.part.now)
+          c.domain_windows-walk.ensures.ready c.domain_windows-walk.ensures.windows
           (get_on plan.list.now plan.cover.now plan.hints.now.cb_buffer from len c.args.aggregator.domain c.requires.plan c.requires.domain) c.requires.empty;
       held = refl;
       from = refl;
@@ -25,14 +25,14 @@ turns-init g c =
 
 pub read_turn-requires-clause-low : goal.read_turn-requires-clause-low
 read_turn-requires-clause-low g c κs within =
-    fetch_low (g.D.Disk.from c.args.part.now) (g.D.Disk.from c.turns.part) (g.D.Disk.len c.args.part.now) (get_turns c.args.plan.now c.args.aggregator.domain) c.turns.walk c.next_turn.new.self
-    (told_window c.in-Some.turn.window) c.turns.line.items (g.D.Disk.held c.args.part.now) (g.D.Disk.calls c.args.part.now) (g.D.Disk.calls c.turns.part)
+    fetch_low (g.D.Disk.from c.args.part.now) (g.D.Disk.from c.turns.part) (g.D.Disk.len c.args.part.now) (get_turns c.args.plan.now c.args.aggregator.domain) c.turns.walk c.next_window.new.windows
+    (told_window c.in-Some.window) c.turns.line.items (g.D.Disk.held c.args.part.now) (g.D.Disk.calls c.args.part.now) (g.D.Disk.calls c.turns.part)
     c.turns.invariant.fetching c.in-Some.ensures.some c.turns.invariant.from
 
 pub read_turn-requires-clause-high : goal.read_turn-requires-clause-high
 read_turn-requires-clause-high g c κs within =
     fetch_high (g.D.Disk.from c.args.part.now) (g.D.Disk.from c.turns.part) (g.D.Disk.len c.args.part.now) (g.D.Disk.len c.turns.part) (get_turns c.args.plan.now c.args.aggregator.domain)
-    c.turns.walk c.next_turn.new.self (told_window c.in-Some.turn.window) c.turns.line.items (g.D.Disk.held c.args.part.now) (g.D.Disk.calls c.args.part.now) (g.D.Disk.calls c.turns.part)
+    c.turns.walk c.next_window.new.windows (told_window c.in-Some.window) c.turns.line.items (g.D.Disk.held c.args.part.now) (g.D.Disk.calls c.args.part.now) (g.D.Disk.calls c.turns.part)
     c.turns.invariant.fetching c.in-Some.ensures.some c.turns.invariant.from c.turns.invariant.len
 
 pub turns-preserved : goal.turns-preserved
@@ -43,7 +43,7 @@ turns-preserved g c =
       of = c.put.ensures.of ∙ c.turns.invariant.of;
       spare_of = c.take.ensures.of ∙ c.turns.invariant.spare_of;
       fetching = fetch_next (g.D.Disk.from c.args.part.now) (g.D.Disk.from c.turns.part) (g.D.Disk.len c.args.part.now) (get_turns c.args.plan.now c.args.aggregator.domain)
-          c.turns.walk c.next_turn.new.self (told_window c.in-Some.turn.window) c.turns.line.items c.put.new.self.items c.read_turn.new.bytes.items (g.D.Disk.held c.args.part.now) (g.D.Disk.held c.turns.part)
+          c.turns.walk c.next_window.new.windows (told_window c.in-Some.window) c.turns.line.items c.put.new.self.items c.read_turn.new.bytes.items (g.D.Disk.held c.args.part.now) (g.D.Disk.held c.turns.part)
           (g.D.Disk.calls c.args.part.now) (g.D.Disk.calls c.turns.part) (g.D.Disk.calls c.read_turn.new.part)
           c.turns.invariant.fetching c.in-Some.ensures.some c.in-Some.ensures.ready (c.put.ensures.items ∙ ap (λ (hull : List ℕ). c.turns.line.items ++ Hull hull ∷ []) c.from_vec.ensures) c.turns.invariant.from c.turns.invariant.held c.in-Ok.ensures.read c.in-Ok.ensures.calls;
       held = c.in-Ok.ensures.bytes ∙ c.turns.invariant.held;

@@ -1,38 +1,36 @@
--- The windows are those of the domain's covered bytes.
-use Rattle.std.proofs.Common.{◌∙◌, ◌^◌, List, map, min, ap, subst, sym}
-use Rattle.nc_base.specs.declared.plan.Extent.{Extent}
+-- No entry is gone.
+use Rattle.std.proofs.Common.{◌^◌, List, min, subst, sym, arith}
 use Rattle.nc_base.specs.declared.plan.Owned.{Owned}
-use Rattle.file_domains.specs.Rounds.{bytes_in}
-use Rattle.file_domains.specs.declared.walk.Window.{Window}
-use Rattle.aggregator_rounds.specs.Pieces.{told_window}
-use Rattle.overlay_laws.specs.Entries.{In}
+use Rattle.data_sieving.specs.Serving.{IsPast}
+use Rattle.data_sieving.proofs.PastSteps.{past_none}
 use Rattle.overlay_laws.specs.Lines.{extents, EndBelow, IsByPlace}
-use Rattle.piece_exchange.specs.Turns.{Told, turns_of}
-use Rattle.piece_exchange.proofs.DomainTurns.{domain_turns, told_windows}
-use Rattle.piece_exchange.proofs.TurnLaws.{turn_end, turn_in}
+use Rattle.piece_exchange.specs.Hulls.{AreTurns}
+use Rattle.piece_exchange.specs.Turns.{Told, turns_ahead}
+use Rattle.piece_exchange.proofs.PlanLaws.{plan_turns}
+use Rattle.piece_exchange.proofs.TurnLaws.{at_begin, turn_end, turn_in}
 use Rattle.piece_exchange.proofs.walk.TurnWalk.new.Goals as goal
 
-pub returns-clause-windows : goal.returns-clause-windows
-returns-clause-windows c =
-    let size = c.args.size in
-    ap (λ (ws : List Window). map told_window ws) c.windows.ensures.windows
-    ∙ told_windows size (bytes_in c.args.domain c.as_slice.result.now)
-    ∙ ap (λ (es : List Extent). turns_of size c.args.domain es) c.as_slice.ensures
+pub returns-clause-at : goal.returns-clause-at
+returns-clause-at c =
+    let plan = c.args.plan.now in
+    let list = plan.list.now in
+    let domain = c.args.domain in
+    let room = min plan.hints.now.cb_buffer domain.len in
+    at_begin list c.as_slice.result.now room 0 (turns_ahead c.domain_windows.result)
+    (subst (λ (os : List Owned). IsPast 0 list os) (sym c.as_slice.ensures) (past_none 0 list)) (λ t m. omega arith)
+    (subst (λ (ts : List Told). AreTurns list room ts) (sym c.domain_windows.ensures.windows)
+    (plan_turns plan.job.now.batches list plan.cover.now plan.hints.now.cb_buffer domain c.requires))
 
 pub returns-clause-ready : goal.returns-clause-ready
 returns-clause-ready c =
-    let list = c.args.list.now in
-    let cover = c.args.cover.now in
-    let size = c.args.size in
-    let room = min size c.args.domain.len in
+    let plan = c.args.plan.now in
+    let list = plan.list.now in
     let given = c.requires in
     record {
-      walk = c.windows.ensures.ready;
-      sorted = subst (λ (os : List Owned). IsByPlace (extents os)) (sym c.as_slice-2.ensures) given.sorted;
-      ends = subst (λ (os : List Owned). EndBelow (2 ^ 62) (extents os)) (sym c.as_slice-2.ensures) given.ends;
+      walk = c.domain_windows.ensures.ready;
+      sorted = subst (λ (os : List Owned). IsByPlace (extents os)) (sym c.as_slice.ensures) given.sorted;
+      ends = subst (λ (os : List Owned). EndBelow (2 ^ 62) (extents os)) (sym c.as_slice.ensures) given.ends;
       limit = λ t m.
-          turn_end list room t given.ends
-          (turn_in list room (turns_of size c.args.domain cover) t
-          (domain_turns size c.args.domain list cover given.some given.cover given.cover_bytes)
-          (subst (λ (ts : List Told). In ts t) (returns-clause-windows c) m));
+          turn_end list (min plan.hints.now.cb_buffer c.args.domain.len) t given.ends
+          (turn_in list (min plan.hints.now.cb_buffer c.args.domain.len) (turns_ahead c.domain_windows.result) t (returns-clause-at c).turns m);
     }
