@@ -161,7 +161,7 @@ collected_joined lo hi buf first second old mid now f g r s =
     ∙ sym (fold-append (λ f cell. written f cell.0 cell.1) (blob_at old r s) (cells first) (cells second))
     ∙ ap (λ (cs : List Cell). write_cells (blob_at old r s) cs)
     (sym (map-append (λ q. buffer_cell lo hi buf q) (of_request r s first) (of_request r s second))
-    ∙ ap (λ (os : List Owned). map (λ q. buffer_cell lo hi buf q) os) (sym (filter_joined (λ (q : Owned). q.rank == r && q.slot == s) first second)))
+    ∙ ap (λ (os : List Owned). map (λ q. buffer_cell lo hi buf q) os) (sym (filter-append (λ (q : Owned). q.rank == r && q.slot == s) first second)))
   where
     cells : List Owned → List Cell
     cells os = map (λ q. buffer_cell lo hi buf q) (of_request r s os)
