@@ -7,25 +7,25 @@ use Rattle.nc_base.specs.declared.run.RankEnd.{RankEnd}
 use Rattle.nc_base.specs.declared.step.OwnerItem.{OwnerItem}
 use Rattle.nc_base.specs.declared.step.RankItem.{RankItem}
 use Rattle.ruled_line.specs.Ends.{End, items_under}
-use Rattle.thread_run.specs.Resident.{IsSettledOf}
-use Rattle.thread_run.specs.declared.resident.Resident.{Resident}
+use Rattle.thread_run.specs.RankHandle.{IsSettledOf}
+use Rattle.thread_run.specs.declared.rank_handle.RankHandle.{RankHandle}
 use Rattle.thread_run.proofs.ThreadStarts.{get_push}
 
 pub map_snoc : {P X : Type 0} (f : P → X) (ps : List P) (p : P) (xs : List X) → map f (ps ++ p ∷ []) ++ xs ≡ map f ps ++ f p ∷ xs
 map_snoc f [] p xs = refl
 map_snoc f (q ∷ ps) p xs = ap (λ (v : List _). f q ∷ v) (map_snoc f ps p xs)
 
-abbrev pub AreSettledSoFar : List (ℕ × RankItem) → List Resident → List (End OwnerItem) → List RankEnd → Type 0
-AreSettledSoFar arrivals ones lines ends = (r : ℕ) (one : Resident) (line : End OwnerItem) (end : RankEnd) → slice_get ones r ≡ Some one → slice_get lines r ≡ Some line → slice_get ends r ≡ Some end
+abbrev pub AreSettledSoFar : List (ℕ × RankItem) → List RankHandle → List (End OwnerItem) → List RankEnd → Type 0
+AreSettledSoFar arrivals ones lines ends = (r : ℕ) (one : RankHandle) (line : End OwnerItem) (end : RankEnd) → slice_get ones r ≡ Some one → slice_get lines r ≡ Some line → slice_get ends r ≡ Some end
     → IsSettledOf one (items_under r arrivals) line.items end
 
-pub settled_first : (arrivals : List (ℕ × RankItem)) (ones : List Resident) (lines : List (End OwnerItem)) (ends : List RankEnd) → ends ≡ [] → AreSettledSoFar arrivals ones lines ends
+pub settled_first : (arrivals : List (ℕ × RankItem)) (ones : List RankHandle) (lines : List (End OwnerItem)) (ends : List RankEnd) → ends ≡ [] → AreSettledSoFar arrivals ones lines ends
 settled_first arrivals ones lines ends e r one line end a b d = absurd (never (sym (ap (λ (v : List RankEnd). slice_get v r) e) ∙ d))
   where
     never : None ≡ Some end → ⊥
     never z = cc
 
-pub settled_push : (arrivals now : List (ℕ × RankItem)) (ones : List Resident) (lines : List (End OwnerItem)) (ends ends' : List RankEnd) (n : ℕ) (one : Resident) (line : End OwnerItem) (end : RankEnd)
+pub settled_push : (arrivals now : List (ℕ × RankItem)) (ones : List RankHandle) (lines : List (End OwnerItem)) (ends ends' : List RankEnd) (n : ℕ) (one : RankHandle) (line : End OwnerItem) (end : RankEnd)
     → ends' ≡ ends ++ end ∷ [] → length ends ≡ n → now ≡ arrivals → one.child.promise.ends.value.out.number ≡ n → slice_get ones n ≡ Some one → slice_get lines n ≡ Some line
     → IsSettledOf one (items_under one.child.promise.ends.value.out.number now) line.items end → AreSettledSoFar arrivals ones lines ends → AreSettledSoFar arrivals ones lines ends'
 settled_push arrivals now ones lines ends ends' n one line end e l same number at_one at_line k h r x y z a b d = by (get_push ends end z r (sym (ap (λ (v : List RankEnd). slice_get v r) e) ∙ d))
@@ -39,7 +39,7 @@ settled_push arrivals now ones lines ends ends' n one line end e l same number a
         let here : IsSettledOf one (items_under r arrivals) line.items end =
         subst (λ (q : ℕ). IsSettledOf one (items_under q arrivals) line.items end) (number ∙ sym place) (subst (λ (v : List (ℕ × RankItem)). IsSettledOf one (items_under one.child.promise.ends.value.out.number v) line.items end) same k) in
         subst (λ (w : RankEnd). IsSettledOf x (items_under r arrivals) y.items w) f
-        (subst (λ (w : End OwnerItem). IsSettledOf x (items_under r arrivals) w.items end) second (subst (λ (w : Resident). IsSettledOf w (items_under r arrivals) line.items end) first here))
+        (subst (λ (w : End OwnerItem). IsSettledOf x (items_under r arrivals) w.items end) second (subst (λ (w : RankHandle). IsSettledOf w (items_under r arrivals) line.items end) first here))
 
 pub of_either : {A B P : Type 0} → A ⊎ B → (A → P) → (B → P) → P
 of_either (inl a) f h = f a

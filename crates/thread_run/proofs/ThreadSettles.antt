@@ -14,26 +14,26 @@ use Rattle.serial_spec.specs.Desk.{own_items}
 use Rattle.serial_spec.specs.History.{Arrival}
 use Rattle.serial_spec.specs.Lawful.{is_lawful}
 use Rattle.run_laws.proofs.LawfulLaws.{ranks_lawful}
-use Rattle.thread_run.specs.Resident.{AreOf, AreResidents, AreSettled, IsSettled, IsSettledOf, IsToldToGo}
+use Rattle.thread_run.specs.RankHandle.{AreOf, AreRankHandles, AreSettled, IsSettled, IsSettledOf, IsToldToGo}
 use Rattle.turn_run.specs.Seated.{calls_of}
 use Rattle.thread_run.specs.Serving.{HasTaken, HavePut, arrived, gained}
-use Rattle.thread_run.specs.declared.resident.Resident.{Resident}
-use Rattle.thread_run.specs.declared.resident.Word.{Word}
-use Rattle.thread_run.specs.declared.resident.Word.TheVariants.{Go}
+use Rattle.thread_run.specs.declared.rank_handle.RankHandle.{RankHandle}
+use Rattle.thread_run.specs.declared.rank_handle.Word.{Word}
+use Rattle.thread_run.specs.declared.rank_handle.Word.TheVariants.{Go}
 use Rattle.thread_run.proofs.ThreadTies.{Told}
 use Rattle.list_laws.proofs.Places.{entry_beside}
 
-abbrev pub AreTold : List Resident → List Resident → Type 0
-AreTold ones now = (r : ℕ) (a b : Resident) → slice_get ones r ≡ Some a → slice_get now r ≡ Some b → IsToldToGo a b
+abbrev pub AreTold : List RankHandle → List RankHandle → Type 0
+AreTold ones now = (r : ℕ) (a b : RankHandle) → slice_get ones r ≡ Some a → slice_get now r ≡ Some b → IsToldToGo a b
 
 -- the line of a thread after the owner has put on it
 put_on : (old now : List (End OwnerItem)) (r : ℕ) (before after : End OwnerItem) → HavePut old now → slice_get old r ≡ Some before → slice_get now r ≡ Some after
     → after ≡ record { of = before.of; items = before.items ++ gained old now r }
 put_on old now r before after h a b = same_Some _ _ (sym b ∙ h.each r before a)
 
-pub residents_told : (inbox inbox' : Line (ℕ × RankItem)) (ones now : List Resident) (lines lines' : List (End OwnerItem)) → inbox' ≡ inbox → length now ≡ length ones → AreTold ones now
-    → HavePut lines lines' → AreResidents inbox [] ones lines → AreResidents inbox' (Go ∷ []) now lines'
-residents_told inbox inbox' ones now lines lines' e l told put h = record {
+pub handles_told : (inbox inbox' : Line (ℕ × RankItem)) (ones now : List RankHandle) (lines lines' : List (End OwnerItem)) → inbox' ≡ inbox → length now ≡ length ones → AreTold ones now
+    → HavePut lines lines' → AreRankHandles inbox [] ones lines → AreRankHandles inbox' (Go ∷ []) now lines'
+handles_told inbox inbox' ones now lines lines' e l told put h = record {
   long = l ∙ h.long ∙ sym put.long;
   each = λ r b after at_one at_line.
       let a = entry_beside now ones r b l at_one in
@@ -58,11 +58,11 @@ empty_at lines r line all e = at lines r all e
     at (x ∷ ls) zero h f = let s : x ≡ line = same_Some x line f in subst (λ (z : End OwnerItem). z.items ≡ []) s (All-head (λ l. l.items ≡ []) x ls h)
     at (x ∷ ls) (suc q) h f = at ls q (All-tail (λ l. l.items ≡ []) x ls h) f
 
-pub told_all : (script : Script) (header : Header) (old now : Receiver RankItem) (ones told : List Resident) (lines lines' : List (End OwnerItem)) (ends : List RankEnd)
+pub told_all : (script : Script) (header : Header) (old now : Receiver RankItem) (ones told : List RankHandle) (lines lines' : List (End OwnerItem)) (ends : List RankEnd)
     → is_lawful script ≡ true → old.items ≡ [] → old.senders ≡ script.ranks → length ones ≡ script.ranks → All (λ l. l.items ≡ []) lines → AreOf header script ones → AreTold ones told → length told ≡ length ones
-    → AreResidents old.of [] ones lines → HasTaken old now → HavePut lines lines' → AreSettled now.items told lines' ends
+    → AreRankHandles old.of [] ones lines → HasTaken old now → HavePut lines lines' → AreSettled now.items told lines' ends
     → Told script header (arrived old now) (gained lines lines') ends
-told_all script header old now ones told lines lines' ends lawful none senders all empty of go long residents taken put settled = record {
+told_all script header old now ones told lines lines' ends lawful none senders all empty of go long handles taken put settled = record {
   numbers = subst (λ (n : ℕ). IsTrue (list_all (λ a. nat_lt a.0 n) (arrived old now))) senders taken.numbers;
   ended = λ q l. taken.ended q (subst (λ (n : ℕ). q < n) (sym senders) l);
   long = settled.long ∙ long ∙ all;
@@ -77,7 +77,7 @@ told_all script header old now ones told lines lines' ends lawful none senders a
     each r end e =
         let b = entry_beside ends told r end settled.long e in
         let a = entry_beside told ones r b.0 long b.1 in
-        let before = entry_beside ones lines r a.0 residents.long a.1 in
+        let before = entry_beside ones lines r a.0 handles.long a.1 in
         let after = entry_beside lines lines' r before.0 (sym put.long) before.1 in
         let mine = go r a.0 b.0 a.1 b.1 in
         let own = of r a.0 a.1 in
@@ -85,7 +85,7 @@ told_all script header old now ones told lines lines' ends lawful none senders a
         let items : after.0.items ≡ gained lines lines' r = ap (λ (z : End OwnerItem). z.items) line ∙ ap (λ (v : List OwnerItem). v ++ gained lines lines' r) (empty_at lines r before.0 empty before.1) in
         let head : b.0.child.promise.header.value ≡ header = ap (λ z. z.promise.header.value) mine.child ∙ own.of_header in
         let text : b.0.child.promise.script.value ≡ script = ap (λ z. z.promise.script.value) mine.child ∙ own.of_script in
-        let number : b.0.child.promise.ends.value.out.number ≡ r = ap (λ z. z.promise.ends.value.out.number) mine.child ∙ (residents.each r a.0 before.0 a.1 before.1).number in
+        let number : b.0.child.promise.ends.value.out.number ≡ r = ap (λ z. z.promise.ends.value.out.number) mine.child ∙ (handles.each r a.0 before.0 a.1 before.1).number in
         let got : IsSettledOf b.0 (items_under r now.items) after.0.items end = settled.each r b.0 after.0 end b.1 after.1 e in
         subst (λ (h : Header). IsSettled h (calls_of script r) (own_items r (arrived old now)) (gained lines lines' r) end) head
         (subst (λ (s : Script). IsSettled b.0.child.promise.header.value (calls_of s r) (own_items r (arrived old now)) (gained lines lines' r) end) text

@@ -9,9 +9,9 @@ use Rattle.nc_base.specs.declared.script.Script.{Script}
 use Rattle.nc_base.specs.declared.step.OwnerItem.{OwnerItem}
 use Rattle.nc_base.specs.declared.step.RankItem.{RankItem}
 use Rattle.ruled_line.specs.Ends.{End, Line}
-use Rattle.thread_run.specs.Resident.{AreOf, AreResidents, IsOf, IsResident}
-use Rattle.thread_run.specs.declared.resident.Resident.{Resident}
-use Rattle.thread_run.specs.declared.resident.Word.{Word}
+use Rattle.thread_run.specs.RankHandle.{AreOf, AreRankHandles, IsOf, IsRankHandle}
+use Rattle.thread_run.specs.declared.rank_handle.RankHandle.{RankHandle}
+use Rattle.thread_run.specs.declared.rank_handle.Word.{Word}
 use Rattle.std.proofs.lemmas.Option.{slice_get_within}
 
 -- ---- the middle of a list
@@ -72,35 +72,35 @@ get_push (z ∷ xs) x y (suc q) e = by (get_push xs x y q e)
 
 -- ---- threads
 
-pub of_push : (header : Header) (script : Script) (ones now : List Resident) (one : Resident) → now ≡ ones ++ one ∷ [] → AreOf header script ones → IsOf header script one → AreOf header script now
-of_push header script ones now one e h k r x f = by (get_push ones one x r (sym (ap (λ (v : List Resident). slice_get v r) e) ∙ f))
+pub of_push : (header : Header) (script : Script) (ones now : List RankHandle) (one : RankHandle) → now ≡ ones ++ one ∷ [] → AreOf header script ones → IsOf header script one → AreOf header script now
+of_push header script ones now one e h k r x f = by (get_push ones one x r (sym (ap (λ (v : List RankHandle). slice_get v r) e) ∙ f))
   where
     by : (slice_get ones r ≡ Some x) ⊎ ((r ≡ length ones) × (one ≡ x)) → IsOf header script x
     by (inl g) = h r x g
-    by (inr (a, g)) = subst (λ (z : Resident). IsOf header script z) g k
+    by (inr (a, g)) = subst (λ (z : RankHandle). IsOf header script z) g k
 
-pub residents_push : (inbox : Line (ℕ × RankItem)) (words : List Word) (ones ones' : List Resident) (lines lines' : List (End OwnerItem)) (one : Resident) (line : End OwnerItem)
-    → ones' ≡ ones ++ one ∷ [] → lines' ≡ lines ++ line ∷ [] → AreResidents inbox words ones lines → IsResident inbox (length ones) words one line → AreResidents inbox words ones' lines'
-residents_push inbox words ones ones' lines lines' one line e f h k = record {
+pub handles_push : (inbox : Line (ℕ × RankItem)) (words : List Word) (ones ones' : List RankHandle) (lines lines' : List (End OwnerItem)) (one : RankHandle) (line : End OwnerItem)
+    → ones' ≡ ones ++ one ∷ [] → lines' ≡ lines ++ line ∷ [] → AreRankHandles inbox words ones lines → IsRankHandle inbox (length ones) words one line → AreRankHandles inbox words ones' lines'
+handles_push inbox words ones ones' lines lines' one line e f h k = record {
   long = both_long ones ones' one lines line e h.long ∙ sym (ap (λ (v : List (End OwnerItem)). length v) f);
   each = λ r x y a b.
-      by r x y (get_push ones one x r (sym (ap (λ (v : List Resident). slice_get v r) e) ∙ a)) (get_push lines line y r (sym (ap (λ (v : List (End OwnerItem)). slice_get v r) f) ∙ b));
+      by r x y (get_push ones one x r (sym (ap (λ (v : List RankHandle). slice_get v r) e) ∙ a)) (get_push lines line y r (sym (ap (λ (v : List (End OwnerItem)). slice_get v r) f) ∙ b));
 }
   where
-    by : (r : ℕ) (x : Resident) (y : End OwnerItem) → (slice_get ones r ≡ Some x) ⊎ ((r ≡ length ones) × (one ≡ x)) → (slice_get lines r ≡ Some y) ⊎ ((r ≡ length lines) × (line ≡ y))
-        → IsResident inbox r words x y
+    by : (r : ℕ) (x : RankHandle) (y : End OwnerItem) → (slice_get ones r ≡ Some x) ⊎ ((r ≡ length ones) × (one ≡ x)) → (slice_get lines r ≡ Some y) ⊎ ((r ≡ length lines) × (line ≡ y))
+        → IsRankHandle inbox r words x y
     by r x y (inl a) (inl b) = h.each r x y a b
     by r x y (inl a) (inr (n, b)) = let l = slice_get_within ones r x a in let w = h.long in absurd (omega arith)
     by r x y (inr (n, a)) (inl b) = let l = slice_get_within lines r y b in let w = h.long in absurd (omega arith)
     by r x y (inr (n, a)) (inr (m, b)) =
-        subst (λ (q : ℕ). IsResident inbox q words x y) (sym n)
-        (subst (λ (z : Resident). IsResident inbox (length ones) words z y) a (subst (λ (z : End OwnerItem). IsResident inbox (length ones) words one z) b k))
+        subst (λ (q : ℕ). IsRankHandle inbox q words x y) (sym n)
+        (subst (λ (z : RankHandle). IsRankHandle inbox (length ones) words z y) a (subst (λ (z : End OwnerItem). IsRankHandle inbox (length ones) words one z) b k))
 
-pub resident_at : (inbox of : Line (ℕ × RankItem)) (r number : ℕ) (words : List Word) (one : Resident) (line : End OwnerItem) → number ≡ r → of ≡ inbox → IsResident of number words one line → IsResident inbox r words one line
-resident_at inbox of r number words one line e f k = subst (λ (q : ℕ). IsResident inbox q words one line) e (subst (λ (l : Line (ℕ × RankItem)). IsResident l number words one line) f k)
+pub handle_at : (inbox of : Line (ℕ × RankItem)) (r number : ℕ) (words : List Word) (one : RankHandle) (line : End OwnerItem) → number ≡ r → of ≡ inbox → IsRankHandle of number words one line → IsRankHandle inbox r words one line
+handle_at inbox of r number words one line e f k = subst (λ (q : ℕ). IsRankHandle inbox q words one line) e (subst (λ (l : Line (ℕ × RankItem)). IsRankHandle l number words one line) f k)
 
 -- its own number is the one that it was given
-pub own_number : (inbox now : Line (ℕ × RankItem)) (r : ℕ) (words : List Word) (one : Resident) (line : End OwnerItem) → inbox ≡ now → IsResident inbox r words one line
-    → IsResident now one.child.promise.ends.value.out.number words one line
+pub own_number : (inbox now : Line (ℕ × RankItem)) (r : ℕ) (words : List Word) (one : RankHandle) (line : End OwnerItem) → inbox ≡ now → IsRankHandle inbox r words one line
+    → IsRankHandle now one.child.promise.ends.value.out.number words one line
 own_number inbox now r words one line e k =
     record { number = refl; of_inbox = k.of_inbox ∙ e; word = k.word; back = k.back; told = k.told }

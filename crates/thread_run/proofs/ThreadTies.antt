@@ -27,7 +27,7 @@ use Rattle.join_laws.proofs.BegunLaws.{begun_each, begun_known}
 use Rattle.join_laws.proofs.TieLaws.{long_whole, tied_each, tied_joins}
 use Rattle.thread_run.specs.Attending.{HasAttended, HasBroken, HasFinished}
 use Rattle.turn_run.specs.Begun.{HasBegun}
-use Rattle.thread_run.specs.Resident.{IsSettled}
+use Rattle.thread_run.specs.RankHandle.{IsSettled}
 use Rattle.turn_run.specs.Seated.{calls_of}
 use Rattle.thread_run.specs.Threads.{NoneBroke}
 use Rattle.thread_run.proofs.ThreadLists.{alike_take, alike_long}

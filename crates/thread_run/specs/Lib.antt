@@ -6,5 +6,5 @@ pub mod Refused
 pub mod Serving
 pub mod Stopping
 pub mod Strange
-pub mod Resident
+pub mod RankHandle
 pub mod Threads

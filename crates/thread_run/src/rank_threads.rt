@@ -13,13 +13,13 @@ ghost use Rattle.ruled_line.specs.Ends.{End, Line};
 ghost use Rattle.turn_run.specs.Run.{IsRun};
 ghost use Rattle.turn_run.specs.Telling.{HasTold};
 ghost use Rattle.thread_run.specs.Lent.{IsRunnable, RunsOn};
-ghost use Rattle.thread_run.specs.Resident.{AreOf, AreResidents, IsToldToGo};
+ghost use Rattle.thread_run.specs.RankHandle.{AreOf, AreRankHandles, IsToldToGo};
 ghost use Rattle.thread_run.specs.Threads.{HasRooms};
-ghost use Rattle.thread_run.specs.declared.resident.Resident.{Resident};
+ghost use Rattle.thread_run.specs.declared.rank_handle.RankHandle.{RankHandle};
 
 use crate::lent::Lent;
 use crate::rank_ends::end_run;
-use crate::resident::{Resident, Word, start};
+use crate::rank_handle::{RankHandle, Word, start};
 use crate::returned::join_all;
 use crate::serving::serve;
 use nc_base::{Header, Memory, OwnerItem, RankEnd, RunEnd, Script};
@@ -92,7 +92,7 @@ pub fn run_ranks_told<R: Threads + Wait + Sync, D: Disk, G: Gate, T: Told>(
 pub(crate) struct Rooms {
     pub senders: Vec<InPut<SentItem>>,
     pub inbox: InTake<SentItem>,
-    pub ones: Vec<Resident>,
+    pub ones: Vec<RankHandle>,
     pub lines: Vec<LinePut<OwnerItem>>,
     pub ends: Vec<RankEnd>,
 }
@@ -101,7 +101,7 @@ pub(crate) struct Rooms {
 #[derive(Drop)]
 pub(crate) struct Crew {
     pub inbox: InTake<SentItem>,
-    pub ones: Vec<Resident>,
+    pub ones: Vec<RankHandle>,
     pub lines: Vec<LinePut<OwnerItem>>,
     pub ends: Vec<RankEnd>,
 }
@@ -269,7 +269,7 @@ fn start_all<'s, E, R: Threads + Wait + Sync, G: Gate>(
     scope: &'s Scope<'s, E>,
     lent: &'s Lent<'s, R, G>,
     senders: Vec<InPut<SentItem>>,
-    ones: &mut Vec<Resident>,
+    ones: &mut Vec<RankHandle>,
     lines: &mut Vec<LinePut<OwnerItem>>,
 ) -> bool
     requires runnable { IsRunnable lent.now }
@@ -280,7 +280,7 @@ fn start_all<'s, E, R: Threads + Wait + Sync, G: Gate>(
     requires ones_room { length senders.items ≤ vec_capacity ones.old }
     requires lines_room { length senders.items ≤ vec_capacity lines.old }
     ensures of { AreOf lent.now.header.now lent.now.script.now ones.new.items }
-    ensures residents { (inbox : Line (ℕ × RankItem)) → All (λ s. s.of ≡ inbox) senders.items → AreResidents inbox [] ones.new.items lines.new.items }
+    ensures handles { (inbox : Line (ℕ × RankItem)) → All (λ s. s.of ≡ inbox) senders.items → AreRankHandles inbox [] ones.new.items lines.new.items }
     ensures empty { All (λ line. line.items ≡ []) lines.new.items }
     ensures all { result ≡ true → length ones.new.items ≡ length senders.items }
 {
@@ -297,9 +297,9 @@ fn start_all<'s, E, R: Threads + Wait + Sync, G: Gate>(
 }
 
 /// Tells the threads to stop, and joins them.
-fn stop_all<R: Threads + Wait>(rt: &R, ones: Vec<Resident>) {
+fn stop_all<R: Threads + Wait>(rt: &R, ones: Vec<RankHandle>) {
     for one in ones {
-        let Resident {
+        let RankHandle {
             word: mut go,
             child,
         } = one;
@@ -309,8 +309,8 @@ fn stop_all<R: Threads + Wait>(rt: &R, ones: Vec<Resident>) {
 }
 
 /// Tells each thread to go.
-fn tell_all<R: Wait>(rt: &R, ones: &mut [Resident])
-    ensures told { (r : ℕ) (a b : Resident) → slice_get ones.old r ≡ Some a → slice_get ones.new r ≡ Some b → IsToldToGo a b }
+fn tell_all<R: Wait>(rt: &R, ones: &mut [RankHandle])
+    ensures told { (r : ℕ) (a b : RankHandle) → slice_get ones.old r ≡ Some a → slice_get ones.new r ≡ Some b → IsToldToGo a b }
     ensures long { length ones.new ≡ length ones.old }
 {
     for one in ones.iter_mut() {
@@ -331,7 +331,7 @@ fn run_started<R: Threads + Wait + Sync, D: Disk, G: Gate, T: Told>(
     requires from { D.from disk.old ≡ 0 }
     requires long { end_of lent.now.header.now (header_len lent.now.header.now) lent.now.header.now.records ≤ D.len disk.old }
     requires of { AreOf lent.now.header.now lent.now.script.now crew.ones.items }
-    requires residents { AreResidents crew.inbox.of [] crew.ones.items crew.lines.items }
+    requires handles { AreRankHandles crew.inbox.of [] crew.ones.items crew.lines.items }
     requires all { length crew.ones.items ≡ lent.now.script.now.ranks }
     requires empty { All (λ line. line.items ≡ []) crew.lines.items }
     requires taken { crew.inbox.items ≡ [] }

@@ -1,10 +1,10 @@
 // What the threads of the ranks came to.
 ghost use Rattle.std.specs.Prelude.{◌≡◌, ◌≤◌, ◌∷◌, [], length, vec_capacity};
 ghost use Rattle.ruled_line.specs.Ends.{items_under};
-ghost use Rattle.thread_run.specs.Resident.{AreResidents, AreSettled, IsResident, IsSettledOf};
-ghost use Rattle.thread_run.specs.declared.resident.Word.TheVariants as word;
+ghost use Rattle.thread_run.specs.RankHandle.{AreRankHandles, AreSettled, IsRankHandle, IsSettledOf};
+ghost use Rattle.thread_run.specs.declared.rank_handle.Word.TheVariants as word;
 
-use crate::resident::{Ends, Resident, Returned};
+use crate::rank_handle::{Ends, RankHandle, Returned};
 use nc_base::{OwnerItem, RankEnd};
 use rank_items::SentItem;
 use ruled_line::{InTake, LinePut, settle, settle_from};
@@ -13,12 +13,12 @@ use std::thread::Threads;
 /// Joins the threads, which were told to go, and ends their lines.
 pub(crate) fn join_all<R: Threads>(
     rt: &R,
-    ones: Vec<Resident>,
+    ones: Vec<RankHandle>,
     lines: Vec<LinePut<OwnerItem>>,
     inbox: InTake<SentItem>,
     ends: &mut Vec<RankEnd>,
 )
-    requires residents { AreResidents inbox.of (word.Go ∷ []) ones.items lines.items }
+    requires handles { AreRankHandles inbox.of (word.Go ∷ []) ones.items lines.items }
     requires none { ends.old.items ≡ [] }
     requires room { length ones.items ≤ vec_capacity ends.old }
     ensures { AreSettled inbox.items ones.items lines.items ends.new.items }
@@ -34,15 +34,15 @@ pub(crate) fn join_all<R: Threads>(
 /// Joins one thread. The inbox comes back as it was.
 fn join_one<R: Threads>(
     rt: &R,
-    one: Resident,
+    one: RankHandle,
     line: LinePut<OwnerItem>,
     inbox: InTake<SentItem>,
 ) -> (RankEnd, InTake<SentItem>)
-    requires { IsResident inbox.of one.child.promise.ends.value.out.number (word.Go ∷ []) one line }
+    requires { IsRankHandle inbox.of one.child.promise.ends.value.out.number (word.Go ∷ []) one line }
     ensures settled { IsSettledOf one (items_under one.child.promise.ends.value.out.number inbox.items) line.items result.0 }
     ensures inbox { result.1 ≡ inbox }
 {
-    let Resident { word: go, child } = one;
+    let RankHandle { word: go, child } = one;
     let Returned { ends, end } = child.join(rt);
     let Ends { word, out, back } = ends;
     settle(go, word);

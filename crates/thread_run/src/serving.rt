@@ -22,7 +22,7 @@ ghost use Rattle.var_layout.specs.Measures.{AreMeasures};
 
 use crate::desk::Desk;
 use crate::lent::Outlets;
-use crate::stopping::{Door, stop_arrival, stop_held, stop_rest};
+use crate::stopping::{Senders, stop_arrival, stop_held, stop_rest};
 use collective_round::Dataset;
 use nc_base::{Header, Hints, MarkList, OwnerItem, ServeEnd, StepErr};
 use nc_outside::{Disk, Gate, Told};
@@ -136,9 +136,9 @@ fn serve_to_end<R: Threads + Wait + Sync, D: Disk, G: Gate, T: Told>(
     ensures longer { D.len out.old.disk.now ≤ D.len out.new.disk.now }
     ensures cause { HasHaltCause (D.faults out.old.disk.now) (D.faults out.new.disk.now) result.1 }
 {
-    let mut door = Door::new();
-    let (order, halt) = open_desk(tools, dataset, out, &mut door, inbox);
-    finish(tools.rt, halt, &mut door, inbox, out.back, tools.gate);
+    let mut senders = Senders::new();
+    let (order, halt) = open_desk(tools, dataset, out, &mut senders, inbox);
+    finish(tools.rt, halt, &mut senders, inbox, out.back, tools.gate);
     (order, halt)
 }
 
@@ -146,19 +146,19 @@ fn serve_to_end<R: Threads + Wait + Sync, D: Disk, G: Gate, T: Told>(
 fn finish<R: Wait, G: Gate>(
     rt: &R,
     halt: Halt,
-    door: &mut Door,
+    senders: &mut Senders,
     inbox: &mut InTake<SentItem>,
     back: &mut LinePutList<OwnerItem>,
     gate: &G,
 )
     requires few { inbox.old.senders ≤ 64 }
     requires lines { length back.old ≡ inbox.old.senders }
-    requires ended { HasSeenAll inbox.old.senders door.old.ended halt }
-    ensures { HasFinished inbox.old inbox.new back.old back.new door.old.ended door.new.ended halt }
+    requires ended { HasSeenAll inbox.old.senders senders.old.ended halt }
+    ensures { HasFinished inbox.old inbox.new back.old back.new senders.old.ended senders.new.ended halt }
 {
     match halt {
         Halt::Ended => {}
-        Halt::Stranger(_) | Halt::Fault(_) => stop_rest(rt, door, inbox, back, gate),
+        Halt::Stranger(_) | Halt::Fault(_) => stop_rest(rt, senders, inbox, back, gate),
     }
 }
 
@@ -185,7 +185,7 @@ fn open_desk<R: Threads + Wait + Sync, D: Disk, G: Gate, T: Told>(
     tools: &Tools<R, G>,
     dataset: &Dataset,
     out: &mut Outlets<D, T>,
-    door: &mut Door,
+    senders: &mut Senders,
     inbox: &mut InTake<SentItem>,
 ) -> (MarkList, Halt)
     requires dataset { IsReadable dataset.now }
@@ -193,9 +193,9 @@ fn open_desk<R: Threads + Wait + Sync, D: Disk, G: Gate, T: Told>(
     requires from { D.from out.old.disk.now ≡ 0 }
     requires lines { length out.old.back.now ≡ inbox.old.senders }
     requires few { inbox.old.senders ≤ 64 }
-    requires ended { HaveEnded door.old.ended [] }
+    requires ended { HaveEnded senders.old.ended [] }
     ensures same { AreSame out.old out.new }
-    ensures halted { HasHaltedBy D.Disk T.Told dataset.now inbox.old inbox.new door.new.ended (first_standing D.Disk T.Told inbox.old.senders out.old) out.new result.0 result.1 }
+    ensures halted { HasHaltedBy D.Disk T.Told dataset.now inbox.old inbox.new senders.new.ended (first_standing D.Disk T.Told inbox.old.senders out.old) out.new result.0 result.1 }
     ensures count { IsCount dataset.now.header.now (D.len out.new.disk.now) out.new.records.now }
     ensures from { D.from out.new.disk.now ≡ 0 }
     ensures longer { D.len out.old.disk.now ≤ D.len out.new.disk.now }
@@ -204,7 +204,7 @@ fn open_desk<R: Threads + Wait + Sync, D: Disk, G: Gate, T: Told>(
     match Desk::new(tools.alloc, out.back.len(), *out.records) {
         Err(_) => (MarkList::new(tools.alloc), Halt::Fault(StepErr::Memory)),
         Ok(mut desk) => {
-            let halt = serve_all(tools, dataset, out, &mut desk, door, inbox);
+            let halt = serve_all(tools, dataset, out, &mut desk, senders, inbox);
             (desk.order, halt)
         }
     }
@@ -216,28 +216,28 @@ fn serve_all<R: Threads + Wait + Sync, D: Disk, G: Gate, T: Told>(
     dataset: &Dataset,
     out: &mut Outlets<D, T>,
     desk: &mut Desk,
-    door: &mut Door,
+    senders: &mut Senders,
     inbox: &mut InTake<SentItem>,
 ) -> Halt
     requires dataset { IsReadable dataset.now }
     requires from { D.from out.old.disk.now ≡ 0 }
     requires lines { length out.old.back.now ≡ inbox.old.senders }
     requires few { inbox.old.senders ≤ 64 }
-    requires ended { HaveEnded door.old.ended [] }
+    requires ended { HaveEnded senders.old.ended [] }
     requires steady { IsSteady dataset.now.header.now (D.len out.old.disk.now) (standing D.Disk T.Told desk.old out.old) }
     ensures same { AreSame out.old out.new }
-    ensures halted { HasHaltedBy D.Disk T.Told dataset.now inbox.old inbox.new door.new.ended (standing D.Disk T.Told desk.old out.old) out.new desk.new.order result }
+    ensures halted { HasHaltedBy D.Disk T.Told dataset.now inbox.old inbox.new senders.new.ended (standing D.Disk T.Told desk.old out.old) out.new desk.new.order result }
     ensures count { IsCount dataset.now.header.now (D.len out.new.disk.now) out.new.records.now }
     ensures from { D.from out.new.disk.now ≡ 0 }
     ensures longer { D.len out.old.disk.now ≤ D.len out.new.disk.now }
     ensures cause { HasHaltCause (D.faults out.old.disk.now) (D.faults out.new.disk.now) result }
 {
     for _ in tools.rt.forever() {
-        if door.all_ended(out.back.len()) {
+        if senders.all_ended(out.back.len()) {
             stop_held(tools.rt, out.back, &desk.seats);
             return Halt::Ended;
         }
-        let (number, item) = door.take(tools.rt, inbox, tools.gate);
+        let (number, item) = senders.take(tools.rt, inbox, tools.gate);
         if desk.is_strange(dataset.header, dataset.measures, number, &item) {
             stop_held(tools.rt, out.back, &desk.seats);
             stop_arrival(tools.rt, out.back, number, &item);

@@ -18,16 +18,16 @@ const MOST_SENDERS: usize = 64;
 
 /// What the owner takes: how often it took, and which numbers have ended.
 #[derive(Drop)]
-pub(crate) struct Door {
+pub(crate) struct Senders {
     taken: u64,
     ended: [bool; MOST_SENDERS],
 }
 
-impl Door {
+impl Senders {
     pub(crate) fn new() -> Self
         ensures { HaveEnded result.ended [] }
     {
-        Door {
+        Senders {
             taken: 0,
             ended: [false; MOST_SENDERS],
         }
@@ -123,20 +123,20 @@ pub(crate) fn stop_each<R: Wait>(rt: &R, back: &mut LinePutList<OwnerItem>)
 /// Takes until each number has ended, and puts a stop on its line for each offer.
 pub(crate) fn stop_rest<R: Wait, G: Gate>(
     rt: &R,
-    door: &mut Door,
+    senders: &mut Senders,
     inbox: &mut InTake<SentItem>,
     back: &mut LinePutList<OwnerItem>,
     gate: &G,
 )
     requires few { inbox.old.senders ≤ 64 }
     requires lines { length back.old ≡ inbox.old.senders }
-    ensures { HasMetAll inbox.old inbox.new back.old back.new door.old.ended door.new.ended }
+    ensures { HasMetAll inbox.old inbox.new back.old back.new senders.old.ended senders.new.ended }
 {
     for _ in rt.forever() {
-        if door.all_ended(back.len()) {
+        if senders.all_ended(back.len()) {
             return;
         }
-        let (number, item) = door.take(rt, inbox, gate);
+        let (number, item) = senders.take(rt, inbox, gate);
         stop_arrival(rt, back, number, &item);
     }
     unreachable!()

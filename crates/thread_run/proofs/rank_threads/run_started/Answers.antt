@@ -3,33 +3,33 @@ use Rattle.std.proofs.Common.{◌≡◌, List, [], ◌∷◌, All, sym, ◌∙�
 use Rattle.std.proofs.lemmas.List.{with_items_is}
 use Rattle.nc_base.specs.declared.step.OwnerItem.{OwnerItem}
 use Rattle.ruled_line.specs.Ends.{End}
-use Rattle.thread_run.specs.Resident.{AreResidents, AreSettled}
+use Rattle.thread_run.specs.RankHandle.{AreRankHandles, AreSettled}
 use Rattle.thread_run.specs.Serving.{arrived, gained}
-use Rattle.thread_run.specs.declared.resident.Resident.{Resident}
-use Rattle.thread_run.specs.declared.resident.Word.TheVariants.{Go}
+use Rattle.thread_run.specs.declared.rank_handle.RankHandle.{RankHandle}
+use Rattle.thread_run.specs.declared.rank_handle.Word.TheVariants.{Go}
 use Rattle.thread_run.proofs.ThreadAll.{known_sound, owner_of, run_all}
 use Rattle.nc_base.specs.declared.step.StepErr.{StepErr}
 use Rattle.thread_run.proofs.ThreadCut.{run_cut}
 use Rattle.thread_run.proofs.ThreadTold.{run_told}
-use Rattle.thread_run.proofs.ThreadSettles.{AreTold, residents_told, told_all}
+use Rattle.thread_run.proofs.ThreadSettles.{AreTold, handles_told, told_all}
 use Rattle.thread_run.proofs.rank_threads.run_started.Goals as goal
 use Rattle.serial_spec.proofs.LawfulTests.{lawful_hints}
 
 pub serve-served-requires-clause-hints : goal.serve-served-requires-clause-hints
 serve-served-requires-clause-hints g c κs within = lawful_hints c.args.lent.now.script.now c.requires.runnable.lawful
 
-pub join_all-requires-clause-residents : goal.join_all-requires-clause-residents
-join_all-requires-clause-residents g c =
+pub join_all-requires-clause-handles : goal.join_all-requires-clause-handles
+join_all-requires-clause-handles g c =
     let now = c.tell_all.new.ones in
     let lines = c.from_vec-back.result in
     let back = c.serve-served.new.back in
     let ones_now = with_items_is c.args.crew.ones now (search rules) in
-    let told : AreTold c.args.crew.ones.items now = subst (λ (v : List Resident). AreTold v now) c.deref_mut.ensures.value c.tell_all.ensures.told in
-    let long : length now ≡ length c.args.crew.ones.items = c.tell_all.ensures.long ∙ ap (λ (v : List Resident). length v) c.deref_mut.ensures.value in
-    let residents : AreResidents c.args.crew.inbox.of [] c.args.crew.ones.items lines = subst (λ (v : List (End OwnerItem)). AreResidents c.args.crew.inbox.of [] c.args.crew.ones.items v) (sym c.from_vec-back.ensures) c.requires.residents in
-    subst (λ (v : List Resident). AreResidents c.serve-served.new.inbox.of (Go ∷ []) v c.into_vec.result.items) (sym ones_now)
-    (subst (λ (v : List (End OwnerItem)). AreResidents c.serve-served.new.inbox.of (Go ∷ []) now v) (sym c.into_vec.ensures)
-    (residents_told c.args.crew.inbox.of c.serve-served.new.inbox.of c.args.crew.ones.items now lines back c.serve-served.ensures.taken.of long told c.serve-served.ensures.put residents))
+    let told : AreTold c.args.crew.ones.items now = subst (λ (v : List RankHandle). AreTold v now) c.deref_mut.ensures.value c.tell_all.ensures.told in
+    let long : length now ≡ length c.args.crew.ones.items = c.tell_all.ensures.long ∙ ap (λ (v : List RankHandle). length v) c.deref_mut.ensures.value in
+    let handles : AreRankHandles c.args.crew.inbox.of [] c.args.crew.ones.items lines = subst (λ (v : List (End OwnerItem)). AreRankHandles c.args.crew.inbox.of [] c.args.crew.ones.items v) (sym c.from_vec-back.ensures) c.requires.handles in
+    subst (λ (v : List RankHandle). AreRankHandles c.serve-served.new.inbox.of (Go ∷ []) v c.into_vec.result.items) (sym ones_now)
+    (subst (λ (v : List (End OwnerItem)). AreRankHandles c.serve-served.new.inbox.of (Go ∷ []) now v) (sym c.into_vec.ensures)
+    (handles_told c.args.crew.inbox.of c.serve-served.new.inbox.of c.args.crew.ones.items now lines back c.serve-served.ensures.taken.of long told c.serve-served.ensures.put handles))
 
 pub end_run-requires-clause-known : goal.end_run-requires-clause-known
 end_run-requires-clause-known g c κs within =
@@ -37,20 +37,20 @@ end_run-requires-clause-known g c κs within =
     let lines = c.from_vec-back.result in
     let back = c.serve-served.new.back in
     let ones_now = with_items_is c.args.crew.ones now (search rules) in
-    let told : AreTold c.args.crew.ones.items now = subst (λ (v : List Resident). AreTold v now) c.deref_mut.ensures.value c.tell_all.ensures.told in
-    let long : length now ≡ length c.args.crew.ones.items = c.tell_all.ensures.long ∙ ap (λ (v : List Resident). length v) c.deref_mut.ensures.value in
-    let residents : AreResidents c.args.crew.inbox.of [] c.args.crew.ones.items lines = subst (λ (v : List (End OwnerItem)). AreResidents c.args.crew.inbox.of [] c.args.crew.ones.items v) (sym c.from_vec-back.ensures) c.requires.residents in
+    let told : AreTold c.args.crew.ones.items now = subst (λ (v : List RankHandle). AreTold v now) c.deref_mut.ensures.value c.tell_all.ensures.told in
+    let long : length now ≡ length c.args.crew.ones.items = c.tell_all.ensures.long ∙ ap (λ (v : List RankHandle). length v) c.deref_mut.ensures.value in
+    let handles : AreRankHandles c.args.crew.inbox.of [] c.args.crew.ones.items lines = subst (λ (v : List (End OwnerItem)). AreRankHandles c.args.crew.inbox.of [] c.args.crew.ones.items v) (sym c.from_vec-back.ensures) c.requires.handles in
     let empty : All (λ l. l.items ≡ []) lines = subst (λ (v : List (End OwnerItem)). All (λ l. l.items ≡ []) v) (sym c.from_vec-back.ensures) c.requires.empty in
     let ends = c.join_all.new.ends.items in
     let settled : AreSettled c.serve-served.new.inbox.items now back ends =
     subst (λ (v : List (End OwnerItem)). AreSettled c.serve-served.new.inbox.items now v ends) c.into_vec.ensures
-    (subst (λ (v : List Resident). AreSettled c.serve-served.new.inbox.items v c.into_vec.result.items ends) ones_now c.join_all.ensures) in
+    (subst (λ (v : List RankHandle). AreSettled c.serve-served.new.inbox.items v c.into_vec.result.items ends) ones_now c.join_all.ensures) in
     let script = c.args.lent.now.script.now in
     let header = c.args.lent.now.header.now in
     let arrivals = arrived c.args.crew.inbox c.serve-served.new.inbox in
     let given = gained lines back in
     let all = told_all script header c.args.crew.inbox c.serve-served.new.inbox c.args.crew.ones.items now lines back ends c.requires.runnable.lawful c.requires.taken c.requires.senders c.requires.all empty c.requires.of told long
-    residents c.serve-served.ensures.taken c.serve-served.ensures.put settled in
+    handles c.serve-served.ensures.taken c.serve-served.ensures.put settled in
     let owner = owner_of script header arrivals given (g.D.Disk.held c.args.disk.now) (g.D.Disk.calls c.args.disk.now) (g.D.Disk.faults c.args.disk.now)
     (g.D.Disk.held c.serve-served.new.disk) (g.D.Disk.calls c.serve-served.new.disk) (g.D.Disk.faults c.serve-served.new.disk) c.serve-served.new.records c.serve-served.result
     c.args.crew.inbox.senders c.requires.senders c.serve-served.ensures.done c.serve-served.ensures.bytes c.serve-served.ensures.calls c.serve-served.ensures.failed c.serve-served.ensures.cause c.serve-served.ensures.later in
@@ -62,20 +62,20 @@ returns-clause-run g c =
     let lines = c.from_vec-back.result in
     let back = c.serve-served.new.back in
     let ones_now = with_items_is c.args.crew.ones now (search rules) in
-    let told : AreTold c.args.crew.ones.items now = subst (λ (v : List Resident). AreTold v now) c.deref_mut.ensures.value c.tell_all.ensures.told in
-    let long : length now ≡ length c.args.crew.ones.items = c.tell_all.ensures.long ∙ ap (λ (v : List Resident). length v) c.deref_mut.ensures.value in
-    let residents : AreResidents c.args.crew.inbox.of [] c.args.crew.ones.items lines = subst (λ (v : List (End OwnerItem)). AreResidents c.args.crew.inbox.of [] c.args.crew.ones.items v) (sym c.from_vec-back.ensures) c.requires.residents in
+    let told : AreTold c.args.crew.ones.items now = subst (λ (v : List RankHandle). AreTold v now) c.deref_mut.ensures.value c.tell_all.ensures.told in
+    let long : length now ≡ length c.args.crew.ones.items = c.tell_all.ensures.long ∙ ap (λ (v : List RankHandle). length v) c.deref_mut.ensures.value in
+    let handles : AreRankHandles c.args.crew.inbox.of [] c.args.crew.ones.items lines = subst (λ (v : List (End OwnerItem)). AreRankHandles c.args.crew.inbox.of [] c.args.crew.ones.items v) (sym c.from_vec-back.ensures) c.requires.handles in
     let empty : All (λ l. l.items ≡ []) lines = subst (λ (v : List (End OwnerItem)). All (λ l. l.items ≡ []) v) (sym c.from_vec-back.ensures) c.requires.empty in
     let ends = c.join_all.new.ends.items in
     let settled : AreSettled c.serve-served.new.inbox.items now back ends =
     subst (λ (v : List (End OwnerItem)). AreSettled c.serve-served.new.inbox.items now v ends) c.into_vec.ensures
-    (subst (λ (v : List Resident). AreSettled c.serve-served.new.inbox.items v c.into_vec.result.items ends) ones_now c.join_all.ensures) in
+    (subst (λ (v : List RankHandle). AreSettled c.serve-served.new.inbox.items v c.into_vec.result.items ends) ones_now c.join_all.ensures) in
     let script = c.args.lent.now.script.now in
     let header = c.args.lent.now.header.now in
     let arrivals = arrived c.args.crew.inbox c.serve-served.new.inbox in
     let given = gained lines back in
     let all = told_all script header c.args.crew.inbox c.serve-served.new.inbox c.args.crew.ones.items now lines back ends c.requires.runnable.lawful c.requires.taken c.requires.senders c.requires.all empty c.requires.of told long
-    residents c.serve-served.ensures.taken c.serve-served.ensures.put settled in
+    handles c.serve-served.ensures.taken c.serve-served.ensures.put settled in
     let owner = owner_of script header arrivals given (g.D.Disk.held c.args.disk.now) (g.D.Disk.calls c.args.disk.now) (g.D.Disk.faults c.args.disk.now)
     (g.D.Disk.held c.serve-served.new.disk) (g.D.Disk.calls c.serve-served.new.disk) (g.D.Disk.faults c.serve-served.new.disk) c.serve-served.new.records c.serve-served.result
     c.args.crew.inbox.senders c.requires.senders c.serve-served.ensures.done c.serve-served.ensures.bytes c.serve-served.ensures.calls c.serve-served.ensures.failed c.serve-served.ensures.cause c.serve-served.ensures.later in
@@ -109,20 +109,20 @@ returns-clause-told g c =
     let lines = c.from_vec-back.result in
     let back = c.serve-served.new.back in
     let ones_now = with_items_is c.args.crew.ones now (search rules) in
-    let told : AreTold c.args.crew.ones.items now = subst (λ (v : List Resident). AreTold v now) c.deref_mut.ensures.value c.tell_all.ensures.told in
-    let long : length now ≡ length c.args.crew.ones.items = c.tell_all.ensures.long ∙ ap (λ (v : List Resident). length v) c.deref_mut.ensures.value in
-    let residents : AreResidents c.args.crew.inbox.of [] c.args.crew.ones.items lines = subst (λ (v : List (End OwnerItem)). AreResidents c.args.crew.inbox.of [] c.args.crew.ones.items v) (sym c.from_vec-back.ensures) c.requires.residents in
+    let told : AreTold c.args.crew.ones.items now = subst (λ (v : List RankHandle). AreTold v now) c.deref_mut.ensures.value c.tell_all.ensures.told in
+    let long : length now ≡ length c.args.crew.ones.items = c.tell_all.ensures.long ∙ ap (λ (v : List RankHandle). length v) c.deref_mut.ensures.value in
+    let handles : AreRankHandles c.args.crew.inbox.of [] c.args.crew.ones.items lines = subst (λ (v : List (End OwnerItem)). AreRankHandles c.args.crew.inbox.of [] c.args.crew.ones.items v) (sym c.from_vec-back.ensures) c.requires.handles in
     let empty : All (λ l. l.items ≡ []) lines = subst (λ (v : List (End OwnerItem)). All (λ l. l.items ≡ []) v) (sym c.from_vec-back.ensures) c.requires.empty in
     let ends = c.join_all.new.ends.items in
     let settled : AreSettled c.serve-served.new.inbox.items now back ends =
     subst (λ (v : List (End OwnerItem)). AreSettled c.serve-served.new.inbox.items now v ends) c.into_vec.ensures
-    (subst (λ (v : List Resident). AreSettled c.serve-served.new.inbox.items v c.into_vec.result.items ends) ones_now c.join_all.ensures) in
+    (subst (λ (v : List RankHandle). AreSettled c.serve-served.new.inbox.items v c.into_vec.result.items ends) ones_now c.join_all.ensures) in
     let script = c.args.lent.now.script.now in
     let header = c.args.lent.now.header.now in
     let arrivals = arrived c.args.crew.inbox c.serve-served.new.inbox in
     let given = gained lines back in
     let all = told_all script header c.args.crew.inbox c.serve-served.new.inbox c.args.crew.ones.items now lines back ends c.requires.runnable.lawful c.requires.taken c.requires.senders c.requires.all empty c.requires.of told long
-    residents c.serve-served.ensures.taken c.serve-served.ensures.put settled in
+    handles c.serve-served.ensures.taken c.serve-served.ensures.put settled in
     run_told script header arrivals given ends c.requires.runnable.sound c.requires.runnable.lawful all (g.D.Disk.held c.serve-served.new.disk) c.serve-served.new.records c.serve-served.result
     (g.T.Told.heard c.args.told.now) (g.T.Told.heard c.serve-served.new.told) (g.D.Disk.held c.args.disk.now) c.args.crew.inbox.senders c.requires.senders
     c.serve-served.ensures.told c.serve-served.ensures.done c.serve-served.ensures.bytes c.serve-served.ensures.cut c.end_run.result.order c.end_run.ensures.order

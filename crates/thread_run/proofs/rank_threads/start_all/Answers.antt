@@ -1,7 +1,7 @@
 -- One thread more.
 use Rattle.std.proofs.Common.{◌≡◌, ℕ, sym, ◌∙◌, ap, subst, ◌++◌, [], ◌<◌, All}
 use Rattle.std.proofs.lemmas.List.Elements.{All-push}
-use Rattle.thread_run.proofs.ThreadStarts.{all_middle, both_long, number_middle, of_push, resident_at, residents_push, snoc_append}
+use Rattle.thread_run.proofs.ThreadStarts.{all_middle, both_long, number_middle, of_push, handle_at, handles_push, snoc_append}
 use Rattle.thread_run.proofs.rank_threads.start_all.Goals as goal
 
 pub start-requires-clause-number : goal.start-requires-clause-number
@@ -24,11 +24,11 @@ loop-out-preserved g c =
       long = both_long c.loop-out.ones.items _ c.in-Some-start.one c.loop-out.yielded c.in-Some.out c.push_reserved.ensures.items c.loop-out.invariant.long;
       as_long = both_long c.loop-out.lines.items _ c.in-Some-start.line c.loop-out.yielded c.in-Some.out c.push_reserved-in-Some-start.ensures.items c.loop-out.invariant.as_long;
       of = of_push c.args.lent.now.header.now c.args.lent.now.script.now c.loop-out.ones.items _ c.in-Some-start.one c.push_reserved.ensures.items c.loop-out.invariant.of c.in-Some-start.ensures.of;
-      residents = λ inbox every.
-          residents_push inbox [] c.loop-out.ones.items _ c.loop-out.lines.items _ c.in-Some-start.one c.in-Some-start.line c.push_reserved.ensures.items c.push_reserved-in-Some-start.ensures.items
-          (c.loop-out.invariant.residents inbox every)
-          (resident_at inbox c.in-Some.out.of _ c.in-Some.out.number [] c.in-Some-start.one c.in-Some-start.line (number.0 ∙ sym c.loop-out.invariant.long)
-          (all_middle (λ s. s.of ≡ inbox) c.loop-out.yielded c.in-Some.out _ c.args.senders.items middle every) c.in-Some-start.ensures.resident);
+      handles = λ inbox every.
+          handles_push inbox [] c.loop-out.ones.items _ c.loop-out.lines.items _ c.in-Some-start.one c.in-Some-start.line c.push_reserved.ensures.items c.push_reserved-in-Some-start.ensures.items
+          (c.loop-out.invariant.handles inbox every)
+          (handle_at inbox c.in-Some.out.of _ c.in-Some.out.number [] c.in-Some-start.one c.in-Some-start.line (number.0 ∙ sym c.loop-out.invariant.long)
+          (all_middle (λ s. s.of ≡ inbox) c.loop-out.yielded c.in-Some.out _ c.args.senders.items middle every) c.in-Some-start.ensures.handle);
       empty = subst (λ v. All (λ line. line.items ≡ []) v) (sym c.push_reserved-in-Some-start.ensures.items)
           (All-push (λ line. line.items ≡ []) c.loop-out.lines.items c.in-Some-start.line c.loop-out.invariant.empty c.in-Some-start.ensures.empty);
       ones_room = c.push_reserved.ensures.capacity ∙ c.loop-out.invariant.ones_room;

@@ -2,7 +2,7 @@
 use Rattle.std.proofs.Common.{◌≡◌, ◌++◌, ℕ, [], All, length, vec_capacity}
 use Rattle.nc_base.specs.declared.step.RankItem.{RankItem}
 use Rattle.ruled_line.specs.Ends.{Line}
-use Rattle.thread_run.specs.Resident.{AreOf, AreResidents}
+use Rattle.thread_run.specs.RankHandle.{AreOf, AreRankHandles}
 use Rattle.thread_run.proofs.rank_threads.start_all.Given as goal
 
 abbrev pub invariant-loop-out : goal.invariant-loop-out
@@ -11,7 +11,7 @@ invariant-loop-out g l = record {
   long : length l.ones.items ≡ length l.yielded;
   as_long : length l.lines.items ≡ length l.yielded;
   of : AreOf l.lent.header.now l.lent.script.now l.ones.items;
-  residents : (inbox : Line (ℕ × RankItem)) → All (λ s. s.of ≡ inbox) l.fn.senders.items → AreResidents inbox [] l.ones.items l.lines.items;
+  handles : (inbox : Line (ℕ × RankItem)) → All (λ s. s.of ≡ inbox) l.fn.senders.items → AreRankHandles inbox [] l.ones.items l.lines.items;
   empty : All (λ line. line.items ≡ []) l.lines.items;
   ones_room : vec_capacity l.ones ≡ vec_capacity l.initial.ones;
   lines_room : vec_capacity l.lines ≡ vec_capacity l.initial.lines;

@@ -1,6 +1,6 @@
 -- One thread more was told.
 use Rattle.std.proofs.Common.{refl, sym, ◌∙◌, get_or, length-set, arith}
-use Rattle.thread_run.specs.Resident.{IsToldToGo}
+use Rattle.thread_run.specs.RankHandle.{IsToldToGo}
 use Rattle.thread_run.proofs.rank_threads.tell_all.Goals as goal
 use Rattle.std.proofs.lemmas.Option.{slice_get_within, slice_get-get_or}
 use Rattle.list_laws.proofs.Places.{left_more, each_more}

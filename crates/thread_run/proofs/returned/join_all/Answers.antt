@@ -20,7 +20,7 @@ join_one-end-requires g c =
     let ones = ap (λ v. map (λ p. p.0) c.loop-one.yielded ++ v) (sym c.in-Some.ensures.steps.0.0) ∙ c.loop-one.invariant.ones in
     let lines = ap (λ v. map (λ p. p.1) c.loop-one.yielded ++ v) (sym c.in-Some.ensures.steps.1.0) ∙ c.loop-one.invariant.lines in
     own_number c.args.inbox.of c.loop-one.inbox.of (length c.loop-one.yielded) _ c.in-Some.one c.in-Some.line (ap (λ z. z.of) (sym c.loop-one.invariant.inbox))
-    (c.requires.residents.each (length c.loop-one.yielded) c.in-Some.one c.in-Some.line (get_mapped (λ p. p.0) c.loop-one.yielded c.in-Some.one _ c.args.ones.items ones)
+    (c.requires.handles.each (length c.loop-one.yielded) c.in-Some.one c.in-Some.line (get_mapped (λ p. p.0) c.loop-one.yielded c.in-Some.one _ c.args.ones.items ones)
     (get_mapped (λ p. p.1) c.loop-one.yielded c.in-Some.line _ c.args.lines.items lines))
 
 pub push_reserved-requires : goal.push_reserved-requires
@@ -38,7 +38,7 @@ loop-one-preserved g c =
     let lines = ap (λ v. map (λ p. p.1) c.loop-one.yielded ++ v) (sym c.in-Some.ensures.steps.1.0) ∙ c.loop-one.invariant.lines in
     let one = get_mapped (λ p. p.0) c.loop-one.yielded c.in-Some.one _ c.args.ones.items ones in
     let line = get_mapped (λ p. p.1) c.loop-one.yielded c.in-Some.line _ c.args.lines.items lines in
-    let own = c.requires.residents.each (length c.loop-one.yielded) c.in-Some.one c.in-Some.line one line in
+    let own = c.requires.handles.each (length c.loop-one.yielded) c.in-Some.one c.in-Some.line one line in
     record {
       ones = map_snoc (λ p. p.0) c.loop-one.yielded (c.in-Some.one, c.in-Some.line) _ ∙ ones;
       lines = map_snoc (λ p. p.1) c.loop-one.yielded (c.in-Some.one, c.in-Some.line) _ ∙ lines;
@@ -60,6 +60,6 @@ returns g c = record {
       let none = s.1.0 in
       let left : length c.loop-one.one-iterator.b.rest.items ≡ 0 = search rules in
       c.loop-one.invariant.long ∙ none_left (λ p. p.1) c.loop-one.yielded c.loop-one.one-iterator.b.rest.items c.args.lines.items c.loop-one.invariant.lines left
-      ∙ sym c.requires.residents.long);
+      ∙ sym c.requires.handles.long);
   each = c.loop-one.invariant.settled;
 }

@@ -4,8 +4,8 @@ use Rattle.std.specs.Prelude.{slice_get}
 use Rattle.nc_base.specs.declared.run.RankEnd.{RankEnd}
 use Rattle.nc_base.specs.declared.step.OwnerItem.{OwnerItem}
 use Rattle.ruled_line.specs.Ends.{End, items_under}
-use Rattle.thread_run.specs.Resident.{IsSettledOf}
-use Rattle.thread_run.specs.declared.resident.Resident.{Resident}
+use Rattle.thread_run.specs.RankHandle.{IsSettledOf}
+use Rattle.thread_run.specs.declared.rank_handle.RankHandle.{RankHandle}
 use Rattle.thread_run.proofs.returned.join_all.Given as goal
 
 abbrev pub invariant-loop-one : goal.invariant-loop-one
@@ -14,7 +14,7 @@ invariant-loop-one g l = record {
   lines : map (λ p. p.1) l.yielded ++ l.one-iterator.b.rest.items ≡ l.fn.lines.items;
   inbox : l.inbox ≡ l.fn.inbox;
   long : length l.ends.items ≡ length l.yielded;
-  settled : (r : ℕ) (one : Resident) (line : End OwnerItem) (end : RankEnd) → slice_get l.fn.ones.items r ≡ Some one → slice_get l.fn.lines.items r ≡ Some line → slice_get l.ends.items r ≡ Some end
+  settled : (r : ℕ) (one : RankHandle) (line : End OwnerItem) (end : RankEnd) → slice_get l.fn.ones.items r ≡ Some one → slice_get l.fn.lines.items r ≡ Some line → slice_get l.ends.items r ≡ Some end
       → IsSettledOf one (items_under r l.fn.inbox.items) line.items end;
   room : vec_capacity l.ends ≡ vec_capacity l.initial.ends;
 }

@@ -11,7 +11,7 @@ use Rattle.thread_run.proofs.serving.serve_all.Goals as goal
 pub loop-init : goal.loop-init
 loop-init g c = record {
   same = record { disk = refl; records = refl; told = refl; back = refl };
-  served = served_none c.args.dataset.now.hints.now (setting_of c.args.dataset.now) c.args.inbox.now c.args.door.now.ended
+  served = served_none c.args.dataset.now.hints.now (setting_of c.args.dataset.now) c.args.inbox.now c.args.senders.now.ended
       (standing g.D.Disk g.T.Told c.args.desk.now c.args.out.now) c.requires.ended;
   steady = c.requires.steady;
   lines = refl;
@@ -23,18 +23,18 @@ loop-init g c = record {
 
 pub returns-then-all_ended-clause-halted : goal.returns-then-all_ended-clause-halted
 returns-then-all_ended-clause-halted g c =
-    halt_ended c.args.dataset.now.hints.now (setting_of c.args.dataset.now) c.args.inbox.now c.loop.inbox c.loop.door.ended
+    halt_ended c.args.dataset.now.hints.now (setting_of c.args.dataset.now) c.args.inbox.now c.loop.inbox c.loop.senders.ended
     (standing g.D.Disk g.T.Told c.args.desk.now c.args.out.now)
     (standing g.D.Disk g.T.Told c.loop.desk c.loop.out) c.stop_held.new.back c.loop.invariant.served
     (subst (λ seats. Grows c.loop.out.back.now (held_stops seats) c.stop_held.new.back) c.deref.ensures.value c.stop_held.ensures)
-    (subst (λ (k : ℕ). AllHaveEnded k c.loop.door.ended) (c.len.ensures ∙ c.loop.invariant.lines ∙ c.requires.lines) (c.all_ended.ensures c.if-all_ended.true))
+    (subst (λ (k : ℕ). AllHaveEnded k c.loop.senders.ended) (c.len.ensures ∙ c.loop.invariant.lines ∙ c.requires.lines) (c.all_ended.ensures c.if-all_ended.true))
 
 pub returns-then-all_ended-clause-cause : goal.returns-then-all_ended-clause-cause
 returns-then-all_ended-clause-cause g c = no_cause (g.D.Disk.faults c.args.out.now.disk.now) (g.D.Disk.faults c.loop.out.disk.now) c.loop.invariant.later
 
 pub returns-then-is_strange-clause-halted : goal.returns-then-is_strange-clause-halted
 returns-then-is_strange-clause-halted g c =
-    halt_strange c.args.dataset.now.hints.now (setting_of c.args.dataset.now) c.args.inbox.now c.loop.inbox c.take-number.new.inbox c.loop.door.ended c.take-number.new.self.ended
+    halt_strange c.args.dataset.now.hints.now (setting_of c.args.dataset.now) c.args.inbox.now c.loop.inbox c.take-number.new.inbox c.loop.senders.ended c.take-number.new.self.ended
     (standing g.D.Disk g.T.Told c.args.desk.now c.args.out.now)
     (standing g.D.Disk g.T.Told c.loop.desk c.loop.out) c.take-number.result.0 c.take-number.result.1 c.stop_held-then-is_strange.new.back c.stop_arrival.new.back c.loop.invariant.served
     (record { items = c.take-number.ensures.items; senders = c.take-number.ensures.senders; of = c.take-number.ensures.of; low = c.take-number.ensures.number; noted = c.take-number.ensures.noted })
@@ -46,7 +46,7 @@ returns-then-is_strange-clause-cause g c = stranger_cause (g.D.Disk.faults c.arg
 
 pub returns-in-Err-clause-halted : goal.returns-in-Err-clause-halted
 returns-in-Err-clause-halted g c =
-    halt_fault c.args.dataset.now.hints.now (setting_of c.args.dataset.now) c.args.inbox.now c.loop.inbox c.take-number.new.inbox c.loop.door.ended c.take-number.new.self.ended
+    halt_fault c.args.dataset.now.hints.now (setting_of c.args.dataset.now) c.args.inbox.now c.loop.inbox c.take-number.new.inbox c.loop.senders.ended c.take-number.new.self.ended
     (standing g.D.Disk g.T.Told c.args.desk.now c.args.out.now)
     (standing g.D.Disk g.T.Told c.loop.desk c.loop.out) c.take-number.result c.in-Err.fault c.arrive-done.new.out.records.now (g.D.Disk.held c.arrive-done.new.out.disk.now) (g.D.Disk.calls c.arrive-done.new.out.disk.now) c.arrive-done.new.self.order (g.T.Told.heard c.arrive-done.new.out.told.now) c.arrive-done.new.out.back.now
     c.loop.invariant.served
@@ -68,7 +68,7 @@ loop-preserved g c =
     let rest = c.in_default.ensures.cause.later in
     record {
       same = same_then c.loop.invariant.same c.arrive-done.ensures.same;
-      served = served_more c.args.dataset.now.hints.now (setting_of c.args.dataset.now) c.args.inbox.now c.loop.inbox c.take-number.new.inbox c.loop.door.ended c.take-number.new.self.ended
+      served = served_more c.args.dataset.now.hints.now (setting_of c.args.dataset.now) c.args.inbox.now c.loop.inbox c.take-number.new.inbox c.loop.senders.ended c.take-number.new.self.ended
           (standing g.D.Disk g.T.Told c.args.desk.now c.args.out.now)
           (standing g.D.Disk g.T.Told c.loop.desk c.loop.out)
           (standing g.D.Disk g.T.Told c.arrive-done.new.self c.arrive-done.new.out) c.take-number.result c.loop.invariant.served

@@ -8,7 +8,7 @@ use Rattle.thread_run.proofs.serving.serve_all.Given as goal
 abbrev pub invariant-loop : goal.invariant-loop
 invariant-loop g l = record {
   same : AreSame l.initial.out l.out;
-  served : HasServed l.dataset.hints.now (setting_of l.dataset) l.initial.inbox l.inbox l.door.ended
+  served : HasServed l.dataset.hints.now (setting_of l.dataset) l.initial.inbox l.inbox l.senders.ended
       (standing g.D.Disk g.T.Told l.initial.desk l.initial.out)
       (standing g.D.Disk g.T.Told l.desk l.out);
   steady : IsSteady l.dataset.header.now (g.D.Disk.len l.out.disk.now) (standing g.D.Disk g.T.Told l.desk l.out);

@@ -11,18 +11,18 @@ finish-requires-clause-few g c κs within = subst (λ (n : ℕ). n ≤ 64) (sym 
 
 pub finish-requires-clause-lines : goal.finish-requires-clause-lines
 finish-requires-clause-lines g c κs within =
-    halted_lines c.args.dataset.now.hints.now (setting_of c.args.dataset.now) c.args.inbox.now c.open_desk-order.new.inbox c.open_desk-order.new.door.ended
+    halted_lines c.args.dataset.now.hints.now (setting_of c.args.dataset.now) c.args.inbox.now c.open_desk-order.new.inbox c.open_desk-order.new.senders.ended
     (first_standing g.D.Disk g.T.Told c.args.inbox.now.senders c.args.out.now)
     c.open_desk-order.new.out.records.now (g.D.Disk.held c.open_desk-order.new.out.disk.now) (g.D.Disk.calls c.open_desk-order.new.out.disk.now) c.open_desk-order.result.0 (g.T.Told.heard c.open_desk-order.new.out.told.now) c.open_desk-order.new.out.back.now c.open_desk-order.result.1 c.open_desk-order.ensures.halted c.requires.lines
 
 pub finish-requires-clause-ended : goal.finish-requires-clause-ended
 finish-requires-clause-ended g c κs within =
-    seen_all c.args.inbox.now.senders c.open_desk-order.new.inbox.senders c.open_desk-order.new.door.ended c.open_desk-order.result.1 (sym c.open_desk-order.ensures.halted.taken.senders) c.open_desk-order.ensures.halted.seen
+    seen_all c.args.inbox.now.senders c.open_desk-order.new.inbox.senders c.open_desk-order.new.senders.ended c.open_desk-order.result.1 (sym c.open_desk-order.ensures.halted.taken.senders) c.open_desk-order.ensures.halted.seen
 
 pub returns-clause-outcome : goal.returns-clause-outcome
 returns-clause-outcome g c = (
-  c.finish.new.door.ended,
-  outcome c.args.dataset.now.hints.now (setting_of c.args.dataset.now) c.args.inbox.now c.open_desk-order.new.inbox c.finish.new.inbox c.open_desk-order.new.door.ended c.finish.new.door.ended
+  c.finish.new.senders.ended,
+  outcome c.args.dataset.now.hints.now (setting_of c.args.dataset.now) c.args.inbox.now c.open_desk-order.new.inbox c.finish.new.inbox c.open_desk-order.new.senders.ended c.finish.new.senders.ended
       (first_standing g.D.Disk g.T.Told c.args.inbox.now.senders c.args.out.now)
       c.open_desk-order.new.out.records.now (g.D.Disk.held c.open_desk-order.new.out.disk.now) (g.D.Disk.calls c.open_desk-order.new.out.disk.now) c.open_desk-order.result.0 (g.T.Told.heard c.open_desk-order.new.out.told.now) c.open_desk-order.new.out.back.now c.finish.new.back c.open_desk-order.result.1 c.open_desk-order.ensures.halted c.finish.ensures,
 )

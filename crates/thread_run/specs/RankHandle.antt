@@ -2,8 +2,8 @@
 --     IsFresh ends                    nothing was put or taken by the ends
 --     HasReturned .. ends came        the ends came back: told to go, the rank attended by them, and told to stop, it did nothing
 --     IsOf header script one          the thread's rank is one of this script
---     IsResident inbox r .. one line  the caller's two lines are those of the thread, which was given the ends of rank r
---     AreOf, AreResidents             the same of each rank
+--     IsRankHandle inbox r .. one line  the caller's two lines are those of the thread, which was given the ends of rank r
+--     AreOf, AreRankHandles             the same of each rank
 --     IsToldToGo before now           its thread was told to go
 --     IsSettled ..                    what arrived of a rank, and what came back to it
 --     AreSettled ..                   the same of each rank
@@ -19,11 +19,11 @@ use Rattle.ruled_line.specs.Ends.{End, Line, items_under}
 use Rattle.serial_spec.specs.History.{Arrival}
 use Rattle.thread_run.specs.Attending.{HasAttended}
 use Rattle.turn_run.specs.Seated.{calls_of}
-use Rattle.thread_run.specs.declared.resident.Ends.{Ends}
-use Rattle.thread_run.specs.declared.resident.Resident.{Resident}
-use Rattle.thread_run.specs.declared.resident.Returned.{Returned}
-use Rattle.thread_run.specs.declared.resident.Word.{Word}
-use Rattle.thread_run.specs.declared.resident.Word.TheVariants.{Go, Stop}
+use Rattle.thread_run.specs.declared.rank_handle.Ends.{Ends}
+use Rattle.thread_run.specs.declared.rank_handle.RankHandle.{RankHandle}
+use Rattle.thread_run.specs.declared.rank_handle.Returned.{Returned}
+use Rattle.thread_run.specs.declared.rank_handle.Word.{Word}
+use Rattle.thread_run.specs.declared.rank_handle.Word.TheVariants.{Go, Stop}
 
 -- ---- the thread
 
@@ -46,25 +46,25 @@ pub record HasReturned (header : Header) (script : Script) (ends : Ends) (came :
 
 -- ---- the calling thread
 
-pub record IsOf (header : Header) (script : Script) (one : Resident) : Type 0 where
+pub record IsOf (header : Header) (script : Script) (one : RankHandle) : Type 0 where
   pub of_header : one.child.promise.header.value ≡ header
   pub of_script : one.child.promise.script.value ≡ script
 
-pub record IsResident (inbox : Line (ℕ × RankItem)) (r : ℕ) (words : List Word) (one : Resident) (line : End OwnerItem) : Type 0 where
+pub record IsRankHandle (inbox : Line (ℕ × RankItem)) (r : ℕ) (words : List Word) (one : RankHandle) (line : End OwnerItem) : Type 0 where
   pub number : one.child.promise.ends.value.out.number ≡ r
   pub of_inbox : one.child.promise.ends.value.out.of ≡ inbox
   pub word : one.word.of ≡ one.child.promise.ends.value.word.of
   pub back : line.of ≡ one.child.promise.ends.value.back.of
   pub told : one.word.items ≡ words
 
-abbrev pub AreOf : Header → Script → List Resident → Type 0
-AreOf header script ones = (r : ℕ) (one : Resident) → slice_get ones r ≡ Some one → IsOf header script one
+abbrev pub AreOf : Header → Script → List RankHandle → Type 0
+AreOf header script ones = (r : ℕ) (one : RankHandle) → slice_get ones r ≡ Some one → IsOf header script one
 
-pub record AreResidents (inbox : Line (ℕ × RankItem)) (words : List Word) (ones : List Resident) (lines : List (End OwnerItem)) : Type 0 where
+pub record AreRankHandles (inbox : Line (ℕ × RankItem)) (words : List Word) (ones : List RankHandle) (lines : List (End OwnerItem)) : Type 0 where
   pub long : length ones ≡ length lines
-  pub each : (r : ℕ) (one : Resident) (line : End OwnerItem) → slice_get ones r ≡ Some one → slice_get lines r ≡ Some line → IsResident inbox r words one line
+  pub each : (r : ℕ) (one : RankHandle) (line : End OwnerItem) → slice_get ones r ≡ Some one → slice_get lines r ≡ Some line → IsRankHandle inbox r words one line
 
-pub record IsToldToGo (before now : Resident) : Type 0 where
+pub record IsToldToGo (before now : RankHandle) : Type 0 where
   pub child : now.child ≡ before.child
   pub of : now.word.of ≡ before.word.of
   pub words : now.word.items ≡ before.word.items ++ Go ∷ []
@@ -79,11 +79,11 @@ pub record IsSettled (header : Header) (own : List Call) (arrived : List RankIte
   pub arrived_of : IsPrefix arrived put
   pub came_back : IsPrefix taken given
 
-abbrev pub IsSettledOf : Resident → List RankItem → List OwnerItem → RankEnd → Type 0
+abbrev pub IsSettledOf : RankHandle → List RankItem → List OwnerItem → RankEnd → Type 0
 IsSettledOf one arrived given end =
     IsSettled one.child.promise.header.value (calls_of one.child.promise.script.value one.child.promise.ends.value.out.number) arrived given end
 
-pub record AreSettled (arrivals : List Arrival) (ones : List Resident) (lines : List (End OwnerItem)) (ends : List RankEnd) : Type 0 where
+pub record AreSettled (arrivals : List Arrival) (ones : List RankHandle) (lines : List (End OwnerItem)) (ends : List RankEnd) : Type 0 where
   pub long : length ends ≡ length ones
-  pub each : (r : ℕ) (one : Resident) (line : End OwnerItem) (end : RankEnd) → slice_get ones r ≡ Some one → slice_get lines r ≡ Some line → slice_get ends r ≡ Some end
+  pub each : (r : ℕ) (one : RankHandle) (line : End OwnerItem) (end : RankEnd) → slice_get ones r ≡ Some one → slice_get lines r ≡ Some line → slice_get ends r ≡ Some end
       → IsSettledOf one (items_under r arrivals) line.items end

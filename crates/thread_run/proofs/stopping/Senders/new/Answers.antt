@@ -1,5 +1,5 @@
 use Rattle.std.proofs.Common.{true, false}
-use Rattle.thread_run.proofs.stopping.Door.new.Goals as goal
+use Rattle.thread_run.proofs.stopping.Senders.new.Goals as goal
 use Rattle.list_laws.proofs.Places.{entry_replicate}
 
 pub returns : goal.returns

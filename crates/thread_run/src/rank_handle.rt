@@ -1,10 +1,10 @@
-// One rank's thread, which waits for its word.
+// One rank's thread, which waits for its word, and what the calling thread has of it.
 ghost use Rattle.std.specs.Prelude.{◌≡◌, ◌<◌, [], true, IfSome};
 ghost use Rattle.rank_core.specs.Indexed.{IsIndexOf};
 ghost use Rattle.serial_spec.specs.SoundHeaders.{is_sound};
 ghost use Rattle.serial_spec.specs.Lawful.{is_lawful};
 ghost use Rattle.thread_run.specs.Lent.{IsRunnable};
-ghost use Rattle.thread_run.specs.Resident.{HasReturned, IsFresh, IsOf, IsResident};
+ghost use Rattle.thread_run.specs.RankHandle.{HasReturned, IsFresh, IsOf, IsRankHandle};
 
 use crate::attending::attend;
 use crate::lent::Lent;
@@ -52,7 +52,7 @@ impl Promise<Returned> for Part {
 
 /// What the calling thread has of a rank's thread.
 #[derive(Drop)]
-pub(crate) struct Resident {
+pub(crate) struct RankHandle {
     pub word: LinePut<Word>,
     pub child: PromisedHandle<Returned, Part>,
 }
@@ -62,19 +62,19 @@ pub(crate) fn start<'s, E, G: Gate, R: Threads + Wait + Sync>(
     scope: &'s Scope<'s, E>,
     lent: &'s Lent<'s, R, G>,
     out: InPut<SentItem>,
-) -> Option<(Resident, LinePut<OwnerItem>)>
+) -> Option<(RankHandle, LinePut<OwnerItem>)>
     requires runnable { IsRunnable lent.now }
     requires number { out.number < lent.now.script.now.ranks }
     requires put { out.items ≡ [] }
     ensures of { IfSome result (λ pair. IsOf lent.now.header.now lent.now.script.now pair.0) }
-    ensures resident { IfSome result (λ pair. IsResident out.of out.number [] pair.0 pair.1) }
+    ensures handle { IfSome result (λ pair. IsRankHandle out.of out.number [] pair.0 pair.1) }
     ensures empty { IfSome result (λ pair. pair.1.items ≡ []) }
 {
     let (go, word) = line::<Word>(lent.alloc, 1).ok()?;
     let (put, back) = line::<OwnerItem>(lent.alloc, 1).ok()?;
     let ends = Ends { word, out, back };
     let child = spawn(scope, lent, ends)?;
-    Some((Resident { word: go, child }, put))
+    Some((RankHandle { word: go, child }, put))
 }
 
 /// Starts a rank's thread with these ends.
