@@ -76,7 +76,7 @@ impl Attached {
         if len > self.room.size() - self.room.used() {
             return Err(CallErr::Code(Code::EInsuffBuf));
         }
-        let blob = copied(alloc, bytes)?;
+        let blob = Blob::from_slice(alloc, bytes)?;
         let number = self.blobs.len() as u64;
         push(&mut self.blobs, blob)?;
         let _ = self.room.claim(len);
@@ -103,12 +103,6 @@ impl Attached {
         self.blobs[ticket.number as usize] = None;
         self.room.release(len);
     }
-}
-
-fn copied(alloc: Global, bytes: &[u8]) -> Result<Blob, Memory>
-    ensures { IfOk result (λ blob. blob ≡ bytes.now) }
-{
-    Ok(Blob::from_vec(Vec::from_slice(alloc, bytes)?))
 }
 
 fn push(blobs: &mut Vec<Option<Blob>>, blob: Blob) -> Result<(), Memory>

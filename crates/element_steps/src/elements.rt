@@ -17,20 +17,8 @@ ghost use Rattle.element_steps.specs.Requests.{AreBelow, IsPut};
 use crate::bytes::{read, write};
 use nc_base::{Blob, Header, Memory, Post, Region, SizeList, Var};
 use std::alloc::Global;
-use type_external::size_of;
+use type_external::{element_count, size_of};
 use var_layout::place;
-
-/// How many elements there are below these counts.
-fn element_count(counts: &[u64]) -> u64
-    requires { product counts.now ≤ most_elements }
-    ensures { result ≡ product counts.now }
-{
-    match counts {
-        [] => 1,
-        [0, ..] => 0,
-        [count, counts @ ..] => *count * element_count(counts),
-    }
-}
 
 /// Adds the index of the element that has this number in row-major order, dimension after dimension.
 fn push_index(

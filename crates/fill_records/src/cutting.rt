@@ -113,7 +113,7 @@ impl Cutter {
         ensures row { OnOk result (self.new.row.items ≡ self.old.row.items) }
         ensures found { OnOk result (self.new.found ≡ self.old.found ++ at_row self.old.row.items (record { start = []; count = [] }) ∷ []) }
     {
-        let start = SizeList::from_vec(Vec::from_slice(self.alloc, &self.row)?);
+        let start = SizeList::from_slice(self.alloc, &self.row)?;
         let count = SizeList::from_vec(vec![in self.alloc; 1; self.row.len()]?);
         self.found.push(Part { start, count })
     }

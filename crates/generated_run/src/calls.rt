@@ -7,7 +7,7 @@ ghost use Rattle.script_spec.specs.Generator.{block};
 ghost use Rattle.generated_run.specs.Made.{calls_of_rank, calls_of_record, columns_of, region_of_band};
 
 use crate::bands::{first_row, precip_band, temp_band};
-use crate::definitions::{COLUMNS, PRECIP, RANKS, ROWS, TEMP, named};
+use crate::definitions::{COLUMNS, PRECIP, RANKS, ROWS, TEMP};
 use nc_base::{
     Call, CallList, CallTable, Choice, Form, Given, Memory, PartList, PostKind, SizeList, Values,
 };
@@ -99,7 +99,7 @@ fn put_band(
     Ok(Call::Post {
         id,
         kind: PostKind::Bput,
-        var: named(alloc, var)?,
+        var: Name::from_slice(alloc, var)?,
         given: region_of_band(alloc, rank, time)?,
         values,
     })
@@ -125,7 +125,7 @@ fn get_columns(alloc: Global, var: &[u8], size: u32, rank: u32) -> Result<Call, 
     let count = vec![in alloc; u64::from(size), u64::from(ROWS), 1]?;
     Ok(Call::Get {
         all: true,
-        var: named(alloc, var)?,
+        var: Name::from_slice(alloc, var)?,
         given: block(alloc, start, count),
     })
 }

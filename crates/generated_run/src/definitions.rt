@@ -67,7 +67,7 @@ fn dim(alloc: Global, name: &[u8], len: u64) -> Result<Dim, Memory>
     ensures { IfOk result (λ dim. dim ≡ record { name = name.now; len = len }) }
 {
     Ok(Dim {
-        name: named(alloc, name)?,
+        name: Name::from_slice(alloc, name)?,
         len,
     })
 }
@@ -77,16 +77,10 @@ fn var(alloc: Global, name: &[u8], kind: NcType) -> Result<Var, Memory>
     ensures { IfOk result (λ var. var ≡ record { name = name.now; dims = 0 ∷ 1 ∷ 2 ∷ []; attrs = []; kind = kind; begin = 0 }) }
 {
     Ok(Var {
-        name: named(alloc, name)?,
+        name: Name::from_slice(alloc, name)?,
         dims: IdList::from_vec(vec![in alloc; 0, 1, 2]?),
         attrs: AttrList::new(alloc),
         kind,
         begin: 0,
     })
-}
-
-pub(crate) fn named(alloc: Global, name: &[u8]) -> Result<Name, Memory>
-    ensures { IfOk result (λ copy. copy ≡ name.now) }
-{
-    Ok(Name::from_vec(Vec::from_slice(alloc, name)?))
 }

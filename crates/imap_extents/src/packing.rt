@@ -9,19 +9,20 @@ ghost use Rattle.serial_spec.specs.Layout.{product};
 ghost use Rattle.serial_spec.specs.Limits.{most_elements};
 ghost use Rattle.type_external.specs.Refusals.{kinds_refusal};
 ghost use Rattle.nc_base.specs.declared.request.Value.TheVariants as value;
-ghost use Rattle.serial_spec.specs.Request.{count_of, value_at, ext_of, packed_bytes};
+ghost use Rattle.nc_base.specs.Values.{count_of};
+ghost use Rattle.serial_spec.specs.Request.{value_at, ext_of, packed_bytes};
 ghost use Rattle.serial_spec.specs.Looking.{kind_code, some_fits, values_code};
 ghost use Rattle.imap_extents.specs.Mapped.{IsMapped};
 ghost use Rattle.imap_extents.specs.Refusals.{IsRefusal, IsRangeRefusal};
 
-use crate::positions::{element_count, positions_of};
+use crate::positions::positions_of;
 use crate::words::{push_numbers, push_patterns, push_words};
 use nc_base::{
     BitList, BitWords, Blob, CallErr, Code, Memory, NcType, NumberList, NumberWords, Region, Value,
     Values,
 };
 use std::alloc::Global;
-use type_external::{code_of, encode_into, kind_fits, push_code, size_of};
+use type_external::{code_of, element_count, encode_into, kind_fits, push_code, size_of};
 
 /// The bytes of a put: the values of the region's elements in external form, in row-major order. The index map has an
 /// entry for each count where memory is not packed.
@@ -61,7 +62,7 @@ fn pack_front(
     ensures refused { IfErr result (IsRefusal (values_code kind region.now values.now)) }
 {
     let count = element_count(region.count.as_slice());
-    if count > count_of(values) {
+    if count > values.len() as u64 {
         return Err(CallErr::Code(Code::EMapSize));
     }
     encode_front(alloc, kind, values, count as usize)
@@ -190,23 +191,11 @@ pub(crate) fn push_external(kind: NcType, value: Value, bytes: &mut Vec<u8>) -> 
     }
 }
 
-/// How many values there are.
-fn count_of(values: &Values) -> u64
-    ensures { result ≡ count_of values.now }
-{
-    let count = match values {
-        Values::Numbers(numbers) => numbers.len(),
-        Values::Text(characters) => characters.len(),
-        Values::Bits(patterns) => patterns.len(),
-    };
-    count as u64
-}
-
 /// Whether one of the positions has no value.
 fn lacks_one(values: &Values, positions: &[u64]) -> bool
     ensures { result ≡ list_any (λ v. is_none v) (map (λ m. value_at values.now m) positions.now) }
 {
-    some_from(count_of(values), positions)
+    some_from(values.len() as u64, positions)
 }
 
 /// Whether one of the positions is not below `count`.

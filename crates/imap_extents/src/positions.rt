@@ -9,6 +9,7 @@ ghost use Rattle.imap_extents.specs.Saturated.{saturated};
 
 use nc_base::{Memory, Region};
 use std::alloc::Global;
+use type_external::element_count;
 
 /// The position of each element in memory that is not packed, in row-major order.
 pub(crate) fn positions_of(alloc: Global, region: &Region) -> Result<Vec<u64>, Memory>
@@ -21,18 +22,6 @@ pub(crate) fn positions_of(alloc: Global, region: &Region) -> Result<Vec<u64>, M
         return Ok(Vec::new(alloc));
     }
     mapped_positions(alloc, region.count.as_slice(), region.imap.as_slice())
-}
-
-/// How many elements a region has.
-pub(crate) fn element_count(counts: &[u64]) -> u64
-    requires { product counts.now ≤ most_elements }
-    ensures { result ≡ product counts.now }
-{
-    match counts {
-        [] => 1,
-        [0, ..] => 0,
-        [count, counts @ ..] => *count * element_count(counts),
-    }
 }
 
 /// The positions by an index map. A dimension of count 1 costs nothing for each element.

@@ -1,3 +1,4 @@
 pub mod BitForms
 pub mod Lends
 pub mod NumberForms
+pub mod Values

@@ -28,7 +28,7 @@ use Rattle.serial_spec.specs.Looking as looks
 use Rattle.serial_spec.specs.RankMachine as machine
 use Rattle.serial_spec.specs.Looking.{data_bytes, data_code, direction_of, find_var, is_varn, kind_code, look_at, look_parts, look_region, part_posts, parts_code, values_bytes}
 use Rattle.serial_spec.specs.RegionCheck.{check_parts, check_some, check_var, elements_of_all, first_refusal, has_element, is_ok_code, is_put, part_region, part_regions, share_element, widen}
-use Rattle.serial_spec.specs.Request.{count_of}
+use Rattle.nc_base.specs.Values.{count_of}
 use Rattle.serial_spec.specs.SharedByte.{holdings, IsOwnOnce}
 use Rattle.vara_extents.specs.Parts.{refusal_of}
 use Rattle.rank_core.specs.declared.looking.Look.{Look}

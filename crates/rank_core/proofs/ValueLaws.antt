@@ -22,7 +22,8 @@ use Rattle.serial_spec.specs.ExternalForm.{class_of, code_of, size_of, width_of}
 use Rattle.serial_spec.specs.Layout.{product}
 use Rattle.serial_spec.specs.Looking.{kind_code, part_posts, parts_code, values_bytes, values_code}
 use Rattle.serial_spec.specs.RegionCheck.{elements_of_all, is_ok_code}
-use Rattle.serial_spec.specs.Request.{count_of, ext_of, packed_bytes, positions, value_at}
+use Rattle.nc_base.specs.Values.{count_of}
+use Rattle.serial_spec.specs.Request.{ext_of, packed_bytes, positions, value_at}
 use Rattle.imap_extents.specs.Refusals.{IsRangeRefusal}
 use Rattle.imap_extents.proofs.PositionLaws.{length-positions, range_more}
 use Rattle.imap_extents.proofs.RefusalLaws.{lacks}

@@ -19,7 +19,8 @@ use Rattle.overlay_laws.specs.Entries.{In}
 use Rattle.serial_spec.specs.ExternalForm.{class_of}
 use Rattle.serial_spec.specs.Looking as looks
 use Rattle.serial_spec.specs.Looking.{kind_code, some_fits}
-use Rattle.serial_spec.specs.Request.{count_of, ext_of, value_at}
+use Rattle.nc_base.specs.Values.{count_of}
+use Rattle.serial_spec.specs.Request.{ext_of, value_at}
 use Rattle.serial_spec.specs.SharedByte.{holdings, IsOwnOnce}
 use Rattle.rank_core.specs.declared.looking.Look.{Look}
 use Rattle.rank_core.specs.declared.looking.Look.TheVariants.{Refused, Empty, Asks}

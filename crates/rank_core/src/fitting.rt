@@ -4,10 +4,10 @@ ghost use Rattle.serial_spec.specs.RankSide.{wanted};
 ghost use Rattle.rank_core.specs.Fitting.{fits_gets};
 ghost use Rattle.rank_core.specs.Heard.{AreGetsOf, IsGetOf};
 
-use crate::looking::{element_count, record_limit};
 use crate::rank::Rank;
 use nc_base::{Blob, Header, Post, Reply};
-use type_external::size_of;
+use type_external::{element_count, size_of};
+use var_layout::record_limit;
 
 impl<'a> Rank<'a> {
     /// Whether a reply is one to the offer that the rank has made.

@@ -15,9 +15,7 @@ mod target;
 
 use crate::Names;
 use filling::look_record;
-pub(crate) use filling::record_limit;
 use nc_base::{CallErr, Code, Form, Given, Header, Memory, PostList, Values};
-pub(crate) use parts::element_count;
 use parts::look_parts;
 use region::look_region;
 use std::alloc::Global;

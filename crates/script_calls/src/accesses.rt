@@ -2,7 +2,7 @@
 ghost use Rattle.std.specs.Prelude.{◌≡◌, ◌≤◌, ◌^◌, ◌+◌, [], IfOk, None, option_map, false};
 ghost use Rattle.serial_spec.specs.Lawful.{values_in_call};
 ghost use Rattle.script_spec.specs.ScriptCalls.{after_prefix, before_suffix, form_and_all, posted, id_of_post, post_of_text, is_posted};
-ghost use Rattle.serial_spec.specs.Request.{count_of};
+ghost use Rattle.nc_base.specs.Values.{count_of};
 ghost use Rattle.script_calls.specs.CallWords.{region_by, values_by, post_values_by, new_id_by, put_by, get_by, post_by};
 ghost use Rattle.script_words.specs.Reading.{Gives};
 ghost use Rattle.script_calls.specs.Posts.{IsNew};
@@ -13,7 +13,7 @@ use script_values::regions::{form_of_text, region};
 use script_values::values::values;
 use script_words::reading::{ended, id, name};
 use script_words::{ReadErr, Words};
-use std::alloc::{AllocError, Global};
+use std::alloc::Global;
 
 pub fn after_prefix<'a>(prefix: &[u8], word: &'a [u8]) -> Option<&'a [u8]>
     ensures { option_map (λ rest. rest.now) result ≡ after_prefix prefix.now word.now }
@@ -35,12 +35,6 @@ pub fn form_and_all(word: &[u8]) -> Option<(Form, bool)>
         Some(form) => Some((form_of_text(form)?, true)),
         None => Some((form_of_text(word)?, false)),
     }
-}
-
-pub fn owned(alloc: Global, name: &[u8]) -> Result<Name, AllocError>
-    ensures { IfOk result (λ n. n ≡ name.now) }
-{
-    Ok(Name::from_vec(Vec::from_slice(alloc, name)?))
 }
 
 #[tactic(auto, unfolding(crate::specs::CallWords::region_by))]
@@ -77,7 +71,7 @@ pub fn put_call(
     let values = call_values(alloc, before, words)?;
     Ok(Call::Put {
         all,
-        var: owned(alloc, var)?,
+        var: Name::from_slice(alloc, var)?,
         given,
         values,
     })
@@ -98,7 +92,7 @@ pub fn get_call(
     ended(words)?;
     Ok(Call::Get {
         all,
-        var: owned(alloc, var)?,
+        var: Name::from_slice(alloc, var)?,
         given,
     })
 }
@@ -158,7 +152,7 @@ pub fn post_call(
     Ok(Call::Post {
         id,
         kind,
-        var: owned(alloc, var)?,
+        var: Name::from_slice(alloc, var)?,
         given,
         values,
     })

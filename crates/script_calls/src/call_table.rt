@@ -3,7 +3,7 @@ ghost use Rattle.std.specs.Prelude.{◌≡◌, ◌≤◌, ◌<◌, ◌^◌, ◌+
 ghost use Rattle.std.specs.List.{All};
 ghost use Rattle.serial_spec.specs.History.{kinds};
 ghost use Rattle.serial_spec.specs.Lawful.{values_in_call};
-ghost use Rattle.serial_spec.specs.Request.{count_of};
+ghost use Rattle.nc_base.specs.Values.{count_of};
 ghost use Rattle.script_spec.specs.ScriptCalls.{Called, rank_of_text, call_line, called_after, calls_of, posted, with_call};
 ghost use Rattle.script_calls.specs.Posts.{IsNew};
 ghost use Rattle.script_words.specs.Reading.{Gives};
@@ -50,21 +50,11 @@ fn rank_of_text(ranks: u32, word: &[u8]) -> Result<u32, ReadErr>
     }
 }
 
-fn count_of(values: &Values) -> usize
-    ensures { result ≡ count_of values.now }
-{
-    match values {
-        Values::Numbers(numbers) => numbers.len(),
-        Values::Text(text) => text.len(),
-        Values::Bits(patterns) => patterns.len(),
-    }
-}
-
 fn values_in_call(call: &Call) -> u64
     ensures { result ≡ values_in_call call.now }
 {
     match call {
-        Call::Put { values, .. } | Call::Post { values, .. } => count_of(values) as u64,
+        Call::Put { values, .. } | Call::Post { values, .. } => values.len() as u64,
         _ => 0,
     }
 }

@@ -8,10 +8,10 @@ ghost use Rattle.script_words.specs.Reading.{Gives, word_of};
 ghost use Rattle.script_calls.specs.Posts.{IsNew};
 
 use crate::accesses::{
-    after_prefix, form_and_all, get_call, owned, post_call, post_of_text, put_call,
+    after_prefix, form_and_all, get_call, post_call, post_of_text, put_call,
 };
 use crate::rank_calls::RankCalls;
-use nc_base::{Call, Choice, IdList, ScriptKind};
+use nc_base::{Call, Choice, IdList, Name, ScriptKind};
 use script_values::regions::form_of_text;
 use script_words::numbers::id_of_text;
 use script_words::reading::{bare, ended, name, size};
@@ -70,7 +70,7 @@ fn fill_call(alloc: Global, ranks: u32, rank: u32, words: &mut Words<'_>) -> Res
     let number = size(words)?;
     ended(words)?;
     Ok(Call::FillRec {
-        var: owned(alloc, var)?,
+        var: Name::from_slice(alloc, var)?,
         number,
         share: rank,
         of: ranks,
@@ -94,7 +94,7 @@ fn inquiry(alloc: Global, words: &mut Words<'_>) -> Result<Call, ReadErr>
     let name = name(words)?;
     ended(words)?;
     Ok(Call::InqDim {
-        name: owned(alloc, name)?,
+        name: Name::from_slice(alloc, name)?,
     })
 }
 

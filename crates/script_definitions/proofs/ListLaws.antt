@@ -9,7 +9,8 @@ use Rattle.nc_base.specs.declared.request.Value.TheVariants as value
 use Rattle.nc_base.specs.declared.request.Values.{Values}
 use Rattle.nc_base.specs.declared.request.Values.TheVariants.{Numbers, Text, Bits}
 use Rattle.serial_spec.specs.ExternalForm.{ext}
-use Rattle.serial_spec.specs.Request.{count_of, ext_of, value_at}
+use Rattle.nc_base.specs.Values.{count_of}
+use Rattle.serial_spec.specs.Request.{ext_of, value_at}
 use Rattle.script_spec.specs.ScriptDefinitions.{external_bytes}
 use Rattle.list_laws.proofs.Ranges.{range_push}
 

@@ -11,7 +11,7 @@ use crate::vars::{name_list, var_head};
 use nc_base::{Dim, Extra, ExtraList, LimitName, MAX_VAR_DIMS, Memory, Name, NameList, ScriptKind};
 use script_words::reading::{ended, owner};
 use script_words::{ListParts, Names, ReadErr, Words};
-use std::alloc::{AllocError, Global};
+use std::alloc::Global;
 use std::marker::Model;
 
 #[derive(Drop)]
@@ -31,31 +31,25 @@ impl<'a> Model for Additions<'a> {
     ghost view = { λ d. record { dims = d.dims; vars = d.vars; titles = d.titles; extras = d.extras } };
 }
 
-fn owned(alloc: Global, name: &[u8]) -> Result<Name, AllocError>
-    ensures { IfOk result (λ n. n ≡ name.now) }
-{
-    Ok(Name::from_vec(Vec::from_slice(alloc, name)?))
-}
-
 /// The names, each with its own bytes.
 fn owned_names(alloc: Global, names: &mut ListParts<'_>) -> Result<NameList, Memory>
     ensures { IfOk result (λ list. list ≡ names.old) }
 {
     let mut list = NameList::new(alloc);
     while let Some(name) = names.take() {
-        list.push(owned(alloc, name)?)?;
+        list.push(Name::from_slice(alloc, name)?)?;
     }
     Ok(list)
 }
 
 /// The owner of an attribute, none for the dataset.
-fn owner_name(alloc: Global, owner: &[u8]) -> Result<Option<Name>, AllocError>
+fn owner_name(alloc: Global, owner: &[u8]) -> Result<Option<Name>, Memory>
     ensures { IfOk result (λ name. name ≡ owner_name owner.now) }
 {
     if owner == b":".as_slice() {
         return Ok(None);
     }
-    Ok(Some(owned(alloc, owner)?))
+    Ok(Some(Name::from_slice(alloc, owner)?))
 }
 
 fn any_record(dims: &Dims<'_>, names: &mut ListParts<'_>) -> bool
@@ -133,7 +127,7 @@ impl<'a> Additions<'a> {
     {
         let (name, len) = self.dims.read(5, words)?;
         let dim = Dim {
-            name: owned(self.alloc, name)?,
+            name: Name::from_slice(self.alloc, name)?,
             len,
         };
         self.dims.push(name, len)?;
@@ -149,7 +143,7 @@ impl<'a> Additions<'a> {
         ended(words)?;
         let var = Extra::Var {
             kind,
-            name: owned(self.alloc, name)?,
+            name: Name::from_slice(self.alloc, name)?,
             dims: owned_names(self.alloc, &mut dims)?,
         };
         self.vars.push(name)?;

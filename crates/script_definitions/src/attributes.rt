@@ -1,7 +1,8 @@
 // The attributes of a dataset and of its variables.
 ghost use Rattle.std.specs.Prelude.{◌≡◌, ◌<◌, ◌≤◌, ◌^◌, ◌+◌, ◌++◌, IfOk, OnOk, false};
 ghost use Rattle.std.specs.List.{list_any};
-ghost use Rattle.serial_spec.specs.Request.{count_of, ext_of, value_at};
+ghost use Rattle.nc_base.specs.Values.{count_of};
+ghost use Rattle.serial_spec.specs.Request.{ext_of, value_at};
 ghost use Rattle.script_spec.specs.ScriptDefinitions.{attr_of, attribute, attribute_name, external_bytes, same_title};
 ghost use Rattle.script_words.specs.Reading.{Gives};
 
@@ -32,7 +33,7 @@ fn push_value(kind: NcType, values: &Values, k: usize, bytes: &mut Vec<u8>) -> R
 fn external_bytes(alloc: Global, kind: NcType, values: &Values) -> Result<Vec<u8>, Memory>
     ensures { IfOk result (λ bytes. bytes.items ≡ external_bytes kind values.now) }
 {
-    let count = count_of(values);
+    let count = values.len();
     let mut bytes = Vec::with_capacity(alloc, count.saturating_mul(size_of(kind) as usize))?;
     for k in 0..count {
         push_value(kind, values, k, &mut bytes)?;
@@ -40,24 +41,14 @@ fn external_bytes(alloc: Global, kind: NcType, values: &Values) -> Result<Vec<u8
     Ok(bytes)
 }
 
-fn count_of(values: &Values) -> usize
-    ensures { result ≡ count_of values.now }
-{
-    match values {
-        Values::Numbers(numbers) => numbers.len(),
-        Values::Text(text) => text.len(),
-        Values::Bits(patterns) => patterns.len(),
-    }
-}
-
 fn attr_of(alloc: Global, name: &[u8], kind: NcType, values: &Values) -> Result<Attr, Memory>
     ensures { IfOk result (λ attr. attr ≡ attr_of name.now kind values.now) }
 {
     let bytes = external_bytes(alloc, kind, values)?;
     Ok(Attr {
-        name: Name::from_vec(Vec::from_slice(alloc, name)?),
+        name: Name::from_slice(alloc, name)?,
         kind,
-        count: count_of(values) as u64,
+        count: values.len() as u64,
         bytes: Blob::from_vec(bytes),
     })
 }

@@ -4,10 +4,10 @@ ghost use Rattle.std.specs.List.{list_any};
 ghost use Rattle.script_spec.specs.ScriptDefinitions.{is_among, is_unlimited, dim_line, dim_names, is_record_dim, is_added_record};
 ghost use Rattle.script_words.specs.Reading.{Gives};
 
-use nc_base::{Dim, DimList, LimitName, MAX_DIMS, Name, ScriptKind};
+use nc_base::{Dim, DimList, LimitName, MAX_DIMS, Memory, Name, ScriptKind};
 use script_words::reading::{dim_length, ended, name};
 use script_words::{Names, ReadErr, Words};
-use std::alloc::{AllocError, Global};
+use std::alloc::Global;
 use std::marker::Model;
 
 #[derive(Drop)]
@@ -118,12 +118,12 @@ impl<'a> Dims<'a> {
     }
 
     /// Adds a dimension at the end.
-    pub fn push(&mut self, name: &'a [u8], len: u64) -> Result<(), AllocError>
+    pub fn push(&mut self, name: &'a [u8], len: u64) -> Result<(), Memory>
         requires new { is_among name.now (dim_names self.old) ≡ false }
         requires room { length self.old < 1024 }
         ensures { OnOk result (self.new ≡ self.old ++ record { name = name.now; len = len } ∷ []) }
     {
-        let owned = Name::from_vec(Vec::from_slice(self.alloc, name)?);
+        let owned = Name::from_slice(self.alloc, name)?;
         self.list.reserve(1)?;
         self.names.push(name)?;
         self.unlimited = self.unlimited || len == 0;

@@ -15,7 +15,7 @@ use nc_base::{
 use script_words::numbers::is_name;
 use script_words::reading::{bracketed, ended, name, type_name};
 use script_words::{ListParts, Names, ReadErr, Words};
-use std::alloc::{AllocError, Global};
+use std::alloc::Global;
 use std::marker::Model;
 
 #[derive(Drop)]
@@ -79,11 +79,11 @@ impl<'a> Vars<'a> {
     }
 
     /// Adds a variable at the end.
-    pub fn push(&mut self, kind: NcType, name: &'a [u8], dims: IdList) -> Result<(), AllocError>
+    pub fn push(&mut self, kind: NcType, name: &'a [u8], dims: IdList) -> Result<(), Memory>
         requires { is_among name.now (var_names self.old) ≡ false }
         ensures { OnOk result (self.new ≡ self.old ++ record { name = name.now; dims = dims; attrs = []; kind = kind; begin = 0 } ∷ []) }
     {
-        let owned = Name::from_vec(Vec::from_slice(self.alloc, name)?);
+        let owned = Name::from_slice(self.alloc, name)?;
         self.list.reserve(1)?;
         self.names.push(name)?;
         self.list.push(Var {

@@ -16,7 +16,7 @@ use Rattle.serial_spec.specs.ExternalForm as class
 use Rattle.serial_spec.specs.ExternalForm.{Class}
 use Rattle.serial_spec.specs.Limits.{most_elements}
 use Rattle.serial_spec.specs.Lawful.{most_values, is_number, are_values}
-use Rattle.serial_spec.specs.Request.{count_of}
+use Rattle.nc_base.specs.Values.{count_of}
 use Rattle.script_spec.specs.ScriptWords.{Word, Plain, Quoted, Broken, natural_of, number_of_text}
 use Rattle.script_spec.specs.ScriptSteps.{refuse_if, or_fault, bare, reads_as, size, ended}
 use Rattle.script_spec.specs.ScriptValues.{within_limits, one_value, each_value, sequence_count, numbers_between, term, sequence, is_term, last_number, wrong_kind, may_be, are_numbers, are_patterns, seq_values, seqx_values, patterns_between, pattern_values, text_values, number_for, pattern_for, listed_values, listed_kind, values}

@@ -19,7 +19,7 @@ use Rattle.nc_base.specs.declared.request.Values.{Values}
 use Rattle.serial_spec.specs.Limits.{most_dims, most_dims_of_var, most_vars}
 use Rattle.serial_spec.specs.Lawful.{most_values, attr_values, is_whole_attr}
 use Rattle.serial_spec.specs.ExternalForm.{size_of}
-use Rattle.serial_spec.specs.Request.{count_of}
+use Rattle.nc_base.specs.Values.{count_of}
 use Rattle.serial_spec.specs.SoundHeaders.{fits_count, is_type, is_writable_dim, is_writable_attr}
 use Rattle.serial_spec.proofs.ElementLaws.{get_left}
 use Rattle.script_spec.specs.ScriptWords.{Word, is_name}

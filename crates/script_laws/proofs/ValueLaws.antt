@@ -12,7 +12,7 @@ use Rattle.serial_spec.specs.ExternalForm as class
 use Rattle.serial_spec.specs.ExternalForm.{Class, size_of, ext}
 use Rattle.serial_spec.specs.Limits.{most_elements}
 use Rattle.serial_spec.specs.Lawful.{most_values}
-use Rattle.serial_spec.specs.Request.{count_of}
+use Rattle.nc_base.specs.Values.{count_of}
 use Rattle.script_spec.specs.ScriptWords.{Word, Plain, Quoted, Broken, number_of_text, bits_of_text}
 use Rattle.script_spec.specs.ScriptSteps.{refuse_if, or_fault, bare, reads_as, size, ended}
 use Rattle.script_spec.specs.ScriptValues.{within_limits, one_value, each_value, sequence_count, numbers_between, patterns_between, term, pattern_term, is_term, is_pattern_term, last_number, last_pattern, wrong_kind, may_be, are_numbers, are_patterns, are_text, seq_values, seqx_values, pattern_values, text_values, number_values, bits_values, number_for, pattern_for, listed_values, listed_kind, values}

@@ -20,7 +20,7 @@ use Rattle.nc_base.specs.declared.script.Extra.TheVariants as extra
 use Rattle.serial_spec.specs.ExternalForm.{ext}
 use Rattle.serial_spec.specs.Limits.{most_dims, most_dims_of_var, most_vars, record_limit}
 use Rattle.serial_spec.specs.HeaderBytes.{number_of, last_type}
-use Rattle.serial_spec.specs.Request.{count_of}
+use Rattle.nc_base.specs.Values.{count_of}
 use Rattle.script_spec.specs.Texts.{type_word}
 use Rattle.script_spec.specs.HintTable.{HintForm, Within, Either, hint_of_text, hint_form, hint_in, none_given}
 use Rattle.script_spec.specs.ScriptWords.{Word, below, size_of_text, is_name, between_brackets, parts, all_some}

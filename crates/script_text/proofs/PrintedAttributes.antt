@@ -15,7 +15,8 @@ use Rattle.serial_spec.specs.ExternalForm as class
 use Rattle.serial_spec.specs.ExternalForm.{Class, class_of, width_of, size_of, ext, val, fits}
 use Rattle.serial_spec.specs.HeaderBytes.{number_of, last_type}
 use Rattle.serial_spec.specs.Lawful.{most_values}
-use Rattle.serial_spec.specs.Request.{count_of, number_in, code_in, gathered}
+use Rattle.nc_base.specs.Values.{count_of}
+use Rattle.serial_spec.specs.Request.{number_in, code_in, gathered}
 use Rattle.serial_spec.proofs.ValueLaws.{val-ext, ext_long}
 use Rattle.script_spec.specs.Texts.{type_word}
 use Rattle.script_spec.specs.Shown.{pieces, attr_values, shown_values}

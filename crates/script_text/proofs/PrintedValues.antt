@@ -17,7 +17,7 @@ use Rattle.serial_spec.specs.ExternalForm as class
 use Rattle.serial_spec.specs.ExternalForm.{Class, class_of}
 use Rattle.serial_spec.specs.Limits.{most_elements}
 use Rattle.serial_spec.specs.Lawful.{most_values}
-use Rattle.serial_spec.specs.Request.{count_of}
+use Rattle.nc_base.specs.Values.{count_of}
 use Rattle.script_spec.specs.Texts.{hex}
 use Rattle.script_spec.specs.Shown.{shown_values}
 use Rattle.script_spec.specs.ScriptWords.{Word, Plain, Quoted, Broken, number_of_text, bits_of_text}

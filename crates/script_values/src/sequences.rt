@@ -1,6 +1,6 @@
 // Values that are told as a sequence: how many there are, the first one and the step.
 ghost use Rattle.std.specs.Prelude.{◌≡◌, ◌≤◌, ◌<◌, ◌+◌, ◌^◌, ◌∷◌, [], OnOk, IfOk, IfSome, length, List, ℤ, pos, ◌+ℤ◌, ◌*ℤ◌, unsigned_abs, nat_lt, ◌*◌, ◌-◌, ◌==◌, Ok};
-ghost use Rattle.serial_spec.specs.Request.{count_of};
+ghost use Rattle.nc_base.specs.Values.{count_of};
 ghost use Rattle.script_spec.specs.ScriptValues.{may_have, sequence_count, sequence, last_number, is_term, term, numbers_between, pattern_sequence, last_pattern, is_pattern_term, pattern_term, patterns_between, seq_values, seqx_values, pattern_values};
 ghost use Rattle.script_words.specs.Reading.{Gives};
 

@@ -1,6 +1,6 @@
 // The values of a call, or of an attribute of a type.
 ghost use Rattle.std.specs.Prelude.{◌≡◌, ◌≤◌, ◌<◌, ◌+◌, ◌^◌, ◌∷◌, [], OnOk, IfOk, IfSome, length, List, ℤ, pos, ◌+ℤ◌, ◌*ℤ◌, unsigned_abs, nat_lt, ◌*◌, ◌-◌, ◌==◌, Ok};
-ghost use Rattle.serial_spec.specs.Request.{count_of};
+ghost use Rattle.nc_base.specs.Values.{count_of};
 ghost use Rattle.script_spec.specs.ScriptWords.{Plain};
 ghost use Rattle.script_spec.specs.ScriptValues.{number_for, pattern_for, one_value, each_value, text_values, number_values, bits_values, begins_x, listed_kind, listed_values, values};
 ghost use Rattle.script_words.specs.Reading.{Gives, word_of};

@@ -19,7 +19,8 @@ use Rattle.nc_base.specs.declared.answer.Code.TheVariants as code
 use Rattle.nc_base.specs.declared.plan.Post.{Post}
 use Rattle.serial_spec.specs.ExternalForm as form
 use Rattle.serial_spec.specs.ExternalForm.{Class, class_of, fits}
-use Rattle.serial_spec.specs.Request.{positions, value_at, ext_of, count_of, packed_bytes}
+use Rattle.nc_base.specs.Values.{count_of}
+use Rattle.serial_spec.specs.Request.{positions, value_at, ext_of, packed_bytes}
 use Rattle.serial_spec.specs.RegionCheck.{widen, check_var, has_element, first_code, is_ok_code, part_regions, elements_of_all, check_parts}
 use Rattle.serial_spec.specs.Fill.{fill_bytes, share_begin, boxes}
 use Rattle.serial_spec.specs.Layout.{product, is_record, inner_lengths, end_of}

@@ -14,7 +14,7 @@ ghost use Rattle.var_layout.specs.Measures.{AreMeasures};
 
 use crate::desk::{Desk, DeskSeat};
 use nc_base::{Direction, Header, Offer, OfferKind, Post, RankItem};
-use type_external::size_of;
+use type_external::{element_count, size_of};
 use var_layout::Measures;
 use vara_extents::check;
 
@@ -186,17 +186,5 @@ fn has_other_length(header: &Header, known: u64, put: &Post) -> bool
             let elements = element_count(put.region.count.as_slice());
             put.bytes.len() as u64 != elements * size_of(var.kind)
         }
-    }
-}
-
-/// How many elements the counts make.
-fn element_count(counts: &[u64]) -> u64
-    requires few { product counts.now ≤ most_elements }
-    ensures { result ≡ product counts.now }
-{
-    match counts {
-        [] => 1,
-        [0, ..] => 0,
-        [count, counts @ ..] => *count * element_count(counts),
     }
 }

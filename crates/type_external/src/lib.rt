@@ -6,6 +6,7 @@
 
 mod bytes;
 mod codes;
+mod counts;
 mod decoding;
 mod encoding;
 mod kinds;
@@ -13,6 +14,7 @@ mod pushing;
 mod sizes;
 
 pub use codes::code_of;
+pub use counts::element_count;
 pub use decoding::decode_one;
 pub use encoding::{encode_into, round_trip};
 pub use kinds::kind_fits;

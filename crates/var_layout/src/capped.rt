@@ -5,7 +5,8 @@ ghost use Rattle.var_layout.specs.Capped.{capped};
 
 use nc_base::FILE_LIMIT;
 
-fn cap(n: u128) -> u64
+/// The number, or 2^62 where it is more.
+pub fn cap(n: u128) -> u64
     ensures { result ≡ capped n }
 {
     n.min(FILE_LIMIT as u128) as u64

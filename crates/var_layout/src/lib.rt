@@ -2,7 +2,7 @@
 //! "Computing file offsets").
 //!
 //! No call here takes memory. A variable is named by its place in the header's list, from 0. All sizes and places
-//! are in bytes. What a call reads bounds what it costs: the whole header for `header_len`, `file_end`, `end_of` and
+//! are in bytes. What a call reads bounds what it costs: nothing of it for `record_limit`, the whole header for `header_len`, `file_end`, `end_of` and
 //! `Measures::of`, all variables for `measure`, `first_large`, `lay_out`, `is_lone`, `recsize` and `place`, one variable for
 //! `keeps_bound`, `record_share`, `slab` and `vsize`. With the [`Measures`] of a header, which a run takes once, `recsize` and
 //! the end of a file cost no walk.
@@ -25,6 +25,6 @@ pub use end::{end_of, file_end, sound_files_end};
 pub use measures::Measures;
 pub use names::{find_dim, find_var};
 pub use placing::{first_large, lay_out};
-pub use record::{is_lone, record_share, recsize, recsize_of};
+pub use record::{is_lone, record_limit, record_share, recsize, recsize_of};
 pub use sizes::{is_record, length_of, slab, slab_of, vsize, vsize_of};
 pub use written::header_len;

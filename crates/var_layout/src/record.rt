@@ -1,12 +1,13 @@
 // What a record takes.
 ghost use Rattle.std.specs.Prelude.{◌≡◌, ◌<◌, ◌^◌, ◌==◌, true, length, count_by};
 ghost use Rattle.serial_spec.specs.Layout as layout;
+ghost use Rattle.serial_spec.specs.Limits as limits;
 ghost use Rattle.serial_spec.specs.SoundHeaders.{is_sound};
 ghost use Rattle.var_layout.specs.Capped.{capped};
 
 use crate::capped;
 use crate::sizes::{is_record, slab_of, vsize_of};
-use nc_base::{Header, Var};
+use nc_base::{CLASSIC_RECORD_LIMIT, Header, RECORD_LIMIT, Var};
 
 /// How many record variables a header has.
 fn record_count(header: &Header) -> usize
@@ -80,4 +81,15 @@ pub fn recsize(header: &Header) -> u64
     ensures small { result < 2 ^ 62 }
 {
     recsize_of(header)
+}
+
+/// A record count of a file of this version is below this.
+pub fn record_limit(version: u8) -> u64
+    ensures { result ≡ limits.record_limit version }
+{
+    if version == 5 {
+        RECORD_LIMIT
+    } else {
+        CLASSIC_RECORD_LIMIT
+    }
 }

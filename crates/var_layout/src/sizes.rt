@@ -49,7 +49,7 @@ pub(crate) fn inner_dims<'a>(header: &Header, var: &'a Var) -> &'a [u32]
 }
 
 /// How many elements dimensions have together.
-fn element_count(header: &Header, ids: &[u32]) -> u64
+fn elements_of_dims(header: &Header, ids: &[u32]) -> u64
     ensures { result ≡ capped (layout.product (map (λ id. layout.length_of (slice_get header.now.dims id)) ids.now)) }
 {
     let mut elements = 1;
@@ -64,7 +64,7 @@ pub fn slab_of(header: &Header, var: &Var) -> u64
     ensures { result ≡ capped (layout.slab header.now var.now) }
 {
     capped::product(
-        element_count(header, inner_dims(header, var)),
+        elements_of_dims(header, inner_dims(header, var)),
         size_of(var.kind),
     )
 }

@@ -6,9 +6,9 @@ ghost use Rattle.std.specs.Ordering.{nat_cmp};
 ghost use Rattle.serial_spec.specs.RegionCheck as spec;
 ghost use Rattle.vara_extents.specs.Boxes.{boxes_meet, is_past, meets_any, some_meet, AreByStart};
 
-use crate::needs::element_count;
 use nc_base::Region;
 use std::cmp::Ordering;
+use type_external::element_count;
 
 /// Whether two regions of strides 1 share an element.
 ///

@@ -17,5 +17,5 @@ pub use causes::{Ends, check};
 pub use forms::widen;
 pub use laws::{extents_law, writing_law};
 pub use needs::records_needed;
-pub use parts::check_parts;
+pub use parts::{check_parts, elements_of_all};
 pub use walk::Extents;

@@ -10,40 +10,9 @@ ghost use Rattle.var_layout.specs.Measures.{AreMeasures};
 ghost use Rattle.vara_extents.specs.Accepted.{IsAccepted};
 
 use crate::causes::last_of;
-use nc_base::{
-    CLASSIC_RECORD_LIMIT, FILE_LIMIT, Header, MAX_ELEMENTS, MAX_REACH, RECORD_LIMIT, Region, Var,
-};
-use var_layout::{Measures, is_record};
-
-/// The number, or 2^62 where it is more.
-fn cap(n: u128) -> u64
-    ensures { result ≡ capped n }
-{
-    n.min(u128::from(FILE_LIMIT)) as u64
-}
-
-pub(crate) fn sum(a: u64, b: u64) -> u64
-    ensures { result ≡ capped (a + b) }
-{
-    cap(u128::from(a) + u128::from(b))
-}
-
-fn product(a: u64, b: u64) -> u64
-    ensures { result ≡ capped (a * b) }
-{
-    cap(u128::from(a) * u128::from(b))
-}
-
-/// How many elements a region has, or 2^62 where it has more.
-pub(crate) fn element_count(counts: &[u64]) -> u64
-    ensures { result ≡ capped (layout.product counts.now) }
-{
-    let mut elements = 1;
-    for count in counts {
-        elements = product(elements, *count);
-    }
-    elements
-}
+use nc_base::{FILE_LIMIT, Header, MAX_ELEMENTS, MAX_REACH, Region, Var};
+use type_external::element_count;
+use var_layout::{Measures, capped, is_record, record_limit};
 
 /// The place of the last element in memory, or 2^62 where it is farther.
 fn last_position(counts: &[u64], imap: &[u64]) -> u64
@@ -52,7 +21,7 @@ fn last_position(counts: &[u64], imap: &[u64]) -> u64
 {
     let mut position = 0;
     for (k, count) in counts.iter().enumerate() {
-        position = sum(position, product(count.saturating_sub(1), imap[k]));
+        position = capped::sum(position, capped::product(count.saturating_sub(1), imap[k]));
     }
     position
 }
@@ -77,17 +46,7 @@ fn records(header: &Header, var: &Var, region: &Region) -> u64
     let start = first(region.start.as_slice());
     let count = first(region.count.as_slice());
     let stride = first(region.stride.as_slice());
-    cap(last_of(start, count, stride).saturating_add(1))
-}
-
-fn record_limit(version: u8) -> u64
-    ensures { result ≡ limits.record_limit version }
-{
-    if version == 5 {
-        RECORD_LIMIT
-    } else {
-        CLASSIC_RECORD_LIMIT
-    }
+    capped::cap(last_of(start, count, stride).saturating_add(1))
 }
 
 /// Whether a region has too many elements, reaches too far in memory, or needs too many records or too long a file.

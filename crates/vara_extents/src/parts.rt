@@ -11,12 +11,13 @@ ghost use Rattle.vara_extents.specs.Parts.{code_by_boxes, parts_code, together_c
 use crate::boxes::some_meet;
 use crate::causes::{Ends, check_var};
 use crate::forms::repeated;
-use crate::needs::{element_count, sum, variable};
+use crate::needs::variable;
 use nc_base::{
     CallErr, Code, Direction, Given, Header, MAX_ELEMENTS, Memory, Part, Region, SizeList, Var,
 };
 use std::alloc::Global;
-use var_layout::Measures;
+use type_external::element_count;
+use var_layout::{Measures, capped};
 
 /// Whether a call of form `varn` is refused. The first of these causes answers, an order that is this project's: that of
 /// the first part that `check` refuses, as a region of its own with strides of 1; `ETooLarge` for parts that together have
@@ -200,13 +201,13 @@ fn is_put(direction: Direction) -> bool
     matches!(direction, Direction::Put)
 }
 
-/// How many elements the parts have together, or 2^62 where they have more.
-fn elements_of_all(regions: &[Region]) -> u64
+/// How many elements the regions have together, or 2^62 where they have more.
+pub fn elements_of_all(regions: &[Region]) -> u64
     ensures { result ≡ capped (spec.elements_of_all regions.now) }
 {
     let mut elements = 0;
     for region in regions {
-        elements = sum(elements, elements_of(region));
+        elements = capped::sum(elements, elements_of(region));
     }
     elements
 }

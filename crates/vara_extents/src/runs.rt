@@ -8,9 +8,8 @@ ghost use Rattle.serial_spec.specs.Place.{IsIndex, IsElement};
 ghost use Rattle.serial_spec.specs.Request.{index_at};
 ghost use Rattle.vara_extents.specs.Numbered.{coordinates_of, index_of, lengths_of, row_of, weighted, AreRuns, HaveRows};
 
-use crate::needs::element_count;
 use nc_base::{Header, Region, Var};
-use type_external::size_of;
+use type_external::{element_count, size_of};
 use var_layout::{is_record, length_of};
 
 /// An element on the way from the outer dimensions to the inner ones.

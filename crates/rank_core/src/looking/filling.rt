@@ -12,16 +12,15 @@ ghost use Rattle.rank_core.specs.Looked.{ComesTo};
 ghost use Rattle.rank_core.specs.Targets as targets;
 ghost use Rattle.rank_core.specs.Targets.{IsMeasured, IsSmall, IsTarget};
 
-use super::parts::element_count;
 use super::target::Target;
 use fill_records::{boxes, fill_value, share};
 use nc_base::{
-    Blob, CLASSIC_RECORD_LIMIT, CallErr, Code, FILE_LIMIT, Header, MAX_ELEMENTS, Memory, Part,
-    Post, PostList, RECORD_LIMIT, Region, SizeList, Var,
+    Blob, CallErr, Code, FILE_LIMIT, Header, MAX_ELEMENTS, Memory, Part, Post, PostList, Region,
+    SizeList, Var,
 };
 use std::alloc::Global;
-use type_external::size_of;
-use var_layout::{Measures, is_record, length_of, slab};
+use type_external::{element_count, size_of};
+use var_layout::{Measures, is_record, length_of, record_limit, slab};
 
 pub(super) fn look_record(
     alloc: Global,
@@ -97,17 +96,6 @@ fn is_record_past(header: &Header, measures: &Measures, number: u64) -> bool
         return true;
     }
     measures.file_end(header, number + 1) >= FILE_LIMIT
-}
-
-/// A record count is below this.
-pub(crate) fn record_limit(version: u8) -> u64
-    ensures { result ≡ limits.record_limit version }
-{
-    if version == 5 {
-        RECORD_LIMIT
-    } else {
-        CLASSIC_RECORD_LIMIT
-    }
 }
 
 /// One post for each box, with the fill value as every element.

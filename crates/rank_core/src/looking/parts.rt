@@ -19,8 +19,8 @@ use nc_base::{
     Blob, CallErr, Code, Given, Memory, NcType, Part, Post, PostList, Region, SizeList, Values, Var,
 };
 use std::alloc::Global;
-use type_external::{encode_into, kind_fits, size_of};
-use vara_extents::{Ends, check_parts};
+use type_external::{element_count, encode_into, kind_fits, size_of};
+use vara_extents::{Ends, check_parts, elements_of_all};
 
 pub(super) fn look_parts(
     alloc: Global,
@@ -73,29 +73,6 @@ fn part_region(alloc: Global, var: &Var, part: &Part) -> Result<Region, Memory>
     })
 }
 
-fn elements_of_all(regions: &[Region]) -> u64
-    requires few { spec.elements_of_all regions.now ≤ most_elements }
-    ensures { result ≡ spec.elements_of_all regions.now }
-{
-    let mut elements = 0;
-    for region in regions {
-        elements += element_count(region.count.as_slice());
-    }
-    elements
-}
-
-/// How many elements the counts make.
-pub(crate) fn element_count(counts: &[u64]) -> u64
-    requires few { product counts.now ≤ most_elements }
-    ensures { result ≡ product counts.now }
-{
-    match counts {
-        [] => 1,
-        [0, ..] => 0,
-        [count, counts @ ..] => *count * element_count(counts),
-    }
-}
-
 /// Whether the values of a put are of another kind than the type, or fewer than the elements.
 fn check_values(kind: NcType, values: Option<&Values>, elements: u64) -> Result<(), Code>
     ensures right { OnOk result (HasValues kind (option_copied values.entry) elements) }
@@ -103,21 +80,10 @@ fn check_values(kind: NcType, values: Option<&Values>, elements: u64) -> Result<
 {
     let Some(values) = values else { return Ok(()) };
     kind_fits(kind, values)?;
-    if count_of(values) < elements {
+    if (values.len() as u64) < elements {
         return Err(Code::EMapSize);
     }
     Ok(())
-}
-
-fn count_of(values: &Values) -> u64
-    ensures { result ≡ request.count_of values.now }
-{
-    let count = match values {
-        Values::Numbers(numbers) => numbers.len(),
-        Values::Text(characters) => characters.len(),
-        Values::Bits(patterns) => patterns.len(),
-    };
-    count as u64
 }
 
 /// One post for each region. The values go to the elements of one region after another.

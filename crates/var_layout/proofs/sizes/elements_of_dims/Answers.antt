@@ -3,7 +3,7 @@ use Rattle.std.specs.Prelude.{slice_get}
 use Rattle.serial_spec.specs.Layout.{length_of}
 use Rattle.var_layout.specs.Capped.{capped}
 use Rattle.var_layout.proofs.Capping.{capped_product_more}
-use Rattle.var_layout.proofs.sizes.element_count.Goals as goal
+use Rattle.var_layout.proofs.sizes.elements_of_dims.Goals as goal
 
 pub loop-id-preserved : goal.loop-id-preserved
 loop-id-preserved c =

@@ -2,7 +2,7 @@ use Rattle.std.proofs.Common.{◌≡◌, map, take}
 use Rattle.std.specs.Prelude.{slice_get}
 use Rattle.serial_spec.specs.Layout.{product, length_of}
 use Rattle.var_layout.specs.Capped.{capped}
-use Rattle.var_layout.proofs.sizes.element_count.Given as goal
+use Rattle.var_layout.proofs.sizes.elements_of_dims.Given as goal
 
 abbrev pub invariant-loop-id : goal.invariant-loop-id
 invariant-loop-id l = l.elements ≡ capped (product (map (λ id. length_of (slice_get l.header.dims id)) (take l.id-index l.ids)))
