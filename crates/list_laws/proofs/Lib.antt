@@ -8,3 +8,4 @@ pub mod Numbers
 pub mod Results
 pub mod Appends
 pub mod Fronts
+pub mod Refills

@@ -1,6 +1,5 @@
 mod Additions
 mod IndexLaws
-mod Refills
 mod Sorting
 mod Places
 mod Ranges

@@ -4,7 +4,7 @@ use Rattle.serial_spec.specs.Redefinition.{by_begin}
 use Rattle.redef_mover.specs.declared.placing.NumberedVar.{NumberedVar}
 use Rattle.redef_mover.specs.declared.placing.Side.TheVariants.{Old, New}
 use Rattle.redef_mover.specs.Placing.{fixed_var, fixed_at, in_order}
-use Rattle.redef_mover.proofs.Refills.{refilled}
+use Rattle.list_laws.proofs.Refills.{refilled}
 use Rattle.redef_mover.proofs.Sorting.{sorted_map}
 use Rattle.redef_mover.proofs.placing.fixed_order.Goals as goal
 

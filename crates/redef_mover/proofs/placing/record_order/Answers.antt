@@ -2,7 +2,7 @@ use Rattle.std.proofs.Common.{◌++◌, List, length, map, ap, ◌∙◌}
 use Rattle.redef_mover.specs.declared.placing.NumberedVar.{NumberedVar}
 use Rattle.redef_mover.specs.declared.placing.Side.TheVariants.{Old}
 use Rattle.redef_mover.specs.Placing.{record_var, records_at, in_order}
-use Rattle.redef_mover.proofs.Refills.{refilled}
+use Rattle.list_laws.proofs.Refills.{refilled}
 use Rattle.redef_mover.proofs.Sorting.{sorted_map}
 use Rattle.redef_mover.proofs.placing.record_order.Goals as goal
 
