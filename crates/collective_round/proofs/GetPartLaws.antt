@@ -14,11 +14,12 @@ use Rattle.piece_exchange.specs.Put.{PartState}
 use Rattle.piece_exchange.specs.Turns.{Told}
 use Rattle.serial_spec.specs.File.{read}
 use Rattle.collective_round.specs.Parts.{parts_of, with_parts, Adjoin, Follow}
-use Rattle.collective_round.proofs.PartDomains.{each_weaker, on_states, part_bytes}
+use Rattle.collective_round.proofs.PartDomains.{on_states, part_bytes}
 use Rattle.collective_round.proofs.PartLaws.{flat_flat, follow_again, whole_calls, whole_kept, whole_place, IsInPlace}
 use Rattle.collective_round.proofs.PartSplits.{next_begin}
 use Rattle.collective_round.proofs.PutPartLaws.{AreSplit}
 use Rattle.overlay_laws.proofs.ReadLaws.{read_slice}
+use Rattle.list_laws.proofs.Each.{zip_weaker}
 
 -- ---- the bytes of a part
 
@@ -55,7 +56,7 @@ got_states state turns disk front domains parts news end s h =
 got_place : {T E : Type 0} (turns : Extent → List Told) (disk : PartState) (domains : List Extent) (news : List PartState) (end : Result T E)
     → AllZip (λ p new. HasGot (turns p.1) p.0 new end) (zip (parts_of disk domains) domains) news → AllZip (λ p new. IsInPlace p.0 new) (zip (parts_of disk domains) domains) news
 got_place turns disk domains news end h =
-    each_weaker (λ p new. HasGot (turns p.1) p.0 new end) (λ p new. IsInPlace p.0 new) (zip (parts_of disk domains) domains) news (λ p new got. record { from = got.from; len = got.len }) h
+    zip_weaker (λ p new. HasGot (turns p.1) p.0 new end) (λ p new. IsInPlace p.0 new) (zip (parts_of disk domains) domains) news (λ p new got. record { from = got.from; len = got.len }) h
 
 -- the parts follow the front, as taking them back requires
 pub gets_follow : {D T E : Type 0} (state : D → PartState) (turns : Extent → List Told) (disk front : PartState) (domains : List Extent) (parts news : List D) (end : Result T E)
@@ -80,7 +81,7 @@ parts_got {D} {T} {E} state turns disk front new domains parts news end s told h
     (record {
       place = whole_place disk front domains (map state news) s.line s.room s.front_is (got_place turns disk domains (map state news) end gots);
       held = whole_kept disk front domains (map state news) told s.line s.room s.front_is
-          (each_weaker (λ p new. HasGot (turns p.1) p.0 new end) (λ p new. new.held ≡ p.0.held) (zip (parts_of disk domains) domains) (map state news) (λ p new got. got.held) gots);
+          (zip_weaker (λ p new. HasGot (turns p.1) p.0 new end) (λ p new. new.held ≡ p.0.held) (zip (parts_of disk domains) domains) (map state news) (λ p new got. got.held) gots);
       device = device end gots;
     })
   where
@@ -89,6 +90,6 @@ parts_got {D} {T} {E} state turns disk front new domains parts news end s told h
     device (Err e) gots = tt
     device (Ok x) gots =
         whole_calls disk front (λ d. flat_map load_calls (turns d)) domains (map state news) s.front_is
-        (each_weaker (λ p new. HasGot (turns p.1) p.0 new (Ok x)) (λ p new. new.calls ≡ with_end p.0.calls (flat_map load_calls (turns p.1)))
+        (zip_weaker (λ p new. HasGot (turns p.1) p.0 new (Ok x)) (λ p new. new.calls ≡ with_end p.0.calls (flat_map load_calls (turns p.1)))
         (zip (parts_of disk domains) domains) (map state news) (λ p new got. got.device) gots)
         ∙ ap (λ (c : List DiskCall). with_end disk.calls c) (sym (flat_flat load_calls turns domains))

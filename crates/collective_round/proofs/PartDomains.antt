@@ -158,9 +158,3 @@ some_states state R [] news h = absurd h
 some_states state R (p ∷ parts) [] h = absurd h
 some_states state R (p ∷ parts) (n ∷ news) (inl r) = inl r
 some_states state R (p ∷ parts) (n ∷ news) (inr h) = inr (some_states state R parts news h)
-
-pub each_weaker : {A B : Type 0} (R Q : A → B → Type 0) (xs : List A) (ys : List B) → ((a : A) (b : B) → R a b → Q a b) → AllZip R xs ys → AllZip Q xs ys
-each_weaker R Q [] [] f h = tt
-each_weaker R Q [] (y ∷ ys) f h = absurd h
-each_weaker R Q (x ∷ xs) [] f h = absurd h
-each_weaker R Q (x ∷ xs) (y ∷ ys) f h = (f x y h.0, each_weaker R Q xs ys f h.1)

@@ -23,8 +23,9 @@ use Rattle.piece_exchange.specs.Put.{put_part, HasPut, PartState}
 use Rattle.piece_exchange.specs.Turns.{Told}
 use Rattle.collective_round.specs.Parts.{begin_or, parts_of, with_part, with_parts, Adjoin, Follow, IsFront}
 use Rattle.collective_round.proofs.PartSplits.{begin_within, next_begin, take_both}
-use Rattle.collective_round.proofs.PartDomains.{on_states, each_weaker}
+use Rattle.collective_round.proofs.PartDomains.{on_states}
 use Rattle.collective_round.proofs.PartLaws.{IsInPlace, follow_again, whole_place, whole_calls, flat_flat, held_none}
+use Rattle.list_laws.proofs.Each.{zip_weaker}
 
 -- ---- parts that were put
 
@@ -219,7 +220,7 @@ put_states state source list turns disk domains parts news end are h =
 place_states : {T E : Type 0} (source : Source) (list : List Owned) (turns : Extent → List Told) (disk : PartState) (domains : List Extent) (news : List PartState) (end : Result T E)
     → AllZip (λ p new. HasPut source list (turns p.1) p.0 new end) (zip (parts_of disk domains) domains) news → AllZip (λ p new. IsInPlace p.0 new) (zip (parts_of disk domains) domains) news
 place_states source list turns disk domains news end h =
-    each_weaker (λ p new. HasPut source list (turns p.1) p.0 new end) (λ p new. IsInPlace p.0 new) (zip (parts_of disk domains) domains) news
+    zip_weaker (λ p new. HasPut source list (turns p.1) p.0 new end) (λ p new. IsInPlace p.0 new) (zip (parts_of disk domains) domains) news
     (λ p new put. record { from = put.from; len = put.len }) h
 
 -- the parts follow the front, as taking them back requires
@@ -241,7 +242,7 @@ puts_joined {D} {T} {E} state source list turns disk front domains parts news en
       place = whole_place disk front domains (map state news) line room f (place_states source list turns disk domains (map state news) end puts);
       bytes = bytes end puts;
       between = whole_between source list disk front domains (map state news) told line room f behind within
-          (each_weaker (λ p new. HasPut source list (turns p.1) p.0 new end)
+          (zip_weaker (λ p new. HasPut source list (turns p.1) p.0 new end)
           (λ p new. BothTold (λ file left. IsBetween file (put_part source list p.0.from file) left) p.0.held new.held) (zip (parts_of disk domains) domains) (map state news)
           (λ p new put. put.between) puts);
       device = device end puts;
@@ -252,7 +253,7 @@ puts_joined {D} {T} {E} state source list turns disk front domains parts news en
     bytes (Err e) puts = tt
     bytes (Ok x) puts =
         whole_put source list disk front domains (map state news) told line room f behind within
-        (each_weaker (λ p new. HasPut source list (turns p.1) p.0 new (Ok x))
+        (zip_weaker (λ p new. HasPut source list (turns p.1) p.0 new (Ok x))
         (λ p new. new.held ≡ after (put_part source list p.0.from) p.0.held) (zip (parts_of disk domains) domains) (map state news)
         (λ p new put. put.bytes) puts)
 
@@ -261,7 +262,7 @@ puts_joined {D} {T} {E} state source list turns disk front domains parts news en
     device (Err e) puts = tt
     device (Ok x) puts =
         whole_calls disk front (λ d. flat_map store_calls (turns d)) domains (map state news) f
-        (each_weaker (λ p new. HasPut source list (turns p.1) p.0 new (Ok x))
+        (zip_weaker (λ p new. HasPut source list (turns p.1) p.0 new (Ok x))
         (λ p new. new.calls ≡ with_end p.0.calls (flat_map store_calls (turns p.1))) (zip (parts_of disk domains) domains) (map state news)
         (λ p new put. put.device) puts)
         ∙ ap (λ (c : List DiskCall). with_end disk.calls c) (sym (flat_flat store_calls turns domains))

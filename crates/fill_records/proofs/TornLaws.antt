@@ -22,17 +22,11 @@ use Rattle.fill_records.proofs.VariableLaws.{filled_more, fixed_end}
 use Rattle.fill_records.proofs.WindowLaws.{for_told}
 use Rattle.fill_records.proofs.WriteLaws.{var_filled}
 use Rattle.serial_spec.proofs.ValueLaws.{found_long}
+use Rattle.overlay_laws.proofs.ChangeLaws.{between_next}
 
 -- ---- files
 
 -- a change more that was cut off, from one file between to another
-pub between_next : (old whole mid next left : List ℕ) → IsBetween old whole mid → IsBetween old whole next → IsBetween mid next left → IsBetween old whole left
-between_next old whole mid next left a b c = record { len = c.len ∙ a.len; each = λ x. by_next x (c.each x) }
-  where
-    by_next : (x : ℕ) → (at left x ≡ at mid x) ⊎ (at left x ≡ at next x) → (at left x ≡ at old x) ⊎ (at left x ≡ at whole x)
-    by_next x (inl e) = elim (a.each x) [ inl k ↦ inl (e ∙ k) | inr k ↦ inr (e ∙ k) ]
-    by_next x (inr e) = elim (b.each x) [ inl k ↦ inl (e ∙ k) | inr k ↦ inr (e ∙ k) ]
-
 partly_between : (place : ℕ) (bytes file left : List ℕ) → place + length bytes ≤ length file → PartlyWritten place bytes file left
     → IsBetween file (written file place bytes) left
 partly_between place bytes file left room p = record { len = p.len ∙ length-written_inside file place bytes room; each = p.each }

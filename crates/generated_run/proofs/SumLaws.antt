@@ -13,22 +13,20 @@ use Rattle.nc_base.proofs.BitLaws.{bit_steps_more}
 use Rattle.nc_base.proofs.RunLaws as number
 use Rattle.nc_base.proofs.RunLaws.{steps_more}
 use Rattle.script_laws.proofs.ListLaws.{sum_more}
+use Rattle.list_laws.proofs.Places.{take_next}
 
 pub mapped_more : {A : Type 0} (f : A → ℕ) (xs : List A) (i : ℕ) (d : A) → i < length xs → sum (map f (take (i + 1) xs)) ≡ sum (map f (take i xs)) + f (get_or xs i d)
 mapped_more {A} f xs i d h = ap (λ (ys : List A). sum (map f ys)) (take_more xs i d h) ∙ sum_more f (take i xs) (get_or xs i d)
 
 -- ---- over a list that is read by its places
 
-one_more : {X : Type 0} (xs : List X) (k : ℕ) (x : X) → slice_get xs k ≡ Some x → take (k + 1) xs ≡ take k xs ++ x ∷ []
-one_more {X} xs k x there = take_more xs k x (slice_get_within xs k x there) ∙ ap (λ (y : X). take k xs ++ y ∷ []) (get_or_from_slice_get xs k x x there)
-
 pub number_summed : (start : ℤ) (zs : List ℤ) (k : ℕ) (z : ℤ) → slice_get zs k ≡ Some z
     → fold (λ s x. s +ℤ x) start (take (k + 1) zs) ≡ fold (λ s x. s +ℤ x) start (take k zs) +ℤ z
 number_summed start zs k z there =
-    ap (λ (xs : List ℤ). fold (λ s x. s +ℤ x) start xs) (one_more zs k z there) ∙ fold_push (λ s x. s +ℤ x) start (take k zs) z
+    ap (λ (xs : List ℤ). fold (λ s x. s +ℤ x) start xs) (take_next zs k z there) ∙ fold_push (λ s x. s +ℤ x) start (take k zs) z
 
 pub pattern_summed : (ns : List ℕ) (k n : ℕ) → slice_get ns k ≡ Some n → sum (take (k + 1) ns) ≡ sum (take k ns) + n
-pattern_summed ns k n there = ap (λ (ms : List ℕ). sum ms) (one_more ns k n there) ∙ sum_by_push (λ m. m) (take k ns) n
+pattern_summed ns k n there = ap (λ (ms : List ℕ). sum ms) (take_next ns k n there) ∙ sum_by_push (λ m. m) (take k ns) n
 
 -- ---- over what an iterator yields
 

@@ -5,13 +5,10 @@ use Rattle.nc_base.specs.declared.request.Region.{Region}
 use Rattle.serial_spec.specs.Layout.{greatest}
 use Rattle.serial_spec.specs.Limits.{most_elements}
 use Rattle.imap_extents.specs.Mapped.{IsMapped}
+use Rattle.imap_extents.proofs.PositionLaws.{range_below}
 
 no_true : {A : Type 0} → true ≡ false → A
 no_true h = absurd cc
-
-range_below : (a n : ℕ) → greatest (map (λ m. m + 1) (range_with_len a n)) ≤ a + n
-range_below a zero = omega arith
-range_below a (suc n) = let rest = range_below (a + 1) n in omega arith
 
 pub packed_mapped : (start stride imap : List ℕ) (n : ℕ) → n ≤ most_elements
     → IsMapped (record { start = start; count = n ∷ []; stride = stride; imap = imap; packed = true })

@@ -1,6 +1,6 @@
 -- What holds of each entry of a list, and the tests that tell it.
 use Rattle.std.proofs.Common.{◌≡◌, ℕ, zero, suc, List, [], ◌∷◌, ◌++◌, drop, map, Bool, true, false, refl, subst, Some, slice_get, ◌||◌, inl, inr, ◌⊎◌}
-use Rattle.std.specs.List.{AllByRecursion, list_any, list_all}
+use Rattle.std.specs.List.{AllByRecursion, AllZip, list_any, list_all}
 use Rattle.std.specs.Prelude.{flat_map}
 use Rattle.std.proofs.lemmas.Bool.{and_from, or_from}
 use Rattle.list_laws.proofs.Truth.{and_first, and_second, or_first_false, or_second_false}
@@ -75,3 +75,9 @@ any_or_none p (x ∷ xs) = by (p x) refl (any_or_none p xs)
     by true e other = inr (0, (x, (refl, e)))
     by false e (inl n) = inl (λ i. (e i || n i))
     by false e (inr (q, (y, (g, h)))) = inr (suc q, (y, (g, h)))
+
+pub zip_weaker : {A B : Type 0} (R Q : A → B → Type 0) (xs : List A) (ys : List B) → ((a : A) (b : B) → R a b → Q a b) → AllZip R xs ys → AllZip Q xs ys
+zip_weaker R Q [] [] f h = tt
+zip_weaker R Q [] (y ∷ ys) f h = absurd h
+zip_weaker R Q (x ∷ xs) [] f h = absurd h
+zip_weaker R Q (x ∷ xs) (y ∷ ys) f h = (f x y h.0, zip_weaker R Q xs ys f h.1)

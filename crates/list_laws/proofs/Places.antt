@@ -97,3 +97,15 @@ entry_zip [] ys q x y e f = cc
 entry_zip (x' ∷ xs) [] q x y e f = cc
 entry_zip (x' ∷ xs) (y' ∷ ys) zero x y e f = let a : x' ≡ x = cc in let b : y' ≡ y = cc in λ i. Some (a i, b i)
 entry_zip (x' ∷ xs) (y' ∷ ys) (suc q) x y e f = entry_zip xs ys q x y e f
+
+-- ---- one list behind another
+
+pub get_left : {A : Type 0} (xs ys : List A) (k : ℕ) → k < length xs → slice_get (xs ++ ys) k ≡ slice_get xs k
+get_left [] ys k h = absurd (omega arith)
+get_left (x ∷ xs) ys zero h = refl
+get_left (x ∷ xs) ys (suc k) h = get_left xs ys k (omega arith)
+
+pub get_right : {A : Type 0} (xs ys : List A) (k m : ℕ) → m ≡ length xs + k → slice_get (xs ++ ys) m ≡ slice_get ys k
+get_right [] ys k m h = let e : m ≡ k = omega arith in ap (λ (n : ℕ). slice_get ys n) e
+get_right (x ∷ xs) ys k zero h = absurd (omega arith)
+get_right (x ∷ xs) ys k (suc m) h = get_right xs ys k m (omega arith)

@@ -1,7 +1,8 @@
 -- Numbers one after another.
-use Rattle.std.proofs.Common.{◌≡◌, ℕ, zero, suc, ◌+◌, ◌*◌, ◌∙◌, ap, List, ◌∷◌, ◌++◌, length, arith, [], ◌-◌, ◌<◌, Some}
+use Rattle.std.proofs.Common.{◌≡◌, ℕ, zero, suc, ◌+◌, ◌*◌, ◌∙◌, ap, refl, List, ◌∷◌, ◌++◌, length, arith, [], ◌-◌, ◌<◌, ◌≤◌, Some, false, leb}
 use Rattle.std.specs.Prelude.{flat_map, slice_get}
-use Rattle.std.specs.List.{range_with_len}
+use Rattle.std.specs.List.{list_any, range_with_len}
+use Rattle.std.proofs.lemmas.Bool.{or_from, lt-leb}
 use Rattle.std.proofs.lemmas.List.{length-append}
 use Rattle.std.proofs.lemmas.List.FromFn.{length-range_with_len}
 
@@ -46,3 +47,8 @@ range_rest a zero ys j x h = let same : 0 + j ≡ j = omega arith in ap (λ (k :
 range_rest a (suc n) ys j x h =
     let next : suc n + j ≡ suc (n + j) = omega arith in
     ap (λ (k : ℕ). slice_get (a ∷ (range_with_len (a + 1) n ++ ys)) k) next ∙ range_rest (a + 1) n ys j x h
+
+-- none of these reaches the bound
+pub all_below : (c k n : ℕ) → k + n ≤ c → list_any (λ m. leb c m) (range_with_len k n) ≡ false
+all_below c k zero h = refl
+all_below c k (suc n) h = or_from (leb c k) (list_any (λ m. leb c m) (range_with_len (k + 1) n)) (lt-leb c k (omega arith)) (all_below c (k + 1) n (omega arith))

@@ -51,3 +51,6 @@ all_three s t u h k l = rw (h, k, l) refl
 pub not_zero : (n : ℕ) → (n == 0) ≡ false → 1 ≤ n
 not_zero zero h = absurd cc
 not_zero (suc n) h = omega arith
+
+pub no_both : {A : Type 0} (b : Bool) → b ≡ true → b ≡ false → A
+no_both b h k = cc

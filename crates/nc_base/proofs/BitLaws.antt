@@ -9,6 +9,7 @@ use Rattle.std.proofs.lemmas.List.Concat.{flat_map-append}
 use Rattle.std.proofs.Math.Nat.{mul-le-mul_left}
 use Rattle.nc_base.specs.declared.bits.BitRun.{BitRun}
 use Rattle.nc_base.specs.BitForms.{bit_steps, bits_of_run, bits_of_runs}
+use Rattle.list_laws.proofs.Places.{get_left, get_right}
 
 pub length_bit_steps : (a b : ℕ) (n : ℕ) → length (bit_steps a b n) ≡ n
 length_bit_steps a b n = length-map (range_with_len 0 n) (λ k. (a + b * k) % 2 ^ 64) ∙ length-range_with_len 0 n
@@ -41,16 +42,6 @@ counted rs i m n d h before more =
     ∙ ap (λ (l : List ℕ). length l) (sym (runs_push (take i rs) r))
     ∙ ap (λ (l : List BitRun). length (bits_of_runs l)) (sym (take_more rs i d h))
 
-in_front : {A : Type 0} (xs ys : List A) (k : ℕ) → k < length xs → slice_get (xs ++ ys) k ≡ slice_get xs k
-in_front [] ys k h = absurd (omega arith)
-in_front (x ∷ xs) ys zero h = refl
-in_front (x ∷ xs) ys (suc k) h = in_front xs ys k (omega arith)
-
-behind : {A : Type 0} (xs ys : List A) (k j : ℕ) → length xs + j ≡ k → slice_get (xs ++ ys) k ≡ slice_get ys j
-behind [] ys k j h = ap (λ (n : ℕ). slice_get ys n) (omega arith)
-behind (x ∷ xs) ys zero j h = absurd (omega arith)
-behind (x ∷ xs) ys (suc k) j h = behind xs ys k j (omega arith)
-
 step_at : (a b : ℕ) (n k : ℕ) → k < n → slice_get (bit_steps a b n) k ≡ Some ((a + b * k) % 2 ^ 64)
 step_at a b n k h =
     slice_get-map (λ k. (a + b * k) % 2 ^ 64) (range_with_len 0 n) k
@@ -69,7 +60,7 @@ found rs i k d h low =
     let r = get_or rs i d in
     let long = length_bit_steps r.first r.step r.count in
     ap (λ (l : List BitRun). slice_get (bits_of_runs l) k) (drop_more rs i d h)
-    ∙ in_front (bits_of_run r) (bits_of_runs (drop (i + 1) rs)) k (omega (arith, long, low))
+    ∙ get_left (bits_of_run r) (bits_of_runs (drop (i + 1) rs)) k (omega (arith, long, low))
     ∙ step_at r.first r.step r.count k low
 
 pub skipped : (rs : List BitRun) (i k j : ℕ) (d : BitRun) → i < length rs → (get_or rs i d).count + j ≡ k
@@ -78,7 +69,7 @@ skipped rs i k j d h e =
     let r = get_or rs i d in
     let long = length_bit_steps r.first r.step r.count in
     ap (λ (l : List BitRun). slice_get (bits_of_runs l) k) (drop_more rs i d h)
-    ∙ behind (bits_of_run r) (bits_of_runs (drop (i + 1) rs)) k j (omega (arith, long, e))
+    ∙ get_right (bits_of_run r) (bits_of_runs (drop (i + 1) rs)) j k (omega (arith, long, e))
 
 pub single : (rs new : List BitRun) (x : ℕ) → x < 2 ^ 64 → new ≡ rs ++ record { first = x; step = 0; count = 1 } ∷ [] → bits_of_runs new ≡ bits_of_runs rs ++ x ∷ []
 single rs new x small e =

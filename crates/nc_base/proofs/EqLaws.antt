@@ -4,9 +4,8 @@ use Rattle.std.specs.Prelude.{ℤ, slice_get, nat_eq}
 use Rattle.std.specs.Ordering.{int_eq}
 use Rattle.std.specs.Cmp.Lexicographic.{pointwise, bytes_decides}
 use Rattle.std.specs.Cmp.Rules.{signed_items}
-
-some_same : {A : Type 0} (x y : A) → Some x ≡ Some y → x ≡ y
-some_same x y h = cc
+use Rattle.list_laws.proofs.Places.{take_next}
+use Rattle.list_laws.proofs.Optional.{some_same}
 
 same_lists : {A : Type 0} (xs ys : List A) → length xs ≡ length ys → ((k : ℕ) → k < length xs → slice_get xs k ≡ slice_get ys k) → xs ≡ ys
 same_lists [] [] h each = refl
@@ -38,16 +37,9 @@ longer_bits xs ys h = sym (not_true (pointwise nat_eq xs ys) (λ e. h (ap (λ (l
 pub other_bits : (xs ys : List ℕ) (k : ℕ) → (slice_get xs k ≡ slice_get ys k → ⊥) → false ≡ pointwise nat_eq xs ys
 other_bits xs ys k h = sym (not_true (pointwise nat_eq xs ys) (λ e. h (ap (λ (l : List ℕ). slice_get l k) ((bytes_decides xs ys).0 e))))
 
-take_some : {A : Type 0} (xs : List A) (k : ℕ) (x : A) → slice_get xs k ≡ Some x → take (suc k) xs ≡ take k xs ++ x ∷ []
-take_some [] k x h = absurd cc
-take_some {A} (y ∷ ys) zero x h = ap (λ (z : A). z ∷ []) (some_same y x h)
-take_some {A} (y ∷ ys) (suc k) x h = ap (λ (l : List A). y ∷ l) (take_some ys k x h)
-
 pub after_some : {A : Type 0} (first old new xs : List A) (k : ℕ) (x : A) → slice_get xs k ≡ Some x → old ≡ first ++ take k xs → new ≡ old ++ x ∷ [] → new ≡ first ++ take (k + 1) xs
 after_some {A} first old new xs k x there before added =
-    let next : suc k ≡ k + 1 = omega arith in
     added
     ∙ ap (λ (l : List A). l ++ x ∷ []) before
     ∙ append_assoc first (take k xs) (x ∷ [])
-    ∙ ap (λ (l : List A). first ++ l) (sym (take_some xs k x there))
-    ∙ ap (λ (n : ℕ). first ++ take n xs) next
+    ∙ ap (λ (l : List A). first ++ l) (sym (take_next xs k x there))

@@ -8,6 +8,7 @@ use Rattle.std.proofs.lemmas.List.FromFn.{length-range_with_len, get_or-range_wi
 use Rattle.std.proofs.lemmas.List.Concat.{flat_map-append}
 use Rattle.nc_base.specs.declared.numbers.NumberRun.{NumberRun}
 use Rattle.nc_base.specs.NumberForms.{steps, numbers_of_run, numbers_of_runs}
+use Rattle.list_laws.proofs.Places.{get_left, get_right}
 
 pub length_steps : (a b : ℤ) (n : ℕ) → length (steps a b n) ≡ n
 length_steps a b n = length-map (range_with_len 0 n) (λ k. a +ℤ (b *ℤ pos k)) ∙ length-range_with_len 0 n
@@ -40,16 +41,6 @@ counted rs i m n d h before more =
     ∙ ap (λ (l : List ℤ). length l) (sym (runs_push (take i rs) r))
     ∙ ap (λ (l : List NumberRun). length (numbers_of_runs l)) (sym (take_more rs i d h))
 
-in_front : {A : Type 0} (xs ys : List A) (k : ℕ) → k < length xs → slice_get (xs ++ ys) k ≡ slice_get xs k
-in_front [] ys k h = absurd (omega arith)
-in_front (x ∷ xs) ys zero h = refl
-in_front (x ∷ xs) ys (suc k) h = in_front xs ys k (omega arith)
-
-behind : {A : Type 0} (xs ys : List A) (k j : ℕ) → length xs + j ≡ k → slice_get (xs ++ ys) k ≡ slice_get ys j
-behind [] ys k j h = ap (λ (n : ℕ). slice_get ys n) (omega arith)
-behind (x ∷ xs) ys zero j h = absurd (omega arith)
-behind (x ∷ xs) ys (suc k) j h = behind xs ys k j (omega arith)
-
 step_at : (a b : ℤ) (n k : ℕ) → k < n → slice_get (steps a b n) k ≡ Some (a +ℤ (b *ℤ pos k))
 step_at a b n k h =
     slice_get-map (λ k. a +ℤ (b *ℤ pos k)) (range_with_len 0 n) k
@@ -68,7 +59,7 @@ found rs i k d h low =
     let r = get_or rs i d in
     let long = length_steps r.first r.step r.count in
     ap (λ (l : List NumberRun). slice_get (numbers_of_runs l) k) (drop_more rs i d h)
-    ∙ in_front (numbers_of_run r) (numbers_of_runs (drop (i + 1) rs)) k (omega (arith, long, low))
+    ∙ get_left (numbers_of_run r) (numbers_of_runs (drop (i + 1) rs)) k (omega (arith, long, low))
     ∙ step_at r.first r.step r.count k low
 
 pub skipped : (rs : List NumberRun) (i k j : ℕ) (d : NumberRun) → i < length rs → (get_or rs i d).count + j ≡ k
@@ -77,7 +68,7 @@ skipped rs i k j d h e =
     let r = get_or rs i d in
     let long = length_steps r.first r.step r.count in
     ap (λ (l : List NumberRun). slice_get (numbers_of_runs l) k) (drop_more rs i d h)
-    ∙ behind (numbers_of_run r) (numbers_of_runs (drop (i + 1) rs)) k j (omega (arith, long, e))
+    ∙ get_right (numbers_of_run r) (numbers_of_runs (drop (i + 1) rs)) j k (omega (arith, long, e))
 
 pub length_after : (zs : List ℤ) (r : NumberRun) → length (zs ++ numbers_of_run r) ≡ length zs + r.count
 length_after zs r = length-append zs (numbers_of_run r) ∙ ap (λ (k : ℕ). length zs + k) (length_steps r.first r.step r.count)

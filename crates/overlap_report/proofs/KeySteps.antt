@@ -4,7 +4,6 @@ use Rattle.std.proofs.lemmas.Bool.Decides.{nat_tests}
 use Rattle.std.proofs.lemmas.List.{take_more, take_all, map-append, get_or_default}
 use Rattle.overlay_laws.proofs.Members.{entry_in}
 use Rattle.serial_spec.proofs.KeyLaws.{key_itself}
-use Rattle.overlay_laws.proofs.WalkLaws.{no_both}
 use Rattle.nc_base.specs.declared.plan.Extent.{Extent}
 use Rattle.nc_base.specs.declared.plan.Owned.{Owned}
 use Rattle.serial_spec.specs.SharedByte.{Key, same_key, key_below}
@@ -13,6 +12,7 @@ use Rattle.overlay_laws.specs.Lines.{extents, IsByPlace, EndBelow}
 use Rattle.overlay_laws.proofs.HullLaws.{in_either, in_left, in_right}
 use Rattle.overlay_laws.proofs.HolderLaws.{same_keys, keys_same}
 use Rattle.overlay_laws.proofs.EntryLaws.{in_extents}
+use Rattle.list_laws.proofs.Truth.{no_both}
 
 -- ---- keys
 

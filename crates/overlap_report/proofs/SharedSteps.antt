@@ -5,7 +5,6 @@ use Rattle.std.specs.List.{range_with_len}
 use Rattle.std.proofs.lemmas.List.{take_all}
 use borrow.Author.Tests.{ltb-true, ltb-false}
 use Rattle.overlay_laws.proofs.Members.{entry_in, in_taken}
-use Rattle.overlay_laws.proofs.WalkLaws.{no_both}
 use Rattle.nc_base.specs.declared.plan.Owned.{Owned}
 use Rattle.nc_base.specs.declared.answer.Pair.{Pair}
 use Rattle.serial_spec.specs.SharedByte.{Key, same_key, key_below, Holds, holdings_of_entries, shared_pair_of, first_end, second_end}
@@ -19,6 +18,7 @@ use Rattle.overlap_report.specs.declared.shared.Reach.{Reach}
 use Rattle.overlap_report.specs.Sharing.{key_of, Covers, IsClearAt, AreTwo, IsFirst, HasHolder, ArePairAt}
 use Rattle.overlap_report.specs.Reaching.{same_as, with_entry}
 use Rattle.overlap_report.proofs.KeySteps.{key_back, key_meet, key_apart, key_apart_back, equal_key, not_below_itself, IsNext, before_next, at_or_before}
+use Rattle.list_laws.proofs.Truth.{no_both}
 
 -- an entry that ends there, of the request or not
 pub record EndsAt (seen : List Owned) (r : Reach) (n : ℕ) (same : Bool) : Type 0 where

@@ -16,3 +16,5 @@ pub mod OnceLaws
 pub mod RegionLaws
 pub mod ReadLaws
 pub mod WindowCounts
+pub mod WindowHulls
+pub mod ChangeLaws

@@ -18,14 +18,9 @@ use Rattle.piece_exchange.specs.Put.{put_part, HasPut, PartState, SomeZip}
 use Rattle.piece_exchange.specs.Turns.{Told}
 use Rattle.piece_exchange.proofs.FeedLaws.{get_long}
 use Rattle.piece_exchange.proofs.PutLaws.{told_nothing}
+use Rattle.list_laws.proofs.Each.{zip_weaker}
 
 -- ---- two lists, place by place
-
-zip_weaker : {A B : Type 0} (R Q : A → B → Type 0) (xs : List A) (ys : List B) → ((a : A) (b : B) → R a b → Q a b) → AllZip R xs ys → AllZip Q xs ys
-zip_weaker R Q [] [] f h = h
-zip_weaker R Q [] (y ∷ ys) f h = h
-zip_weaker R Q (x ∷ xs) [] f h = h
-zip_weaker R Q (x ∷ xs) (y ∷ ys) f h = (f x y h.0, zip_weaker R Q xs ys f h.1)
 
 pub zip_more : {A B : Type 0} (R Q : A → B → Type 0) (xs : List A) (ys : List B) (x : A) (y : B) → ((a : A) (b : B) → R a b → Q a b) → AllZip R xs ys → Q x y
     → AllZip Q (xs ++ x ∷ []) (ys ++ y ∷ [])

@@ -25,9 +25,10 @@ use Rattle.serial_spec.specs.Looking.{box_region, is_record_past}
 use Rattle.serial_spec.specs.Request.{coordinates, elements, index_at}
 use Rattle.serial_spec.proofs.AcceptLaws.{coordinates_all}
 use Rattle.serial_spec.proofs.BoxLaws.{boxes_right}
-use Rattle.serial_spec.proofs.ElementLaws.{get_left, get_right, length-coordinates}
+use Rattle.serial_spec.proofs.ElementLaws.{length-coordinates}
 use Rattle.rank_core.specs.Targets.{IsSmall}
 use Rattle.rank_core.proofs.SeparateLaws.{AreSeparate}
+use Rattle.list_laws.proofs.Places.{get_left, get_right}
 
 -- ---- how many elements they have
 

@@ -18,7 +18,7 @@ use Rattle.serial_spec.specs.RegionCheck.{check_var, is_too_large, last_position
 use Rattle.serial_spec.specs.Request.{coordinates, position_at, reach}
 use Rattle.serial_spec.proofs.AcceptLaws.{coordinates_all}
 use Rattle.imap_extents.specs.Mapped.{IsMapped}
-use Rattle.imap_extents.proofs.PositionLaws.{no_coordinates}
+use Rattle.imap_extents.proofs.PositionLaws.{no_coordinates, range_below}
 use Rattle.vara_extents.proofs.AcceptedLaws.{passed}
 
 -- ---- whether there is an element
@@ -35,10 +35,6 @@ some_product (suc n ∷ counts) =
     by_rest (suc p) = lt-ltb 0 (suc n * suc p) (omega arith) ∙ sym (lt-ltb 0 (suc p) (omega arith))
 
 -- ---- positions
-
-range_below : (a n : ℕ) → greatest (map (λ m. m + 1) (range_with_len a n)) ≤ a + n
-range_below a zero = omega arith
-range_below a (suc n) = let rest = range_below (a + 1) n in omega arith
 
 times_below : (i n s : ℕ) → i < n → s * i ≤ (n - 1) * s
 times_below i zero s h = absurd (omega arith)

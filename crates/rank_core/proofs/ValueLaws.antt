@@ -8,7 +8,7 @@ use Rattle.std.proofs.lemmas.List.Concat.{flat_map-append}
 use Rattle.std.proofs.lemmas.List.Folds.{list_any-append}
 use Rattle.std.proofs.lemmas.List.FromFn.{length-range_with_len}
 use Rattle.std.proofs.lemmas.List.Sums.{sum_by-cons}
-use Rattle.list_laws.proofs.Ranges.{range_append}
+use Rattle.list_laws.proofs.Ranges.{range_append, all_below}
 use Rattle.nc_base.specs.declared.answer.CallErr.{CallErr}
 use Rattle.nc_base.specs.declared.answer.CallErr.TheVariants as refusal
 use Rattle.nc_base.specs.declared.answer.Code.{Code}
@@ -65,13 +65,9 @@ length-packed_bytes kind g values h =
     all_long kind values (positions g) (none_lacks _ _ (right_kind (kind_code (class_of kind) values) _ h))
     ∙ ap (λ (n : ℕ). n * size_of kind) (length-positions g)
 
-none_past : (count k n : ℕ) → k + n ≤ count → list_any (λ m. leb count m) (range_with_len k n) ≡ false
-none_past count k zero h = refl
-none_past count k (suc n) h = or_from (leb count k) (list_any (λ m. leb count m) (range_with_len (k + 1) n)) (lt-leb count k (omega arith)) (none_past count (k + 1) n (omega arith))
-
 pub length-values_bytes : (kind : NcType) (values : Values) (k n : ℕ) → k + n ≤ count_of values → length (values_bytes kind (Some values) k n) ≡ n * size_of kind
 length-values_bytes kind values k n h =
-    all_long kind values (range_with_len k n) (sym (lacks values (range_with_len k n)) ∙ none_past (count_of values) k n h)
+    all_long kind values (range_with_len k n) (sym (lacks values (range_with_len k n)) ∙ all_below (count_of values) k n h)
     ∙ ap (λ (m : ℕ). m * size_of kind) (length-range_with_len k n)
 
 -- ---- one value more

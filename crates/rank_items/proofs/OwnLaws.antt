@@ -12,9 +12,9 @@ use Rattle.serial_spec.specs.ExternalForm.{size_of}
 use Rattle.serial_spec.specs.Place.{place}
 use Rattle.serial_spec.specs.Request.{elements, places}
 use Rattle.serial_spec.specs.SharedByte.{bytes_of, bytes_of_some, holdings, Holding, IsOwnOnce}
-use Rattle.serial_spec.proofs.ElementLaws.{get_left, get_right}
 use Rattle.rank_items.specs.Own.{HasOwnElements}
 use Rattle.list_laws.proofs.Maps.{entry_map}
+use Rattle.list_laws.proofs.Places.{get_left, get_right}
 
 -- ---- blocks of one length
 

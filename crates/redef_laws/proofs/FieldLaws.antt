@@ -13,10 +13,6 @@ pub not_both : (a b : Bool) → (a && b) ≡ false → a ≡ true → b ≡ fals
 not_both true b h e = h
 not_both false b h e = cc
 
-pub opposite : (t : Bool) → t ≡ true → t ≡ false → ⊥
-opposite true h g = cc
-opposite false h g = cc
-
 -- ---- each of a list
 
 pub each_both : {A : Type 0} (P Q R : A → Type 0) → ((x : A) → P x → Q x → R x) → (xs : List A) → AllByRecursion P xs → AllByRecursion Q xs → AllByRecursion R xs

@@ -26,8 +26,8 @@ use Rattle.serial_spec.specs.SoundHeaders.{fits_count, is_type}
 use Rattle.serial_spec.specs.Looking.{find_dim}
 use Rattle.serial_spec.specs.Lawful.{is_lawful_extra, is_whole_extra}
 use Rattle.serial_spec.specs.Redefinition.{with_attr, with_extra, added, dim_id, is_taken, is_unknown, has_bad_shape, is_one_too_many, has_bad_kind, extra_fault, extras_from}
-use Rattle.serial_spec.proofs.ElementLaws.{get_left}
 use Rattle.redef_laws.proofs.FieldLaws.{not_both, each_both, count_fits}
+use Rattle.list_laws.proofs.Places.{get_left}
 
 -- ---- the facts
 

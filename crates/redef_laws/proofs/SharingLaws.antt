@@ -9,7 +9,7 @@ use Rattle.std.proofs.lemmas.List.Sums.{sum_by-cons}
 use Rattle.std.proofs.lemmas.Bool.{ltb-true, ltb-false, eqb-true}
 use Rattle.serial_spec.proofs.RoomLaws.{slab_below}
 use Rattle.overlay_laws.proofs.Members.{each_in}
-use Rattle.list_laws.proofs.Truth.{equal_true}
+use Rattle.list_laws.proofs.Truth.{equal_true, no_both}
 use Rattle.nc_base.specs.declared.header.Header.{Header}
 use Rattle.nc_base.specs.declared.header.Dim.{Dim}
 use Rattle.nc_base.specs.declared.header.Var.{Var}
@@ -26,7 +26,6 @@ use Rattle.var_layout.proofs.Soundness.{recsize_shared}
 use Rattle.var_layout.proofs.LaidApart.{shares_by, count_two}
 use Rattle.overlay_laws.specs.Entries.{In}
 use Rattle.overlay_laws.proofs.HullLaws.{filter_in}
-use Rattle.redef_laws.proofs.FieldLaws.{opposite}
 use Rattle.redef_laws.proofs.GrownLaws.{IsFitVar, is_record_at}
 use Rattle.redef_laws.proofs.FitLaws.{checked}
 use Rattle.redef_laws.proofs.BeginLaws.{same_var, vsizes}
@@ -225,7 +224,7 @@ old_room old extras k v sound l g e = by_number (least.0.0 == k) refl
     another : (p : Numbered) → p.1.begin ≡ old_first (added old extras) (length old.vars) → IsOldRecord (added old extras) (length old.vars) p → (p.0 == k) ≡ false
         → v.begin + slab (added old extras) v ≤ old_first (added old extras) (length old.vars) + vsizes (added old extras) (old_records (added old extras) (length old.vars))
     another p first m s =
-        bounded (old_pair old extras k p.0 v p.1 sound l m.low g m.there e m.kind (λ same. opposite (p.0 == k) (equal_true p.0 k (sym same)) s)) (old_recsize old extras sound)
+        bounded (old_pair old extras k p.0 v p.1 sound l m.low g m.there e m.kind (λ same. no_both (p.0 == k) (equal_true p.0 k (sym same)) s)) (old_recsize old extras sound)
       where
         bounded : AreOrdered v.begin (slab (added old extras) v) p.1.begin (slab (added old extras) p.1) (recsize old)
             → recsize old ≤ vsizes (added old extras) (old_records (added old extras) (length old.vars))

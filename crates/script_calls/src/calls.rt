@@ -7,9 +7,7 @@ ghost use Rattle.script_calls.specs.CallWords.{plain_by, post_or_plain_by, call_
 ghost use Rattle.script_words.specs.Reading.{Gives, word_of};
 ghost use Rattle.script_calls.specs.Posts.{IsNew};
 
-use crate::accesses::{
-    after_prefix, form_and_all, get_call, post_call, post_of_text, put_call,
-};
+use crate::accesses::{after_prefix, form_and_all, get_call, post_call, post_of_text, put_call};
 use crate::rank_calls::RankCalls;
 use nc_base::{Call, Choice, IdList, Name, ScriptKind};
 use script_values::regions::form_of_text;

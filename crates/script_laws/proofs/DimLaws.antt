@@ -5,7 +5,7 @@ use borrow.Author.Tests.{ltb-false, leb-false, eq-eqb}
 use Rattle.std.proofs.lemmas.List.{length-map}
 use Rattle.std.proofs.lemmas.List.Sums.{sum_by-cons}
 use Rattle.std.proofs.lemmas.Bool.{and_from}
-use Rattle.list_laws.proofs.Places.{position_below}
+use Rattle.list_laws.proofs.Places.{position_below, get_left}
 use Rattle.list_laws.proofs.Each.{each_push, each_weaker, each_later, each_at, fails_each}
 use Rattle.list_laws.proofs.Truth.{and_second}
 use Rattle.nc_base.specs.declared.errors.ScriptKind.{ScriptKind}
@@ -21,7 +21,6 @@ use Rattle.serial_spec.specs.Lawful.{most_values, attr_values, is_whole_attr}
 use Rattle.serial_spec.specs.ExternalForm.{size_of}
 use Rattle.nc_base.specs.Values.{count_of}
 use Rattle.serial_spec.specs.SoundHeaders.{fits_count, is_type, is_writable_dim, is_writable_attr}
-use Rattle.serial_spec.proofs.ElementLaws.{get_left}
 use Rattle.script_spec.specs.ScriptWords.{Word, is_name}
 use Rattle.script_spec.specs.ScriptSteps.{refuse_if, or_fault, reads_as, name, ended}
 use Rattle.script_spec.specs.ScriptValues.{values}

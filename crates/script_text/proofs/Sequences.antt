@@ -13,6 +13,7 @@ use Rattle.nc_base.specs.declared.header.NcType.{NcType}
 use Rattle.nc_base.specs.declared.request.Value.TheVariants as value
 use Rattle.serial_spec.specs.ExternalForm.{Class, Signed, Unsigned, Text, Pattern, class_of, size_of, fits_in}
 use Rattle.script_spec.specs.ScriptValues.{may_have, sequence, last_number, is_term, pattern_sequence, last_pattern, is_pattern_term}
+use Rattle.type_external.proofs.PatternLaws.{bits_in}
 
 -- a number that may stand here, and has few digits
 abbrev pub is_fit_number : Option NcType → ℤ → Bool
@@ -90,12 +91,6 @@ pub length-sequence : (a b : ℤ) (n : ℕ) → length (sequence a b n) ≡ n
 length-sequence a b n = length-map-range_with_len (λ k. a +ℤ (b *ℤ pos k)) 0 n
 
 -- ---- terms of a sequence of bits
-
-bits_in : (c : Class) (size m n : ℕ) → m ≤ n → fits_in c size (value.Bits n) ≡ true → fits_in c size (value.Bits m) ≡ true
-bits_in Signed size m n le h = absurd (cc)
-bits_in Unsigned size m n le h = absurd (cc)
-bits_in Text size m n le h = absurd (cc)
-bits_in Pattern size m n le h = let b = ltb-true n (256 ^ size) h in lt-ltb m (256 ^ size) (omega arith)
 
 bits_may : (t : Option NcType) (m n : ℕ) → m ≤ n → may_have t (value.Bits n) ≡ true → may_have t (value.Bits m) ≡ true
 bits_may None m n le h = refl

@@ -11,7 +11,6 @@ use Rattle.serial_spec.specs.SoundHeaders.{is_sound}
 use Rattle.serial_spec.specs.Lawful.{is_lawful}
 use Rattle.serial_spec.specs.Limits.{record_limit}
 use Rattle.serial_spec.specs.SerialEnd.{advance, first_going}
-use Rattle.serial_spec.proofs.ElementLaws.{get_left, get_right}
 use Rattle.join_laws.proofs.CountLaws.{sound_small}
 use Rattle.run_laws.specs.Arrivals.{Arrived, first_stand}
 use Rattle.run_laws.proofs.LawfulLaws.{ranks_lawful}
@@ -21,6 +20,7 @@ use Rattle.serial_run.specs.Seated.{going_of, HasGone, IsSeat, MayGoOn}
 use Rattle.serial_run.specs.Standing.{all_arrived, IsStanding}
 use Rattle.serial_run.specs.declared.seats.Seat.{Seat}
 use Rattle.serial_run.specs.declared.standing.Stand.{Stand}
+use Rattle.list_laws.proofs.Places.{get_left, get_right}
 
 -- the first ranks of a script, gone up to their first offers
 pub record AreFirst (script : Script) (header : Header) (n : ℕ) (seats : List Seat) : Type 0 where

@@ -18,9 +18,9 @@ use Rattle.serial_spec.specs.Layout.{length_of}
 use Rattle.serial_spec.specs.HeaderFaults.{first_check, first_with, fault_if, two_record_dims, record_later, bad_id}
 use Rattle.serial_spec.specs.SoundHeaders.{is_sound}
 use Rattle.serial_spec.specs.Redefinition.{with_attr, with_extra, added, begins_by_number, begin_of_number, with_begins, redefined_header, KeepsVars}
-use Rattle.serial_spec.proofs.ElementLaws.{get_left}
 use Rattle.serial_spec.proofs.RoomLaws.{untested, none_any}
 use Rattle.list_laws.proofs.Maps.{entry_map}
+use Rattle.list_laws.proofs.Places.{get_left}
 
 -- ---- a header of which another is a part
 

@@ -20,7 +20,6 @@ use Rattle.serial_spec.specs.Request.{index_at, places}
 use Rattle.serial_spec.specs.SharedByte.{bytes_of, bytes_of_some}
 use Rattle.serial_spec.proofs.AcceptLaws as accept
 use Rattle.serial_spec.proofs.ApartLaws.{elements_apart}
-use Rattle.serial_spec.proofs.ElementLaws.{get_left, get_right}
 use Rattle.vara_extents.specs.Accepted.{IsAccepted}
 use Rattle.vara_extents.specs.Joined.{extents_of, element_extents, spans, IsOnce}
 use Rattle.vara_extents.specs.Numbered.{coordinates_of, index_of}
@@ -28,6 +27,7 @@ use Rattle.vara_extents.proofs.AcceptedLaws.{passed}
 use Rattle.vara_extents.proofs.JoinLaws.{joined_spans}
 use Rattle.vara_extents.proofs.NumberLaws.{numbered_index, numbered_row, place_at, length-places}
 use Rattle.vara_extents.proofs.PlaceLaws.{accepted_var, accepted_place}
+use Rattle.list_laws.proofs.Places.{get_left, get_right}
 
 -- ---- blocks of one length
 

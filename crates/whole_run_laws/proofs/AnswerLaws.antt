@@ -5,7 +5,7 @@ use Rattle.std.proofs.lemmas.Option.{same_Some, slice_get_within}
 use Rattle.std.specs.Prelude.{fold, slice_get, ◌==◌}
 use Rattle.std.specs.List.{list_all}
 use borrow.Author.Tests.{ltb-true}
-use Rattle.list_laws.proofs.Places.{entry_below, entry_set}
+use Rattle.list_laws.proofs.Places.{entry_below, entry_set, get_left, get_right}
 use Rattle.list_laws.proofs.Truth.{and_first, and_second}
 use Rattle.nc_base.specs.declared.answer.Answer.{Answer}
 use Rattle.nc_base.specs.declared.answer.Pair.{Pair}
@@ -25,7 +25,6 @@ use Rattle.serial_spec.specs.History.{is_collective, is_of_rank_below, IsLegal, 
 use Rattle.serial_spec.specs.Lawful.{is_lawful}
 use Rattle.serial_spec.specs.RankMachine.{Rank, step}
 use Rattle.serial_spec.specs.SerialEnd.{advance, after_mark, after_meeting, after_solo, first_going, first_state, go, Going, hears, serial_from, setting_of, state_after}
-use Rattle.serial_spec.proofs.ElementLaws.{get_left, get_right}
 use Rattle.run_laws.specs.Ways.{kinds_of}
 use Rattle.run_laws.proofs.CallLaws.{Says, step_says}
 use Rattle.run_laws.proofs.LawfulLaws.{ranks_lawful}

@@ -1,0 +1,42 @@
+-- No window's hull is longer than its buffer.
+use Rattle.std.proofs.Common.{◌≡◌, ℕ, ◌+◌, ◌-◌, ◌*◌, ◌/◌, ◌<◌, ◌≤◌, ap, subst, inl, refl, List, [], ◌∷◌, not, arith}
+use Rattle.std.proofs.lemmas.Nat.{mod_below, div-add-mod'}
+use Rattle.std.proofs.lemmas.Bool.{eqb-true}
+use Rattle.std.specs.Prelude.{filter, map, ◌==◌}
+use Rattle.std.specs.List.{range_with_len}
+use Rattle.serial_spec.specs.DeviceCalls.{first_of, hull_len, is_empty, last_of, windows}
+use Rattle.overlay_laws.specs.Entries.{In}
+use Rattle.overlay_laws.specs.Hulls.{IsAscending}
+use Rattle.overlay_laws.proofs.HullLaws.{filter_in, first_least, last_below}
+use Rattle.overlay_laws.proofs.Members.{map_in}
+
+hull_short : (w : List ℕ) (n : ℕ) → 1 ≤ n → ((x y : ℕ) → In w x → In w y → x < y + n) → hull_len w ≤ n
+hull_short [] n l h = omega arith
+hull_short (a ∷ w) n l h =
+    let last : last_of (a ∷ w) + 1 ≤ a + n = last_below (a ∷ w) (a + n) (omega arith) (λ x k. h x a k (inl refl)) in
+    omega arith
+
+-- two bytes with one quotient
+one_part : (lo buffer j x y : ℕ) → 1 ≤ buffer → lo ≤ x → lo ≤ y → (x - lo) / buffer ≡ j → (y - lo) / buffer ≡ j → x < y + buffer
+one_part lo buffer j x y h a b e f =
+    let whole = div-add-mod' (x - lo) buffer in
+    let part = mod_below (x - lo) buffer (omega arith) in
+    let other = div-add-mod' (y - lo) buffer in
+    let same : (x - lo) / buffer * buffer ≡ j * buffer = ap (λ (n : ℕ). n * buffer) e in
+    let too : (y - lo) / buffer * buffer ≡ j * buffer = ap (λ (n : ℕ). n * buffer) f in
+    omega arith
+
+abbrev window_at : ℕ → List ℕ → ℕ → List ℕ
+window_at buffer bytes j = filter (λ x. (x - first_of bytes) / buffer == j) bytes
+
+pub window_short : (buffer : ℕ) (bytes w : List ℕ) → 1 ≤ buffer → IsAscending bytes → In (windows buffer bytes) w → hull_len w ≤ buffer
+window_short buffer bytes w l asc h =
+    let js = range_with_len 0 ((last_of bytes - first_of bytes) / buffer + 1) in
+    let kept = filter_in (λ w. not (is_empty w)) (map (window_at buffer bytes) js) w h in
+    let m = map_in (window_at buffer bytes) js w kept.0 in
+    let lo : (x : ℕ) → In (window_at buffer bytes m.0) x → first_of bytes ≤ x =
+    λ x k. first_least bytes x asc (filter_in (λ x. (x - first_of bytes) / buffer == m.0) bytes x k).0 in
+    let part : (x : ℕ) → In (window_at buffer bytes m.0) x → (x - first_of bytes) / buffer ≡ m.0 =
+    λ x k. eqb-true _ _ (filter_in (λ x. (x - first_of bytes) / buffer == m.0) bytes x k).1 in
+    subst (λ (v : List ℕ). hull_len v ≤ buffer) m.2
+    (hull_short (window_at buffer bytes m.0) buffer l (λ x y k g. one_part (first_of bytes) buffer m.0 x y l (lo x k) (lo y g) (part x k) (part y g)))
