@@ -7,10 +7,6 @@ use Rattle.serial_spec.specs.Layout.{product}
 use Rattle.var_layout.specs.Capped.{capped}
 use Rattle.var_layout.proofs.Capping.{capped_product, product_more}
 
-pub one_more : (xs : List ℕ) (i d n : ℕ) → i < length xs → n ≡ capped (product (take i xs)) → capped (n * get_or xs i d) ≡ capped (product (take (i + 1) xs))
-one_more xs i d n h e =
-    ap (λ (m : ℕ). capped (m * get_or xs i d)) e ∙ capped_product (product (take i xs)) (get_or xs i d) ∙ ap capped (sym (product_more xs i d h))
-
 pub one_farther : (counts imap : List ℕ) (i s n : ℕ) → i < length counts → length imap ≡ length counts
     → s ≡ capped (sum_by (λ (p : ℕ × ℕ). (p.0 - 1) * p.1) (take i (zip counts imap))) → n ≡ capped ((get_or counts i 0 - 1) * get_or imap i 0)
     → capped (s + n) ≡ capped (sum_by (λ (p : ℕ × ℕ). (p.0 - 1) * p.1) (take (i + 1) (zip counts imap)))

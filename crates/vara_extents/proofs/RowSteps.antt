@@ -83,7 +83,7 @@ step_at header ids starts counts strides number before id s n t ids' starts' cou
 
 pub row_step : (header : Header) (ids starts counts strides : List ℕ) (number before inner len : ℕ) → 1 ≤ length ids → 1 ≤ length starts → 1 ≤ length counts → 1 ≤ length strides
     → IsIndex (lengths_of header ids) (index_at starts strides (coordinates_of counts number)) → number < product counts → product counts ≤ 2 ^ 20
-    → inner ≡ capped (product (rest counts)) → len ≡ length_of (slice_get header.dims (get_or ids 0 0))
+    → inner ≡ min (product (rest counts)) (2 ^ 64 - 1) → len ≡ length_of (slice_get header.dims (get_or ids 0 0))
     → RowStep header ids starts counts strides number before inner len (get_or starts 0 0) (get_or strides 0 0) (rest ids) (rest starts) (rest counts) (rest strides)
 row_step header ids starts counts strides number before inner len a b c d valid below small is_inner is_len =
     let step = step_at header ids starts counts strides number before (get_or ids 0 0) (get_or starts 0 0) (get_or counts 0 0) (get_or strides 0 0) (rest ids) (rest starts) (rest counts) (rest strides)
@@ -223,7 +223,7 @@ inner_small (n ∷ counts) number a b c =
 
 record_step_of : (header : Header) (v : Var) (g : Region) (number inner : ℕ) → is_record header v ≡ true
     → 1 ≤ length v.dims → 1 ≤ length g.start → 1 ≤ length g.count → 1 ≤ length g.stride
-    → IsElement header v (index_of g number) → number < product g.count → product g.count ≤ 2 ^ 20 → inner ≡ capped (product (rest g.count))
+    → IsElement header v (index_of g number) → number < product g.count → product g.count ≤ 2 ^ 20 → inner ≡ min (product (rest g.count)) (2 ^ 64 - 1)
     → RecordStep header v g number inner v.dims g.start g.count g.stride
 record_step_of header v g number inner e a b c d valid below small is =
     let r = record_row header v.dims g.start g.count g.stride number e a b c d in
@@ -243,11 +243,11 @@ record_step_of header v g number inner e a b c d valid below small is =
 
 pub record_step : (header : Header) (v : Var) (g : Region) (number inner : ℕ) (ids starts counts strides : List ℕ) → ids ≡ v.dims → starts ≡ g.start → counts ≡ g.count → strides ≡ g.stride
     → is_record header v ≡ true → 1 ≤ length ids → 1 ≤ length starts → 1 ≤ length counts → 1 ≤ length strides
-    → IsElement header v (index_of g number) → number < product g.count → product g.count ≤ 2 ^ 20 → inner ≡ capped (product (rest counts))
+    → IsElement header v (index_of g number) → number < product g.count → product g.count ≤ 2 ^ 20 → inner ≡ min (product (rest counts)) (2 ^ 64 - 1)
     → RecordStep header v g number inner ids starts counts strides
 record_step header v g number inner ids starts counts strides p q r t e a b c d valid below small is =
     let P : List ℕ → List ℕ → List ℕ → List ℕ → Type 0 = λ w x y z.
-    1 ≤ length w → 1 ≤ length x → 1 ≤ length y → 1 ≤ length z → inner ≡ capped (product (rest y)) → RecordStep header v g number inner w x y z in
+    1 ≤ length w → 1 ≤ length x → 1 ≤ length y → 1 ≤ length z → inner ≡ min (product (rest y)) (2 ^ 64 - 1) → RecordStep header v g number inner w x y z in
     (subst (λ (l : List ℕ). P l starts counts strides) (sym p)
     (subst (λ (l : List ℕ). P v.dims l counts strides) (sym q)
     (subst (λ (l : List ℕ). P v.dims g.start l strides) (sym r)
