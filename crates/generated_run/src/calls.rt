@@ -9,7 +9,8 @@ ghost use Rattle.generated_run.specs.Made.{calls_of_rank, calls_of_record, colum
 use crate::bands::{first_row, precip_band, temp_band};
 use crate::definitions::{COLUMNS, PRECIP, RANKS, ROWS, TEMP};
 use nc_base::{
-    Call, CallList, CallTable, Choice, Form, Given, Memory, PartList, PostKind, SizeList, Values,
+    Call, CallList, CallTable, Choice, Form, Given, Memory, Name, PartList, PostKind, SizeList,
+    Values,
 };
 use std::alloc::Global;
 
